@@ -1,0 +1,31 @@
+-- The lines of an input, which is cut at each byte 10 (this project's own).
+use Rattle.std.specs.Prelude.{ℕ, ◌==◌, List, [], ◌∷◌, ◌++◌, if◌then◌else◌}
+
+-- the whole lines, each ended by a byte 10, where `begun` came before the bytes
+abbrev pub whole_lines_after : List ℕ → List ℕ → List (List ℕ)
+whole_lines_after begun [] = []
+whole_lines_after begun (byte ∷ bytes) =
+    if byte == 10 then begun ∷ whole_lines_after [] bytes else whole_lines_after (begun ++ byte ∷ []) bytes
+
+-- what stands behind the last byte 10, where `begun` came before the bytes
+abbrev pub begun_after : List ℕ → List ℕ → List ℕ
+begun_after begun [] = begun
+begun_after begun (byte ∷ bytes) =
+    if byte == 10 then begun_after [] bytes else begun_after (begun ++ byte ∷ []) bytes
+
+-- the whole lines, without the byte 10 that ends each
+unfoldable pub whole_lines : List ℕ → List (List ℕ)
+whole_lines input = whole_lines_after [] input
+
+-- the line begun, of which no end came
+unfoldable pub begun_line : List ℕ → List ℕ
+begun_line input = begun_after [] input
+
+-- a line begun is one too, where it has a byte
+abbrev pub last_line : List ℕ → List (List ℕ)
+last_line [] = []
+last_line (byte ∷ bytes) = (byte ∷ bytes) ∷ []
+
+-- all lines of an input that has ended
+abbrev pub lines : List ℕ → List (List ℕ)
+lines input = whole_lines input ++ last_line (begun_line input)

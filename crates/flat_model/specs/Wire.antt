@@ -1,0 +1,74 @@
+-- Two machines on one wire (this project's own). The wire loses, repeats and reorders packets, and others send on it
+-- too, but nobody forges the first machine's address.
+use Rattle.std.specs.Prelude.{◌≡◌, ◌≢◌, ◌⊎◌, ℕ, ◌<◌, ◌^◌, List, ◌∷◌, ◌++◌, length, filter_map, All, Contains, Option, Some, None}
+use Rattle.flat_model.specs.Header.{u32_at}
+use Rattle.flat_model.specs.Event.{Event, Reply, Send, Sent, Comes, Transmit, Given}
+use Rattle.flat_model.specs.State.{IsConfig, State, Socket, Datagram, boot, socket_at}
+use Rattle.flat_model.specs.declared.config.Config.{Config}
+use Rattle.flat_model.specs.Send.{target}
+use Rattle.flat_model.specs.Ledger.{Ledger}
+use Rattle.flat_model.specs.Step.{StepBy}
+use Rattle.flat_model.specs.Run.{Turn, Leads}
+use Rattle.flat_model.specs.declared.address.Addr.{Addr}
+
+-- the packet that an answer gave to the link
+abbrev pub given : Event → Reply → Option (List ℕ)
+given Transmit (Given packet) = packet
+given _ _ = None
+
+-- the same of a turn
+abbrev pub packet_out : Turn → Option (List ℕ)
+packet_out turn = given turn.event turn.reply
+
+-- the packet that came in an event
+abbrev pub came_in : Event → Option (List ℕ)
+came_in (Comes packet) = Some packet
+came_in _ = None
+
+-- the same of a turn
+abbrev pub packet_in : Turn → Option (List ℕ)
+packet_in turn = came_in turn.event
+
+-- the source that a packet names
+abbrev pub source_of : List ℕ → ℕ
+source_of packet = u32_at 12 packet
+
+-- A send that a run answered with its number of bytes: from which port, and where to,
+-- 0.0.0.0 and 255.255.255.255 read as the machine reads them.
+pub record IsAnswered (L : Ledger) (config : Config) (turns : List Turn) (port : ℕ) (to : Addr) (bytes : List ℕ) : Type 0 where
+  pub before : List Turn
+  pub after : List Turn
+  pub fd : ℕ
+  pub address : Option Addr
+  pub turns_are : turns ≡ before ++ record { event = Send fd address bytes; reply = Sent (length bytes) } ∷ after
+  pub old : State
+  pub new : State
+  pub leads : Leads L (boot config) before old
+  pub step : StepBy L old (Send fd address bytes) (Sent (length bytes)) new
+  pub me : Socket
+  pub then' : Socket
+  pub found : socket_at fd old ≡ Some me
+  pub sends_to : to ≡ target old me address
+  pub found_then : socket_at fd new ≡ Some then'
+  pub from_port : then'.port ≡ Some port
+
+-- Two runs from the start, by machines that answer for their buffers in any way. What comes to the second from the
+-- first's address is what the first gave out, in any order and any number of times. The first sends less often than
+-- its identifications repeat, and the second doesn't have the first's address.
+pub record AreWired (L M : Ledger) (first second : Config) (sent came : List Turn) (s t : State) : Type 0 where
+  pub first_boots : IsConfig first
+  pub second_boots : IsConfig second
+  pub first_runs : Leads L (boot first) sent s
+  pub second_runs : Leads M (boot second) came t
+  pub not_addr : first.addr ≢ second.addr
+  pub not_bcast : first.addr ≢ second.bcast
+  pub few : s.counters.ip_localout < 2 ^ 16
+  pub wire : All (λ packet. source_of packet ≡ first.addr → Contains (filter_map packet_out sent) packet) (filter_map packet_in came)
+
+-- Then what waits in the second's queues with the first's address as its sender was sent so by the first, whole, from
+-- that port and to one of the second's addresses and the port of the socket that has it, and the send was answered with its
+-- number of bytes. Since a run may end anywhere, this is so of all that was ever queued.
+abbrev pub WireLaw : Ledger → Ledger → Type 0
+WireLaw L M = (first second : Config) (sent came : List Turn) (s t : State) → AreWired L M first second sent came s t →
+    (socket : Socket) (d : Datagram) → Contains t.sockets socket → Contains socket.queue d → d.sender.ip ≡ first.addr →
+    (to : Addr) × IsAnswered L first sent d.sender.port to d.item.bytes × (socket.port ≡ Some to.port) × ((to.ip ≡ second.addr) ⊎ (to.ip ≡ second.bcast))

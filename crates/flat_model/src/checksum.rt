@@ -1,0 +1,57 @@
+//! The fold of the Internet checksum (RFC 1071): the plain program, and the law that ties the definition
+//! to the standard's words.
+ghost use Rattle.std.specs.Prelude.{◌≡◌, ℕ, ◌+◌, ◌/◌, ◌%◌, ◌<◌};
+ghost use Rattle.flat_model.specs.Checksum.{fold16, folded_sum};
+
+/// The folded sum of the words of `bytes`, one pair at a time, as RFC 1071 section 1 tells it.
+///
+/// It is slow on purpose: faster programs are compared with it.
+pub fn fold(bytes: &[u8]) -> u16
+    ensures { result ≡ folded_sum bytes.now }
+{
+    let mut sum = 0u16;
+    let mut rest = bytes;
+    while let [high, low, after @ ..] = rest {
+        sum = add_word(sum, u16::from_be_bytes([*high, *low]));
+        rest = after;
+    }
+    match rest {
+        [high, ..] => add_word(sum, u16::from_be_bytes([*high, 0])),
+        [] => sum,
+    }
+}
+
+// One's complement addition: the carry out of 16 bits is added at the low end.
+fn add_word(sum: u16, word: u16) -> u16
+    ensures { result ≡ fold16 (sum + word) }
+{
+    let wide = u32::from(sum) + u32::from(word);
+    ((wide & 0xffff) + (wide >> 16)) as u16
+}
+
+/// `fold16` is what is left of a sum where its part above 16 bits is added to its low 16 bits until it
+/// fits. Each such step makes a sum of more than 16 bits smaller, so the two clauses have one solution.
+pub fn fold_law()
+    ensures carried { (sum : ℕ) → fold16 (sum / 65536 + sum % 65536) ≡ fold16 sum }
+    ensures fits { (sum : ℕ) → sum < 65536 → fold16 sum ≡ sum }
+{}
+
+#[cfg(test)]
+mod tests {
+    use super::fold;
+
+    #[test]
+    fn folds_outside_vectors(rt: HostRuntime) {
+        // RFC 1071 section 3, whole and without its last byte; a word and its complement; no bytes.
+        let vectors: [(&[u8], u16); 5] = [
+            (&[0x00, 0x01, 0xf2, 0x03, 0xf4, 0xf5, 0xf6, 0xf7], 0xddf2),
+            (&[0x00, 0x01, 0xf2, 0x03, 0xf4, 0xf5, 0xf6], 0xdcfb),
+            (&[0x12, 0x34, 0xed, 0xcb], 0xffff),
+            (&[0x01], 0x0100),
+            (&[], 0),
+        ];
+        for (bytes, folded) in vectors {
+            assert_eq!(rt; fold(bytes), folded);
+        }
+    }
+}

@@ -1,0 +1,63 @@
+//! Laws of the definitions. Each is a function that does nothing, and its contract is the law.
+ghost use Rattle.std.specs.Prelude.{◌≡◌, ◌+◌, ℕ, List, [], ◌≤◌, ◌<◌, length, All};
+ghost use Rattle.flat_model.specs.Overlay.{Fragment};
+ghost use Rattle.flat_model.specs.Weight.{nothing};
+ghost use Rattle.flat_model.specs.Ledger.{exact_ledger, loose_ledger, weight_of_state, free_mbufs, free_clusters, usage_of};
+ghost use Rattle.flat_model.specs.Event.{Event, Reply, IsEvent};
+ghost use Rattle.flat_model.specs.State.{IsConfig, State, boot};
+ghost use Rattle.flat_model.specs.Consistent.{IsConsistent};
+ghost use Rattle.flat_model.specs.Step.{Step, Loose};
+ghost use Rattle.flat_model.specs.Run.{Turn, Leads, Run};
+ghost use Rattle.flat_model.specs.declared.config.Config.{Config};
+ghost use Rattle.flat_model.specs.Wire.{WireLaw};
+ghost use Rattle.flat_model.specs.Laws.{CutsJoin, IsFragmentOf, OverlayOrder};
+
+/// The parts of a string put together are the string. All but the last are a multiple of 8 long, and
+/// each packet is at most as long as the link takes (RFC 791 section 3.2, "Fragmentation and Reassembly").
+pub fn cuts_join()
+    ensures { (s : List ℕ) (mtu : ℕ) → 28 ≤ mtu → CutsJoin s mtu }
+{}
+
+/// The order in which the parts of a cut string come, and how often, makes no difference to what is
+/// put together of them.
+pub fn overlay_order()
+    ensures { (s : List ℕ) (mtu : ℕ) (fragments : List Fragment) → 0 < length s → 28 ≤ mtu →
+        All (IsFragmentOf s mtu) fragments → OverlayOrder s mtu fragments }
+{}
+
+/// Two machines on one wire that loses, repeats and reorders: what waits in the second machine's queues
+/// with the first machine's address as its sender was sent so, whole, by the first.
+pub fn wire_law()
+    ensures { WireLaw exact_ledger exact_ledger }
+{}
+
+/// The machine that keeps exact books of its buffers does nothing that the machine without books may not do:
+/// each of its steps is a step of that one, and so each of its runs is a run.
+pub fn exact_is_loose()
+    ensures step { (old new : State) (event : Event) (reply : Reply) →
+        Step old event reply new → Loose old event reply new }
+    ensures run { (config : Config) (turns : List Turn) (new : State) →
+        Run config turns new → Leads loose_ledger (boot config) turns new }
+{}
+
+/// What holds of every state that the machine reaches: its books are never overdrawn, what it holds refers
+/// to clusters of the pool and has room for its bytes, descriptors and keys differ, and every number is
+/// within its limits. It holds at the start, and every step of the exact machine keeps it.
+pub fn states_are_consistent()
+    ensures start { (config : Config) → IsConfig config → IsConsistent (boot config) }
+    ensures step { (old new : State) (event : Event) (reply : Reply) →
+        IsConsistent old → IsEvent event → Step old event reply new → IsConsistent new }
+    ensures run { (config : Config) (turns : List Turn) (new : State) →
+        IsConfig config → Run config turns new → IsConsistent new }
+{}
+
+/// The books balance: free and held mbufs are all that there are, the counts of all clusters add up to the
+/// references, and where nothing is held everything is free.
+pub fn books_balance()
+    ensures mbufs { (s : State) → IsConsistent s →
+        free_mbufs s nothing + (weight_of_state s).mbufs ≡ s.config.mbufs }
+    ensures references { (s : State) → IsConsistent s →
+        (usage_of s).refs ≡ length (weight_of_state s).bag }
+    ensures nothing_held { (s : State) → s.sockets ≡ [] → s.unfinished ≡ [] → s.output ≡ [] →
+        (free_mbufs s nothing ≡ s.config.mbufs) × (free_clusters s nothing ≡ s.config.clusters) }
+{}

@@ -1,0 +1,24 @@
+//! The machine that a datagram stack has to be: it keeps flat byte strings with weights, and no buffer,
+//! link or place is in it. `specs/` holds its definitions, and this crate the plain types that they share
+//! with the code, and the laws that hold of them.
+#![tactic(auto)]
+
+mod address;
+mod checksum;
+mod config;
+mod counters;
+mod errno;
+mod laws;
+mod option;
+mod usage;
+
+pub use address::Addr;
+pub use checksum::{fold, fold_law};
+pub use config::Config;
+pub use counters::{Counters, Why};
+pub use errno::{Errno, Lack};
+pub use laws::{
+    books_balance, cuts_join, exact_is_loose, overlay_order, states_are_consistent, wire_law,
+};
+pub use option::Opt;
+pub use usage::Mbstat;
