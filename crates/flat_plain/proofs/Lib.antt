@@ -1,0 +1,4 @@
+pub mod Filling
+pub mod Cutting
+pub mod Heading
+pub mod Placing

@@ -1,0 +1,6 @@
+-- A head of the programs as a head of the definitions.
+use Rattle.flat_model.specs.Header as Header
+use Rattle.flat_plain.specs.declared.headers.Head.{Head}
+
+abbrev pub head_for : Head → Header.Head
+head_for h = record { id = h.id; more = h.more; offset = h.offset; protocol = h.protocol; source = h.source; destination = h.destination }

@@ -1,0 +1,9 @@
+-- A machine with these control blocks, whose last ephemeral port is known. What else there is makes no difference
+-- to the choice of a port.
+use Rattle.std.specs.Prelude.{ℕ, List, Option}
+use Rattle.flat_model.specs.State.{State, boot}
+use Rattle.flat_plain.specs.declared.lookup.Pcb.{Pcb}
+use Rattle.flat_plain.specs.Blocks.{sockets_of}
+
+abbrev pub state_of : List Pcb → Option ℕ → State
+state_of blocks last = record (boot (record { addr = 0; bcast = 0; mtu = 0; mbufs = 0; clusters = 0; first_id = 0 })) { sockets = sockets_of blocks; last_port = last }

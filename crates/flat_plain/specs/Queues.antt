@@ -1,0 +1,14 @@
+-- A queue of the programs as a queue of the definitions. Which bytes and which clusters there are makes no
+-- difference to its limits: all are 0.
+use Rattle.std.specs.Prelude.{List, map, replicate}
+use Rattle.flat_model.specs.State.{Datagram}
+use Rattle.flat_plain.specs.declared.queues.Waiting.{Waiting}
+
+abbrev pub datagram_of : Waiting → Datagram
+datagram_of w = record {
+  sender = record { ip = 0; port = 0 };
+  item = record { bytes = replicate w.len 0; weight = record { mbufs = w.mbufs; bag = replicate w.references 0 } };
+}
+
+abbrev pub queue_of : List Waiting → List Datagram
+queue_of queue = map datagram_of queue

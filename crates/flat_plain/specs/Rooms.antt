@@ -1,0 +1,12 @@
+-- A room of the programs as a room of the definitions.
+use Rattle.std.specs.Prelude.{List, map}
+use Rattle.flat_model.specs.Layout as Layout
+use Rattle.flat_plain.specs.declared.rooms.Room.{Room}
+use Rattle.flat_plain.specs.declared.rooms.Room.TheVariants.{InMbuf, InCluster}
+
+abbrev pub room_of : Room → Layout.Room
+room_of (InMbuf size) = Layout.Plain size
+room_of (InCluster size) = Layout.Cluster size
+
+abbrev pub rooms_of : List Room → List Layout.Room
+rooms_of rooms = map room_of rooms

@@ -1,0 +1,26 @@
+//! The definitions of `flat_model` that compute, as small programs over slices and vectors.
+//!
+//! Each is proved to give its definition, and is slow on purpose: tests of the real crates compare their
+//! results with these, and the tests here run them on values from outside. They stand apart from
+//! `flat_model` so that every other crate is checked over a base of definitions and laws alone.
+#![tactic(auto)]
+
+mod headers;
+mod lookup;
+mod maps;
+mod needs;
+mod parts;
+mod ports;
+mod queues;
+mod rooms;
+mod sums;
+
+pub use headers::{Head, head_fault, head_of, packet, udp, udp_fault};
+pub use lookup::{Pcb, Sought, best, exact, matches, receivers, score};
+pub use maps::{Cell, Fragment, is_covered, overlay, whole};
+pub use needs::{Buffers, need, need_bcast};
+pub use parts::{Part, cuts};
+pub use ports::next_port;
+pub use queues::{Waiting, fits};
+pub use rooms::{Room, meets, sent, user, wire};
+pub use sums::checksum;

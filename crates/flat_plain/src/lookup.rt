@@ -1,0 +1,380 @@
+//! Which socket a packet or a call finds. Lists have the youngest first.
+ghost use Rattle.std.specs.Prelude.{◌≡◌, ◌≤◌, ◌++◌, ◌==◌, filter, not, if◌then◌else◌, OnOk, IfOk, Some, None};
+ghost use Rattle.std.specs.Option.{option_map};
+ghost use Rattle.flat_model.specs.Lookup as Lookup;
+ghost use Rattle.flat_plain.specs.Blocks.{socket_of, sockets_of, sought_of};
+
+use flat_model::Addr;
+use std::alloc::{AllocError, Global};
+
+/// What a lookup reads of an open socket.
+#[derive(Clone, Copy, Debug, PartialEq, Eq)]
+pub struct Pcb {
+    pub fd: u32,
+    pub local: Option<u32>,
+    pub port: Option<u16>,
+    pub peer: Option<Addr>,
+    pub reuse_port: bool,
+}
+
+/// What is looked for. A packet has all of it set.
+#[derive(Clone, Copy, Debug, PartialEq, Eq)]
+pub struct Sought {
+    pub local: Option<u32>,
+    pub port: Option<u16>,
+    pub peer: Option<Addr>,
+}
+
+fn is_addr(a: Addr, b: Addr) -> bool
+    ensures { result ≡ Lookup.is_addr a b }
+{
+    a.ip == b.ip && a.port == b.port
+}
+
+fn are_same(a: Option<u16>, b: Option<u16>) -> bool
+    ensures { result ≡ Lookup.are_same a b }
+{
+    match (a, b) {
+        (Some(p), Some(q)) => p == q,
+        _ => false,
+    }
+}
+
+fn agree_local(a: Option<u32>, b: Option<u32>) -> bool
+    ensures { result ≡ Lookup.agree ◌==◌ a b }
+{
+    match (a, b) {
+        (Some(p), Some(q)) => p == q,
+        _ => true,
+    }
+}
+
+fn agree_peer(a: Option<Addr>, b: Option<Addr>) -> bool
+    ensures { result ≡ Lookup.agree Lookup.is_addr a b }
+{
+    match (a, b) {
+        (Some(p), Some(q)) => is_addr(p, q),
+        _ => true,
+    }
+}
+
+fn one_local(a: Option<u32>, b: Option<u32>) -> u32
+    ensures value { result ≡ Lookup.one_sided a b }
+    ensures most { result ≤ 1 }
+{
+    match (a, b) {
+        (Some(_), Some(_)) | (None, None) => 0,
+        _ => 1,
+    }
+}
+
+fn one_peer(a: Option<Addr>, b: Option<Addr>) -> u32
+    ensures value { result ≡ Lookup.one_sided a b }
+    ensures most { result ≤ 1 }
+{
+    match (a, b) {
+        (Some(_), Some(_)) | (None, None) => 0,
+        _ => 1,
+    }
+}
+
+/// Whether nothing that is set on both sides differs, and the ports are set and equal.
+pub fn matches(q: Sought, pcb: Pcb) -> bool
+    ensures { result ≡ Lookup.matches (sought_of q) (socket_of pcb) }
+{
+    are_same(pcb.port, q.port) && agree_local(pcb.local, q.local) && agree_peer(pcb.peer, q.peer)
+}
+
+fn wildcards(q: Sought, pcb: Pcb) -> u32
+    ensures { result ≡ Lookup.wildcards (sought_of q) (socket_of pcb) }
+{
+    one_local(pcb.local, q.local) + one_peer(pcb.peer, q.peer)
+}
+
+/// How many wildcards a control block takes, where it matches.
+pub fn score(q: Sought, pcb: Pcb) -> Option<u32>
+    ensures { result ≡ Lookup.score (sought_of q) (socket_of pcb) }
+{
+    if matches(q, pcb) {
+        Some(wildcards(q, pcb))
+    } else {
+        None
+    }
+}
+
+// The youngest that matches with so many wildcards.
+fn youngest(wanted: u32, q: Sought, pcbs: &[Pcb]) -> Option<Pcb>
+    ensures { option_map socket_of result ≡ Lookup.youngest wanted (sought_of q) (sockets_of pcbs.now) }
+{
+    match pcbs {
+        [] => None,
+        [pcb, rest @ ..] => {
+            if matches(q, *pcb) && wildcards(q, *pcb) == wanted {
+                Some(*pcb)
+            } else {
+                youngest(wanted, q, rest)
+            }
+        }
+    }
+}
+
+/// The control block without a wildcard, the youngest of several.
+pub fn exact(q: Sought, pcbs: &[Pcb]) -> Option<Pcb>
+    ensures { option_map socket_of result ≡ Lookup.exact (sought_of q) (sockets_of pcbs.now) }
+{
+    let wanted = 0;
+    youngest(wanted, q, pcbs)
+}
+
+/// The control block with the fewest wildcards, the youngest of several.
+pub fn best(q: Sought, pcbs: &[Pcb]) -> Option<Pcb>
+    ensures { option_map socket_of result ≡ Lookup.best (sought_of q) (sockets_of pcbs.now) }
+{
+    let found = youngest(0, q, pcbs);
+    if found.is_some() {
+        return found;
+    }
+    let found = youngest(1, q, pcbs);
+    if found.is_some() {
+        return found;
+    }
+    youngest(2, q, pcbs)
+}
+
+// Adds those that hear a broadcast.
+fn hear(found: &mut Vec<Pcb>, q: Sought, pcbs: &[Pcb]) -> Result<(), AllocError>
+    ensures { OnOk result (sockets_of found.new.items
+        ≡ sockets_of found.old.items ++ Lookup.receivers (sought_of q) (sockets_of pcbs.now)) }
+{
+    match pcbs {
+        [] => Ok(()),
+        [pcb, rest @ ..] => {
+            if matches(q, *pcb) {
+                found.push(*pcb)?;
+                if !pcb.reuse_port {
+                    return Ok(());
+                }
+            }
+            hear(found, q, rest)?;
+            Ok(())
+        }
+    }
+}
+
+/// All that hear a broadcast, up to the first one that doesn't share its port.
+pub fn receivers(alloc: Global, q: Sought, pcbs: &[Pcb]) -> Result<Vec<Pcb>, AllocError>
+    ensures { IfOk result (λ v. sockets_of v.items ≡
+        Lookup.receivers (sought_of q) (sockets_of pcbs.now)) }
+{
+    let mut found = Vec::new(alloc);
+    hear(&mut found, q, pcbs)?;
+    Ok(found)
+}
+
+#[cfg(test)]
+mod tests {
+    use super::*;
+    use std::test::Fail;
+
+    const HERE: u32 = 0x0a00_0001;
+
+    const OTHER: Addr = Addr {
+        ip: 0x0a00_0002,
+        port: 5000,
+    };
+
+    // A socket with port 7.
+    fn pcb(fd: u32, local: Option<u32>, peer: Option<Addr>) -> Pcb {
+        Pcb {
+            fd,
+            local,
+            port: Some(7),
+            peer,
+            reuse_port: false,
+        }
+    }
+
+    // A packet to port 7.
+    fn from(peer: Addr) -> Sought {
+        Sought {
+            local: Some(HERE),
+            port: Some(7),
+            peer: Some(peer),
+        }
+    }
+
+    #[test]
+    fn scores(rt: HostRuntime) {
+        let q = from(OTHER);
+        assert_eq!(rt; score(q, pcb(3, Some(HERE), Some(OTHER))), Some(0));
+        assert_eq!(rt; score(q, pcb(3, None, Some(OTHER))), Some(1));
+        assert_eq!(rt; score(q, pcb(3, Some(HERE), None)), Some(1));
+        assert_eq!(rt; score(q, pcb(3, None, None)), Some(2));
+        assert_eq!(rt; score(q, pcb(3, Some(0x7f00_0001), None)), None);
+        assert_eq!(rt;
+            score(
+                q,
+                pcb(
+                    3,
+                    None,
+                    Some(Addr {
+                        ip: OTHER.ip,
+                        port: 5001
+                    })
+                )
+            ),
+            None
+        );
+        assert_eq!(rt;
+            score(
+                q,
+                pcb(
+                    3,
+                    None,
+                    Some(Addr {
+                        ip: HERE,
+                        port: 5000
+                    })
+                )
+            ),
+            None
+        );
+        assert_eq!(rt;
+            score(
+                q,
+                Pcb {
+                    fd: 3,
+                    local: None,
+                    port: Some(8),
+                    peer: None,
+                    reuse_port: false
+                }
+            ),
+            None
+        );
+        assert_eq!(rt;
+            score(
+                q,
+                Pcb {
+                    fd: 3,
+                    local: None,
+                    port: None,
+                    peer: None,
+                    reuse_port: false
+                }
+            ),
+            None
+        );
+    }
+
+    // What is set where nothing is looked for counts as a wildcard too.
+    #[test]
+    fn unset_is_sought(rt: HostRuntime) {
+        let q = Sought {
+            local: None,
+            port: Some(7),
+            peer: None,
+        };
+        assert_eq!(rt; score(q, pcb(3, None, None)), Some(0));
+        assert_eq!(rt; score(q, pcb(3, Some(HERE), None)), Some(1));
+        assert_eq!(rt; score(q, pcb(3, Some(HERE), Some(OTHER))), Some(2));
+        let unbound = Pcb {
+            fd: 3,
+            local: None,
+            port: None,
+            peer: None,
+            reuse_port: false,
+        };
+        assert_eq!(rt;
+            score(
+                Sought {
+                    local: None,
+                    port: None,
+                    peer: None
+                },
+                unbound
+            ),
+            None
+        );
+    }
+
+    // 0.0.0.0 and port 0 in a packet are set, and no wildcards.
+    #[test]
+    fn zero_is_set(rt: HostRuntime) {
+        let zero = Addr { ip: 0, port: 0 };
+        assert_eq!(rt; score(from(zero), pcb(3, None, None)), Some(2));
+        assert_eq!(rt; score(from(zero), pcb(3, None, Some(OTHER))), None);
+        let to_zero = Sought {
+            local: Some(HERE),
+            port: Some(0),
+            peer: Some(OTHER),
+        };
+        assert_eq!(rt;
+            score(
+                to_zero,
+                Pcb {
+                    fd: 3,
+                    local: None,
+                    port: None,
+                    peer: None,
+                    reuse_port: false
+                }
+            ),
+            None
+        );
+        assert_eq!(rt; score(to_zero, pcb(3, None, None)), None);
+    }
+
+    // The youngest stands first, whatever its descriptor.
+    #[test]
+    fn the_best(rt: HostRuntime) {
+        let q = from(OTHER);
+        let young = pcb(3, None, None);
+        let old = pcb(9, None, None);
+        assert_eq!(rt; best(q, &[young, old]), Some(young));
+        assert_eq!(rt; best(q, &[old, young]), Some(old));
+        let bound = pcb(5, Some(HERE), None);
+        assert_eq!(rt; best(q, &[young, bound, old]), Some(bound));
+        let connected = pcb(4, Some(HERE), Some(OTHER));
+        assert_eq!(rt; best(q, &[young, bound, old, connected]), Some(connected));
+        assert_eq!(rt; exact(q, &[young, bound, connected, old]), Some(connected));
+        assert_eq!(rt; exact(q, &[young, bound]), None);
+        assert_eq!(rt; best(q, &[]), None);
+    }
+
+    #[test]
+    fn who_hears(rt: HostRuntime) -> Result<(), Fail> {
+        let alloc = rt.alloc();
+        let q = from(OTHER);
+        let sharing = |fd| Pcb {
+            fd,
+            local: None,
+            port: Some(7),
+            peer: None,
+            reuse_port: true,
+        };
+        let (a, b, c) = (sharing(6), sharing(3), pcb(5, None, None));
+        assert_eq!(rt;
+            receivers(alloc, q, &[a, b, c])?.as_slice(),
+            [a, b, c].as_slice()
+        );
+        assert_eq!(rt;
+            receivers(alloc, q, &[a, c, b])?.as_slice(),
+            [a, c].as_slice()
+        );
+        assert_eq!(rt; receivers(alloc, q, &[c, a, b])?.as_slice(), [c].as_slice());
+        let elsewhere = Pcb {
+            fd: 8,
+            local: Some(0x7f00_0001),
+            port: Some(7),
+            peer: None,
+            reuse_port: false,
+        };
+        assert_eq!(rt;
+            receivers(alloc, q, &[elsewhere, a])?.as_slice(),
+            [a].as_slice()
+        );
+        assert_eq!(rt; receivers(alloc, q, &[elsewhere])?.len(), 0);
+        Ok(())
+    }
+}

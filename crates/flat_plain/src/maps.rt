@@ -1,0 +1,336 @@
+//! The bytes of an unfinished datagram, as a table with a place for each offset.
+ghost use Rattle.std.specs.Prelude.{◌≡◌, ℕ, ◌+◌, ◌<◌, ◌≤◌, ◌&&◌, nat_lt, length, count_by, true, false, None, IsSome, IfSome, IfNone};
+ghost use Rattle.std.specs.List.{range_with_len};
+ghost use Rattle.flat_model.specs.Overlay as Overlay;
+ghost use Rattle.flat_model.specs.Whole.{IsWhole};
+ghost use Rattle.flat_plain.specs.Tables.{map_of, held_of, fragment_of, more_of};
+
+/// What lies at an offset, and the piece that brought it.
+#[derive(Clone, Copy, Debug, PartialEq, Eq)]
+pub struct Cell {
+    pub byte: u8,
+    /// The least offset that the piece owns.
+    pub first: u32,
+    /// Whether more come behind the piece.
+    pub more: bool,
+    /// What the piece weighs; it refers to no cluster.
+    pub mbufs: u32,
+}
+
+// Whether what lies there stays where a fragment at this offset comes.
+fn stays(offset: u32, cell: Option<Cell>) -> bool
+    ensures { result ≡ Overlay.stays offset (held_of cell) }
+{
+    match cell {
+        None => false,
+        Some(cell) => cell.first <= offset,
+    }
+}
+
+// At how many of n offsets from `at` on what lies there stays.
+fn staying(cells: &[Option<Cell>], offset: u32, at: u32, n: u32) -> u32
+    requires inside { at + n ≤ length cells.now }
+    requires small { length cells.now ≤ 65536 }
+    ensures number { result ≡
+        count_by (λ k. Overlay.stays offset (map_of cells.now k)) (range_with_len at n) }
+    ensures most { result ≤ n }
+{
+    if n == 0 {
+        return 0;
+    }
+    let later = staying(cells, offset, at + 1, n - 1);
+    if stays(offset, cells[at as usize]) {
+        later + 1
+    } else {
+        later
+    }
+}
+
+/// Where a fragment begins, whether more come behind it, and what it weighs.
+#[derive(Clone, Copy, Debug, PartialEq, Eq)]
+pub struct Fragment {
+    pub offset: u32,
+    pub more: bool,
+    pub mbufs: u32,
+}
+
+// Whether the offset is one of the fragment's.
+fn is_within(fragment: Fragment, bytes: &[u8], k: u32) -> bool
+    requires small { length bytes.now ≤ 65536 }
+    requires offset { fragment.offset ≤ 65536 }
+    ensures { result ≡ Overlay.is_within
+        (fragment_of fragment.offset bytes.now fragment.more fragment.mbufs) k }
+{
+    fragment.offset <= k && k < fragment.offset + bytes.len() as u32
+}
+
+// Whether a piece begins between these two offsets.
+fn begins_between(first: u32, offset: u32, behind: u32) -> bool
+    ensures { result ≡ (nat_lt offset first && nat_lt first behind) }
+{
+    offset < first && first < behind
+}
+
+// What lies at an offset once the fragment is laid over it.
+fn laid(old: Option<Cell>, k: u32, fragment: Fragment, first: u32, bytes: &[u8]) -> Option<Cell>
+    requires small { length bytes.now ≤ 65536 }
+    requires offset { fragment.offset ≤ 65536 }
+    ensures { (map : Overlay.Map) → map k ≡ held_of old →
+        Overlay.first_owned map (fragment_of fragment.offset bytes.now fragment.more fragment.mbufs) ≡ first →
+        held_of result
+        ≡ Overlay.overlay map (fragment_of fragment.offset bytes.now fragment.more fragment.mbufs) k }
+{
+    let behind = fragment.offset + bytes.len() as u32;
+    let within = is_within(fragment, bytes, k);
+    match old {
+        None => {
+            if within {
+                let byte = bytes[(k - fragment.offset) as usize];
+                return Some(Cell {
+                    byte,
+                    first,
+                    more: fragment.more,
+                    mbufs: fragment.mbufs,
+                });
+            }
+            None
+        }
+        Some(cell) => {
+            if within {
+                if cell.first <= fragment.offset {
+                    return Some(cell);
+                }
+                let byte = bytes[(k - fragment.offset) as usize];
+                return Some(Cell {
+                    byte,
+                    first,
+                    more: fragment.more,
+                    mbufs: fragment.mbufs,
+                });
+            }
+            if begins_between(cell.first, fragment.offset, behind) {
+                return Some(Cell {
+                    byte: cell.byte,
+                    first: behind,
+                    more: cell.more,
+                    mbufs: cell.mbufs,
+                });
+            }
+            Some(cell)
+        }
+    }
+}
+
+/// Whether every byte of a fragment is held already by pieces that begin no later. The table is long enough
+/// for the fragment.
+pub fn is_covered(cells: &[Option<Cell>], fragment: Fragment, bytes: &[u8]) -> bool
+    requires small { length cells.now ≤ 65536 }
+    requires inside { fragment.offset + length bytes.now ≤ length cells.now }
+    ensures { result
+        ≡ Overlay.is_covered (map_of cells.now) (fragment_of fragment.offset bytes.now fragment.more fragment.mbufs) }
+{
+    first_owned(cells, fragment, bytes) >= fragment.offset + bytes.len() as u32
+}
+
+// The least offset that the fragment's piece will own.
+fn first_owned(cells: &[Option<Cell>], fragment: Fragment, bytes: &[u8]) -> u32
+    requires small { length cells.now ≤ 65536 }
+    requires inside { fragment.offset + length bytes.now ≤ length cells.now }
+    ensures { result
+        ≡ Overlay.first_owned (map_of cells.now) (fragment_of fragment.offset bytes.now fragment.more fragment.mbufs) }
+{
+    fragment.offset + staying(cells, fragment.offset, fragment.offset, bytes.len() as u32)
+}
+
+/// Lays a fragment over the table, which is long enough for it and has at most 65,536 places.
+pub fn overlay(cells: &mut [Option<Cell>], fragment: Fragment, bytes: &[u8])
+    requires small { length cells.old ≤ 65536 }
+    requires inside { fragment.offset + length bytes.now ≤ length cells.old }
+    ensures { (k : ℕ) → map_of cells.new k ≡
+        Overlay.overlay (map_of cells.old) (fragment_of fragment.offset bytes.now fragment.more fragment.mbufs) k }
+{
+    let first = first_owned(cells, fragment, bytes);
+    for k in 0..cells.len() {
+        cells[k] = laid(cells[k], k as u32, fragment, first, bytes);
+    }
+}
+
+// How many places in front have a byte.
+fn front_len(cells: &[Option<Cell>]) -> usize
+    ensures within { result ≤ length cells.now }
+    ensures filled { (k : ℕ) → k < result → IsSome (map_of cells.now k) }
+    ensures gap { map_of cells.now result ≡ None }
+{
+    for k in 0..cells.len() {
+        if cells[k].is_none() {
+            return k;
+        }
+    }
+    cells.len()
+}
+
+// Whether no place from this one on has a byte.
+fn is_empty_from(cells: &[Option<Cell>], n: usize) -> bool
+    requires { n ≤ length cells.now }
+    ensures yes { result ≡ true → (k : ℕ) → n ≤ k → map_of cells.now k ≡ None }
+    ensures no { result ≡ false → (k : ℕ) × (n ≤ k) × IsSome (map_of cells.now k) }
+{
+    for k in n..cells.len() {
+        if cells[k].is_some() {
+            return false;
+        }
+    }
+    true
+}
+
+// Whether more come behind the piece that lies there.
+fn has_more(cell: Option<Cell>) -> bool
+    ensures { result ≡ more_of (held_of cell) }
+{
+    match cell {
+        None => false,
+        Some(cell) => cell.more,
+    }
+}
+
+/// The length of the datagram where the table has all of it.
+pub fn whole(cells: &[Option<Cell>]) -> Option<usize>
+    ensures some { IfSome result (λ n. IsWhole (map_of cells.now) n) }
+    ensures none { IfNone result ((n : ℕ) → ¬ IsWhole (map_of cells.now) n) }
+{
+    let n = front_len(cells);
+    if n == 0 {
+        return None;
+    }
+    if !is_empty_from(cells, n) {
+        return None;
+    }
+    if has_more(cells[n - 1]) {
+        return None;
+    }
+    Some(n)
+}
+
+#[cfg(test)]
+mod tests {
+    use super::*;
+    use std::alloc::{AllocError, Global};
+    use std::process::Abort;
+    use std::test::Fail;
+
+    // A piece of so many equal bytes; all but the last piece have more behind them.
+    fn lay(rt: &impl Abort, cells: &mut [Option<Cell>], offset: u32, bytes: &[u8], more: bool) {
+        assert!(rt; cells.len() <= 100);
+        assert!(rt; bytes.len() <= cells.len());
+        assert!(rt; offset as usize <= cells.len() - bytes.len());
+        let fragment = Fragment {
+            offset,
+            more,
+            mbufs: 1,
+        };
+        assert!(rt; !is_covered(cells, fragment, bytes));
+        overlay(cells, fragment, bytes);
+    }
+
+    fn covers(rt: &impl Abort, cells: &[Option<Cell>], offset: u32, bytes: &[u8]) -> bool {
+        assert!(rt; cells.len() <= 100);
+        assert!(rt; bytes.len() <= cells.len());
+        assert!(rt; offset as usize <= cells.len() - bytes.len());
+        is_covered(
+            cells,
+            Fragment {
+                offset,
+                more: true,
+                mbufs: 1,
+            },
+            bytes,
+        )
+    }
+
+    // The bytes, with a dot where nothing lies.
+    fn shown(alloc: Global, cells: &[Option<Cell>]) -> Result<Vec<u8>, AllocError> {
+        let mut bytes = Vec::new(alloc);
+        for cell in cells {
+            bytes.push(match cell {
+                None => b'.',
+                Some(cell) => cell.byte,
+            })?;
+        }
+        Ok(bytes)
+    }
+
+    // Each fragment wins over those that begin behind it: first c, then d in front of it, then e.
+    #[test]
+    fn newer_in_front(rt: HostRuntime) -> Result<(), Fail> {
+        let alloc = rt.alloc();
+        let mut cells = [None; 32];
+        lay(&rt, &mut cells, 16, b"cccccccccccccccc", false);
+        lay(&rt, &mut cells, 8, b"dddddddddddddddd", true);
+        assert_eq!(rt;
+            shown(alloc, &cells)?.as_slice(),
+            b"........ddddddddddddddddcccccccc".as_slice()
+        );
+        assert_eq!(rt; whole(&cells), None);
+        lay(&rt, &mut cells, 0, b"eeeeeeeeeeeeeeee", true);
+        assert_eq!(rt;
+            shown(alloc, &cells)?.as_slice(),
+            b"eeeeeeeeeeeeeeeeddddddddcccccccc".as_slice()
+        );
+        assert_eq!(rt; whole(&cells), Some(32));
+        Ok(())
+    }
+
+    // What an older piece holds from its own front on, it keeps.
+    #[test]
+    fn older_in_front(rt: HostRuntime) -> Result<(), Fail> {
+        let alloc = rt.alloc();
+        let mut cells = [None; 24];
+        lay(&rt, &mut cells, 0, b"aaaaaaaaaaaaaaaa", true);
+        assert!(rt; covers(&rt, &cells, 8, b"cccccccc"));
+        assert!(rt; covers(&rt, &cells, 0, b"aaaaaaaaaaaaaaaa"));
+        assert!(rt; !covers(&rt, &cells, 8, b"ccccccccc"));
+        assert_eq!(rt; whole(&cells), None);
+        lay(&rt, &mut cells, 8, b"bbbbbbbbbbbbbbbb", false);
+        assert_eq!(rt;
+            shown(alloc, &cells)?.as_slice(),
+            b"aaaaaaaaaaaaaaaabbbbbbbb".as_slice()
+        );
+        assert_eq!(rt; whole(&cells), Some(24));
+        Ok(())
+    }
+
+    // One that begins in front of several covers them, and takes the front of the last.
+    #[test]
+    fn over_several(rt: HostRuntime) -> Result<(), Fail> {
+        let alloc = rt.alloc();
+        let mut cells = [None; 24];
+        lay(&rt, &mut cells, 4, b"aa", true);
+        lay(&rt, &mut cells, 8, b"bbb", true);
+        lay(&rt, &mut cells, 12, b"cccccccc", true);
+        lay(&rt, &mut cells, 2, b"xxxxxxxxxxxxxx", true);
+        assert_eq!(rt;
+            shown(alloc, &cells)?.as_slice(),
+            b"..xxxxxxxxxxxxxxcccc....".as_slice()
+        );
+        let rest = Cell {
+            byte: b'c',
+            first: 16,
+            more: true,
+            mbufs: 1,
+        };
+        assert_eq!(rt; cells[16], Some(rest));
+        Ok(())
+    }
+
+    // A last piece that has more behind it makes nothing whole, nor one with bytes behind it.
+    #[test]
+    fn not_whole(rt: HostRuntime) {
+        assert_eq!(rt; whole(&[None; 8]), None);
+        let mut cells = [None; 24];
+        lay(&rt, &mut cells, 0, b"aaaaaaaa", true);
+        assert_eq!(rt; whole(&cells), None);
+        lay(&rt, &mut cells, 16, b"cccccccc", true);
+        lay(&rt, &mut cells, 8, b"bbbbbbbb", false);
+        assert_eq!(rt; whole(&cells), None);
+    }
+}

@@ -1,0 +1,138 @@
+//! How many buffers a send needs.
+ghost use Rattle.std.specs.Prelude.{◌≡◌, ◌+◌, ◌*◌, ◌^◌, ◌≤◌, length, map, sum_by, count_by, IfOk};
+ghost use Rattle.flat_model.specs.Layout as Layout;
+ghost use Rattle.flat_plain.specs.Rooms.{rooms_of};
+ghost use Rattle.flat_plain.specs.Parts.{part_of};
+ghost use Rattle.flat_plain.specs.Needs.{need_of};
+
+use crate::parts::{Part, cuts};
+use crate::rooms::{Room, meets, sent};
+use std::alloc::{AllocError, Global};
+
+/// How many free buffers something takes.
+#[derive(Clone, Copy, Debug, PartialEq, Eq)]
+pub struct Buffers {
+    pub mbufs: u64,
+    pub clusters: u64,
+}
+
+// How many of the mbufs refer to a cluster.
+fn clusters_of(rooms: &[Room]) -> u64
+    ensures number { result ≡ count_by Layout.is_cluster (rooms_of rooms.now) }
+    ensures most { result ≤ length rooms.now }
+{
+    match rooms {
+        [] => 0,
+        [room, rest @ ..] => {
+            let later = clusters_of(rest);
+            if room.is_cluster() { later + 1 } else { later }
+        }
+    }
+}
+
+// What these later fragments take, of a send with this layout.
+fn later_mbufs(rooms: &[Room], parts: &[Part]) -> u64
+    requires rooms { length rooms.now ≤ 65536 }
+    requires parts { length parts.now ≤ 65536 }
+    ensures number { result ≡ sum_by (Layout.need_of_part (rooms_of rooms.now)) (map part_of parts.now) }
+    ensures most { result ≤ 131072 * length parts.now }
+{
+    match parts {
+        [] => 0,
+        [part, rest @ ..] => {
+            let from = 20 + part.offset as u64;
+            let here = 1 + meets(rooms, from, from + part.size as u64);
+            here + later_mbufs(rooms, rest)
+        }
+    }
+}
+
+/// What a send of n bytes takes on a link with this MTU.
+pub fn need(alloc: Global, n: u32, mtu: u32) -> Result<Buffers, AllocError>
+    requires short { n ≤ 65507 }
+    requires least { 28 ≤ mtu }
+    requires greatest { mtu ≤ 65535 }
+    ensures { IfOk result (λ r. need_of r ≡ Layout.need n mtu) }
+{
+    let rooms = sent(alloc, n)?;
+    let parts = cuts(alloc, n + 8, mtu)?;
+    let later = match parts.as_slice() {
+        [] => 0,
+        [_, later @ ..] => later_mbufs(&rooms, later),
+    };
+    Ok(Buffers {
+        mbufs: rooms.len() as u64 + later,
+        clusters: clusters_of(&rooms),
+    })
+}
+
+/// What a send of n bytes to the broadcast address takes.
+pub fn need_bcast(alloc: Global, n: u32) -> Result<Buffers, AllocError>
+    requires { n ≤ 65507 }
+    ensures { IfOk result (λ r. need_of r ≡ Layout.need_bcast n) }
+{
+    let rooms = sent(alloc, n)?;
+    Ok(Buffers {
+        mbufs: 2 * rooms.len() as u64,
+        clusters: clusters_of(&rooms),
+    })
+}
+
+#[cfg(test)]
+mod tests {
+    use super::*;
+    use std::test::Fail;
+
+    #[test]
+    fn buffers_of_sends(rt: HostRuntime) -> Result<(), Fail> {
+        assert_eq!(rt;
+            need(rt.alloc(), 0, 1500)?,
+            Buffers {
+                mbufs: 1,
+                clusters: 0
+            }
+        );
+        assert_eq!(rt;
+            need(rt.alloc(), 3000, 1536)?,
+            Buffers {
+                mbufs: 6,
+                clusters: 2
+            }
+        );
+        assert_eq!(rt;
+            need(rt.alloc(), 9216, 1500)?,
+            Buffers {
+                mbufs: 22,
+                clusters: 5
+            }
+        );
+        assert_eq!(rt;
+            need(rt.alloc(), 9216, 68)?,
+            Buffers {
+                mbufs: 393,
+                clusters: 5
+            }
+        );
+        Ok(())
+    }
+
+    // The packet and its copy: an mbuf with the headers and one that refers to the cluster, twice.
+    #[test]
+    fn buffers_of_a_broadcast(rt: HostRuntime) -> Result<(), Fail> {
+        assert_eq!(rt;
+            need_bcast(rt.alloc(), 300)?,
+            Buffers {
+                mbufs: 4,
+                clusters: 1
+            }
+        );
+        assert_eq!(rt;
+            need_bcast(rt.alloc(), 72)?,
+            Buffers {
+                mbufs: 2,
+                clusters: 0
+            }
+        );
+        Ok(())
+    }
+}

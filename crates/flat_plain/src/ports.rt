@@ -1,0 +1,106 @@
+//! Which ephemeral port is chosen next.
+ghost use Rattle.std.specs.Prelude.{◌≡◌, ℕ, ◌<◌, ◌≤◌, true, IfNone, IfSome};
+ghost use Rattle.std.specs.Option.{ForSome};
+ghost use Rattle.flat_model.specs.Calls as Calls;
+ghost use Rattle.flat_plain.specs.Ports.{state_of};
+
+use crate::lookup::{Pcb, Sought, best};
+
+// How many ports are in the circle.
+const CIRCLE: u16 = 3977;
+
+// Whether a lookup with wildcards finds a socket with this local address and port.
+fn is_in_use(pcbs: &[Pcb], last: Option<u16>, local: Option<u32>, port: u16) -> bool
+    ensures { result ≡ Calls.is_in_use (state_of pcbs.now last) local port }
+{
+    best(
+        Sought {
+            local,
+            port: Some(port),
+            peer: None,
+        },
+        pcbs,
+    )
+    .is_some()
+}
+
+// The k-th port behind the last one chosen.
+fn port_behind(last: Option<u16>, k: u16) -> u16
+    requires known { ForSome last (λ p. 1024 ≤ p) }
+    requires small { ForSome last (λ p. p ≤ 5000) }
+    requires turns { k < 3977 }
+    ensures { result ≡ Calls.port_behind last k }
+{
+    match last {
+        None => 1024 + k % CIRCLE,
+        Some(port) => 1024 + (port - 1023 + k) % CIRCLE,
+    }
+}
+
+/// The next ephemeral port for a socket with this local address, where `last` was chosen last. `None` says
+/// that the whole circle is in use, which 64 sockets can't bring about.
+pub fn next_port(pcbs: &[Pcb], last: Option<u16>, local: Option<u32>) -> Option<u16>
+    requires known { ForSome last (λ p. 1024 ≤ p) }
+    requires small { ForSome last (λ p. p ≤ 5000) }
+    ensures found { IfSome result (λ port. Calls.IsNextPort (state_of pcbs.now last) local port) }
+    ensures none { IfNone result ((k : ℕ) → k < 3977 →
+        Calls.is_in_use (state_of pcbs.now last) local (Calls.port_behind last k) ≡ true) }
+{
+    for k in 0..CIRCLE {
+        let port = port_behind(last, k);
+        if !is_in_use(pcbs, last, local, port) {
+            return Some(port);
+        }
+    }
+    None
+}
+
+#[cfg(test)]
+mod tests {
+    use super::*;
+    use std::test::Fail;
+
+    fn bound(port: u16) -> Pcb {
+        Pcb {
+            fd: 3,
+            local: None,
+            port: Some(port),
+            peer: None,
+            reuse_port: false,
+        }
+    }
+
+    #[test]
+    fn circle(rt: HostRuntime) {
+        assert_eq!(rt; next_port(&[], None, None), Some(1024));
+        assert_eq!(rt; next_port(&[], Some(1024), None), Some(1025));
+        assert_eq!(rt; next_port(&[], Some(5000), None), Some(1024));
+        assert_eq!(rt;
+            next_port(&[bound(1024), bound(1026)], None, None),
+            Some(1025)
+        );
+        assert_eq!(rt;
+            next_port(&[bound(1026), bound(1025)], Some(1024), None),
+            Some(1027)
+        );
+        assert_eq!(rt;
+            next_port(&[bound(1024), bound(5000)], Some(4999), None),
+            Some(1025)
+        );
+    }
+
+    // Another local address on both sides leaves the port free.
+    #[test]
+    fn other_address(rt: HostRuntime) {
+        let there = Pcb {
+            fd: 3,
+            local: Some(0x0a00_0001),
+            port: Some(1024),
+            peer: None,
+            reuse_port: false,
+        };
+        assert_eq!(rt; next_port(&[there], None, Some(0x7f00_0001)), Some(1024));
+        assert_eq!(rt; next_port(&[there], None, Some(0x0a00_0001)), Some(1025));
+        assert_eq!(rt; next_port(&[there], None, None), Some(1025));
+    }
+}

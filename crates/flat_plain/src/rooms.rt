@@ -1,0 +1,316 @@
+//! Into which buffers bytes go.
+ghost use Rattle.std.specs.Prelude.{◌≡◌, ◌+◌, ◌*◌, ◌^◌, ◌<◌, ◌≤◌, ◌++◌, length, map, OnOk, IfOk, vec_len};
+ghost use Rattle.flat_model.specs.Layout.{filled, next_room, meets_from, size_of};
+ghost use Rattle.flat_model.specs.Layout as Layout;
+ghost use Rattle.flat_plain.specs.Rooms.{room_of, rooms_of};
+
+use std::alloc::{AllocError, Global};
+
+/// An mbuf of a chain, by the bytes in it.
+#[derive(Clone, Copy, Debug, PartialEq, Eq)]
+pub enum Room {
+    /// So many bytes in the mbuf's own room.
+    InMbuf(u32),
+    /// So many bytes in the cluster to which it refers.
+    InCluster(u32),
+}
+
+impl Room {
+    /// The bytes in it.
+    pub fn size(self) -> u32
+        ensures { result ≡ size_of (room_of self) }
+    {
+        match self {
+            Room::InMbuf(size) | Room::InCluster(size) => size,
+        }
+    }
+
+    /// Whether it refers to a cluster.
+    pub fn is_cluster(self) -> bool
+        ensures { result ≡ Layout.is_cluster (room_of self) }
+    {
+        match self {
+            Room::InMbuf(_) => false,
+            Room::InCluster(_) => true,
+        }
+    }
+}
+
+fn next(large: u32, small: u32, left: u32) -> Room
+    ensures { room_of result ≡ next_room large small left }
+{
+    if left < 208 {
+        Room::InMbuf(left.min(small))
+    } else {
+        Room::InCluster(left.min(large))
+    }
+}
+
+// Adds the mbufs for the bytes left, at most `most` of them.
+fn fill(
+    rooms: &mut Vec<Room>,
+    most: u32,
+    large: u32,
+    small: u32,
+    left: u32,
+) -> Result<(), AllocError>
+    ensures rooms { OnOk result
+        (rooms_of rooms.new.items ≡ rooms_of rooms.old.items ++ filled most large small left) }
+    ensures len { OnOk result (vec_len rooms.new ≤ vec_len rooms.old + most) }
+{
+    if most == 0 || left == 0 {
+        return Ok(());
+    }
+    let room = next(large, small, left);
+    rooms.push(room)?;
+    fill(rooms, most - 1, 2048, 108, left - room.size())?;
+    Ok(())
+}
+
+// The mbufs for n bytes, one of them at least. The first one has the rooms given.
+fn layout(alloc: Global, large: u32, small: u32, n: u32) -> Result<Vec<Room>, AllocError>
+    ensures { IfOk result (λ v. rooms_of v.items ≡ Layout.or_empty (filled n large small n)) }
+{
+    let mut rooms = Vec::new(alloc);
+    if n == 0 {
+        rooms.push(Room::InMbuf(0))?;
+        return Ok(rooms);
+    }
+    fill(&mut rooms, n, large, small, n)?;
+    Ok(rooms)
+}
+
+/// The layout of n bytes to send, without their headers.
+pub fn user(alloc: Global, n: u32) -> Result<Vec<Room>, AllocError>
+    ensures { IfOk result (λ v. rooms_of v.items ≡ Layout.user n) }
+{
+    layout(alloc, 1992, 100, n)
+}
+
+/// The layout of n bytes to send behind the 28 bytes of their headers, for at most 65,507 bytes.
+pub fn sent(alloc: Global, n: u32) -> Result<Vec<Room>, AllocError>
+    requires { n ≤ 65507 }
+    ensures rooms { IfOk result (λ v. rooms_of v.items ≡ Layout.sent n) }
+    ensures len { IfOk result (λ v. vec_len v ≤ n + 1) }
+{
+    let mut rooms = Vec::new(alloc);
+    if n <= 72 {
+        rooms.push(Room::InMbuf(28 + n))?;
+        return Ok(rooms);
+    }
+    rooms.push(Room::InMbuf(28))?;
+    fill(&mut rooms, n, 1992, 100, n)?;
+    Ok(rooms)
+}
+
+/// The layout of a packet of n bytes that arrives.
+pub fn wire(alloc: Global, n: u32) -> Result<Vec<Room>, AllocError>
+    ensures { IfOk result (λ v. rooms_of v.items ≡ Layout.wire n) }
+{
+    layout(alloc, 2048, 100, n)
+}
+
+// How many of these share a byte with the range from a up to b, where the first one begins at `at`.
+fn meets_from(rooms: &[Room], at: u64, a: u64, b: u64) -> u64
+    requires short { at + 2 ^ 32 * length rooms.now < 2 ^ 63 }
+    ensures number { result ≡ length (Layout.meets_from size_of at (rooms_of rooms.now) a b) }
+    ensures most { result ≤ length rooms.now }
+{
+    match rooms {
+        [] => 0,
+        [room, rest @ ..] => {
+            let behind = at + room.size() as u64;
+            let later = meets_from(rest, behind, a, b);
+            if at.max(a) < behind.min(b) {
+                later + 1
+            } else {
+                later
+            }
+        }
+    }
+}
+
+/// How many mbufs of a layout share a byte with the range from a up to b. For layouts of at most 65,536 mbufs.
+pub fn meets(rooms: &[Room], a: u64, b: u64) -> u64
+    requires { length rooms.now ≤ 65536 }
+    ensures number { result ≡ length (Layout.meets (rooms_of rooms.now) a b) }
+    ensures most { result ≤ length rooms.now }
+{
+    meets_from(rooms, 0, a, b)
+}
+
+#[cfg(test)]
+mod tests {
+    use super::*;
+    use std::test::Fail;
+
+    // Few bytes fill plain mbufs of 100 and 108 bytes; from 208 on clusters are taken, the first of 1992.
+    #[test]
+    fn bytes_to_send(rt: HostRuntime) -> Result<(), Fail> {
+        let alloc = rt.alloc();
+        assert_eq!(rt; user(alloc, 0)?.as_slice(), [Room::InMbuf(0)].as_slice());
+        assert_eq!(rt; user(alloc, 1)?.as_slice(), [Room::InMbuf(1)].as_slice());
+        assert_eq!(rt; user(alloc, 72)?.as_slice(), [Room::InMbuf(72)].as_slice());
+        assert_eq!(rt; user(alloc, 73)?.as_slice(), [Room::InMbuf(73)].as_slice());
+        assert_eq!(rt;
+            user(alloc, 100)?.as_slice(),
+            [Room::InMbuf(100)].as_slice()
+        );
+        assert_eq!(rt;
+            user(alloc, 101)?.as_slice(),
+            [Room::InMbuf(100), Room::InMbuf(1)].as_slice()
+        );
+        assert_eq!(rt;
+            user(alloc, 207)?.as_slice(),
+            [Room::InMbuf(100), Room::InMbuf(107)].as_slice()
+        );
+        assert_eq!(rt;
+            user(alloc, 208)?.as_slice(),
+            [Room::InCluster(208)].as_slice()
+        );
+        assert_eq!(rt;
+            user(alloc, 1992)?.as_slice(),
+            [Room::InCluster(1992)].as_slice()
+        );
+        assert_eq!(rt;
+            user(alloc, 1993)?.as_slice(),
+            [Room::InCluster(1992), Room::InMbuf(1)].as_slice()
+        );
+        assert_eq!(rt;
+            user(alloc, 2048)?.as_slice(),
+            [Room::InCluster(1992), Room::InMbuf(56)].as_slice()
+        );
+        assert_eq!(rt;
+            user(alloc, 9216)?.as_slice(),
+            [
+                Room::InCluster(1992),
+                Room::InCluster(2048),
+                Room::InCluster(2048),
+                Room::InCluster(2048),
+                Room::InCluster(1080)
+            ]
+            .as_slice()
+        );
+        Ok(())
+    }
+
+    // The headers share an mbuf with at most 72 bytes.
+    #[test]
+    fn bytes_with_headers(rt: HostRuntime) -> Result<(), Fail> {
+        let alloc = rt.alloc();
+        assert_eq!(rt; sent(alloc, 0)?.as_slice(), [Room::InMbuf(28)].as_slice());
+        assert_eq!(rt; sent(alloc, 1)?.as_slice(), [Room::InMbuf(29)].as_slice());
+        assert_eq!(rt; sent(alloc, 72)?.as_slice(), [Room::InMbuf(100)].as_slice());
+        assert_eq!(rt;
+            sent(alloc, 73)?.as_slice(),
+            [Room::InMbuf(28), Room::InMbuf(73)].as_slice()
+        );
+        assert_eq!(rt;
+            sent(alloc, 100)?.as_slice(),
+            [Room::InMbuf(28), Room::InMbuf(100)].as_slice()
+        );
+        assert_eq!(rt;
+            sent(alloc, 101)?.as_slice(),
+            [Room::InMbuf(28), Room::InMbuf(100), Room::InMbuf(1)].as_slice()
+        );
+        assert_eq!(rt;
+            sent(alloc, 207)?.as_slice(),
+            [Room::InMbuf(28), Room::InMbuf(100), Room::InMbuf(107)].as_slice()
+        );
+        assert_eq!(rt;
+            sent(alloc, 208)?.as_slice(),
+            [Room::InMbuf(28), Room::InCluster(208)].as_slice()
+        );
+        assert_eq!(rt;
+            sent(alloc, 1992)?.as_slice(),
+            [Room::InMbuf(28), Room::InCluster(1992)].as_slice()
+        );
+        assert_eq!(rt;
+            sent(alloc, 1993)?.as_slice(),
+            [Room::InMbuf(28), Room::InCluster(1992), Room::InMbuf(1)].as_slice()
+        );
+        assert_eq!(rt;
+            sent(alloc, 2048)?.as_slice(),
+            [Room::InMbuf(28), Room::InCluster(1992), Room::InMbuf(56)].as_slice()
+        );
+        assert_eq!(rt;
+            sent(alloc, 9216)?.as_slice(),
+            [
+                Room::InMbuf(28),
+                Room::InCluster(1992),
+                Room::InCluster(2048),
+                Room::InCluster(2048),
+                Room::InCluster(2048),
+                Room::InCluster(1080)
+            ]
+            .as_slice()
+        );
+        Ok(())
+    }
+
+    // All clusters of a packet that arrives are full, but for the last one.
+    #[test]
+    fn packets_that_arrive(rt: HostRuntime) -> Result<(), Fail> {
+        let alloc = rt.alloc();
+        assert_eq!(rt; wire(alloc, 0)?.as_slice(), [Room::InMbuf(0)].as_slice());
+        assert_eq!(rt; wire(alloc, 1)?.as_slice(), [Room::InMbuf(1)].as_slice());
+        assert_eq!(rt; wire(alloc, 72)?.as_slice(), [Room::InMbuf(72)].as_slice());
+        assert_eq!(rt; wire(alloc, 73)?.as_slice(), [Room::InMbuf(73)].as_slice());
+        assert_eq!(rt;
+            wire(alloc, 100)?.as_slice(),
+            [Room::InMbuf(100)].as_slice()
+        );
+        assert_eq!(rt;
+            wire(alloc, 101)?.as_slice(),
+            [Room::InMbuf(100), Room::InMbuf(1)].as_slice()
+        );
+        assert_eq!(rt;
+            wire(alloc, 207)?.as_slice(),
+            [Room::InMbuf(100), Room::InMbuf(107)].as_slice()
+        );
+        assert_eq!(rt;
+            wire(alloc, 208)?.as_slice(),
+            [Room::InCluster(208)].as_slice()
+        );
+        assert_eq!(rt;
+            wire(alloc, 1992)?.as_slice(),
+            [Room::InCluster(1992)].as_slice()
+        );
+        assert_eq!(rt;
+            wire(alloc, 1993)?.as_slice(),
+            [Room::InCluster(1993)].as_slice()
+        );
+        assert_eq!(rt;
+            wire(alloc, 2048)?.as_slice(),
+            [Room::InCluster(2048)].as_slice()
+        );
+        assert_eq!(rt;
+            wire(alloc, 9216)?.as_slice(),
+            [
+                Room::InCluster(2048),
+                Room::InCluster(2048),
+                Room::InCluster(2048),
+                Room::InCluster(2048),
+                Room::InCluster(1024)
+            ]
+            .as_slice()
+        );
+        Ok(())
+    }
+
+    #[test]
+    fn mbufs_met(rt: HostRuntime) {
+        let rooms = [
+            Room::InMbuf(28),
+            Room::InCluster(1992),
+            Room::InMbuf(0),
+            Room::InCluster(1008),
+        ];
+        assert_eq!(rt; meets(&rooms, 0, 28), 1);
+        assert_eq!(rt; meets(&rooms, 27, 29), 2);
+        assert_eq!(rt; meets(&rooms, 1532, 3028), 2);
+        assert_eq!(rt; meets(&rooms, 0, 3028), 3);
+        assert_eq!(rt; meets(&rooms, 2020, 2020), 0);
+        assert_eq!(rt; meets(&rooms, 3028, 4000), 0);
+    }
+}
