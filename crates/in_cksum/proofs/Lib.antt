@@ -1,0 +1,3 @@
+pub mod Words
+pub mod Blocks
+pub mod Wrapped

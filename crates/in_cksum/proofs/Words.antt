@@ -1,0 +1,147 @@
+-- The sums of words of bytes that are cut, and the two orders of the bytes in a word.
+use Rattle.std.proofs.Common.{◌≡◌, ℕ, zero, suc, ◌+◌, ◌*◌, ◌/◌, ◌%◌, ◌<◌, ◌≤◌, List, [], ◌∷◌, ◌++◌, length, get_or, slice_index_or, length-append, Bool, not, nat_eq, cond, ◌⊎◌, inl, inr, ap₂, Fits, w8, refl, sym, ap, ◌∙◌, arith}
+use Rattle.std.specs.Int.{w16, swap_bytes}
+use mathlib.Core.Bool.{beq}
+use Rattle.flat_model.specs.Checksum.{word_sum, fold16, folded_sum}
+use Rattle.flat_model.proofs.Folds.{fold16-high, fold16-small, fold16-shift, fold16-below, fold16-add_first, fold16-add_second}
+use Rattle.in_cksum.specs.Partial.{Partial, sum_of}
+use Rattle.in_cksum.specs.Swapped.{swapped_sum}
+
+-- the bytes at even places, and those at odd places
+firsts : List ℕ → ℕ
+firsts [] = 0
+firsts (a ∷ []) = a
+firsts (a ∷ b ∷ s) = a + firsts s
+
+seconds : List ℕ → ℕ
+seconds [] = 0
+seconds (a ∷ []) = 0
+seconds (a ∷ b ∷ s) = b + seconds s
+
+word_sum_parts : (s : List ℕ) → word_sum s ≡ 256 * firsts s + seconds s
+unfolding firsts seconds
+word_sum_parts [] = refl
+word_sum_parts (a ∷ []) = omega arith
+word_sum_parts (a ∷ b ∷ s) = omega (arith, word_sum_parts s)
+
+swapped_sum_parts : (s : List ℕ) → swapped_sum s ≡ firsts s + 256 * seconds s
+unfolding firsts seconds
+swapped_sum_parts [] = refl
+swapped_sum_parts (a ∷ []) = omega arith
+swapped_sum_parts (a ∷ b ∷ s) = omega (arith, swapped_sum_parts s)
+
+-- a shift by 8 bits turns each word round
+shift-word_sum : (s : List ℕ) → fold16 (256 * word_sum s) ≡ fold16 (swapped_sum s)
+shift-word_sum s =
+    let parts : 256 * word_sum s ≡ 65536 * firsts s + 256 * seconds s = omega (arith, word_sum_parts s) in
+    ap fold16 parts ∙ fold16-high (firsts s) (256 * seconds s) ∙ ap fold16 (sym (swapped_sum_parts s))
+
+shift-swapped_sum : (s : List ℕ) → fold16 (256 * swapped_sum s) ≡ fold16 (word_sum s)
+shift-swapped_sum s =
+    let parts : 256 * swapped_sum s ≡ 65536 * seconds s + 256 * firsts s = omega (arith, swapped_sum_parts s) in
+    let back : seconds s + 256 * firsts s ≡ word_sum s = omega (arith, word_sum_parts s) in
+    ap fold16 parts ∙ fold16-high (seconds s) (256 * firsts s) ∙ ap fold16 back
+
+-- `swap_bytes` of a folded sum is that shift
+swap-fold16 : (n : ℕ) → swap_bytes w16 (fold16 n) ≡ fold16 (256 * n)
+swap-fold16 n =
+    let m = fold16 n in
+    let below : m < 65536 = fold16-below n in
+    let parts : 256 * m ≡ 65536 * (m / 256) + 256 * (m % 256) = omega arith in
+    let swapped : m / 256 + 256 * (m % 256) ≡ swap_bytes w16 m = omega arith in
+    sym (sym (fold16-shift n) ∙ ap fold16 parts ∙ fold16-high (m / 256) (256 * (m % 256)) ∙ fold16-small (m / 256 + 256 * (m % 256)) (omega arith) ∙ swapped)
+
+swap-folded_sum : (s : List ℕ) → swap_bytes w16 (folded_sum s) ≡ fold16 (swapped_sum s)
+swap-folded_sum s = swap-fold16 (word_sum s) ∙ shift-word_sum s
+
+pub swap-swapped_sum : (s : List ℕ) → swap_bytes w16 (fold16 (swapped_sum s)) ≡ folded_sum s
+swap-swapped_sum s = swap-fold16 (swapped_sum s) ∙ shift-swapped_sum s
+
+-- one byte more in front
+word_sum-cons : (a : ℕ) (s : List ℕ) → word_sum (a ∷ s) ≡ 256 * a + swapped_sum s
+word_sum-cons a [] = omega arith
+word_sum-cons a (b ∷ []) = omega arith
+word_sum-cons a (b ∷ c ∷ s) = omega (arith, word_sum-cons c s)
+
+-- after an even number of bytes the words go on as they are
+word_sum-append_even : (s t : List ℕ) → length s % 2 ≡ 0 → word_sum (s ++ t) ≡ word_sum s + word_sum t
+word_sum-append_even [] t even = omega arith
+word_sum-append_even (a ∷ []) t even = omega arith
+word_sum-append_even (a ∷ b ∷ s) t even = omega (arith, word_sum-append_even s t (omega arith))
+
+swapped_sum-append_even : (s t : List ℕ) → length s % 2 ≡ 0 → swapped_sum (s ++ t) ≡ swapped_sum s + swapped_sum t
+swapped_sum-append_even [] t even = omega arith
+swapped_sum-append_even (a ∷ []) t even = omega arith
+swapped_sum-append_even (a ∷ b ∷ s) t even = omega (arith, swapped_sum-append_even s t (omega arith))
+
+-- after an odd number each byte stands in the other half of its word
+word_sum-append_odd : (s t : List ℕ) → length s % 2 ≡ 1 → word_sum (s ++ t) ≡ word_sum s + swapped_sum t
+word_sum-append_odd [] t odd = omega arith
+word_sum-append_odd (a ∷ []) t odd = word_sum-cons a t
+word_sum-append_odd (a ∷ b ∷ s) t odd = omega (arith, word_sum-append_odd s t (omega arith))
+
+pub swapped_sum_bound : (s : List ℕ) → ((k : ℕ) → Fits w8 (get_or s k 0)) → swapped_sum s ≤ 65280 * length s
+swapped_sum_bound [] fits = omega arith
+swapped_sum_bound (a ∷ []) fits = omega (arith, (fits 0).fits)
+swapped_sum_bound (a ∷ b ∷ s) fits = omega (arith, (fits 0).fits, (fits 1).fits, swapped_sum_bound s (λ k. fits (suc (suc k))))
+
+-- a cut after an even number of bytes
+pub swapped_sum_cut : (s t whole : List ℕ) → whole ≡ s ++ t → length s % 2 ≡ 0 → swapped_sum s + swapped_sum t ≡ swapped_sum whole
+swapped_sum_cut s t whole cut even = sym (ap swapped_sum cut ∙ swapped_sum-append_even s t even)
+
+-- one part more, of which the folded sum alone is kept
+pub swapped_part_added : (total : ℕ) (part after rest : List ℕ) → swapped_sum part + swapped_sum after ≡ swapped_sum rest → fold16 (fold16 (total + swapped_sum part) + swapped_sum after) ≡ fold16 (total + swapped_sum rest)
+swapped_part_added total part after rest cut =
+    let whole : total + swapped_sum part + swapped_sum after ≡ total + swapped_sum rest = omega arith in
+    fold16-add_first (total + swapped_sum part) (swapped_sum after) ∙ ap fold16 whole
+
+-- no byte counts less than itself
+pub swapped_sum_one : (s : List ℕ) → 1 ≤ length s → slice_index_or s 0 0 ≤ swapped_sum s
+swapped_sum_one [] long = omega arith
+swapped_sum_one (a ∷ []) long = omega arith
+swapped_sum_one (a ∷ b ∷ s) long = omega arith
+
+pub swapped_sum_three : (s : List ℕ) → 3 ≤ length s → slice_index_or s 2 0 ≤ swapped_sum s
+swapped_sum_three [] long = omega arith
+swapped_sum_three (a ∷ []) long = omega arith
+swapped_sum_three (a ∷ b ∷ []) long = omega arith
+swapped_sum_three (a ∷ b ∷ c ∷ []) long = omega arith
+swapped_sum_three (a ∷ b ∷ c ∷ d ∷ s) long = omega arith
+
+parity : (n : ℕ) → (n % 2 ≡ 0) ⊎ (n % 2 ≡ 1)
+parity zero = inl (omega arith)
+parity (suc n) = elim (parity n) [ inl e ↦ inr (omega arith) | inr o ↦ inl (omega arith) ]
+
+-- the remainder of a sum, in the form in which `rw` looks for it
+sum_of_parities : (m n p : ℕ) → (m + n) % 2 ≡ p → (m + n) % 2 ≡ p
+sum_of_parities m n p h = h
+
+-- whether the sum of two numbers is odd
+odd-add : (m n : ℕ) → not (beq (nat_eq (m % 2) 1) (nat_eq (n % 2) 1)) ≡ nat_eq ((m + n) % 2) 1
+odd-add m n =
+    elim (parity m) [
+      | inl e ↦ elim (parity n) [
+        | inl f ↦ rw (e, f, sum_of_parities m n 0 (omega arith)) refl
+        | inr f ↦ rw (e, f, sum_of_parities m n 1 (omega arith)) refl
+      ]
+      | inr e ↦ elim (parity n) [
+        | inl f ↦ rw (e, f, sum_of_parities m n 1 (omega arith)) refl
+        | inr f ↦ rw (e, f, sum_of_parities m n 0 (omega arith)) refl
+      ]
+    ]
+
+folded_sum-append : (s t : List ℕ) → folded_sum (s ++ t) ≡ fold16 (folded_sum s + cond (nat_eq (length s % 2) 1) (swap_bytes w16 (folded_sum t)) (folded_sum t))
+folded_sum-append s t =
+    elim (parity (length s)) [
+      | inl even ↦ rw even (ap fold16 (word_sum-append_even s t even) ∙ sym (fold16-add_second (word_sum s) (word_sum t)) ∙ sym (fold16-add_first (word_sum s) (folded_sum t)))
+      | inr odd ↦
+          rw (odd, swap-folded_sum t) (ap fold16 (word_sum-append_odd s t odd) ∙ sym (fold16-add_second (word_sum s) (swapped_sum t)) ∙ sym (fold16-add_first (word_sum s) (fold16 (swapped_sum t))))
+    ]
+
+abbrev pair : ℕ → Bool → Partial
+pair n b = record { total = n; is_odd = b }
+
+-- one piece more
+pub sum_of-append : (s t : List ℕ) (p : Partial) → p ≡ sum_of s → sum_of (s ++ t) ≡ record { total = fold16 (p.total + cond p.is_odd (swap_bytes w16 (folded_sum t)) (folded_sum t)); is_odd = not (beq p.is_odd (nat_eq (length t % 2) 1)) }
+sum_of-append s t p known =
+    rw known (ap₂ pair (folded_sum-append s t) (ap (λ n. nat_eq (n % 2) 1) (length-append s t) ∙ sym (odd-add (length s) (length t))))

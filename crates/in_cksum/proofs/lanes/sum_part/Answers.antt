@@ -1,0 +1,19 @@
+use Rattle.std.proofs.Common.{arith}
+use Rattle.in_cksum.proofs.Words.{swapped_sum_bound, swapped_sum_cut}
+use Rattle.in_cksum.proofs.lanes.sum_part.Goals as goal
+
+pub add_block-requires-clause-fits : goal.add_block-requires-clause-fits
+add_block-requires-clause-fits c =
+    omega (arith, c.loop-rest.invariant, c.requires, swapped_sum_bound c.args.bytes.now c.type_inv.bytes, swapped_sum_cut c.split_at.result.0.now c.split_at.result.1.now c.loop-rest.rest.now c.split_at.ensures.by_index.0 (omega (arith, c.split_at.ensures.front_len)))
+
+pub loop-rest-preserved : goal.loop-rest-preserved
+loop-rest-preserved c =
+    omega (arith, c.loop-rest.invariant, c.add_block.ensures, swapped_sum_cut c.split_at.result.0.now c.split_at.result.1.now c.loop-rest.rest.now c.split_at.ensures.by_index.0 (omega (arith, c.split_at.ensures.front_len)))
+
+pub sum_lanes-requires : goal.sum_lanes-requires
+sum_lanes-requires c =
+    omega (arith, c.loop-rest.invariant, swapped_sum_bound c.args.bytes.now c.type_inv.bytes, c.requires)
+
+pub overflow_add-result : goal.overflow_add-result
+overflow_add-result c =
+    record { fits = omega (arith, c.sum_lanes.ensures, c.sum_rest-2.ensures, c.loop-rest.invariant, swapped_sum_bound c.args.bytes.now c.type_inv.bytes, c.requires) }

@@ -1,0 +1,10 @@
+use Rattle.std.proofs.Common.{length, ◌≡◌, ◌+◌}
+use Rattle.flat_model.specs.Checksum.{fold16}
+use Rattle.in_cksum.specs.Swapped.{swapped_sum}
+use Rattle.in_cksum.proofs.sum_slice.Given as goal
+
+abbrev pub invariant-loop-rest : goal.invariant-loop-rest
+invariant-loop-rest l = fold16 (l.total + swapped_sum l.rest) ≡ fold16 (swapped_sum l.bytes)
+
+abbrev pub decreases-loop-rest : goal.decreases-loop-rest
+decreases-loop-rest l = length l.rest

@@ -1,0 +1,12 @@
+-- What a sum over pieces knows of the bytes that it was given so far.
+use Rattle.std.specs.Prelude.{ℕ, ◌%◌, ◌==◌, Bool, List, length}
+use Rattle.flat_model.specs.Checksum.{folded_sum}
+
+-- This project's own: the folded sum of the bytes so far, and whether the next byte is the low half of
+-- a word.
+pub record Partial : Type 0 where
+  pub total : ℕ
+  pub is_odd : Bool
+
+abbrev pub sum_of : List ℕ → Partial
+sum_of bytes = record { total = folded_sum bytes; is_odd = length bytes % 2 == 1 }

@@ -1,0 +1,75 @@
+//! The words of one part of the bytes, as they lie in memory: by lanes, and the rest four bytes at a time.
+ghost use Rattle.std.specs.Prelude.{◌≡◌, ◌+◌, ◌<◌, ◌≤◌, ◌^◌, length};
+ghost use Rattle.in_cksum.specs.Swapped.{lanes_total, swapped_sum};
+
+use std::simd::prelude::*;
+
+// How many bytes are added at a time.
+const BLOCK_LEN: usize = 32;
+
+/// How many bytes are added up at most before their sum is folded: whole blocks, whose words add up to
+/// less than 2^32.
+pub(crate) const PART_LEN: usize = 65_536;
+
+// Adds the words of a block: to `all` the lanes, which wrap, and to `high` the high halves of the lanes.
+// So the low halves need no mask: they are what is left of `all` in the end.
+#[inline(always)]
+fn add_block(all: u32x8, high: u32x8, block: &[u8]) -> (u32x8, u32x8)
+    requires long { length block.now ≡ BLOCK_LEN }
+    requires fits { lanes_total all high + swapped_sum block.now < 2 ^ 32 }
+    ensures { lanes_total result.0 result.1 ≡ lanes_total all high + swapped_sum block.now }
+{
+    let words = u32x8::from_le_bytes(u8x32::from_slice(block));
+    let halves = words >> u32x8::splat(16);
+    (all + words, high.strict_add(halves))
+}
+
+#[inline(always)]
+fn sum_lanes(all: u32x8, high: u32x8) -> u32
+    requires { lanes_total all high < 2 ^ 32 }
+    ensures { result ≡ lanes_total all high }
+{
+    let low = all - (high << u32x8::splat(16));
+    low.strict_reduce_sum() + high.strict_reduce_sum()
+}
+
+// The words of fewer bytes than a block has.
+#[inline(always)]
+fn sum_rest(bytes: &[u8]) -> u32
+    requires { length bytes.now < BLOCK_LEN }
+    ensures { result ≡ swapped_sum bytes.now }
+{
+    let mut sum = 0u32;
+    let mut rest = bytes;
+    while let [a, b, c, d, after @ ..] = rest {
+        let word = u32::from_le_bytes([*a, *b, *c, *d]);
+        sum += (word & 0xffff) + (word >> 16);
+        rest = after;
+    }
+    match rest {
+        [] => sum,
+        [a] => sum + *a as u32,
+        [a, b] => sum + u16::from_le_bytes([*a, *b]) as u32,
+        [a, b, c, ..] => sum + u16::from_le_bytes([*a, *b]) as u32 + *c as u32,
+    }
+}
+
+/// The sum of the words as they lie in memory, an odd last byte being the low half of one.
+#[inline(always)]
+pub(crate) fn sum_part(bytes: &[u8]) -> u32
+    requires { length bytes.now ≤ PART_LEN }
+    ensures { result ≡ swapped_sum bytes.now }
+{
+    if bytes.len() < BLOCK_LEN {
+        return sum_rest(bytes);
+    }
+    let mut all = u32x8::splat(0);
+    let mut high = u32x8::splat(0);
+    let mut rest = bytes;
+    while rest.len() >= BLOCK_LEN {
+        let (block, after) = rest.split_at(BLOCK_LEN);
+        (all, high) = add_block(all, high, block);
+        rest = after;
+    }
+    sum_lanes(all, high) + sum_rest(rest)
+}

@@ -1,0 +1,209 @@
+//! The Internet checksum (RFC 1071) of bytes that come whole or in pieces of any length.
+//!
+//! A sum is of the big-endian words of 16 bits, an odd last byte being the high half of a word, and it is
+//! folded: its part above 16 bits is added to its low 16 bits until it fits. The checksum is the
+//! complement of that. An IPv4 header with its checksum in place has the folded sum 65,535.
+#![tactic(auto)]
+
+ghost use Rattle.std.specs.Prelude.{◌≡◌, ℕ, ◌+◌, ◌++◌, if◌then◌else◌, List, []};
+ghost use Rattle.std.specs.Int.{w16, swap_bytes};
+ghost use Rattle.flat_model.specs.Checksum.{checksum, fold16, folded_sum};
+ghost use Rattle.in_cksum.specs.Partial.{Partial, sum_of};
+
+use std::marker::Model;
+
+mod lanes;
+
+use lanes::{PART_LEN, sum_part};
+
+// 65,536 counts as 1, so what is left is a remainder by 65,535: 1 to 65,535, and 0 of 0 alone.
+#[inline(always)]
+fn fold(sum: u64) -> u16
+    ensures { result ≡ fold16 sum }
+{
+    if sum == 0 {
+        0
+    } else {
+        ((sum - 1) % 65_535 + 1) as u16
+    }
+}
+
+/// The folded sum of the words of `bytes`, which may have any length. Of no bytes it is 0.
+///
+/// The words are added as they lie in memory and their bytes are swapped once, at the end
+/// (RFC 1071 section 2, "Byte Order Independence").
+pub fn sum_slice(bytes: &[u8]) -> u16
+    ensures { result ≡ folded_sum bytes.now }
+{
+    let mut total = 0u16;
+    let mut rest = bytes;
+    while rest.len() > PART_LEN {
+        let (part, after) = rest.split_at(PART_LEN);
+        total = fold(total as u64 + sum_part(part) as u64);
+        rest = after;
+    }
+    fold(total as u64 + sum_part(rest) as u64).swap_bytes()
+}
+
+// A piece's sum as it counts after an even or an odd number of bytes: after an odd number each of its
+// bytes stands in the other half of its word.
+#[inline(always)]
+fn turned(sum: u16, is_odd: bool) -> u16
+    ensures { result ≡ (if is_odd then swap_bytes w16 sum else sum) }
+{
+    if is_odd { sum.swap_bytes() } else { sum }
+}
+
+/// The checksum of bytes that are added piece by piece.
+///
+/// A piece may have any length, and it makes no difference where the bytes are cut: a word whose high half
+/// ends a piece has its low half at the head of the next.
+#[derive(Clone, Debug, Drop)]
+pub struct Sum {
+    total: u16,
+    is_odd: bool,
+}
+
+impl Model for Sum {
+    ghost Value = { Partial };
+
+    ghost view = { λ s. record { total = s.total; is_odd = s.is_odd } };
+}
+
+impl Sum {
+    /// The sum of no bytes.
+    pub fn new() -> Self
+        ensures { result ≡ sum_of [] }
+    {
+        Sum {
+            total: 0,
+            is_odd: false,
+        }
+    }
+
+    /// Adds `bytes`, of any length, behind those that were added before.
+    // Inlined, so that a caller's sum stays in registers.
+    #[inline(always)]
+    pub fn add(&mut self, bytes: &[u8])
+        ensures { (before : List ℕ) → self.old ≡ sum_of before → self.new ≡ sum_of (before ++ bytes.now) }
+    {
+        let sum = turned(sum_slice(bytes), self.is_odd);
+        self.total = fold(self.total as u64 + sum as u64);
+        self.is_odd ^= bytes.len() % 2 == 1;
+    }
+
+    /// The checksum of all bytes that were added, to be written big-endian.
+    ///
+    /// It can be 0. UDP writes 65,535 in its place, since 0 in its header means that there is no checksum
+    /// (RFC 768): that is the caller's.
+    pub fn finish(self) -> u16
+        ensures { (bytes : List ℕ) → self ≡ sum_of bytes → result ≡ checksum bytes }
+    {
+        !self.total
+    }
+}
+
+impl Default for Sum {
+    ghost is_default = { λ sum. sum ≡ sum_of [] };
+
+    fn default() -> Sum {
+        Self::new()
+    }
+}
+
+#[cfg(test)]
+mod tests {
+    use super::{Sum, sum_slice};
+    use flat_model::fold;
+    use std::alloc::AllocError;
+
+    // RFC 1071 section 3, "Numerical Examples".
+    const EXAMPLE: [u8; 8] = [0x00, 0x01, 0xf2, 0x03, 0xf4, 0xf5, 0xf6, 0xf7];
+
+    fn checksum_of_pieces(pieces: &[&[u8]]) -> u16 {
+        let mut sum = Sum::new();
+        for piece in pieces {
+            sum.add(piece);
+        }
+        sum.finish()
+    }
+
+    #[test]
+    fn the_standards_example_at_each_cut(rt: HostRuntime) {
+        assert_eq!(rt; sum_slice(&EXAMPLE), 0xddf2);
+        for first in 0..=EXAMPLE.len() {
+            let (front, behind) = EXAMPLE.split_at(first);
+            assert_eq!(rt;
+                checksum_of_pieces(&[front, behind]),
+                0x220d,
+                "cut at {first}"
+            );
+            for second in 0..=behind.len() {
+                let (middle, back) = behind.split_at(second);
+                let checksum = checksum_of_pieces(&[front, middle, back]);
+                assert_eq!(rt; checksum, 0x220d, "cut at {first} and {second} behind it");
+            }
+        }
+    }
+
+    // An IPv4 header as it was sent, its checksum 0xb861 (the worked example of Wikipedia's article
+    // "Internet checksum").
+    #[test]
+    fn a_header_with_its_checksum_in_place(rt: HostRuntime) {
+        let mut header = [
+            0x45, 0x00, 0x00, 0x73, 0x00, 0x00, 0x40, 0x00, 0x40, 0x11, 0xb8, 0x61, 0xc0, 0xa8,
+            0x00, 0x01, 0xc0, 0xa8, 0x00, 0xc7,
+        ];
+        assert_eq!(rt; sum_slice(&header), 0xffff);
+        header[10] = 0;
+        header[11] = 0;
+        let mut sum = Sum::default();
+        sum.add(&header);
+        assert_eq!(rt; sum.finish(), 0xb861);
+    }
+
+    #[test]
+    fn no_bytes_have_a_sum_of_0(rt: HostRuntime) {
+        assert_eq!(rt; sum_slice(&[]), 0);
+        assert_eq!(rt; Sum::default().finish(), 0xffff);
+    }
+
+    // The sum and the checksum of two pieces, at each cut up to 64, are those of the plain program.
+    fn agrees_with_the_plain_program(bytes: &[u8]) -> bool {
+        let folded = fold(bytes);
+        let cuts_agree = (0..=64).all(|cut| match bytes.split_at_checked(cut) {
+            Some((front, back)) => checksum_of_pieces(&[front, back]) == !folded,
+            None => true,
+        });
+        sum_slice(bytes) == folded && cuts_agree
+    }
+
+    #[test]
+    fn short_lengths(rt: HostRuntime) {
+        let mut bytes = [0u8; 130];
+        for (at, byte) in bytes.iter_mut().enumerate() {
+            *byte = ((at * 7 + 3) % 256) as u8;
+        }
+        for len in 0..=bytes.len() {
+            assert!(&rt;
+                agrees_with_the_plain_program(&bytes[..len]),
+                "at length {len}"
+            );
+        }
+    }
+
+    // The longest IPv4 packet, and lengths of several parts of the sum by lanes.
+    #[test]
+    fn long_bytes(rt: HostRuntime) -> Result<(), AllocError> {
+        for (byte, len) in [
+            (0xff, 65_535),
+            (0x5a, 65_536),
+            (0x5a, 65_537),
+            (0x5a, 200_001),
+        ] {
+            let bytes: Vec<u8> = Vec::from_elem(rt.alloc(), byte, len)?;
+            assert!(&rt; agrees_with_the_plain_program(&bytes), "at length {len}");
+        }
+        Ok(())
+    }
+}
