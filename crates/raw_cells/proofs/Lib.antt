@@ -1,0 +1,7 @@
+pub mod Over
+pub mod Heads
+pub mod Parts
+pub mod Encoded
+pub mod Lying
+pub mod Addresses
+pub mod Laws

@@ -1,0 +1,173 @@
+//! Heads as bytes.
+ghost use Rattle.std.specs.Prelude.{◌≡◌, ◌+◌, ◌≤◌, length};
+ghost use Rattle.raw_cells.specs.Cells.{head_size, IsHead, IsLink};
+ghost use Rattle.raw_cells.specs.Layout.{head_in, link_of, packet_in, cluster_in, flags_of, u16_at, u32_at};
+
+use crate::head::{Head, PacketHeader};
+use byteorder::{ByteOrder, LittleEndian};
+
+/// In place of a number, that there is no such mbuf.
+const NO_MBUF: u32 = 0xffff_ffff;
+
+fn read_u16(bytes: &[u8], at: usize) -> u16
+    requires { at + 2 ≤ length bytes.now }
+    ensures { result ≡ u16_at bytes.now at }
+{
+    LittleEndian::read_u16(&bytes[at..])
+}
+
+fn read_u32(bytes: &[u8], at: usize) -> u32
+    requires { at + 4 ≤ length bytes.now }
+    ensures { result ≡ u32_at bytes.now at }
+{
+    LittleEndian::read_u32(&bytes[at..])
+}
+
+fn read_link(bytes: &[u8], at: usize) -> Option<u32>
+    requires { at + 4 ≤ length bytes.now }
+    ensures link { result ≡ link_of (u32_at bytes.now at) }
+    ensures storable { IsLink result }
+{
+    let number = read_u32(bytes, at);
+    if number == NO_MBUF {
+        None
+    } else {
+        Some(number)
+    }
+}
+
+fn read_packet(bytes: &[u8], at: usize, flags: u16) -> Option<PacketHeader>
+    requires { at + 8 ≤ length bytes.now }
+    ensures { result ≡ packet_in bytes.now at flags }
+{
+    if flags / 2 % 2 == 0 {
+        return None;
+    }
+    Some(PacketHeader {
+        len: read_u32(bytes, at),
+        arrival: read_u32(bytes, at + 4),
+    })
+}
+
+fn read_cluster(bytes: &[u8], at: usize, flags: u16) -> Option<u32>
+    requires { at + 4 ≤ length bytes.now }
+    ensures { result ≡ cluster_in bytes.now at flags }
+{
+    if flags % 2 == 0 {
+        None
+    } else {
+        Some(read_u32(bytes, at))
+    }
+}
+
+/// The head of the mbuf that begins at the byte `at`.
+pub(crate) fn read_head(bytes: &[u8], at: usize) -> Head
+    requires { at + 32 ≤ length bytes.now }
+    ensures head { result ≡ head_in bytes.now at }
+    ensures storable { IsHead result }
+{
+    let flags = read_u16(bytes, at + 18);
+    Head {
+        next: read_link(bytes, at),
+        next_packet: read_link(bytes, at + 4),
+        len: read_u32(bytes, at + 8),
+        start: read_u32(bytes, at + 12),
+        kind: read_u16(bytes, at + 16),
+        packet: read_packet(bytes, at + 20, flags),
+        cluster: read_cluster(bytes, at + 28, flags),
+    }
+}
+
+/// How many bytes of the mbuf the head takes.
+pub(crate) fn head_len(head: &Head) -> usize
+    ensures { result ≡ head_size head.now }
+{
+    if head.cluster.is_some() {
+        32
+    } else if head.packet.is_some() {
+        28
+    } else {
+        20
+    }
+}
+
+fn bytes_u16(x: u16) -> [u8; 2]
+    ensures { u16_at result 0 ≡ x }
+{
+    let mut bytes = [0; 2];
+    LittleEndian::write_u16(&mut bytes, x);
+    bytes
+}
+
+fn bytes_u32(x: u32) -> [u8; 4]
+    ensures { u32_at result 0 ≡ x }
+{
+    let mut bytes = [0; 4];
+    LittleEndian::write_u32(&mut bytes, x);
+    bytes
+}
+
+fn bytes_link(link: Option<u32>) -> [u8; 4]
+    requires { IsLink link }
+    ensures { link_of (u32_at result 0) ≡ link }
+{
+    bytes_u32(link.unwrap_or(NO_MBUF))
+}
+
+fn flags(head: &Head) -> u16
+    ensures { result ≡ flags_of head.now }
+{
+    u16::from(head.cluster.is_some()) + 2 * u16::from(head.packet.is_some())
+}
+
+/// The bytes of a head, and zeros for the fields that it has not.
+pub(crate) fn encode(head: &Head) -> [u8; 32]
+    requires { IsHead head.now }
+    ensures decoded { head_in result 0 ≡ head.now }
+    ensures len { length result ≡ 32 }
+{
+    let packet = head.packet.unwrap_or(PacketHeader { len: 0, arrival: 0 });
+    let next = bytes_link(head.next);
+    let next_packet = bytes_link(head.next_packet);
+    let len = bytes_u32(head.len);
+    let start = bytes_u32(head.start);
+    let kind = bytes_u16(head.kind);
+    let flags = bytes_u16(flags(head));
+    let total = bytes_u32(packet.len);
+    let arrival = bytes_u32(packet.arrival);
+    let cluster = bytes_u32(head.cluster.unwrap_or(0));
+    [
+        next[0],
+        next[1],
+        next[2],
+        next[3],
+        next_packet[0],
+        next_packet[1],
+        next_packet[2],
+        next_packet[3],
+        len[0],
+        len[1],
+        len[2],
+        len[3],
+        start[0],
+        start[1],
+        start[2],
+        start[3],
+        kind[0],
+        kind[1],
+        flags[0],
+        flags[1],
+        total[0],
+        total[1],
+        total[2],
+        total[3],
+        arrival[0],
+        arrival[1],
+        arrival[2],
+        arrival[3],
+        cluster[0],
+        cluster[1],
+        cluster[2],
+        cluster[3],
+    ]
+}

@@ -1,0 +1,18 @@
+//! The memory of all packets: one block of raw bytes, cut into mbufs of 128 bytes and clusters of
+//! 2,048. A [`Region`] owns the block. It reads and writes the head that begins each mbuf, and lends
+//! the bytes behind it and those of the clusters. It keeps no account of which of them are in use.
+#![tactic(auto)]
+
+mod block;
+mod head;
+mod layout;
+mod memory;
+mod part;
+mod region;
+
+pub use head::{Head, PacketHeader};
+pub use part::{Buffer, Part};
+pub use region::Region;
+
+#[cfg(test)]
+mod tests;

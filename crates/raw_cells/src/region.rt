@@ -1,0 +1,146 @@
+//! The region: mbufs, and clusters behind them, in one block.
+ghost use Rattle.std.specs.Prelude.{◌≡◌, ◌+◌, ◌<◌, ◌≤◌, IfOk, length};
+ghost use Rattle.std.specs.Borrow.{sem};
+ghost use Rattle.raw_cells.specs.Cells.{zero_cells, head_of, IsHead, IsPart, IsSized, SetsHead, read, write, place};
+
+use crate::block::Block;
+use crate::head::Head;
+use crate::layout::{encode, head_len, read_head};
+use crate::part::{Buffer, Part};
+use std::alloc::{AllocError, Global};
+use std::marker::Model;
+
+/// How many bytes an mbuf has.
+const MBUF_LEN: usize = 128;
+
+/// How many bytes a cluster has.
+const CLUSTER_LEN: usize = 2048;
+
+/// One block of memory that is cut into mbufs and, behind them, clusters. It is freed with its owner.
+///
+/// A contract sees it as `Cells`: the head of each mbuf, all the bytes of the block, and how many
+/// clusters there are.
+#[derive(Drop)]
+pub struct Region {
+    block: Block,
+    mbufs: u32,
+    clusters: u32,
+}
+
+impl Model for Region {
+    ghost use Rattle.raw_cells.specs.Cells.{Cells};
+
+    ghost Value = { Cells };
+
+    ghost use Rattle.raw_cells.specs.Layout.{seen, IsRegion};
+
+    ghost view = { seen };
+
+    ghost invariant = { IsRegion };
+}
+
+impl Region {
+    ghost use Rattle.raw_cells.specs.Lending.{LendsPart};
+
+    /// A region of `mbufs` mbufs, 1 to 65,535, and `clusters` clusters, at most 4,096, in which every
+    /// byte is 0: each head reads as zeros too, without a packet header or a cluster. It is the one
+    /// request for memory, and `AllocError` says that it was refused.
+    pub fn new(alloc: Global, mbufs: u32, clusters: u32) -> Result<Region, AllocError>
+        requires mbufs { (0 < mbufs) × (mbufs ≤ 65535) }
+        requires clusters { clusters ≤ 4096 }
+        ensures { IfOk result (λ r. r ≡ zero_cells mbufs clusters) }
+    {
+        let block = Block::new(
+            alloc,
+            MBUF_LEN * mbufs as usize + CLUSTER_LEN * clusters as usize,
+        )?;
+        Ok(Region {
+            block,
+            mbufs,
+            clusters,
+        })
+    }
+
+    /// The head of the mbuf `index`, one that the region has. Its links are below 0xffff_ffff.
+    pub fn head(&self, index: u32) -> Head
+        requires { index < length self.now.heads }
+        ensures value { result ≡ head_of self.now index }
+        ensures links { IsHead result }
+        ensures sized { IsSized self.now }
+    {
+        let all = self.block.slice(0, self.block.len());
+        read_head(all, MBUF_LEN * index as usize)
+    }
+
+    /// Makes `head`, whose links are below 0xffff_ffff, the head of the mbuf `index`, one that the region
+    /// has. It writes the first 20 bytes of the mbuf, 28 where the head has a packet header, 32 where it
+    /// has a cluster, and leaves all other bytes.
+    pub fn set_head(&mut self, index: u32, head: Head)
+        requires index { index < length self.old.heads }
+        requires links { IsHead head }
+        ensures change { SetsHead self.old self.new index head }
+        ensures sized { IsSized self.new }
+    {
+        let bytes = encode(&head);
+        let len = head_len(&head);
+        self.block
+            .slice_mut(MBUF_LEN * index as usize, len)
+            .copy_from_slice(&bytes[..len]);
+    }
+
+    // Where the part begins in the block.
+    fn start(&self, part: Part) -> usize
+        requires { IsPart self.now part }
+        ensures at { result ≡ place self.now part }
+        ensures within { place self.now part + part.len ≤ length self.now.bytes }
+    {
+        let start = part.start as usize;
+        match part.buffer {
+            Buffer::Mbuf(index) => MBUF_LEN * index as usize + start,
+            Buffer::Cluster(index) => {
+                MBUF_LEN * self.mbufs as usize + CLUSTER_LEN * index as usize + start
+            }
+        }
+    }
+
+    /// The bytes of a part, without copying. A part of an mbuf lies behind its head, and the mbuf
+    /// refers to no cluster.
+    pub fn bytes(&self, part: Part) -> &[u8]
+        requires { IsPart self.now part }
+        ensures value { result.now ≡ read self.now part }
+        ensures len { length result.now ≡ part.len }
+        ensures sized { IsSized self.now }
+    {
+        let at = self.start(part);
+        self.block.slice(at, part.len as usize)
+    }
+
+    /// The bytes of a part, to write to. What stands in them at the end is written, and nothing else.
+    pub fn bytes_mut(&mut self, part: Part) -> &mut [u8]
+        requires { IsPart self.old part }
+        ensures* writes_back { sem 𝓛 (LendsPart self.entry part result) }
+        ensures value { result.now ≡ read self.old part }
+        ensures len { length result.now ≡ part.len }
+        ensures sized { IsSized self.old }
+    {
+        let at = self.start(part);
+        self.block.slice_mut(at, part.len as usize)
+    }
+
+    /// Copies the bytes of `from` over those of `to`, a part of the same length, as `memmove` does:
+    /// two parts that share bytes are copied as if by way of a third place.
+    pub fn copy(&mut self, from: Part, to: Part)
+        requires from { IsPart self.old from }
+        requires to { IsPart self.old to }
+        requires len { from.len ≡ to.len }
+        ensures change { self.new ≡ write self.old to (read self.old from) }
+        ensures sized { IsSized self.new }
+    {
+        let at = self.start(from);
+        let dest = self.start(to);
+        let len = self.block.len();
+        self.block
+            .slice_mut(0, len)
+            .copy_within(at..at + from.len as usize, dest);
+    }
+}

@@ -1,0 +1,203 @@
+//! What no clause says: that memory can be had, and that each call does its work once on real memory.
+ghost use Rattle.std.specs.Prelude.{◌≡◌, ◌+◌, ◌<◌, ◌≤◌};
+ghost use Rattle.raw_cells.specs.Cells.{IsHead};
+
+use crate::{Buffer, Head, PacketHeader, Part, Region};
+use std::alloc::{AllocError, Global};
+use std::test::Fail;
+
+const MOST_MBUFS: u32 = 65_535;
+
+const MOST_CLUSTERS: u32 = 4096;
+
+/// What 128 bytes of zeros say as a head.
+const ZEROS: Head = Head {
+    next: Some(0),
+    next_packet: Some(0),
+    len: 0,
+    start: 0,
+    kind: 0,
+    packet: None,
+    cluster: None,
+};
+
+/// An mbuf in the middle of a chain.
+const PLAIN: Head = Head {
+    next: Some(3),
+    next_packet: None,
+    len: 108,
+    start: 20,
+    kind: 1,
+    packet: None,
+    cluster: None,
+};
+
+fn part(buffer: Buffer, start: u32, len: u32) -> Part
+    ensures { result ≡ record { buffer = buffer; start = start; len = len } }
+{
+    Part { buffer, start, len }
+}
+
+/// The head of the last mbuf of a region of that size, once `head` was set there.
+fn head_of_last(alloc: Global, mbufs: u32, clusters: u32, head: Head) -> Result<Head, AllocError>
+    requires sizes { (0 < mbufs) × (mbufs ≤ 65535) × (clusters ≤ 4096) }
+    requires links { IsHead head }
+{
+    let mut region = Region::new(alloc, mbufs, clusters)?;
+    region.set_head(mbufs - 1, head);
+    Ok(region.head(mbufs - 1))
+}
+
+#[test]
+fn each_form_of_head_is_read_back(rt: HostRuntime) -> Result<(), Fail> {
+    let first = Head {
+        packet: Some(PacketHeader {
+            len: 1528,
+            arrival: 7,
+        }),
+        ..PLAIN
+    };
+    let cluster = Head {
+        next: None,
+        next_packet: Some(0xffff_fffe),
+        cluster: Some(4095),
+        ..first
+    };
+    let behind = Head {
+        packet: None,
+        ..cluster
+    };
+    for head in [ZEROS, PLAIN, first, cluster, behind] {
+        assert_eq!(rt; head_of_last(rt.alloc(), 2, 1, head)?, head);
+        assert_eq!(rt;
+            head_of_last(rt.alloc(), MOST_MBUFS, MOST_CLUSTERS, head)?,
+            head
+        );
+    }
+    Ok(())
+}
+
+fn is_zero(bytes: &[u8]) -> bool {
+    bytes.iter().all(|byte| *byte == 0)
+}
+
+#[test]
+fn every_byte_of_a_new_region_is_zero(rt: HostRuntime) -> Result<(), Fail> {
+    let region = Region::new(rt.alloc(), 3, 2)?;
+    for index in 0..3 {
+        assert_eq!(rt; region.head(index), ZEROS);
+        assert!(rt; is_zero(region.bytes(part(Buffer::Mbuf(index), 20, 108))));
+    }
+    for index in 0..2 {
+        assert!(rt; is_zero(region.bytes(part(Buffer::Cluster(index), 0, 2048))));
+    }
+    Ok(())
+}
+
+#[test]
+fn what_is_written_to_a_part_stays_in_it(rt: HostRuntime) -> Result<(), Fail> {
+    let mut region = Region::new(rt.alloc(), 3, 2)?;
+    region.bytes_mut(part(Buffer::Mbuf(1), 20, 108)).fill(0xaa);
+    region
+        .bytes_mut(part(Buffer::Cluster(0), 100, 48))
+        .fill(0x55);
+    assert!(rt;
+        region
+            .bytes(part(Buffer::Mbuf(1), 20, 108))
+            .iter()
+            .all(|byte| *byte == 0xaa)
+    );
+    assert!(rt; is_zero(region.bytes(part(Buffer::Mbuf(0), 20, 108))));
+    assert!(rt; is_zero(region.bytes(part(Buffer::Mbuf(2), 20, 108))));
+    assert_eq!(rt; region.head(1), ZEROS);
+    assert_eq!(rt; region.head(2), ZEROS);
+    assert!(rt; is_zero(region.bytes(part(Buffer::Cluster(0), 0, 100))));
+    assert!(rt;
+        region
+            .bytes(part(Buffer::Cluster(0), 100, 48))
+            .iter()
+            .all(|byte| *byte == 0x55)
+    );
+    assert!(rt; is_zero(region.bytes(part(Buffer::Cluster(0), 148, 1900))));
+    assert!(rt; is_zero(region.bytes(part(Buffer::Cluster(1), 0, 2048))));
+    Ok(())
+}
+
+#[test]
+fn a_copy_takes_its_part_alone(rt: HostRuntime) -> Result<(), Fail> {
+    let mut region = Region::new(rt.alloc(), 3, 2)?;
+    let text = b"a datagram of 30 bytes, copied".as_slice();
+    let from = part(Buffer::Cluster(1), 100, 30);
+    region.bytes_mut(from).copy_from_slice(text);
+    region.copy(from, part(Buffer::Mbuf(2), 97, 30));
+    assert!(rt; is_zero(region.bytes(part(Buffer::Mbuf(2), 20, 77))));
+    assert_eq!(rt; region.bytes(part(Buffer::Mbuf(2), 97, 30)), text);
+    assert!(rt; is_zero(region.bytes(part(Buffer::Mbuf(2), 127, 1))));
+    assert_eq!(rt; region.bytes(from), text);
+    // Two parts that share bytes.
+    region.copy(from, part(Buffer::Cluster(1), 102, 30));
+    let both = b"a a datagram of 30 bytes, copied".as_slice();
+    assert_eq!(rt; region.bytes(part(Buffer::Cluster(1), 100, 32)), both);
+    Ok(())
+}
+
+/// Whether the last mbuf and the last cluster of a region of that size hold what was written to them.
+fn last_ones_hold_bytes(alloc: Global, mbufs: u32, clusters: u32) -> Result<bool, AllocError>
+    requires sizes { (0 < mbufs) × (mbufs ≤ 65535) × (0 < clusters) × (clusters ≤ 4096) }
+{
+    let mut region = Region::new(alloc, mbufs, clusters)?;
+    let mbuf = part(Buffer::Mbuf(mbufs - 1), 20, 108);
+    let cluster = part(Buffer::Cluster(clusters - 1), 0, 2048);
+    region.bytes_mut(mbuf).fill(7);
+    region.bytes_mut(cluster).fill(9);
+    Ok(
+        region.bytes(mbuf).iter().all(|byte| *byte == 7)
+            && region.bytes(cluster).iter().all(|byte| *byte == 9),
+    )
+}
+
+#[test]
+fn the_last_mbuf_and_the_last_cluster_hold_bytes(rt: HostRuntime) -> Result<(), Fail> {
+    assert!(rt; last_ones_hold_bytes(rt.alloc(), 1, 1)?);
+    assert!(rt; last_ones_hold_bytes(rt.alloc(), MOST_MBUFS, MOST_CLUSTERS)?);
+    Ok(())
+}
+
+#[test]
+fn a_head_leaves_the_room_behind_it(rt: HostRuntime) -> Result<(), Fail> {
+    let mut region = Region::new(rt.alloc(), 3, 1)?;
+    region.bytes_mut(part(Buffer::Mbuf(0), 20, 108)).fill(1);
+    region.bytes_mut(part(Buffer::Mbuf(1), 20, 108)).fill(2);
+    let packet = PacketHeader {
+        len: 100,
+        arrival: 0,
+    };
+    region.set_head(
+        1,
+        Head {
+            packet: Some(packet),
+            ..PLAIN
+        },
+    );
+    assert!(rt;
+        region
+            .bytes(part(Buffer::Mbuf(1), 28, 100))
+            .iter()
+            .all(|byte| *byte == 2)
+    );
+    assert!(rt;
+        region
+            .bytes(part(Buffer::Mbuf(0), 20, 108))
+            .iter()
+            .all(|byte| *byte == 1)
+    );
+    region.bytes_mut(part(Buffer::Mbuf(1), 28, 100)).fill(3);
+    region.set_head(1, PLAIN);
+    assert!(rt;
+        region
+            .bytes(part(Buffer::Mbuf(1), 28, 100))
+            .iter()
+            .all(|byte| *byte == 3)
+    );
+    Ok(())
+}
