@@ -1,0 +1,130 @@
+-- What callers can use of a store.
+use Rattle.std.proofs.Common.{◌≡◌, ◌≢◌, ℕ, zero, suc, ◌+◌, ◌<◌, Bool, true, IsTrue, cond, if◌then◌else◌, ◌==◌, ◌-◌, Option, None, Some, is_some, is_none, List, [], ◌∷◌, length, take, count_by, slice_index_or, unwrap_or, refl, sym, ap, ◌∙◌, subst, arith, inl, inr}
+use Rattle.std.proofs.lemmas.Bool.{cases_eq, cases_lt, eq-eqb, ne_eqb, false≢true}
+use Rattle.std.proofs.lemmas.Option.{slice_get_within}
+use Rattle.std.proofs.lemmas.List.{length-set, get_or-set_same, get_or-set_other, get_or_past}
+use Rattle.std.proofs.lemmas.List.Sums.{sum_by-cons}
+use Rattle.raw_cells.specs.Over.{over}
+use Rattle.raw_cells.specs.declared.part.Part.{Part}
+use Rattle.raw_cells.specs.declared.part.Buffer.{Buffer}
+use Rattle.raw_cells.specs.declared.part.Buffer.TheVariants.{Mbuf, Cluster}
+use Rattle.mbuf_pool.proofs.Over.{length_over}
+use Rattle.mbuf_pool.specs.Store.{MbufView, ClusterView, StoreView, no_mbuf, new_head, free_cluster, is_out, mbuf_of, head_of, cluster_of, count_of, free_mbufs, free_clusters, held, released, with_mbuf, with_cluster, with_bytes, bytes_in, write, IsRoom, IsPart, IsStore, TakesMbuf, TakesCluster}
+
+-- ---- one mbuf, or one cluster, in place of another
+pub mbuf_here : (s : StoreView) (i : ℕ) (m : Option MbufView) → i < length s.mbufs → slice_index_or (with_mbuf s i m).mbufs i None ≡ m
+mbuf_here s i m lt = get_or-set_same s.mbufs i m None lt
+
+pub mbuf_other : (s : StoreView) (i k : ℕ) (m : Option MbufView) → k ≢ i → slice_index_or (with_mbuf s i m).mbufs k None ≡ slice_index_or s.mbufs k None
+mbuf_other s i k m ne = get_or-set_other s.mbufs i k m None ne
+
+pub cluster_here : (s : StoreView) (c : ℕ) (v : ClusterView) → c < length s.clusters → cluster_of (with_cluster s c v) c ≡ v
+cluster_here s c v lt = get_or-set_same s.clusters c v free_cluster lt
+
+pub cluster_other : (s : StoreView) (c d : ℕ) (v : ClusterView) → d ≢ c → cluster_of (with_cluster s c v) d ≡ cluster_of s d
+cluster_other s c d v ne = get_or-set_other s.clusters c d v free_cluster ne
+
+-- ---- what is in use is there
+pub out_within : (s : StoreView) (i : ℕ) → IsTrue (is_out s i) → i < length s.mbufs
+out_within s i out = elim (cases_lt i (length s.mbufs)) [
+  | inl lt ↦ lt
+  | inr ge ↦ absurd (false≢true (ap is_some (sym (get_or_past s.mbufs i None ge)) ∙ out))
+]
+
+pub counted_within : (s : StoreView) (c : ℕ) → 0 < count_of s c → c < length s.clusters
+counted_within s c counted = elim (cases_lt c (length s.clusters)) [
+  | inl lt ↦ lt
+  | inr ge ↦ absurd (omega (arith, ap (λ (v : ClusterView). v.count) (get_or_past s.clusters c free_cluster ge)))
+]
+
+-- ---- what was just handed out
+pub taken_out : (old new : StoreView) (i : ℕ) → TakesMbuf old new i → IsTrue (is_out new i)
+taken_out old new i h =
+    ap (λ (s : StoreView). is_out s i) h.change
+    ∙ ap is_some (mbuf_here old i (Some (record { head = new_head; bytes = h.bytes })) (slice_get_within old.mbufs i None h.was_free))
+
+pub taken_head : (old new : StoreView) (i : ℕ) → TakesMbuf old new i → head_of new i ≡ new_head
+taken_head old new i h =
+    ap (λ (s : StoreView). head_of s i) h.change
+    ∙ ap (λ (m : Option MbufView). (unwrap_or m no_mbuf).head) (mbuf_here old i (Some (record { head = new_head; bytes = h.bytes })) (slice_get_within old.mbufs i None h.was_free))
+
+pub taken_count : (old new : StoreView) (c : ℕ) → TakesCluster old new c → count_of new c ≡ 1
+taken_count old new c h =
+    ap (λ (s : StoreView). count_of s c) h.change
+    ∙ ap (λ (v : ClusterView). v.count) (cluster_here old c (record { count = 1; bytes = h.bytes }) (slice_get_within old.clusters c free_cluster h.was_free))
+
+-- ---- counts
+pub count_held : (s : StoreView) (c : ℕ) → 0 < count_of s c → count_of (with_cluster s c (held (cluster_of s c))) c ≡ count_of s c + 1
+count_held s c counted = ap (λ (v : ClusterView). v.count) (cluster_here s c (held (cluster_of s c)) (counted_within s c counted))
+
+pub count_released : (s : StoreView) (c : ℕ) → 0 < count_of s c → count_of (with_cluster s c (released (cluster_of s c))) c + 1 ≡ count_of s c
+count_released s c counted =
+    let one_less : (released (cluster_of s c)).count + 1 ≡ count_of s c = elim (cases_eq (count_of s c) 1) [
+      | inl e ↦ ap (λ (b : Bool). (if b then free_cluster else record (cluster_of s c) { count = count_of s c - 1 }).count + 1) (eq-eqb (count_of s c) 1 e) ∙ sym e
+      | inr ne ↦ ap (λ (b : Bool). (if b then free_cluster else record (cluster_of s c) { count = count_of s c - 1 }).count + 1) (ne_eqb (count_of s c) 1 ne) ∙ omega arith
+    ] in
+    ap (λ (v : ClusterView). v.count + 1) (cluster_here s c (released (cluster_of s c)) (counted_within s c counted)) ∙ one_less
+
+-- ---- a write leaves a store
+pub store_written : (s : StoreView) (p : Part) (ws : List ℕ) → IsStore s → IsPart s p → IsStore (write s p ws)
+store_written s p ws ok room = go p.buffer p.start p.len room
+  where
+    go : (b : Buffer) (at n : ℕ) → IsRoom s b at n → IsStore (with_bytes s b (over (bytes_in s b) at (take n ws)))
+    go (Mbuf i) at n h =
+        let new : MbufView = record { head = head_of s i; bytes = over (mbuf_of s i).bytes at (take n ws) } in
+        let t = with_mbuf s i (Some new) in
+        let long = length-set s.mbufs i (Some new) in
+        record {
+          mbufs = (omega (arith, long, ok.mbufs.0), omega (arith, long, ok.mbufs.1));
+          clusters = ok.clusters;
+          mbuf_bytes = λ k out. elim (cases_eq k i) [
+            | inl e ↦ subst (λ (j : ℕ). length (mbuf_of t j).bytes ≡ 128) (sym e)
+                (ap (λ (m : Option MbufView). length (unwrap_or m no_mbuf).bytes) (mbuf_here s i (Some new) (out_within s i h.0))
+                ∙ length_over (mbuf_of s i).bytes at (take n ws) (omega (arith, h.3, ok.mbuf_bytes i h.0))
+                ∙ ok.mbuf_bytes i h.0)
+            | inr ne ↦
+                let same = mbuf_other s i k (Some new) ne in
+                ap (λ (m : Option MbufView). length (unwrap_or m no_mbuf).bytes) same ∙ ok.mbuf_bytes k (ap is_some (sym same) ∙ out)
+          ];
+          cluster_bytes = ok.cluster_bytes;
+        }
+    go (Cluster c) at n h =
+        let new : ClusterView = record { count = count_of s c; bytes = over (cluster_of s c).bytes at (take n ws) } in
+        let t = with_cluster s c new in
+        let long = length-set s.clusters c new in
+        record {
+          mbufs = ok.mbufs;
+          clusters = omega (arith, long, ok.clusters);
+          mbuf_bytes = ok.mbuf_bytes;
+          cluster_bytes = λ k counted. elim (cases_eq k c) [
+            | inl e ↦ subst (λ (j : ℕ). length (cluster_of t j).bytes ≡ 2048) (sym e)
+                (ap (λ (v : ClusterView). length v.bytes) (cluster_here s c new (counted_within s c h.0))
+                ∙ length_over (cluster_of s c).bytes at (take n ws) (omega (arith, h.1, ok.cluster_bytes c h.0))
+                ∙ ok.cluster_bytes c h.0)
+            | inr ne ↦
+                let same = cluster_other s c k new ne in
+                ap (λ (v : ClusterView). length v.bytes) same ∙ ok.cluster_bytes k (subst (λ (v : ClusterView). 0 < v.count) same counted)
+          ];
+        }
+
+-- ---- where nothing is free
+none_left : (ms : List (Option MbufView)) (i : ℕ) → count_by is_none ms ≡ 0 → i < length ms → is_some (slice_index_or ms i None) ≡ true
+none_left [] i e lt = absurd (omega arith)
+none_left (None ∷ ms) i e lt = absurd (omega (arith, sum_by-cons (λ x. cond {A = ℕ} (is_none x) 1 0) None ms))
+none_left (Some m ∷ ms) zero e lt = refl
+none_left (Some m ∷ ms) (suc i) e lt = none_left ms i (omega (arith, sum_by-cons (λ x. cond {A = ℕ} (is_none x) 1 0) (Some m) ms)) (omega arith)
+
+pub all_out : (s : StoreView) (i : ℕ) → free_mbufs s ≡ 0 → i < length s.mbufs → IsTrue (is_out s i)
+all_out s i e lt = none_left s.mbufs i e lt
+
+no_cluster_left : (vs : List ClusterView) (c : ℕ) → count_by (λ (v : ClusterView). v.count == 0) vs ≡ 0 → c < length vs → 0 < (slice_index_or vs c free_cluster).count
+no_cluster_left [] c e lt = absurd (omega arith)
+no_cluster_left (v ∷ vs) zero e lt =
+    elim (cases_eq v.count 0) [
+      | inl none ↦ absurd (omega (arith, sum_by-cons (λ (x : ClusterView). cond {A = ℕ} (x.count == 0) 1 0) v vs, ap (λ (b : Bool). cond {A = ℕ} b 1 0) (eq-eqb v.count 0 none)))
+      | inr ne ↦ omega arith
+    ]
+no_cluster_left (v ∷ vs) (suc c) e lt = no_cluster_left vs c (omega (arith, sum_by-cons (λ (x : ClusterView). cond {A = ℕ} (x.count == 0) 1 0) v vs)) (omega arith)
+
+pub all_counted : (s : StoreView) (c : ℕ) → free_clusters s ≡ 0 → c < length s.clusters → 0 < count_of s c
+all_counted s c e lt = no_cluster_left s.clusters c e lt

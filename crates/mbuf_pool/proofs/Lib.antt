@@ -1,0 +1,11 @@
+pub mod FreeList
+pub mod Over
+pub mod Blocks
+pub mod Shown
+pub mod Reading
+pub mod Changes
+pub mod Steps
+pub mod Links
+pub mod Effects
+pub mod Booting
+pub mod Laws

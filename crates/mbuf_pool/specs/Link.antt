@@ -1,0 +1,21 @@
+-- The link to the next free cluster, in the first four bytes of a free one, low byte first (this project's own).
+use Rattle.std.specs.Prelude.{ℕ, ◌==◌, if◌then◌else◌, unwrap_or, Option, Some, None, List}
+use Rattle.byteorder.specs.Endian.{little_number, little_bytes}
+use Rattle.raw_cells.specs.declared.part.Part.{Part}
+use Rattle.raw_cells.specs.declared.part.Buffer.TheVariants.{Cluster}
+
+-- the link that a number stands for
+abbrev pub link_of : ℕ → Option ℕ
+link_of n = if n == 0xffffffff then None else Some n
+
+-- the link that bytes spell
+abbrev pub link_in : List ℕ → Option ℕ
+link_in bytes = link_of (little_number 4 bytes)
+
+-- the bytes of a link
+abbrev pub link_bytes : Option ℕ → List ℕ
+link_bytes link = little_bytes 4 (unwrap_or link 0xffffffff)
+
+-- where the link of a free cluster stands
+abbrev pub link_part : ℕ → Part
+link_part c = record { buffer = Cluster c; start = 0; len = 4 }
