@@ -1,0 +1,177 @@
+-- What each call on a store does to heads, bytes and counts.
+use Rattle.std.proofs.Common.{◌≡◌, ◌≢◌, ℕ, zero, suc, ◌+◌, ◌-◌, ◌<◌, ◌≤◌, true, cond, nat_eq, List, [], ◌∷◌, length, Option, None, Some, is_some, is_none, unwrap_or, refl, sym, ap, ◌∙◌, subst, arith, inl, inr, slice_set, slice_index_or, count_by}
+use Rattle.std.specs.Option.{option_eq}
+use Rattle.std.proofs.lemmas.Bool.{cases_lt, cases_eq, eq-eqb, ne_eqb}
+use Rattle.std.proofs.lemmas.Option.{slice_get_within, get_or_from_slice_get}
+use Rattle.std.proofs.lemmas.List.{get_or_past, length-set, get_or-set_same, get_or-set_other}
+use Rattle.std.proofs.lemmas.List.Sums.{sum_by-set, sum_by-cons}
+use Rattle.raw_cells.specs.declared.head.Head.{Head}
+use Rattle.raw_cells.specs.Over.{over}
+use Rattle.mbuf_pool.specs.Store.{StoreView, MbufView, ClusterView, no_mbuf, free_cluster, is_out, mbuf_of, head_of, cluster_of, count_of, mbufs_out, with_mbuf, with_cluster, released, SetsHead, TakesMbuf}
+use Rattle.mbuf_chain.specs.Cells.{weigh, is_at, one, refers_at, out_at, released_in, Taken, Freed, IsFreeable, IsWhole, cells_from}
+use Rattle.mbuf_chain.proofs.Lists.{is_at_same, is_at_other, on, off, bit, out_below, walk_on}
+
+-- ---- one mbuf of the table
+module _ (s : StoreView) (x : ℕ) (m : Option MbufView) (lt : x < length s.mbufs) where
+  pub slot_here : slice_index_or (with_mbuf s x m).mbufs x None ≡ m
+  slot_here = get_or-set_same s.mbufs x m None lt
+
+  pub slot_there : (k : ℕ) → k ≢ x → slice_index_or (with_mbuf s x m).mbufs k None ≡ slice_index_or s.mbufs k None
+  slot_there k ne = get_or-set_other s.mbufs x k m None ne
+
+  pub mbuf_there : (k : ℕ) → k ≢ x → mbuf_of (with_mbuf s x m) k ≡ mbuf_of s k
+  mbuf_there k ne = ap (λ (o : Option MbufView). unwrap_or o no_mbuf) (slot_there k ne)
+
+  pub out_there : (k : ℕ) → k ≢ x → is_out (with_mbuf s x m) k ≡ is_out s k
+  out_there k ne = ap (λ (o : Option MbufView). is_some o) (slot_there k ne)
+
+  pub out_here : is_out (with_mbuf s x m) x ≡ is_some m
+  out_here = ap (λ (o : Option MbufView). is_some o) slot_here
+
+  pub outs_total : mbufs_out (with_mbuf s x m) + out_at s x ≡ mbufs_out s + cond {A = ℕ} (is_some m) 1 0
+  outs_total = sum_by-set (λ (o : Option MbufView). cond {A = ℕ} (is_some o) 1 0) s.mbufs x m None lt
+
+-- ---- one cluster of the table
+pub cluster_below : (s : StoreView) (c : ℕ) → 0 < count_of s c → c < length s.clusters
+cluster_below s c some =
+    elim (cases_lt c (length s.clusters)) [
+      | inl lt ↦ lt
+      | inr past ↦ absurd (omega (arith, ap (λ (v : ClusterView). v.count) (get_or_past s.clusters c free_cluster past)))
+    ]
+
+module _ (s : StoreView) (c : ℕ) (v : ClusterView) (lt : c < length s.clusters) where
+  pub cluster_here : cluster_of (with_cluster s c v) c ≡ v
+  cluster_here = get_or-set_same s.clusters c v free_cluster lt
+
+  pub cluster_there : (d : ℕ) → d ≢ c → cluster_of (with_cluster s c v) d ≡ cluster_of s d
+  cluster_there d ne = get_or-set_other s.clusters c d v free_cluster ne
+
+pub released_count : (v : ClusterView) → 0 < v.count → (released v).count + 1 ≡ v.count
+released_count v some =
+    elim (cases_eq v.count 1) [
+      | inl e ↦ omega (arith, e, ap (λ b. (cond {A = ClusterView} b free_cluster (record v { count = v.count - 1 })).count) (eq-eqb v.count 1 e))
+      | inr ne ↦ omega (arith, ap (λ b. (cond {A = ClusterView} b free_cluster (record v { count = v.count - 1 })).count) (ne_eqb v.count 1 ne))
+    ]
+
+pub released_bytes : (v : ClusterView) → 0 < v.count → 0 < (released v).count → (released v).bytes ≡ v.bytes
+released_bytes v some left =
+    elim (cases_eq v.count 1) [
+      | inl e ↦ absurd (omega (arith, e, left, ap (λ b. (cond {A = ClusterView} b free_cluster (record v { count = v.count - 1 })).count) (eq-eqb v.count 1 e)))
+      | inr ne ↦ ap (λ b. (cond {A = ClusterView} b free_cluster (record v { count = v.count - 1 })).bytes) (ne_eqb v.count 1 ne)
+    ]
+
+pub refers_to : (s : StoreView) (x d : ℕ) → (head_of s x).cluster ≡ Some d → refers_at s d x ≡ 1
+refers_to s x d is = ap {B = ℕ} (λ (o : Option ℕ). cond (option_eq nat_eq o (Some d)) 1 0) is ∙ on (nat_eq d d) (eq-eqb d d refl)
+
+pub refers_not : (s : StoreView) (x c d : ℕ) → (head_of s x).cluster ≡ Some d → c ≢ d → refers_at s c x ≡ 0
+refers_not s x c d is ne = ap {B = ℕ} (λ (o : Option ℕ). cond (option_eq nat_eq o (Some c)) 1 0) is ∙ off (nat_eq d c) (ne_eqb d c (λ e. ne (sym e)))
+
+pub refers_none : (s : StoreView) (x c : ℕ) → (head_of s x).cluster ≡ None → refers_at s c x ≡ 0
+refers_none s x c is = ap {B = ℕ} (λ (o : Option ℕ). cond (option_eq nat_eq o (Some c)) 1 0) is
+
+-- ---- an mbuf given back, with its reference
+pub free_one : (s t : StoreView) (l m : List ℕ) (i : ℕ) → Freed s t l (i ∷ m) → is_out t i ≡ true → ((c : ℕ) → refers_at s c i ≤ count_of t c) → Freed s (with_mbuf (released_in t (head_of s i).cluster) i None) l m
+free_one s t l m i f out known = go (head_of s i).cluster refl
+  where
+    gone : (u : StoreView) → u.mbufs ≡ t.mbufs → (k : ℕ) → out_at (with_mbuf u i None) k + is_at k i ≡ out_at t k
+    gone u e k =
+        let lt : i < length u.mbufs = omega (arith, out_below t i out, ap length e) in
+        elim (cases_eq k i) [
+          | inl is ↦ subst (λ (j : ℕ). out_at (with_mbuf u i None) j + is_at j i ≡ out_at t j) (sym is) (omega (arith, is_at_same i, on (is_out t i) out, off (is_out (with_mbuf u i None) i) (out_here u i None lt)))
+          | inr ne ↦ omega (arith, is_at_other k i (λ x. ne (sym x)), ap {B = ℕ} (λ b. cond b 1 0) (out_there u i None lt k ne), ap {B = ℕ} (λ (ms : List (Option MbufView)). cond (is_some (slice_index_or ms k None)) 1 0) e)
+        ]
+
+    less : (u : StoreView) → u.mbufs ≡ t.mbufs → mbufs_out (with_mbuf u i None) + 1 ≡ mbufs_out t
+    less u e =
+        let lt : i < length u.mbufs = omega (arith, out_below t i out, ap length e) in
+        omega (arith, outs_total u i None lt, ap (λ (ms : List (Option MbufView)). count_by is_some ms) e, ap {B = ℕ} (λ (ms : List (Option MbufView)). cond (is_some (slice_index_or ms i None)) 1 0) e, on (is_out t i) out)
+
+    same : (u : StoreView) → u.mbufs ≡ t.mbufs → (k : ℕ) → is_out (with_mbuf u i None) k ≡ true → mbuf_of (with_mbuf u i None) k ≡ mbuf_of s k
+    same u e k there =
+        let lt : i < length u.mbufs = omega (arith, out_below t i out, ap length e) in
+        let ne : k ≢ i = λ is. absurd (omega (arith, on (is_out (with_mbuf u i None) k) there, ap {B = ℕ} (λ (j : ℕ). out_at (with_mbuf u i None) j) is, off (is_out (with_mbuf u i None) i) (out_here u i None lt))) in
+        mbuf_there u i None lt k ne ∙ ap (λ (ms : List (Option MbufView)). unwrap_or (slice_index_or ms k None) no_mbuf) e
+        ∙ f.kept k (ap (λ (ms : List (Option MbufView)). is_some (slice_index_or ms k None)) (sym e) ∙ sym (out_there u i None lt k ne) ∙ there)
+
+    go : (o : Option ℕ) → (head_of s i).cluster ≡ o → Freed s (with_mbuf (released_in t o) i None) l m
+    go None none = record {
+      mbufs = length-set t.mbufs i None ∙ f.mbufs;
+      clusters = f.clusters;
+      kept = same t refl;
+      bytes = f.bytes;
+      once = λ k. omega (arith, f.once k, gone t refl k);
+      total = omega (arith, f.total, less t refl);
+      counted = λ c. omega (arith, f.counted c, refers_none s i c none);
+    }
+    go (Some d) some =
+        let counted : 0 < count_of t d = omega (arith, known d, refers_to s i d some) in
+        let lt : d < length t.clusters = cluster_below t d counted in
+        let v = released (cluster_of t d) in
+        let here : cluster_of (with_cluster t d (released (cluster_of t d))) d ≡ released (cluster_of t d) = cluster_here t d v lt in
+        record {
+          mbufs = length-set t.mbufs i None ∙ f.mbufs;
+          clusters = length-set t.clusters d v ∙ f.clusters;
+          kept = same (with_cluster t d v) refl;
+          bytes = λ c left. elim (cases_eq c d) [
+            | inl is ↦ subst (λ (j : ℕ). 0 < count_of (with_cluster t d (released (cluster_of t d))) j → (cluster_of (with_cluster t d (released (cluster_of t d))) j).bytes ≡ (cluster_of s j).bytes) (sym is)
+                (λ g. ap (λ (w : ClusterView). w.bytes) here ∙ released_bytes (cluster_of t d) counted (omega (arith, g, ap (λ (w : ClusterView). w.count) here)) ∙ f.bytes d counted) left
+            | inr ne ↦ ap (λ (w : ClusterView). w.bytes) (cluster_there t d v lt c ne) ∙ f.bytes c (omega (arith, left, ap (λ (w : ClusterView). w.count) (cluster_there t d v lt c ne)))
+          ];
+          once = λ k. omega (arith, f.once k, gone (with_cluster t d v) refl k);
+          total = omega (arith, f.total, less (with_cluster t d v) refl);
+          counted = λ c. elim (cases_eq c d) [
+            | inl is ↦ subst (λ (j : ℕ). count_of (with_cluster t d (released (cluster_of t d))) j + weigh (refers_at s j) l ≡ count_of s j + weigh (refers_at s j) m) (sym is)
+                (omega (arith, f.counted d, ap (λ (w : ClusterView). w.count) here, released_count (cluster_of t d) counted, refers_to s i d some))
+            | inr ne ↦ omega (arith, f.counted c, ap (λ (w : ClusterView). w.count) (cluster_there t d v lt c ne), refers_not s i c d some ne)
+          ];
+        }
+
+pub freed_none : (s : StoreView) (l : List ℕ) → Freed s s l l
+freed_none s l = record { mbufs = refl; clusters = refl; kept = λ k h. refl; bytes = λ c h. refl; once = λ k. refl; total = refl; counted = λ c. refl }
+
+-- what a loop that gives mbufs back needs of the next one
+pub record Ready (s t : StoreView) (first at : Option ℕ) (i : ℕ) : Type 0 where
+  pub out : is_out t i ≡ true
+  pub known : (c : ℕ) → (head_of t i).cluster ≡ Some c → 0 < count_of t c
+  pub next : (head_of t i).next ≡ (head_of s i).next
+  pub whole : IsWhole s (head_of t i).next
+  pub shorter : weigh one (cells_from s (head_of t i).next) < weigh one (cells_from s at)
+  pub freed : Freed s (with_mbuf (released_in t (head_of t i).cluster) i None) (cells_from s first) (cells_from s (head_of t i).next)
+
+pub ready : (s t : StoreView) (first at : Option ℕ) (i : ℕ) → at ≡ Some i → IsFreeable s first → IsWhole s at → Freed s t (cells_from s first) (cells_from s at) → Ready s t first at i
+ready s t first at i is own whole f =
+    let w = walk_on s at i is whole in
+    let is_one : 0 < out_at t i = omega (arith, f.once i, own.once i, ap (weigh (is_at i)) w.cells, is_at_same i) in
+    let out : is_out t i ≡ true = bit (is_out t i) is_one in
+    let counts : (c : ℕ) → refers_at s c i ≤ count_of t c = λ c. omega (arith, f.counted c, own.counted c, ap (weigh (refers_at s c)) w.cells) in
+    let head : head_of t i ≡ head_of s i = ap (λ (m : MbufView). m.head) (f.kept i out) in
+    let next : (head_of t i).next ≡ (head_of s i).next = ap (λ (h : Head). h.next) head in
+    record {
+      out = out;
+      known = λ c e. omega (arith, counts c, refers_to s i c (ap (λ (h : Head). h.cluster) (sym head) ∙ e));
+      next = next;
+      whole = subst (IsWhole s) (sym next) w.whole;
+      shorter = omega (arith, ap (weigh one) w.cells, ap (λ (o : Option ℕ). weigh one (cells_from s o)) next);
+      freed = subst (λ (h : Head). Freed s (with_mbuf (released_in t h.cluster) i None) (cells_from s first) (cells_from s h.next)) (sym head)
+          (free_one s t (cells_from s first) (cells_from s (head_of s i).next) i (subst (Freed s t (cells_from s first)) w.cells f) out counts);
+    }
+
+-- ---- an mbuf taken
+pub free_none : (xs : List (Option MbufView)) → count_by (λ (o : Option MbufView). is_none o) xs ≡ 0 → count_by (λ (o : Option MbufView). is_some o) xs ≡ length xs
+free_none [] e = refl
+free_none (None ∷ xs) e = absurd (omega (arith, sum_by-cons (λ (o : Option MbufView). cond {A = ℕ} (is_none o) 1 0) None xs))
+free_none (Some m ∷ xs) e = omega (arith, sum_by-cons (λ (o : Option MbufView). cond {A = ℕ} (is_none o) 1 0) (Some m) xs, sum_by-cons (λ (o : Option MbufView). cond {A = ℕ} (is_some o) 1 0) (Some m) xs, free_none xs (omega (arith, sum_by-cons (λ (o : Option MbufView). cond {A = ℕ} (is_none o) 1 0) (Some m) xs)))
+
+set_twice : (xs : List (Option MbufView)) (i : ℕ) (a b : Option MbufView) → slice_set (slice_set xs i a) i b ≡ slice_set xs i b
+set_twice [] i a b = refl
+set_twice (x ∷ xs) zero a b = refl
+set_twice (x ∷ xs) (suc i) a b = ap (λ (l : List (Option MbufView)). x ∷ l) (set_twice xs i a b)
+
+pub taken : (s t u : StoreView) (i : ℕ) (h : Head) → TakesMbuf s t i → SetsHead t u i h → Taken s u i h
+taken s t u i h got (b, long, is) =
+    record {
+      below = slice_get_within s.mbufs i None got.was_free;
+      fresh = ap (λ (o : Option MbufView). is_some o) (get_or_from_slice_get s.mbufs i None None got.was_free);
+      bytes = over (mbuf_of t i).bytes 0 b;
+      change = is ∙ (λ j. record { mbufs = (ap (λ (v : StoreView). slice_set v.mbufs i (Some (record { head = h; bytes = over (mbuf_of t i).bytes 0 b }))) got.change ∙ set_twice s.mbufs i _ _) j; clusters = ap (λ (v : StoreView). v.clusters) got.change j });
+    }

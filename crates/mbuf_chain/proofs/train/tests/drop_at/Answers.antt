@@ -1,0 +1,15 @@
+use Rattle.std.proofs.Common.{◌∙◌}
+use Rattle.mbuf_chain.proofs.Trains.{FreedCar, freed_car}
+use Rattle.mbuf_chain.proofs.train.tests.drop_at.Goals as goal
+
+freed : (c : goal.After-free_chain) → FreedCar c.args.pool.now c.args.train.now c.take-chain.new.pool c.free_chain.new.self c.take-chain.new.self
+freed c = freed_car c.requires.held c.take-chain.ensures.held c.take-chain.ensures.moves c.free_chain.ensures
+
+pub returns-clause-cars : goal.returns-clause-cars
+returns-clause-cars c = (freed c).cars ∙ c.take-chain.ensures.cars
+
+pub returns-clause-held : goal.returns-clause-held
+returns-clause-held c = (freed c).held
+
+pub returns-clause-moves : goal.returns-clause-moves
+returns-clause-moves c = (freed c).moves

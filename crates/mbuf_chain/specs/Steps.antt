@@ -1,0 +1,56 @@
+-- What each step makes of a chain (this project's own).
+use Rattle.std.specs.Prelude.{ℕ, ◌+◌, ◌-◌, Bool, false, List, [], ◌∷◌, ◌++◌, length, Option, slice_set, take, drop}
+use Rattle.mbuf_chain.specs.declared.place.Place.{Place}
+use Rattle.mbuf_chain.specs.Chain.{Entry, ChainView, PoolView, alone, chain_of, with_chain}
+
+-- ---- one entry
+-- `keep` of its bytes, behind the first `skip`
+abbrev pub narrowed : Entry → ℕ → ℕ → Entry
+narrowed e skip keep = record { bytes = take keep (drop skip e.bytes); start = e.start + skip; cluster = e.cluster }
+
+-- bytes put in front of its own, and behind them
+abbrev pub with_front : Entry → List ℕ → Entry
+with_front e xs = record { bytes = xs ++ e.bytes; start = e.start - length xs; cluster = e.cluster }
+
+abbrev pub with_back : Entry → List ℕ → Entry
+with_back e xs = record { bytes = e.bytes ++ xs; start = e.start; cluster = e.cluster }
+
+-- bytes written over its own, from `offset` on
+abbrev pub overwritten : Entry → ℕ → List ℕ → Entry
+overwritten e offset xs = record { bytes = take offset e.bytes ++ (xs ++ drop (offset + length xs) e.bytes); start = e.start; cluster = e.cluster }
+
+-- ---- one chain
+-- one mbuf, with or without packet header, whose number is c
+abbrev pub one_mbuf : Bool → Entry → ℕ → ChainView
+one_mbuf header e c = record { front = alone header; entries = e ∷ []; cells = c ∷ [] }
+
+-- a new entry, empty, that begins there
+abbrev pub empty_entry : ℕ → Option ℕ → Entry
+empty_entry start cluster = record { bytes = []; start = start; cluster = cluster }
+
+-- another entry in the place of entry i
+abbrev pub with_entry : ChainView → ℕ → Entry → ChainView
+with_entry v i e = record v { entries = slice_set v.entries i e }
+
+-- the pool with another entry at a place of a chain
+abbrev pub with_entry_in : PoolView → ℕ → Place → Entry → PoolView
+with_entry_in p c at e = with_chain p c (with_entry (chain_of p c) at.index e)
+
+-- the packet header gone, and the place in a train
+abbrev pub headless : ChainView → ChainView
+headless v = record v { front = alone false }
+
+-- the chain in its place before another in a train, with a tag
+abbrev pub placed : ChainView → Option ℕ → ℕ → ChainView
+placed v behind tag = record v { front = record v.front { behind = behind; tag = tag } }
+
+-- the entries of one chain, and behind them those of another
+abbrev pub joined : ChainView → ChainView → ChainView
+joined v w = record v { entries = v.entries ++ w.entries; cells = v.cells ++ w.cells }
+
+-- the first n entries, and the others
+abbrev pub first_part : ℕ → ChainView → ChainView
+first_part n v = record v { entries = take n v.entries; cells = take n v.cells }
+
+abbrev pub second_part : ℕ → ChainView → ChainView
+second_part n v = record { front = alone false; entries = drop n v.entries; cells = drop n v.cells }

@@ -1,0 +1,76 @@
+-- Trains: chains linked one behind another through their first mbufs, each with a tag (TCP/IP Illustrated, volume 2, chapter 2: mbuf chains linked by m_nextpkt; the tag is this project's own).
+use Rattle.std.specs.Prelude.{◌≡◌, ℕ, zero, suc, ◌+◌, ◌<◌, true, List, [], ◌∷◌, length, map, insert, remove, slice_get, slice_index_or, Option, None, Some}
+use Rattle.mbuf_chain.specs.Chain.{Entry, PoolView, chain_of, alone}
+use Rattle.mbuf_chain.specs.declared.car.CarPlace.{CarPlace}
+use Rattle.mbuf_chain.specs.Owners.{times, IsOwned, Moves}
+
+-- the numbers of the first chain and of the last, and how many there are
+pub record TrainView : Type 0 where
+  pub first : Option ℕ
+  pub last : Option ℕ
+  pub len : ℕ
+
+-- a chain of a train: its number, what it shows, and its tag
+pub record Car : Type 0 where
+  pub number : ℕ
+  pub entries : List Entry
+  pub tag : ℕ
+
+abbrev pub no_car : Car
+no_car = record { number = 0; entries = []; tag = 0 }
+
+-- at most so many numbers from one on, each behind the one before
+abbrev pub follow : PoolView → ℕ → Option ℕ → List ℕ
+follow p zero at = []
+follow p (suc n) None = []
+follow p (suc n) (Some c) = c ∷ follow p n (chain_of p c).front.behind
+
+-- the numbers of the train's chains, in order
+abbrev pub numbers : PoolView → TrainView → List ℕ
+numbers p t = follow p t.len t.first
+
+abbrev pub car_of : PoolView → ℕ → Car
+car_of p c = record { number = c; entries = (chain_of p c).entries; tag = (chain_of p c).front.tag }
+
+-- the train's chains, in order
+abbrev pub cars : PoolView → TrainView → List Car
+cars p t = map (car_of p) (numbers p t)
+
+-- the car at a place
+abbrev pub car_at : PoolView → TrainView → ℕ → Car
+car_at p t i = slice_index_or (cars p t) i no_car
+
+-- the place tells the train's chain `index`, whose number is `number`
+pub record IsCar (p : PoolView) (t : TrainView) (at : CarPlace) : Type 0 where
+  pub within : at.index < t.len
+  pub number : slice_get (numbers p t) at.index ≡ Some at.number
+
+-- the last of the numbers
+abbrev pub last_number : List ℕ → Option ℕ
+last_number [] = None
+last_number (x ∷ []) = Some x
+last_number (x ∷ y ∷ ys) = last_number (y ∷ ys)
+
+-- the train and the pool fit together: its chains are live, once each, and have a packet header, and none stands behind the last
+pub record IsHeld (p : PoolView) (t : TrainView) : Type 0 where
+  pub owned : IsOwned p (numbers p t)
+  pub headed : (k : ℕ) → 0 < times k (numbers p t) → (chain_of p k).front.header ≡ true
+  pub whole : length (numbers p t) ≡ t.len
+  pub ends : follow p (suc t.len) t.first ≡ numbers p t
+  pub last : t.last ≡ last_number (numbers p t)
+
+-- from p and t to q and u, chain c was put in at place i with that tag
+pub record Inserts (p : PoolView) (t : TrainView) (i c tag : ℕ) (q : PoolView) (u : TrainView) : Type 0 where
+  pub cars : cars q u ≡ insert (cars p t) i (record { number = c; entries = (chain_of p c).entries; tag = tag })
+  pub held : IsHeld q u
+  pub len : u.len ≡ t.len + 1
+  pub moves : Moves p (c ∷ numbers p t) q (numbers q u)
+
+-- from p and t to q and u, the chain at place i, of number c and with that tag, was taken out
+pub record Takes (p : PoolView) (t : TrainView) (i c tag : ℕ) (q : PoolView) (u : TrainView) : Type 0 where
+  pub cars : cars q u ≡ remove (cars p t) i
+  pub taken : car_at p t i ≡ record { number = c; entries = (chain_of q c).entries; tag = tag }
+  pub alone : (chain_of q c).front ≡ alone true
+  pub held : IsHeld q u
+  pub len : u.len + 1 ≡ t.len
+  pub moves : Moves p (numbers p t) q (c ∷ numbers q u)

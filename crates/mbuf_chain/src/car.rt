@@ -1,0 +1,11 @@
+//! Places in a train.
+
+/// Where a chain stands in a train: how many stand in front of it, and its own number. `Train::first`
+/// gives a train's first place, `Train::next` the one behind a place.
+#[derive(Clone, Copy, Debug, PartialEq, Eq)]
+pub struct CarPlace {
+    /// How many chains of the train stand in front.
+    pub index: u32,
+    /// The number of the chain.
+    pub number: u32,
+}

@@ -1,0 +1,199 @@
+//! The bytes of an mbuf: lent, and written where no other mbuf shows them.
+ghost use Rattle.std.specs.Prelude.{◌≡◌, ◌≢◌, ℕ, ◌+◌, ◌-◌, ◌<◌, ◌≤◌, ◌^◌, true, length, take, drop};
+ghost use Rattle.mbuf_pool.specs.Store.{IsStore, is_out, head_of, with_bytes, bytes_in, IsRoom};
+ghost use Rattle.raw_cells.specs.Over.{over};
+ghost use Rattle.mbuf_chain.specs.Chain.{IsLive, IsPlace, IsUnshared, chain_of, entry_of, with_chain, room_start, room_end, entry_in, HasFrontRoom, HasBackRoom};
+ghost use Rattle.mbuf_chain.specs.Steps.{with_entry, with_front, with_back, overwritten, with_entry_in};
+ghost use Rattle.mbuf_chain.specs.Cells.{IsPool, pool_of, buffer_of, place_bytes, room_low, room_high, WritesPlace};
+
+use crate::edit::resize;
+use crate::place::Place;
+use mbuf_pool::Store;
+use raw_cells::{Buffer, Part};
+
+/// The mbuf or cluster in which an mbuf's bytes lie.
+pub(crate) fn buffer_of(cell: u32, cluster: Option<u32>) -> Buffer
+    ensures { result ≡ buffer_of cell cluster }
+{
+    match cluster {
+        Some(number) => Buffer::Cluster(number),
+        None => Buffer::Mbuf(cell),
+    }
+}
+
+/// Writes bytes into a buffer, from a place on.
+fn write(store: &mut Store, buffer: Buffer, start: u32, bytes: &[u8])
+    requires room { IsRoom store.old buffer start (length bytes.now) }
+    requires few { length bytes.now ≤ 2048 }
+    ensures change { store.new ≡
+        with_bytes store.old buffer (over (bytes_in store.old buffer) start bytes.now) }
+    ensures store { IsStore store.new }
+{
+    let part = Part {
+        buffer,
+        start,
+        len: bytes.len() as u32,
+    };
+    store.bytes_mut(part).copy_from_slice(bytes);
+}
+
+/// Writes bytes into an mbuf's place, which no other mbuf shares.
+fn write_in(store: &mut Store, first: u32, at: Place, start: u32, bytes: &[u8])
+    requires pool { IsPool store.old }
+    requires live { IsLive (pool_of store.old) first }
+    requires place { IsPlace (chain_of (pool_of store.old) first) at }
+    requires unshared { IsUnshared (pool_of store.old) (entry_in (pool_of store.old) first at) }
+    requires low { room_low (head_of store.old at.cell) ≤ start }
+    requires high { start + length bytes.now ≤ room_high (head_of store.old at.cell) }
+    ensures pool { IsPool store.new }
+    ensures writes { WritesPlace store.old store.new first at start bytes.now }
+{
+    let head = store.head(at.cell);
+    write(store, buffer_of(at.cell, head.cluster), start, bytes);
+}
+
+/// Copies bytes of an mbuf, `count` of them behind the first `skip`, into another's place, which no
+/// other mbuf shares.
+fn copy_in(
+    store: &mut Store,
+    first: u32,
+    at: Place,
+    start: u32,
+    other: u32,
+    from: Place,
+    skip: u32,
+    count: u32,
+)
+    requires pool { IsPool store.old }
+    requires live { IsLive (pool_of store.old) first }
+    requires place { IsPlace (chain_of (pool_of store.old) first) at }
+    requires unshared { IsUnshared (pool_of store.old) (entry_in (pool_of store.old) first at) }
+    requires low { room_low (head_of store.old at.cell) ≤ start }
+    requires high { start + count ≤ room_high (head_of store.old at.cell) }
+    requires other { IsLive (pool_of store.old) other }
+    requires from { IsPlace (chain_of (pool_of store.old) other) from }
+    requires within { skip + count ≤ length (entry_in (pool_of store.old) other from).bytes }
+    ensures pool { IsPool store.new }
+    ensures writes { WritesPlace store.old store.new first at start
+        (take count (drop skip (entry_in (pool_of store.old) other from).bytes)) }
+{
+    let head = store.head(at.cell);
+    let source = store.head(from.cell);
+    let read = Part {
+        buffer: buffer_of(from.cell, source.cluster),
+        start: source.start + skip,
+        len: count,
+    };
+    let written = Part {
+        buffer: buffer_of(at.cell, head.cluster),
+        start,
+        len: count,
+    };
+    store.copy(read, written);
+}
+
+/// Puts bytes behind those of an mbuf, into its room.
+pub(crate) fn put_back(store: &mut Store, first: u32, at: Place, bytes: &[u8])
+    requires pool { IsPool store.old }
+    requires live { IsLive (pool_of store.old) first }
+    requires place { IsPlace (chain_of (pool_of store.old) first) at }
+    requires unshared { IsUnshared (pool_of store.old) (entry_in (pool_of store.old) first at) }
+    requires fits { HasBackRoom (entry_in (pool_of store.old) first at) (length bytes.now) }
+    ensures pool { IsPool store.new }
+    ensures change { pool_of store.new ≡
+        with_entry_in (pool_of store.old) first at
+        (with_back (entry_in (pool_of store.old) first at) bytes.now) }
+{
+    let head = store.head(at.cell);
+    write_in(store, first, at, head.start + head.len, bytes);
+    resize(store, first, at, head.start, head.len + bytes.len() as u32);
+}
+
+/// Puts bytes in front of those of an mbuf, into its room.
+pub(crate) fn put_front(store: &mut Store, first: u32, at: Place, bytes: &[u8])
+    requires pool { IsPool store.old }
+    requires live { IsLive (pool_of store.old) first }
+    requires place { IsPlace (chain_of (pool_of store.old) first) at }
+    requires unshared { IsUnshared (pool_of store.old) (entry_in (pool_of store.old) first at) }
+    requires fits { HasFrontRoom (chain_of (pool_of store.old) first) at.index (length bytes.now) }
+    ensures pool { IsPool store.new }
+    ensures change { pool_of store.new ≡
+        with_entry_in (pool_of store.old) first at
+        (with_front (entry_in (pool_of store.old) first at) bytes.now) }
+{
+    let head = store.head(at.cell);
+    let added = bytes.len() as u32;
+    let start = head.start - added;
+    write_in(store, first, at, start, bytes);
+    resize(store, first, at, start, head.len + added);
+}
+
+/// Writes bytes over those of an mbuf, from `offset` on.
+pub(crate) fn overwrite(store: &mut Store, first: u32, at: Place, offset: u32, bytes: &[u8])
+    requires pool { IsPool store.old }
+    requires live { IsLive (pool_of store.old) first }
+    requires place { IsPlace (chain_of (pool_of store.old) first) at }
+    requires unshared { IsUnshared (pool_of store.old) (entry_in (pool_of store.old) first at) }
+    requires within { offset + length bytes.now ≤ length (entry_in (pool_of store.old) first at).bytes }
+    ensures pool { IsPool store.new }
+    ensures change { pool_of store.new ≡
+        with_entry_in (pool_of store.old) first at
+        (overwritten (entry_in (pool_of store.old) first at) offset bytes.now) }
+{
+    let head = store.head(at.cell);
+    write_in(store, first, at, head.start + offset, bytes);
+}
+
+/// Puts bytes of an mbuf, `count` of them behind the first `skip`, behind those of another.
+pub(crate) fn append(
+    store: &mut Store,
+    first: u32,
+    at: Place,
+    other: u32,
+    from: Place,
+    skip: u32,
+    count: u32,
+)
+    requires pool { IsPool store.old }
+    requires live { IsLive (pool_of store.old) first }
+    requires place { IsPlace (chain_of (pool_of store.old) first) at }
+    requires unshared { IsUnshared (pool_of store.old) (entry_in (pool_of store.old) first at) }
+    requires fits { HasBackRoom (entry_in (pool_of store.old) first at) count }
+    requires other { IsLive (pool_of store.old) other }
+    requires from { IsPlace (chain_of (pool_of store.old) other) from }
+    requires within { skip + count ≤ length (entry_in (pool_of store.old) other from).bytes }
+    ensures pool { IsPool store.new }
+    ensures change { pool_of store.new ≡
+        with_entry_in (pool_of store.old) first at
+        (with_back (entry_in (pool_of store.old) first at)
+        (take count (drop skip (entry_in (pool_of store.old) other from).bytes))) }
+{
+    let head = store.head(at.cell);
+    copy_in(
+        store,
+        first,
+        at,
+        head.start + head.len,
+        other,
+        from,
+        skip,
+        count,
+    );
+    resize(store, first, at, head.start, head.len + count);
+}
+
+/// The bytes of an mbuf, lent.
+pub(crate) fn bytes(store: &Store, first: u32, at: Place) -> &[u8]
+    requires pool { IsPool store.now }
+    requires live { IsLive (pool_of store.now) first }
+    requires place { IsPlace (chain_of (pool_of store.now) first) at }
+    ensures value { result.now ≡ (entry_in (pool_of store.now) first at).bytes }
+    ensures len { length result.now ≡ length (entry_in (pool_of store.now) first at).bytes }
+{
+    let head = store.head(at.cell);
+    store.bytes(Part {
+        buffer: buffer_of(at.cell, head.cluster),
+        start: head.start,
+        len: head.len,
+    })
+}

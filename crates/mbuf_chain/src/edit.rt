@@ -1,0 +1,88 @@
+//! Changes of one mbuf of a chain.
+ghost use Rattle.std.specs.Prelude.{◌≡◌, ◌≢◌, ℕ, ◌+◌, ◌<◌, ◌≤◌, ◌^◌, true, Some, None, IfSome, length};
+ghost use Rattle.mbuf_pool.specs.Store.{IsStore, is_out, head_of};
+ghost use Rattle.mbuf_chain.specs.Chain.{IsLive, IsPlace, chain_of, entry_of, with_chain, entry_in};
+ghost use Rattle.mbuf_chain.specs.Steps.{with_entry, narrowed, placed, with_entry_in};
+ghost use Rattle.mbuf_chain.specs.Cells.{IsPool, IsOff, pool_of, room_low, room_high, with_extent, entry_from};
+
+use crate::place::Place;
+use mbuf_pool::Store;
+use raw_cells::{Head, PacketHeader};
+
+/// Puts a chain's packet length right, where it has one and so many bytes came in and went.
+pub(crate) fn set_total(store: &mut Store, first: u32, added: u32, removed: u32)
+    requires off { IsOff store.old first added removed }
+    requires live { IsLive (pool_of store.old) first }
+    requires few { removed < 2 ^ 31 }
+    ensures pool { IsPool store.new }
+    ensures same { pool_of store.new ≡ pool_of store.old }
+{
+    let head = store.head(first);
+    if let Some(packet) = head.packet {
+        let packet = Some(PacketHeader {
+            len: packet.len + added - removed,
+            arrival: packet.arrival,
+        });
+        store.set_head(first, Head { packet, ..head });
+    }
+}
+
+/// Lets an mbuf show the `len` bytes of its room from `start` on.
+pub(crate) fn resize(store: &mut Store, first: u32, at: Place, start: u32, len: u32)
+    requires pool { IsPool store.old }
+    requires live { IsLive (pool_of store.old) first }
+    requires place { IsPlace (chain_of (pool_of store.old) first) at }
+    requires low { room_low (head_of store.old at.cell) ≤ start }
+    requires high { start + len ≤ room_high (head_of store.old at.cell) }
+    ensures pool { IsPool store.new }
+    ensures change { pool_of store.new ≡
+        with_entry_in (pool_of store.old) first at
+        (entry_from store.old at.cell (with_extent (head_of store.old at.cell) start len)) }
+{
+    let head = store.head(at.cell);
+    store.set_head(at.cell, Head { start, len, ..head });
+    set_total(store, first, len, head.len);
+}
+
+/// Lets an mbuf show only `keep` of its bytes, behind the first `skip`.
+pub(crate) fn narrow(store: &mut Store, first: u32, at: Place, skip: u32, keep: u32)
+    requires pool { IsPool store.old }
+    requires live { IsLive (pool_of store.old) first }
+    requires place { IsPlace (chain_of (pool_of store.old) first) at }
+    requires within { skip + keep ≤ length (entry_in (pool_of store.old) first at).bytes }
+    ensures pool { IsPool store.new }
+    ensures change { pool_of store.new ≡
+        with_entry_in (pool_of store.old) first at
+        (narrowed (entry_in (pool_of store.old) first at) skip keep) }
+{
+    let head = store.head(at.cell);
+    resize(store, first, at, head.start + skip, keep);
+}
+
+/// Puts a chain with packet header in its place before another in a train, with a tag.
+pub(crate) fn set_behind(store: &mut Store, first: u32, behind: Option<u32>, tag: u32)
+    requires pool { IsPool store.old }
+    requires live { IsLive (pool_of store.old) first }
+    requires headed { (chain_of (pool_of store.old) first).front.header ≡ true }
+    requires link { IfSome behind (λ k. k < 0xffff_ffff) }
+    ensures pool { IsPool store.new }
+    ensures change { pool_of store.new ≡
+        with_chain (pool_of store.old) first
+        (placed (chain_of (pool_of store.old) first) behind tag) }
+{
+    let head = store.head(first);
+    if let Some(packet) = head.packet {
+        let packet = Some(PacketHeader {
+            len: packet.len,
+            arrival: tag,
+        });
+        store.set_head(
+            first,
+            Head {
+                next_packet: behind,
+                packet,
+                ..head
+            },
+        );
+    }
+}

@@ -1,0 +1,25 @@
+//! Chains of mbufs that share clusters.
+#![tactic(auto)]
+
+mod car;
+mod cells;
+mod chain;
+mod data;
+mod edit;
+mod links;
+mod make;
+mod pieces;
+mod place;
+mod pool;
+mod reclaim;
+#[cfg(test)]
+mod tests;
+mod train;
+
+pub use car::CarPlace;
+pub use chain::Chain;
+pub use pieces::{Entries, Pieces};
+pub use place::{Extent, Place};
+pub use pool::Pool;
+pub use reclaim::Reclaim;
+pub use train::Train;

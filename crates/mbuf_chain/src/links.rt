@@ -1,0 +1,309 @@
+//! Chains given back, joined and cut.
+ghost use Rattle.std.specs.Prelude.{◌≡◌, ◌≢◌, ℕ, ◌+◌, ◌<◌, ◌≤◌, true, false, IsTrue, Some, None, length, take, MatchOption, is_some, if◌then◌else◌};
+ghost use Rattle.mbuf_pool.specs.Store.{IsStore, is_out, head_of};
+ghost use Rattle.mbuf_chain.specs.Chain.{IsLive, IsPlace, chain_of, with_chain, without, string, alone, entry_of, room_start, room_end, front_room, back_room, Adds, entry_in, HasFrontRoom, HasBackRoom};
+ghost use Rattle.mbuf_chain.specs.Steps.{headless, joined, first_part, second_part};
+ghost use Rattle.mbuf_chain.specs.Cells.{IsPool, IsWhole, pool_of, cells_from, weigh, one, len_at, last_of, packet_len};
+
+use crate::cells::{bytes_from, count_from, free_from};
+use crate::edit::set_total;
+use crate::place::{Extent, Place};
+use mbuf_pool::Store;
+use raw_cells::{Head, PacketHeader};
+
+/// How many bytes an mbuf has.
+const MBUF_LEN: u32 = 128;
+
+/// Where an mbuf without packet header begins to hold data.
+const DATA_START: u32 = 20;
+
+/// Where an mbuf with packet header begins to hold data.
+pub(crate) const PACKET_START: u32 = 28;
+
+/// How many bytes a chain has.
+pub(crate) fn bytes_of(store: &Store, first: u32) -> u32
+    requires pool { IsPool store.now }
+    requires live { IsLive (pool_of store.now) first }
+    ensures { result ≡ length (string (chain_of (pool_of store.now) first)) }
+{
+    match store.head(first).packet {
+        Some(packet) => packet.len,
+        None => bytes_from(store, first),
+    }
+}
+
+/// How many mbufs a chain has.
+pub(crate) fn mbufs_of(store: &Store, first: u32) -> u32
+    requires pool { IsPool store.now }
+    requires live { IsLive (pool_of store.now) first }
+    ensures { result ≡ length (chain_of (pool_of store.now) first).entries }
+{
+    count_from(store, first)
+}
+
+/// Whether a chain has a packet header.
+pub(crate) fn has_header(store: &Store, first: u32) -> bool
+    requires pool { IsPool store.now }
+    requires live { IsLive (pool_of store.now) first }
+    ensures { result ≡ (chain_of (pool_of store.now) first).front.header }
+{
+    store.head(first).packet.is_some()
+}
+
+/// The number of the chain behind a chain in a train.
+pub(crate) fn behind(store: &Store, first: u32) -> Option<u32>
+    requires pool { IsPool store.now }
+    requires live { IsLive (pool_of store.now) first }
+    ensures { result ≡ (chain_of (pool_of store.now) first).front.behind }
+{
+    store.head(first).next_packet
+}
+
+/// The tag of a chain in a train.
+pub(crate) fn tag(store: &Store, first: u32) -> u32
+    requires pool { IsPool store.now }
+    requires live { IsLive (pool_of store.now) first }
+    ensures { result ≡ (chain_of (pool_of store.now) first).front.tag }
+{
+    match store.head(first).packet {
+        Some(packet) => packet.arrival,
+        None => 0,
+    }
+}
+
+/// The place of a chain's first mbuf.
+pub(crate) fn first(store: &Store, first: u32) -> Place
+    requires pool { IsPool store.now }
+    requires live { IsLive (pool_of store.now) first }
+    ensures place { IsPlace (chain_of (pool_of store.now) first) result }
+    ensures index { result.index ≡ 0 }
+{
+    let _ = store.mbufs();
+    Place {
+        index: 0,
+        cell: first,
+    }
+}
+
+/// The place behind another.
+pub(crate) fn next(store: &Store, first: u32, at: Place) -> Option<Place>
+    requires pool { IsPool store.now }
+    requires live { IsLive (pool_of store.now) first }
+    requires place { IsPlace (chain_of (pool_of store.now) first) at }
+    ensures { MatchOption result (at.index + 1 ≡
+        length (chain_of (pool_of store.now) first).entries)
+        (λ q. IsPlace (chain_of (pool_of store.now) first) q × (q.index ≡ at.index + 1)) }
+{
+    match store.head(at.cell).next {
+        Some(cell) => Some(Place {
+            index: at.index + 1,
+            cell,
+        }),
+        None => None,
+    }
+}
+
+/// The place of a chain's last mbuf.
+pub(crate) fn last(store: &Store, start: u32) -> Place
+    requires pool { IsPool store.now }
+    requires live { IsLive (pool_of store.now) start }
+    ensures place { IsPlace (chain_of (pool_of store.now) start) result }
+    ensures index { result.index + 1 ≡ length (chain_of (pool_of store.now) start).entries }
+{
+    let mut at = first(store, start);
+    let mut behind = next(store, start, at);
+    'mbufs: while let Some(place) = behind {
+        at = place;
+        behind = next(store, start, at);
+    }
+    at
+}
+
+/// Where the bytes of an mbuf lie.
+pub(crate) fn extent(store: &Store, first: u32, at: Place) -> Extent
+    requires pool { IsPool store.now }
+    requires live { IsLive (pool_of store.now) first }
+    requires place { IsPlace (chain_of (pool_of store.now) first) at }
+    ensures value { result ≡ record {
+      start = (entry_in (pool_of store.now) first at).start;
+      len = length (entry_in (pool_of store.now) first at).bytes;
+      cluster = (entry_in (pool_of store.now) first at).cluster;
+    } }
+    ensures known { (c : ℕ) → (entry_in (pool_of store.now) first at).cluster ≡ Some c →
+        c < length store.now.clusters }
+{
+    let head = store.head(at.cell);
+    Extent {
+        start: head.start,
+        len: head.len,
+        cluster: head.cluster,
+    }
+}
+
+/// Where an mbuf begins to hold data, with or without packet header.
+fn data_start(packet: Option<PacketHeader>) -> u32
+    ensures { result ≡ (if is_some packet then 28 else 20) }
+{
+    match packet {
+        Some(_) => PACKET_START,
+        None => DATA_START,
+    }
+}
+
+/// How many places are free in front of an mbuf's bytes.
+pub(crate) fn front_room(store: &Store, first: u32, at: Place) -> u32
+    requires pool { IsPool store.now }
+    requires live { IsLive (pool_of store.now) first }
+    requires place { IsPlace (chain_of (pool_of store.now) first) at }
+    ensures value { result ≡ front_room (chain_of (pool_of store.now) first) at.index }
+    ensures within { HasFrontRoom (chain_of (pool_of store.now) first) at.index result }
+{
+    let head = store.head(at.cell);
+    if head.cluster.is_some() {
+        0
+    } else {
+        head.start - data_start(head.packet)
+    }
+}
+
+/// How many places are free behind an mbuf's bytes.
+pub(crate) fn back_room(store: &Store, first: u32, at: Place) -> u32
+    requires pool { IsPool store.now }
+    requires live { IsLive (pool_of store.now) first }
+    requires place { IsPlace (chain_of (pool_of store.now) first) at }
+    ensures value { result ≡ back_room (entry_in (pool_of store.now) first at) }
+    ensures within { HasBackRoom (entry_in (pool_of store.now) first at) result }
+{
+    let head = store.head(at.cell);
+    if head.cluster.is_some() {
+        0
+    } else {
+        MBUF_LEN - head.start - head.len
+    }
+}
+
+/// Gives a chain's mbufs back, with their references.
+pub(crate) fn free_chain(store: &mut Store, first: u32)
+    requires pool { IsPool store.old }
+    requires live { IsLive (pool_of store.old) first }
+    ensures pool { IsPool store.new }
+    ensures change { pool_of store.new ≡ without (pool_of store.old) first }
+{
+    free_from(store, first);
+}
+
+/// Takes the packet header from a chain, and its place in a train.
+pub(crate) fn strip(store: &mut Store, first: u32)
+    requires pool { IsPool store.old }
+    requires live { IsLive (pool_of store.old) first }
+    ensures pool { IsPool store.new }
+    ensures change { pool_of store.new ≡
+        with_chain (pool_of store.old) first (headless (chain_of (pool_of store.old) first)) }
+{
+    let head = store.head(first);
+    store.set_head(
+        first,
+        Head {
+            packet: None,
+            next_packet: None,
+            ..head
+        },
+    );
+}
+
+/// Links a chain that has no packet header, and so many bytes, behind another.
+fn join(store: &mut Store, front: u32, last: Place, back: u32, added: u32)
+    requires pool { IsPool store.old }
+    requires front { IsLive (pool_of store.old) front }
+    requires back { IsLive (pool_of store.old) back }
+    requires apart { front ≢ back }
+    requires place { IsPlace (chain_of (pool_of store.old) front) last }
+    requires last { last.index + 1 ≡ length (chain_of (pool_of store.old) front).entries }
+    requires bare { (chain_of (pool_of store.old) back).front ≡ alone false }
+    requires bytes { added ≡ length (string (chain_of (pool_of store.old) back)) }
+    ensures pool { IsPool store.new }
+    ensures change { pool_of store.new ≡
+        with_chain (without (pool_of store.old) back) front
+        (joined (chain_of (pool_of store.old) front) (chain_of (pool_of store.old) back)) }
+{
+    let head = store.head(last.cell);
+    let next = Some(back);
+    store.set_head(last.cell, Head { next, ..head });
+    set_total(store, front, added, 0);
+}
+
+/// Links a chain behind another. It loses its packet header.
+pub(crate) fn link(store: &mut Store, front: u32, last: Place, back: u32) -> Place
+    requires pool { IsPool store.old }
+    requires front { IsLive (pool_of store.old) front }
+    requires back { IsLive (pool_of store.old) back }
+    requires apart { front ≢ back }
+    requires place { IsPlace (chain_of (pool_of store.old) front) last }
+    requires last { last.index + 1 ≡ length (chain_of (pool_of store.old) front).entries }
+    ensures pool { IsPool store.new }
+    ensures change { pool_of store.new ≡
+        with_chain (without (pool_of store.old) back) front
+        (joined (chain_of (pool_of store.old) front) (chain_of (pool_of store.old) back)) }
+    ensures place { IsPlace (chain_of (pool_of store.new) front) result }
+    ensures index { result.index ≡ last.index + 1 }
+{
+    let added = bytes_of(store, back);
+    strip(store, back);
+    join(store, front, last, back, added);
+    Place {
+        index: last.index + 1,
+        cell: back,
+    }
+}
+
+/// The mbuf that ends the first `keep` of a chain, and how many bytes these have.
+fn end_of(store: &Store, first: u32, keep: u32) -> (u32, u32)
+    requires whole { IsWhole store.now (Some first) }
+    requires store { IsStore store.now }
+    requires some { 0 < keep }
+    requires within { keep ≤ weigh one (cells_from store.now (Some first)) }
+    ensures cell { result.0 ≡ last_of (take keep (cells_from store.now (Some first))) }
+    ensures bytes { result.1 ≡
+        weigh (len_at store.now) (take keep (cells_from store.now (Some first))) }
+{
+    let mut at = first;
+    let mut head = store.head(first);
+    let mut bytes = head.len;
+    'mbufs: for _ in 1..keep {
+        at = head.next.unwrap();
+        head = store.head(at);
+        bytes += head.len;
+    }
+    (at, bytes)
+}
+
+/// The packet length of a chain, or 0 where it has no packet header.
+fn packet_len(store: &Store, first: u32) -> u32
+    requires { IsTrue (is_out store.now first) }
+    ensures { result ≡ packet_len (head_of store.now first) }
+{
+    match store.head(first).packet {
+        Some(packet) => packet.len,
+        None => 0,
+    }
+}
+
+/// Cuts a chain behind its first `keep` mbufs, and answers the number of the rest.
+pub(crate) fn cut(store: &mut Store, first: u32, keep: u32) -> u32
+    requires pool { IsPool store.old }
+    requires live { IsLive (pool_of store.old) first }
+    requires some { 0 < keep }
+    requires within { keep < length (chain_of (pool_of store.old) first).entries }
+    ensures pool { IsPool store.new }
+    ensures change { Adds (with_chain (pool_of store.old) first
+        (first_part keep (chain_of (pool_of store.old) first))) (pool_of store.new) result
+        (second_part keep (chain_of (pool_of store.old) first)) }
+{
+    let whole = packet_len(store, first);
+    let (last, kept) = end_of(store, first, keep);
+    let head = store.head(last);
+    let rest = head.next.unwrap();
+    store.set_head(last, Head { next: None, ..head });
+    set_total(store, first, kept, whole);
+    rest
+}

@@ -1,0 +1,129 @@
+//! New chains of one mbuf.
+ghost use Rattle.std.specs.Prelude.{◌≡◌, ◌≢◌, ℕ, ◌+◌, ◌<◌, ◌≤◌, ◌⊎◌, true, Bool, Some, None, length, IfOk, OnErr, IsSome};
+ghost use Rattle.mbuf_pool.specs.Store.{IsStore, mbufs_out};
+ghost use Rattle.raw_cells.specs.Cells.{IsHead};
+ghost use Rattle.mbuf_chain.specs.Chain.{IsLive, IsPlace, chain_of, entry_of, Adds, held_mbufs, references, free_clusters, entry_in};
+ghost use Rattle.mbuf_chain.specs.Steps.{one_mbuf, empty_entry, narrowed};
+ghost use Rattle.mbuf_chain.specs.Cells.{IsPool, pool_of, Taken, start_of, head_for};
+
+use crate::place::Place;
+use mbuf_pool::{NoBufs, Store};
+use raw_cells::{Head, PacketHeader};
+
+/// The kind of each mbuf of a chain. Nobody reads it.
+const KIND: u16 = 1;
+
+/// The head of the only mbuf of a chain.
+fn head_for(header: bool, start: u32, len: u32, cluster: Option<u32>) -> Head
+    ensures { result ≡ head_for header start len cluster }
+{
+    let packet = if header {
+        Some(PacketHeader { len, arrival: 0 })
+    } else {
+        None
+    };
+    Head {
+        next: None,
+        next_packet: None,
+        len,
+        start,
+        kind: KIND,
+        packet,
+        cluster,
+    }
+}
+
+/// Takes an mbuf and gives it a head.
+fn take(store: &mut Store, head: Head) -> Result<u32, NoBufs>
+    requires { IsHead head }
+    ensures ok { IfOk result (λ i. Taken store.old store.new i head) }
+    ensures err { OnErr result (mbufs_out store.old ≡ length store.old.mbufs) }
+    ensures same { OnErr result (store.new ≡ store.old) }
+    ensures store { IsStore store.new }
+{
+    let _ = store.free_mbufs();
+    match store.get() {
+        Ok(cell) => {
+            store.set_head(cell, head);
+            Ok(cell)
+        }
+        Err(refusal) => Err(refusal),
+    }
+}
+
+/// A chain of one empty mbuf without cluster.
+pub(crate) fn plain(store: &mut Store, header: bool, start: u32) -> Result<u32, NoBufs>
+    requires pool { IsPool store.old }
+    requires low { start_of header ≤ start }
+    requires high { start ≤ 128 }
+    ensures pool { IsPool store.new }
+    ensures ok { IfOk result (λ c. Adds (pool_of store.old) (pool_of store.new) c
+        (one_mbuf header (empty_entry start None) c)) }
+    ensures err { OnErr result (held_mbufs (pool_of store.old) ≡ length store.old.mbufs) }
+    ensures same { OnErr result (store.new ≡ store.old) }
+{
+    match take(store, head_for(header, start, 0, None)) {
+        Ok(cell) => Ok(cell),
+        Err(refusal) => Err(refusal),
+    }
+}
+
+/// A chain of one mbuf that shares the cluster of an entry: `keep` of its bytes, behind the first
+/// `skip`.
+pub(crate) fn shared(
+    store: &mut Store,
+    header: bool,
+    first: u32,
+    at: Place,
+    skip: u32,
+    keep: u32,
+) -> Result<u32, NoBufs>
+    requires pool { IsPool store.old }
+    requires live { IsLive (pool_of store.old) first }
+    requires place { IsPlace (chain_of (pool_of store.old) first) at }
+    requires refers { IsSome (entry_in (pool_of store.old) first at).cluster }
+    requires within { skip + keep ≤ length (entry_in (pool_of store.old) first at).bytes }
+    ensures pool { IsPool store.new }
+    ensures ok { IfOk result (λ c. Adds (pool_of store.old) (pool_of store.new) c
+        (one_mbuf header (narrowed (entry_in (pool_of store.old) first at) skip keep) c)) }
+    ensures err { OnErr result (held_mbufs (pool_of store.old) ≡ length store.old.mbufs) }
+    ensures same { OnErr result (store.new ≡ store.old) }
+{
+    let head = store.head(at.cell);
+    let cluster = head.cluster.unwrap();
+    match take(
+        store,
+        head_for(header, head.start + skip, keep, Some(cluster)),
+    ) {
+        Ok(cell) => {
+            store.hold(cluster);
+            Ok(cell)
+        }
+        Err(refusal) => Err(refusal),
+    }
+}
+
+/// A chain of one empty mbuf on a cluster of its own.
+pub(crate) fn clustered(store: &mut Store, header: bool, start: u32) -> Result<u32, NoBufs>
+    requires pool { IsPool store.old }
+    requires high { start ≤ 2048 }
+    ensures pool { IsPool store.new }
+    ensures ok { IfOk result (λ c. (d : ℕ) × (d < length store.old.clusters)
+        × (references (pool_of store.old) d ≡ 0)
+        × Adds (pool_of store.old) (pool_of store.new) c
+        (one_mbuf header (empty_entry start (Some d)) c)) }
+    ensures err { OnErr result ((held_mbufs (pool_of store.old) ≡ length store.old.mbufs) ⊎
+        (free_clusters (pool_of store.old) ≡ 0)) }
+    ensures same { OnErr result (store.new ≡ store.old) }
+{
+    if store.free_mbufs() == 0 {
+        return Err(NoBufs);
+    }
+    match store.get_cluster() {
+        Ok(cluster) => match take(store, head_for(header, start, 0, Some(cluster))) {
+            Ok(cell) => Ok(cell),
+            Err(_) => unreachable!(),
+        },
+        Err(refusal) => Err(refusal),
+    }
+}

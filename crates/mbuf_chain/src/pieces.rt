@@ -1,0 +1,117 @@
+//! A chain's mbufs read in place, one after another.
+ghost use Rattle.std.specs.Prelude.{◌≡◌, length, Some};
+ghost use Rattle.std.specs.Iterator.{YieldsFirst, YieldsFirstRef, item_count};
+ghost use Rattle.mbuf_chain.specs.Chain.{IsLive, chain_of, layout};
+ghost use Rattle.mbuf_chain.specs.Cells.{IsPool, pool_of};
+ghost use Rattle.mbuf_chain.specs.Pieces.{pieces, data_of};
+
+use crate::data::buffer_of;
+use mbuf_pool::Store;
+use raw_cells::{Head, Part};
+use std::marker::Model;
+
+/// An iterator over a chain's mbufs: for each the number of its bytes, and the number of the cluster in
+/// which they lie, `None` where they lie in the mbuf. A contract sees it as the list of what it has left.
+#[derive(Drop)]
+pub struct Entries<'a> {
+    store: &'a Store,
+    at: Option<u32>,
+}
+
+impl<'a> Model for Entries<'a> {
+    ghost use Rattle.std.specs.Prelude.{ℕ, List, Option};
+    ghost use Rattle.mbuf_chain.specs.Chain.{layout_of};
+    ghost use Rattle.mbuf_chain.specs.Pieces.{entries_from, IsReadable};
+
+    ghost Value = { List (ℕ × Option ℕ) };
+
+    ghost view = { λ e. layout_of (entries_from e.store.now e.at) };
+
+    ghost invariant = { λ e. IsReadable e.store.now e.at };
+}
+
+/// An iterator over a chain's mbufs: the bytes of each, lent without copying. A contract sees it as the
+/// list of what it has left.
+#[derive(Drop)]
+pub struct Pieces<'a> {
+    store: &'a Store,
+    at: Option<u32>,
+}
+
+impl<'a> Model for Pieces<'a> {
+    ghost use Rattle.std.specs.Prelude.{ℕ, List};
+    ghost use Rattle.mbuf_chain.specs.Pieces.{entries_from, pieces_of, IsReadable};
+
+    ghost Value = { List (List ℕ) };
+
+    ghost view = { λ p. pieces_of (entries_from p.store.now p.at) };
+
+    ghost invariant = { λ p. IsReadable p.store.now p.at };
+}
+
+/// Where the bytes lie that an mbuf shows under a head.
+fn data_of(cell: u32, head: Head) -> Part
+    ensures { result ≡ data_of cell head }
+{
+    Part {
+        buffer: buffer_of(cell, head.cluster),
+        start: head.start,
+        len: head.len,
+    }
+}
+
+/// The mbufs of a chain: their lengths and clusters.
+pub(crate) fn layout_of(store: &Store, first: u32) -> Entries<'_>
+    requires pool { IsPool store.now }
+    requires live { IsLive (pool_of store.now) first }
+    ensures { result ≡ layout (chain_of (pool_of store.now) first) }
+{
+    Entries {
+        store,
+        at: Some(first),
+    }
+}
+
+/// The mbufs of a chain: their bytes.
+pub(crate) fn pieces_of(store: &Store, first: u32) -> Pieces<'_>
+    requires pool { IsPool store.now }
+    requires live { IsLive (pool_of store.now) first }
+    ensures { result ≡ pieces (chain_of (pool_of store.now) first) }
+{
+    Pieces {
+        store,
+        at: Some(first),
+    }
+}
+
+impl<'a> Iterator for Entries<'a> {
+    type Item = (u32, Option<u32>);
+
+    ghost next_gives = { YieldsFirst (λ s. s) };
+
+    ghost remaining = { item_count (λ s. s) };
+
+    /// The length and the cluster of the next mbuf, or `None` behind the last.
+    fn next(&mut self) -> Option<(u32, Option<u32>)> {
+        let cell = self.at?;
+        let head = self.store.head(cell);
+        self.at = head.next;
+        Some((head.len, head.cluster))
+    }
+}
+
+impl<'a> Iterator for Pieces<'a> {
+    type Item = &'a [u8];
+
+    ghost next_gives = { YieldsFirstRef (λ s. s) };
+
+    ghost remaining = { item_count (λ s. s) };
+
+    /// The bytes of the next mbuf, or `None` behind the last.
+    fn next(&mut self) -> Option<&'a [u8]> {
+        let cell = self.at?;
+        let head = self.store.head(cell);
+        self.at = head.next;
+        Some(self.store.bytes(data_of(cell, head)))
+    }
+}

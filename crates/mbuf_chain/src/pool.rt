@@ -1,0 +1,422 @@
+//! The pool.
+ghost use Rattle.std.specs.Prelude.{◌≡◌, ◌≢◌, ℕ, ◌+◌, ◌-◌, ◌<◌, ◌≤◌, ◌⊎◌, true, None, Some, Bool, length, IfOk, OnErr, IsSome, IfSome, MatchOption, if◌then◌else◌, take, drop};
+ghost use Rattle.std.specs.FinMap as finmap;
+ghost use Rattle.mbuf_pool.specs.Store.{mbufs_out, count_of};
+ghost use Rattle.mbuf_chain.specs.Chain.{IsLive, IsPlace, chain_of, with_chain, without, held_mbufs, references, free_clusters, string, layout, entry_of, Adds, IsUnshared, room_start, room_end, front_room, back_room, entry_in, HasFrontRoom, HasBackRoom};
+ghost use Rattle.mbuf_chain.specs.Pieces.{pieces};
+ghost use Rattle.mbuf_chain.specs.Steps.{one_mbuf, empty_entry, narrowed, with_entry, with_front, with_back, overwritten, headless, joined, placed, first_part, second_part, with_entry_in};
+ghost use Rattle.mbuf_chain.specs.Frames.{IsBounded};
+
+use crate::chain::Chain;
+use crate::links::PACKET_START;
+use crate::pieces::{Entries, Pieces};
+use crate::place::{Extent, Place};
+use crate::{data, edit, links, make, pieces};
+use mbuf_pool::{NoBufs, Store};
+use std::marker::Model;
+
+/// A pool of chains of mbufs, over a store that it hides.
+///
+/// A contract sees it as a `PoolView`: how many mbufs and clusters there are in all, and a finite map
+/// from a chain's number to what the chain holds. docs/chains.md has the words and a picture.
+#[derive(Drop)]
+pub struct Pool {
+    store: Store,
+}
+
+impl Model for Pool {
+    ghost use Rattle.mbuf_chain.specs.Chain.{PoolView, coded_pool};
+    ghost use Rattle.mbuf_chain.specs.Cells.{pool_of, IsPool};
+
+    ghost Value = { PoolView };
+
+    ghost coded = { coded_pool };
+
+    ghost view = { λ p. pool_of p.store };
+
+    ghost invariant = { λ p. IsPool p.store };
+}
+
+impl Pool {
+    /// A pool without chains, over a store of which nothing is handed out.
+    pub fn over(store: Store) -> Pool
+        requires mbufs { mbufs_out store ≡ 0 }
+        requires clusters { (c : ℕ) → count_of store c ≡ 0 }
+        ensures { result ≡ record {
+          mbufs = length store.mbufs;
+          clusters = length store.clusters;
+          chains = finmap.empty;
+        } }
+    {
+        let _ = store.mbufs();
+        Pool { store }
+    }
+
+    /// How many mbufs are free.
+    pub fn free_mbufs(&self) -> u32
+        ensures free { result + held_mbufs self.now ≡ self.now.mbufs }
+        ensures bounds { IsBounded self.now }
+    {
+        self.store.free_mbufs()
+    }
+
+    /// How many clusters are free.
+    pub fn free_clusters(&self) -> u32
+        ensures { result ≡ free_clusters self.now }
+    {
+        self.store.free_clusters()
+    }
+
+    /// How many mbufs refer to a cluster. There must be such a cluster.
+    pub fn count(&self, cluster: u32) -> u32
+        requires { cluster < self.now.clusters }
+        ensures { result ≡ references self.now cluster }
+    {
+        self.store.count(cluster)
+    }
+
+    /// A chain of one empty mbuf with packet header. `NoBufs` comes exactly where no mbuf is free, and
+    /// changes nothing.
+    pub fn new_chain(&mut self) -> Result<Chain, NoBufs>
+        ensures ok { IfOk result (λ c. Adds self.old self.new c
+            (one_mbuf true (empty_entry 28 None) c)) }
+        ensures err { OnErr result (held_mbufs self.old ≡ self.old.mbufs) }
+        ensures same { OnErr result (self.new ≡ self.old) }
+    {
+        self.new_plain(true, PACKET_START)
+    }
+
+    /// A chain of one empty mbuf, with or without packet header, that begins at `start`: a place from
+    /// 28, or 20 without packet header, to 128. `NoBufs` comes exactly where no mbuf is free, and
+    /// changes nothing.
+    pub fn new_plain(&mut self, header: bool, start: u32) -> Result<Chain, NoBufs>
+        requires low { (if header then 28 else 20) ≤ start }
+        requires high { start ≤ 128 }
+        ensures ok { IfOk result (λ c. Adds self.old self.new c
+            (one_mbuf header (empty_entry start None) c)) }
+        ensures err { OnErr result (held_mbufs self.old ≡ self.old.mbufs) }
+        ensures same { OnErr result (self.new ≡ self.old) }
+    {
+        match make::plain(&mut self.store, header, start) {
+            Ok(first) => Ok(Chain { first }),
+            Err(refusal) => Err(refusal),
+        }
+    }
+
+    /// Gives a chain's mbufs back, with their references. A cluster is free again where its last
+    /// reference is gone.
+    pub fn free_chain(&mut self, chain: Chain)
+        requires { IsLive self.old chain }
+        ensures { self.new ≡ without self.old chain }
+    {
+        let Chain { first } = chain;
+        links::free_chain(&mut self.store, first);
+    }
+
+    /// How many bytes a chain has. It takes one step where the chain has a packet header, else one for
+    /// each mbuf.
+    pub fn len(&self, chain: &Chain) -> u32
+        requires { IsLive self.now chain.now }
+        ensures { result ≡ length (string (chain_of self.now chain.now)) }
+    {
+        links::bytes_of(&self.store, chain.first)
+    }
+
+    /// How many mbufs a chain has. It takes one step for each.
+    pub fn mbufs(&self, chain: &Chain) -> u32
+        requires { IsLive self.now chain.now }
+        ensures { result ≡ length (chain_of self.now chain.now).entries }
+    {
+        links::mbufs_of(&self.store, chain.first)
+    }
+
+    /// Whether a chain has a packet header.
+    pub fn has_header(&self, chain: &Chain) -> bool
+        requires { IsLive self.now chain.now }
+        ensures { result ≡ (chain_of self.now chain.now).front.header }
+    {
+        links::has_header(&self.store, chain.first)
+    }
+
+    /// The length and the cluster of each mbuf of a chain, in order: `None` for one without cluster.
+    pub fn layout(&self, chain: &Chain) -> Entries<'_>
+        requires { IsLive self.now chain.now }
+        ensures { result ≡ layout (chain_of self.now chain.now) }
+    {
+        pieces::layout_of(&self.store, chain.first)
+    }
+
+    /// The bytes of each mbuf of a chain, in order, lent without copying. An mbuf without bytes gives an
+    /// empty slice.
+    pub fn pieces(&self, chain: &Chain) -> Pieces<'_>
+        requires { IsLive self.now chain.now }
+        ensures { result ≡ pieces (chain_of self.now chain.now) }
+    {
+        pieces::pieces_of(&self.store, chain.first)
+    }
+
+    /// The place of a chain's first mbuf.
+    pub fn first(&self, chain: &Chain) -> Place
+        requires { IsLive self.now chain.now }
+        ensures place { IsPlace (chain_of self.now chain.now) result }
+        ensures index { result.index ≡ 0 }
+    {
+        links::first(&self.store, chain.first)
+    }
+
+    /// The place behind another, or `None` behind the last.
+    pub fn next(&self, chain: &Chain, at: Place) -> Option<Place>
+        requires live { IsLive self.now chain.now }
+        requires place { IsPlace (chain_of self.now chain.now) at }
+        ensures { MatchOption result (at.index + 1 ≡
+            length (chain_of self.now chain.now).entries)
+            (λ q. IsPlace (chain_of self.now chain.now) q × (q.index ≡ at.index + 1)) }
+    {
+        links::next(&self.store, chain.first, at)
+    }
+
+    /// The place of a chain's last mbuf. It takes one step for each mbuf.
+    pub fn last(&self, chain: &Chain) -> Place
+        requires { IsLive self.now chain.now }
+        ensures place { IsPlace (chain_of self.now chain.now) result }
+        ensures index { result.index + 1 ≡ length (chain_of self.now chain.now).entries }
+    {
+        links::last(&self.store, chain.first)
+    }
+
+    /// Where the bytes of an mbuf lie, and how many they are.
+    pub fn extent(&self, chain: &Chain, at: Place) -> Extent
+        requires live { IsLive self.now chain.now }
+        requires place { IsPlace (chain_of self.now chain.now) at }
+        ensures value { result ≡ record {
+          start = (entry_in self.now chain.now at).start;
+          len = length (entry_in self.now chain.now at).bytes;
+          cluster = (entry_in self.now chain.now at).cluster;
+        } }
+        ensures known { (c : ℕ) → (entry_in self.now chain.now at).cluster ≡ Some c →
+            c < self.now.clusters }
+    {
+        links::extent(&self.store, chain.first, at)
+    }
+
+    /// Leaves `keep` of an mbuf's bytes, behind the first `skip`. An emptied mbuf stays.
+    pub fn narrow(&mut self, chain: &Chain, at: Place, skip: u32, keep: u32)
+        requires live { IsLive self.old chain.now }
+        requires place { IsPlace (chain_of self.old chain.now) at }
+        requires within { skip + keep ≤ length (entry_in self.old chain.now at).bytes }
+        ensures { self.new ≡ with_entry_in self.old chain.now at
+            (narrowed (entry_in self.old chain.now at) skip keep) }
+    {
+        edit::narrow(&mut self.store, chain.first, at, skip, keep);
+    }
+
+    /// How many places are free in front of an mbuf's bytes. None are where they lie in a cluster.
+    pub fn front_room(&self, chain: &Chain, at: Place) -> u32
+        requires live { IsLive self.now chain.now }
+        requires place { IsPlace (chain_of self.now chain.now) at }
+        ensures value { result ≡ front_room (chain_of self.now chain.now) at.index }
+        ensures within { HasFrontRoom (chain_of self.now chain.now) at.index result }
+    {
+        links::front_room(&self.store, chain.first, at)
+    }
+
+    /// How many places are free behind an mbuf's bytes. None are where they lie in a cluster.
+    pub fn back_room(&self, chain: &Chain, at: Place) -> u32
+        requires live { IsLive self.now chain.now }
+        requires place { IsPlace (chain_of self.now chain.now) at }
+        ensures value { result ≡ back_room (entry_in self.now chain.now at) }
+        ensures within { HasBackRoom (entry_in self.now chain.now at) result }
+    {
+        links::back_room(&self.store, chain.first, at)
+    }
+
+    /// The bytes of an mbuf, lent.
+    pub fn bytes(&self, chain: &Chain, at: Place) -> &[u8]
+        requires live { IsLive self.now chain.now }
+        requires place { IsPlace (chain_of self.now chain.now) at }
+        ensures value { result.now ≡ (entry_in self.now chain.now at).bytes }
+        ensures len { length result.now ≡ length (entry_in self.now chain.now at).bytes }
+    {
+        data::bytes(&self.store, chain.first, at)
+    }
+
+    /// Puts bytes in front of those of an mbuf, into its room. No other mbuf may share its cluster.
+    pub fn put_front(&mut self, chain: &Chain, at: Place, bytes: &[u8])
+        requires live { IsLive self.old chain.now }
+        requires place { IsPlace (chain_of self.old chain.now) at }
+        requires unshared { IsUnshared self.old (entry_in self.old chain.now at) }
+        requires fits { HasFrontRoom (chain_of self.old chain.now) at.index (length bytes.now) }
+        ensures { self.new ≡ with_entry_in self.old chain.now at
+            (with_front (entry_in self.old chain.now at) bytes.now) }
+    {
+        data::put_front(&mut self.store, chain.first, at, bytes);
+    }
+
+    /// Puts bytes behind those of an mbuf, into its room. No other mbuf may share its cluster.
+    pub fn put_back(&mut self, chain: &Chain, at: Place, bytes: &[u8])
+        requires live { IsLive self.old chain.now }
+        requires place { IsPlace (chain_of self.old chain.now) at }
+        requires unshared { IsUnshared self.old (entry_in self.old chain.now at) }
+        requires fits { HasBackRoom (entry_in self.old chain.now at) (length bytes.now) }
+        ensures { self.new ≡ with_entry_in self.old chain.now at
+            (with_back (entry_in self.old chain.now at) bytes.now) }
+    {
+        data::put_back(&mut self.store, chain.first, at, bytes);
+    }
+
+    /// Writes bytes over those of an mbuf, from `offset` on. No other mbuf may share its cluster.
+    pub fn overwrite(&mut self, chain: &Chain, at: Place, offset: u32, bytes: &[u8])
+        requires live { IsLive self.old chain.now }
+        requires place { IsPlace (chain_of self.old chain.now) at }
+        requires unshared { IsUnshared self.old (entry_in self.old chain.now at) }
+        requires within { offset + length bytes.now ≤ length (entry_in self.old chain.now at).bytes }
+        ensures { self.new ≡ with_entry_in self.old chain.now at
+            (overwritten (entry_in self.old chain.now at) offset bytes.now) }
+    {
+        data::overwrite(&mut self.store, chain.first, at, offset, bytes);
+    }
+
+    /// Puts bytes of an mbuf of this or another chain, `count` of them behind the first `skip`, behind
+    /// those of an mbuf, into its room. No other mbuf may share the cluster that is written.
+    pub fn append(
+        &mut self,
+        chain: &Chain,
+        at: Place,
+        other: &Chain,
+        from: Place,
+        skip: u32,
+        count: u32,
+    )
+        requires live { IsLive self.old chain.now }
+        requires place { IsPlace (chain_of self.old chain.now) at }
+        requires unshared { IsUnshared self.old (entry_in self.old chain.now at) }
+        requires fits { HasBackRoom (entry_in self.old chain.now at) count }
+        requires other { IsLive self.old other.now }
+        requires from { IsPlace (chain_of self.old other.now) from }
+        requires within { skip + count ≤ length (entry_in self.old other.now from).bytes }
+        ensures { self.new ≡ with_entry_in self.old chain.now at
+            (with_back (entry_in self.old chain.now at)
+            (take count (drop skip (entry_in self.old other.now from).bytes))) }
+    {
+        data::append(
+            &mut self.store,
+            chain.first,
+            at,
+            other.first,
+            from,
+            skip,
+            count,
+        );
+    }
+
+    /// Takes the packet header from a chain. Its bytes stay where they are.
+    pub fn lose_header(&mut self, chain: &Chain)
+        requires { IsLive self.old chain.now }
+        ensures { self.new ≡ with_chain self.old chain.now (headless (chain_of self.old chain.now)) }
+    {
+        links::strip(&mut self.store, chain.first);
+    }
+
+    /// A chain of one mbuf that shares the cluster of another mbuf, of which it shows `keep` bytes,
+    /// behind the first `skip`. The cluster has one reference more. `NoBufs` comes exactly where no
+    /// mbuf is free, and changes nothing.
+    pub fn new_shared(
+        &mut self,
+        header: bool,
+        chain: &Chain,
+        at: Place,
+        skip: u32,
+        keep: u32,
+    ) -> Result<Chain, NoBufs>
+        requires live { IsLive self.old chain.now }
+        requires place { IsPlace (chain_of self.old chain.now) at }
+        requires refers { IsSome (entry_in self.old chain.now at).cluster }
+        requires within { skip + keep ≤ length (entry_in self.old chain.now at).bytes }
+        ensures ok { IfOk result (λ c. Adds self.old self.new c
+            (one_mbuf header (narrowed (entry_in self.old chain.now at) skip keep) c)) }
+        ensures err { OnErr result (held_mbufs self.old ≡ self.old.mbufs) }
+        ensures same { OnErr result (self.new ≡ self.old) }
+    {
+        match make::shared(&mut self.store, header, chain.first, at, skip, keep) {
+            Ok(first) => Ok(Chain { first }),
+            Err(refusal) => Err(refusal),
+        }
+    }
+
+    /// A chain of one empty mbuf on a cluster of its own, in which it begins at `start`, at most 2048.
+    /// `NoBufs` comes exactly where no mbuf or no cluster is free, and changes nothing.
+    pub fn new_cluster(&mut self, header: bool, start: u32) -> Result<Chain, NoBufs>
+        requires { start ≤ 2048 }
+        ensures ok { IfOk result (λ c. (d : ℕ) × (d < self.old.clusters)
+            × (references self.old d ≡ 0)
+            × Adds self.old self.new c (one_mbuf header (empty_entry start (Some d)) c)) }
+        ensures err { OnErr result ((held_mbufs self.old ≡ self.old.mbufs) ⊎
+            (free_clusters self.old ≡ 0)) }
+        ensures same { OnErr result (self.new ≡ self.old) }
+    {
+        match make::clustered(&mut self.store, header, start) {
+            Ok(first) => Ok(Chain { first }),
+            Err(refusal) => Err(refusal),
+        }
+    }
+
+    /// Links a chain behind the last mbuf of another. It loses its packet header. The answer is the
+    /// place of its first mbuf in the whole.
+    pub fn link(&mut self, chain: &Chain, last: Place, back: Chain) -> Place
+        requires front { IsLive self.old chain.now }
+        requires back { IsLive self.old back }
+        requires apart { chain.now ≢ back }
+        requires place { IsPlace (chain_of self.old chain.now) last }
+        requires last { last.index + 1 ≡ length (chain_of self.old chain.now).entries }
+        ensures change { self.new ≡
+            with_chain (without self.old back) chain.now
+            (joined (chain_of self.old chain.now) (chain_of self.old back)) }
+        ensures place { IsPlace (chain_of self.new chain.now) result }
+        ensures index { result.index ≡ last.index + 1 }
+    {
+        let Chain { first } = back;
+        links::link(&mut self.store, chain.first, last, first)
+    }
+
+    /// Cuts a chain behind its first `keep` mbufs, and answers the chain of the others. It has no packet
+    /// header. It takes one step for each mbuf that stays.
+    pub fn cut(&mut self, chain: &Chain, keep: u32) -> Chain
+        requires live { IsLive self.old chain.now }
+        requires some { 0 < keep }
+        requires within { keep < length (chain_of self.old chain.now).entries }
+        ensures { Adds (with_chain self.old chain.now
+            (first_part keep (chain_of self.old chain.now))) self.new result
+            (second_part keep (chain_of self.old chain.now)) }
+    {
+        let first = links::cut(&mut self.store, chain.first, keep);
+        Chain { first }
+    }
+
+    /// The number of the chain behind a chain in a train.
+    pub(crate) fn behind(&self, chain: &Chain) -> Option<u32>
+        requires { IsLive self.now chain.now }
+        ensures { result ≡ (chain_of self.now chain.now).front.behind }
+    {
+        links::behind(&self.store, chain.first)
+    }
+
+    /// The tag of a chain in a train.
+    pub(crate) fn tag(&self, chain: &Chain) -> u32
+        requires { IsLive self.now chain.now }
+        ensures { result ≡ (chain_of self.now chain.now).front.tag }
+    {
+        links::tag(&self.store, chain.first)
+    }
+
+    /// Puts a chain in its place before another in a train, with a tag.
+    pub(crate) fn set_behind(&mut self, chain: &Chain, behind: Option<u32>, tag: u32)
+        requires live { IsLive self.old chain.now }
+        requires headed { (chain_of self.old chain.now).front.header ≡ true }
+        requires link { IfSome behind (IsLive self.old) }
+        ensures placed { self.new ≡
+            with_chain self.old chain.now (placed (chain_of self.old chain.now) behind tag) }
+        ensures bounds { IsBounded self.new }
+    {
+        edit::set_behind(&mut self.store, chain.first, behind, tag);
+    }
+}

@@ -1,0 +1,9 @@
+//! Two chains that share a cluster as in docs/chains.md, and pools of the smallest and the largest
+//! size.
+
+mod callers;
+mod large;
+mod sharing;
+mod small;
+mod steps;
+mod trains;

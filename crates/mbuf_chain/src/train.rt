@@ -1,0 +1,373 @@
+//! Trains of chains.
+
+ghost use Rattle.std.specs.Prelude.{◌≡◌, ◌==◌, ◌+◌, ◌<◌, ◌≤◌, [], ◌∷◌, true, Some, None, IfSome, MatchOption, length, insert, remove, slice_get};
+ghost use Rattle.mbuf_chain.specs.Chain.{IsLive, chain_of, with_chain, flat_bytes, alone};
+ghost use Rattle.mbuf_chain.specs.Owners.{times, Moves};
+ghost use Rattle.mbuf_chain.specs.Steps.{placed};
+ghost use Rattle.mbuf_chain.specs.Frames.{IsBounded};
+ghost use Rattle.mbuf_chain.specs.Pieces.{pieces_of};
+ghost use Rattle.mbuf_chain.specs.Train.{cars, car_at, numbers, IsCar, IsHeld, Inserts, Takes};
+
+use crate::car::CarPlace;
+use crate::chain::Chain;
+use crate::pieces::Pieces;
+use crate::pool::Pool;
+use std::marker::Model;
+
+/// Chains in a row, each linked behind the one before through their first mbufs, and each with a tag
+/// that is kept in its packet header. A train takes no buffer. It must be spent, by `free`.
+///
+/// The chains stay in the pool that each call is given, which is the one that they came from.
+pub struct Train {
+    first: Option<u32>,
+    last: Option<u32>,
+    len: u32,
+}
+
+impl Model for Train {
+    ghost use Rattle.mbuf_chain.specs.Train.{TrainView};
+
+    ghost Value = { TrainView };
+
+    ghost view = { λ t. record { first = t.first; last = t.last; len = t.len } };
+}
+
+impl Train {
+    /// A train without chains.
+    pub const fn new() -> Train
+        ensures { result ≡ record { first = None; last = None; len = 0 } }
+    {
+        Train {
+            first: None,
+            last: None,
+            len: 0,
+        }
+    }
+
+    /// How many chains there are.
+    pub const fn len(&self) -> u32
+        ensures { result ≡ self.now.len }
+    {
+        self.len
+    }
+
+    /// Whether there is no chain.
+    pub const fn is_empty(&self) -> bool
+        ensures { result ≡ (self.now.len == 0) }
+    {
+        self.len == 0
+    }
+
+    /// Puts a chain in at a place, with a tag. At the front and at the end this takes a number of steps
+    /// that doesn't depend on the train, elsewhere one for each chain in front.
+    pub fn insert(&mut self, pool: &mut Pool, i: u32, chain: Chain, tag: u32)
+        requires place { i ≤ self.old.len }
+        requires live { IsLive pool.old chain }
+        requires headed { (chain_of pool.old chain).front.header ≡ true }
+        requires held { IsHeld pool.old self.old }
+        requires apart { times chain (numbers pool.old self.old) ≡ 0 }
+        ensures cars { cars pool.new self.new ≡
+            insert (cars pool.old self.old) i
+            (record { number = chain; entries = (chain_of pool.old chain).entries; tag = tag }) }
+        ensures held { IsHeld pool.new self.new }
+        ensures len { self.new.len ≡ self.old.len + 1 }
+        ensures moves { Moves pool.old (chain ∷ numbers pool.old self.old) pool.new
+            (numbers pool.new self.new) }
+    {
+        let number = chain.into_number();
+        if i == 0 {
+            self.insert_first(pool, number, tag);
+        } else {
+            self.insert_behind(pool, i, number, tag);
+        }
+    }
+
+    /// Takes the chain at a place out, with its tag. At the front this takes a number of steps that doesn't
+    /// depend on the train, elsewhere one for each chain in front.
+    pub fn take(&mut self, pool: &mut Pool, i: u32) -> (Chain, u32)
+        requires place { i < self.old.len }
+        requires held { IsHeld pool.old self.old }
+        ensures cars { cars pool.new self.new ≡ remove (cars pool.old self.old) i }
+        ensures taken { car_at pool.old self.old i ≡
+            record {
+              number = result.0;
+              entries = (chain_of pool.new result.0).entries;
+              tag = result.1;
+            } }
+        ensures alone { (chain_of pool.new result.0).front ≡ alone true }
+        ensures held { IsHeld pool.new self.new }
+        ensures len { self.new.len + 1 ≡ self.old.len }
+        ensures moves { Moves pool.old (numbers pool.old self.old) pool.new
+            (result.0 ∷ numbers pool.new self.new) }
+    {
+        let (number, tag) = if i == 0 {
+            self.take_first(pool)
+        } else {
+            self.take_behind(pool, i)
+        };
+        (Chain::from_number(number), tag)
+    }
+
+    /// The place of the first chain, where there is one. A walk goes on by `next`, and takes one step for
+    /// each chain.
+    pub fn first(&self, pool: &Pool) -> Option<CarPlace>
+        requires { IsHeld pool.now self.now }
+        ensures { MatchOption result (self.now.len ≡ 0) (λ at. (at.index ≡ 0)
+            × IsCar pool.now self.now at) }
+    {
+        let _ = pool;
+        if self.is_empty() {
+            return None;
+        }
+        match self.first {
+            Some(number) => Some(CarPlace { index: 0, number }),
+            None => unreachable!(),
+        }
+    }
+
+    /// The place behind one: none behind the last.
+    pub fn next(&self, pool: &Pool, at: CarPlace) -> Option<CarPlace>
+        requires held { IsHeld pool.now self.now }
+        requires place { IsCar pool.now self.now at }
+        ensures { MatchOption result (self.now.len ≡ at.index + 1) (λ to. (to.index ≡ at.index + 1)
+            × IsCar pool.now self.now to) }
+    {
+        if self.len == at.index + 1 {
+            return None;
+        }
+        match behind(pool, at.number) {
+            Some(number) => Some(CarPlace {
+                index: at.index + 1,
+                number,
+            }),
+            None => unreachable!(),
+        }
+    }
+
+    /// The tag of the chain at a place of a walk.
+    pub fn tag_at(&self, pool: &Pool, at: CarPlace) -> u32
+        requires held { IsHeld pool.now self.now }
+        requires place { IsCar pool.now self.now at }
+        ensures { result ≡ (car_at pool.now self.now at.index).tag }
+    {
+        tag_of(pool, at.number)
+    }
+
+    /// How many bytes the chain at a place of a walk has.
+    pub fn len_at(&self, pool: &Pool, at: CarPlace) -> u32
+        requires held { IsHeld pool.now self.now }
+        requires place { IsCar pool.now self.now at }
+        ensures { result ≡ length (flat_bytes (car_at pool.now self.now at.index).entries) }
+    {
+        len_of(pool, at.number)
+    }
+
+    /// The bytes of each mbuf of the chain at a place of a walk, in order, lent without copying.
+    pub fn pieces_at<'a>(&self, pool: &'a Pool, at: CarPlace) -> Pieces<'a>
+        requires held { IsHeld pool.now self.now }
+        requires place { IsCar pool.now self.now at }
+        ensures { result ≡ pieces_of (car_at pool.now self.now at.index).entries }
+    {
+        pieces_of(pool, at.number)
+    }
+
+    /// The tag of the chain at a place.
+    pub fn tag(&self, pool: &Pool, i: u32) -> u32
+        requires place { i < self.now.len }
+        requires held { IsHeld pool.now self.now }
+        ensures { result ≡ (car_at pool.now self.now i).tag }
+    {
+        tag_of(pool, self.number_at(pool, i))
+    }
+
+    /// How many bytes the chain at a place has.
+    pub fn chain_len(&self, pool: &Pool, i: u32) -> u32
+        requires place { i < self.now.len }
+        requires held { IsHeld pool.now self.now }
+        ensures { result ≡ length (flat_bytes (car_at pool.now self.now i).entries) }
+    {
+        len_of(pool, self.number_at(pool, i))
+    }
+
+    /// Frees the chains, with all their mbufs and references.
+    pub fn free(mut self, pool: &mut Pool)
+        requires { IsHeld pool.old self }
+        ensures { Moves pool.old (numbers pool.old self) pool.new [] }
+    {
+        'chains: while self.len() > 0 {
+            let (chain, _) = self.take(pool, 0);
+            pool.free_chain(chain);
+        }
+        let Train {
+            first: _,
+            last: _,
+            len: _,
+        } = self;
+    }
+
+    /// Puts a chain in front of the others.
+    fn insert_first(&mut self, pool: &mut Pool, number: u32, tag: u32)
+        requires live { IsLive pool.old number }
+        requires headed { (chain_of pool.old number).front.header ≡ true }
+        requires held { IsHeld pool.old self.old }
+        requires apart { times number (numbers pool.old self.old) ≡ 0 }
+        ensures { Inserts pool.old self.old 0 number tag pool.new self.new }
+    {
+        let is_only = self.is_empty();
+        place(pool, number, self.first, tag);
+        self.first = Some(number);
+        if is_only {
+            self.last = Some(number);
+        }
+        self.len += 1;
+    }
+
+    /// Puts a chain in behind another.
+    fn insert_behind(&mut self, pool: &mut Pool, i: u32, number: u32, tag: u32)
+        requires some { 0 < i }
+        requires place { i ≤ self.old.len }
+        requires live { IsLive pool.old number }
+        requires headed { (chain_of pool.old number).front.header ≡ true }
+        requires held { IsHeld pool.old self.old }
+        requires apart { times number (numbers pool.old self.old) ≡ 0 }
+        ensures { Inserts pool.old self.old i number tag pool.new self.new }
+    {
+        let before = self.number_at(pool, i - 1);
+        let behind = behind(pool, before);
+        place(pool, number, behind, tag);
+        let kept = tag_of(pool, before);
+        place(pool, before, Some(number), kept);
+        if i == self.len {
+            self.last = Some(number);
+        }
+        self.len += 1;
+    }
+
+    /// Takes the first chain out: its number, and its tag.
+    fn take_first(&mut self, pool: &mut Pool) -> (u32, u32)
+        requires some { 0 < self.old.len }
+        requires held { IsHeld pool.old self.old }
+        ensures { Takes pool.old self.old 0 result.0 result.1 pool.new self.new }
+    {
+        let Some(number) = self.first else {
+            unreachable!()
+        };
+        let behind = behind(pool, number);
+        let tag = tag_of(pool, number);
+        place(pool, number, None, 0);
+        self.first = behind;
+        if self.len == 1 {
+            self.last = None;
+        }
+        self.len -= 1;
+        (number, tag)
+    }
+
+    /// Takes a chain out behind another: its number, and its tag.
+    fn take_behind(&mut self, pool: &mut Pool, i: u32) -> (u32, u32)
+        requires some { 0 < i }
+        requires place { i < self.old.len }
+        requires held { IsHeld pool.old self.old }
+        ensures { Takes pool.old self.old i result.0 result.1 pool.new self.new }
+    {
+        let before = self.number_at(pool, i - 1);
+        let Some(number) = behind(pool, before) else {
+            unreachable!()
+        };
+        let rest = behind(pool, number);
+        let tag = tag_of(pool, number);
+        let kept = tag_of(pool, before);
+        place(pool, before, rest, kept);
+        place(pool, number, None, 0);
+        if self.len == i + 1 {
+            self.last = Some(before);
+        }
+        self.len -= 1;
+        (number, tag)
+    }
+
+    /// The number of the chain at a place. Only the last is known at once.
+    fn number_at(&self, pool: &Pool, i: u32) -> u32
+        requires place { i < self.now.len }
+        requires held { IsHeld pool.now self.now }
+        ensures { slice_get (numbers pool.now self.now) i ≡ Some result }
+    {
+        if self.len == i + 1 {
+            if let Some(last) = self.last {
+                return last;
+            }
+        }
+        let mut at = self.first;
+        'chains: for _passed in 0..i {
+            at = match at {
+                Some(number) => behind(pool, number),
+                None => unreachable!(),
+            };
+        }
+        match at {
+            Some(number) => number,
+            None => unreachable!(),
+        }
+    }
+}
+
+/// The number of the chain behind one.
+fn behind(pool: &Pool, number: u32) -> Option<u32>
+    requires { IsLive pool.now number }
+    ensures { result ≡ (chain_of pool.now number).front.behind }
+{
+    let chain = Chain::from_number(number);
+    let behind = pool.behind(&chain);
+    let _ = chain.into_number();
+    behind
+}
+
+/// How many bytes a chain has.
+fn len_of(pool: &Pool, number: u32) -> u32
+    requires { IsLive pool.now number }
+    ensures { result ≡ length (flat_bytes (chain_of pool.now number).entries) }
+{
+    let chain = Chain::from_number(number);
+    let len = pool.len(&chain);
+    let _ = chain.into_number();
+    len
+}
+
+/// The bytes of each mbuf of a chain.
+fn pieces_of(pool: &Pool, number: u32) -> Pieces<'_>
+    requires { IsLive pool.now number }
+    ensures { result ≡ pieces_of (chain_of pool.now number).entries }
+{
+    let chain = Chain::from_number(number);
+    let pieces = pool.pieces(&chain);
+    let _ = chain.into_number();
+    pieces
+}
+
+/// The tag of a chain.
+fn tag_of(pool: &Pool, number: u32) -> u32
+    requires { IsLive pool.now number }
+    ensures { result ≡ (chain_of pool.now number).front.tag }
+{
+    let chain = Chain::from_number(number);
+    let tag = pool.tag(&chain);
+    let _ = chain.into_number();
+    tag
+}
+
+/// Puts a chain before another, with a tag.
+fn place(pool: &mut Pool, number: u32, behind: Option<u32>, tag: u32)
+    requires live { IsLive pool.old number }
+    requires headed { (chain_of pool.old number).front.header ≡ true }
+    requires link { IfSome behind (IsLive pool.old) }
+    ensures placed { pool.new ≡
+        with_chain pool.old number (placed (chain_of pool.old number) behind tag) }
+    ensures bounds { IsBounded pool.new }
+{
+    let chain = Chain::from_number(number);
+    pool.set_behind(&chain, behind, tag);
+    let _ = chain.into_number();
+}
+
+#[cfg(test)]
+pub(crate) mod tests;
