@@ -1,0 +1,11 @@
+pub mod Searching
+pub mod Pigeons
+pub mod Circle
+pub mod Lifted
+pub mod Places
+pub mod Keeping
+pub mod Steps
+pub mod Finding
+pub mod Opened
+pub mod Queues
+pub mod Faults

@@ -1,0 +1,51 @@
+use Rattle.std.proofs.Common.{List, Option, ap, sym, subst, ◌∙◌}
+use Rattle.std.specs.Prelude.{remove}
+use Rattle.flat_model.specs.Event.{Done, Close}
+use Rattle.pcb_table.specs.declared.block.Block.{Block}
+use Rattle.pcb_table.specs.declared.block.Connection.{Connection}
+use Rattle.pcb_table.specs.Table.{Table, IsCall}
+use Rattle.pcb_table.specs.Sound.{AreApart, IsCached, IsInCircle, IsLocated}
+use Rattle.pcb_table.proofs.Keeping.{apart_remove, cached_remove}
+use Rattle.pcb_table.proofs.Steps.{closed, located_in, close_step, table_of}
+use Rattle.pcb_table.specs.Table.{ClosesOnly}
+use Rattle.pcb_table.proofs.Opened.{remove_closes}
+use Rattle.pcb_table.proofs.table.Pcbs.close.Goals as goal
+
+pub returns-in_default-clause-step : goal.returns-in_default-clause-step
+returns-in_default-clause-step c = λ rest queues.
+    closed c.self.inside.interface _ c.self.inside.blocks.items c.self.inside.last_port _ _ c.self.view_is c.as_slice.ensures.value c.in_default.ensures rest queues _
+
+pub invariant_of-self : goal.invariant_of-self
+invariant_of-self c =
+    let i = c.self.inside.interface in
+    let bs = c.self.inside.blocks.items in
+    let last = c.self.inside.last_port in
+    let b = c.in-Some.at.block in
+    let at : IsLocated c.args.fd bs c.in-Some.at.index b = located_in _ _ _ _ _ c.as_slice.ensures.value c.in-Some.ensures in
+    let index = c.in-Some.at.index in
+    let apart = apart_remove bs index b c.self.invariant.0 at.within in
+    let cached = cached_remove bs index b c.self.inside.cache c.args.fd at.within (ap (λ (d : Block). d.fd) (at.is b) ∙ at.named) c.self.invariant.1 in
+    subst (λ (cs : List Block). AreApart cs × IsCached cs c.without-self-inside.result × IsInCircle last) (sym c.remove.ensures.items)
+    (apart, subst (λ (k : Option Connection). IsCached (remove bs index) k) (sym c.without-self-inside.ensures) cached, c.self.invariant.2)
+
+pub returns-clause-step : goal.returns-clause-step
+returns-clause-step c =
+    let i = c.self.inside.interface in
+    let bs = c.self.inside.blocks.items in
+    let last = c.self.inside.last_port in
+    let b = c.in-Some.at.block in
+    let at : IsLocated c.args.fd bs c.in-Some.at.index b = located_in _ _ _ _ _ c.as_slice.ensures.value c.in-Some.ensures in
+    let new = c.remove.new.self.items in
+    subst (λ (t : Table). IsCall t (Close c.args.fd) Done (table_of i new last)) c.self.view_is
+    (close_step i bs last c.args.fd c.in-Some.at.index b c.self.invariant.0 at new c.remove.ensures.items)
+
+pub returns-clause-closed : goal.returns-clause-closed
+returns-clause-closed c =
+    let i = c.self.inside.interface in
+    let bs = c.self.inside.blocks.items in
+    let last = c.self.inside.last_port in
+    let index = c.in-Some.at.index in
+    let b = c.in-Some.at.block in
+    let at : IsLocated c.args.fd bs index b = located_in _ _ _ _ _ c.as_slice.ensures.value c.in-Some.ensures in
+    subst (λ (t : Table). ClosesOnly t c.args.fd (table_of i c.remove.new.self.items last)) c.self.view_is
+    (subst (λ (cs : List Block). ClosesOnly (table_of i bs last) c.args.fd (table_of i cs last)) (sym c.remove.ensures.items) (remove_closes i bs last c.args.fd index b c.self.invariant.0 at))

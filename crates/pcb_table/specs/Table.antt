@@ -1,0 +1,102 @@
+-- The control blocks of a machine (volume 2 chapter 22), and the machines that have them (this project's own).
+use Rattle.std.specs.Prelude.{◌≡◌, ◌≢◌, ℕ, ◌==◌, List, map, find, Option, Some, IsSome, IsNone, is_some, Result, Ok, Err, unwrap_or, ◌≤◌}
+use Rattle.flat_model.specs.State.{State, Socket, Datagram}
+use Rattle.flat_model.specs.Lookup.{Sought}
+use Rattle.flat_model.specs.Event.{Event, Reply, Done, Opened, Refused}
+use Rattle.flat_model.specs.Step.{Step}
+use Rattle.flat_model.specs.declared.address.Addr.{Addr}
+use Rattle.flat_model.specs.declared.errno.Errno.{Errno}
+use Rattle.pcb_table.specs.declared.block.Block.{Block}
+use Rattle.pcb_table.specs.declared.block.Query.{Query}
+
+-- This project's own record of what volume 2 chapter 22 keeps in a list of control blocks and two variables.
+pub record Table : Type 0 where
+  pub addr : ℕ
+  pub bcast : ℕ
+  pub blocks : List Block  -- the youngest first
+  pub last_port : Option ℕ  -- the last ephemeral port chosen
+
+abbrev pub block_at : ℕ → Table → Option Block
+block_at fd t = find (λ block. block.fd == fd) t.blocks
+
+abbrev pub IsOpen : ℕ → Table → Type 0
+IsOpen fd t = IsSome (block_at fd t)
+
+-- the same descriptors are open
+abbrev pub KeepsOpen : Table → Table → Type 0
+KeepsOpen old new = (fd : ℕ) → is_some (block_at fd new) ≡ is_some (block_at fd old)
+
+pub record OpensOnly (old : Table) (fd : ℕ) (new : Table) : Type 0 where
+  pub before : IsNone (block_at fd old)
+  pub after : IsOpen fd new
+  pub others : (k : ℕ) → k ≢ fd → is_some (block_at k new) ≡ is_some (block_at k old)
+
+pub record ClosesOnly (old : Table) (fd : ℕ) (new : Table) : Type 0 where
+  pub before : IsOpen fd old
+  pub after : IsNone (block_at fd new)
+  pub others : (k : ℕ) → k ≢ fd → is_some (block_at k new) ≡ is_some (block_at k old)
+
+-- ---- the machines that have these blocks
+
+-- Receive queues by descriptor. The table knows nothing of them: what it says holds with any.
+abbrev pub Queues : Type 0
+Queues = ℕ → List Datagram
+
+abbrev pub socket_with : Queues → Block → Socket
+socket_with queues b = record {
+  fd = b.fd;
+  local = b.local;
+  port = b.port;
+  peer = b.peer;
+  broadcast = b.broadcast;
+  reuse_port = b.reuse_port;
+  queue = queues b.fd;
+}
+
+abbrev pub sockets_with : Queues → Table → List Socket
+sockets_with queues t = map (socket_with queues) t.blocks
+
+-- the machine with these blocks and queues, in all else the machine `rest`
+abbrev pub machine : State → Queues → Table → State
+machine rest queues t = record rest {
+  config = record (rest.config) { addr = t.addr; bcast = t.bcast };
+  sockets = sockets_with queues t;
+  last_port = t.last_port;
+}
+
+-- In each machine that has these blocks the event makes it one with those blocks, and is answered so.
+abbrev pub IsCall : Table → Event → Reply → Table → Type 0
+IsCall old event reply new =
+    (rest : State) (queues : Queues) → Step (machine rest queues old) event reply (machine rest queues new)
+
+-- ---- replies
+
+abbrev pub reply_of : {T : Type 0} → Result T Errno → Reply
+reply_of (Ok _) = Done
+reply_of (Err errno) = Refused errno
+
+abbrev pub opened_or : Result ℕ Errno → Reply
+opened_or (Ok fd) = Opened fd
+opened_or (Err errno) = Refused errno
+
+-- ---- what is looked for
+
+abbrev pub sought : Query → Sought
+sought q = record { local = q.local; port = q.port; peer = q.peer }
+
+-- by a packet: its values all count as set, 0 among them
+abbrev pub packet_sought : ℕ → ℕ → Addr → Sought
+packet_sought destination port source = record { local = Some destination; port = Some port; peer = Some source }
+
+-- ---- a block's ends
+
+-- with 0 where unset
+abbrev pub local_of : Block → Addr
+local_of b = record { ip = unwrap_or b.local 0; port = unwrap_or b.port 0 }
+
+abbrev pub peer_of : Block → Addr
+peer_of b = unwrap_or b.peer (record { ip = 0; port = 0 })
+
+pub record IsDescriptor (fd : ℕ) : Type 0 where
+  pub least : 3 ≤ fd
+  pub most : fd ≤ 66

@@ -1,0 +1,64 @@
+ghost use Rattle.std.specs.Prelude.{◌≡◌, ℕ};
+ghost use Rattle.flat_model.specs.Calls as flat;
+ghost use Rattle.pcb_table.specs.Search.{config_of, plain};
+
+use crate::block::Block;
+use flat_model::Addr;
+
+/// 127.0.0.1
+pub(crate) const LOOPBACK: u32 = 127 * NET + 1;
+/// 255.255.255.255
+const EVERYONE: u32 = u32::MAX;
+/// How many addresses begin with one number.
+const NET: u32 = 1 << 24;
+
+/// The one interface of a machine.
+#[derive(Clone, Copy, Debug, PartialEq, Eq)]
+pub(crate) struct Interface {
+    pub(crate) addr: u32,
+    pub(crate) bcast: u32,
+}
+
+impl Interface {
+    /// Whether a socket may be bound to the address.
+    pub(crate) fn is_ours(self, ip: u32) -> bool
+        ensures { result ≡ flat.is_ours (config_of self) ip }
+    {
+        ip == self.addr || ip == self.bcast || ip == LOOPBACK
+    }
+
+    /// The address with 0.0.0.0 read as this machine, and 255.255.255.255 as its broadcast address.
+    pub(crate) fn read(self, address: Addr) -> Addr
+        ensures { result ≡ flat.read_addr (config_of self) address }
+    {
+        let ip = if address.ip == 0 {
+            self.addr
+        } else if address.ip == EVERYONE {
+            self.bcast
+        } else {
+            address.ip
+        };
+        Addr {
+            ip,
+            port: address.port,
+        }
+    }
+
+    /// The address that the block's packets to this one come from.
+    pub(crate) fn source(self, block: &Block, ip: u32) -> u32
+        ensures { result ≡ flat.source_for (config_of self) (plain block.now) ip }
+    {
+        match block.local {
+            Some(local) => local,
+            None => { if ip == LOOPBACK { LOOPBACK } else { self.addr } }
+        }
+    }
+}
+
+/// Whether packets to the address leave by the loopback or the link: not those to 0/8, to 127/8 but for
+/// 127.0.0.1, nor to multicast and reserved addresses (RFC 1122 section 3.2.1.3).
+pub(crate) fn is_reached(ip: u32) -> bool
+    ensures { result ≡ flat.is_reached ip }
+{
+    ip == LOOPBACK || ip / NET != 0 && ip / NET != 127 && ip < 224 * NET
+}

@@ -1,0 +1,107 @@
+ghost use Rattle.std.specs.Prelude.{◌≡◌, ℕ, ◌+◌, ◌<◌, ◌≤◌, length, IsNone, IsSome, find, count_by};
+ghost use Rattle.flat_model.specs.Calls as flat;
+ghost use Rattle.pcb_table.specs.Search.{GivesPort, IsFreePort, is_used};
+ghost use Rattle.pcb_table.specs.Sound.{AreApart, IsInCircle, IsLowestFree};
+
+use crate::block::{Block, Query};
+use crate::search::{best, block_of};
+
+/// The ephemeral ports are 1024 to 5000, in a circle.
+const FIRST: u16 = 1024;
+
+const LAST: u16 = 5000;
+
+const PORTS: u16 = LAST - FIRST + 1;
+
+/// The lowest descriptor.
+const LOWEST: u32 = 3;
+
+/// The port so many turns behind the last one chosen.
+fn port_behind(last: Option<u16>, turns: u16) -> u16
+    requires last { IsInCircle last }
+    requires turns { turns < 3977 }
+    ensures { result ≡ flat.port_behind last turns }
+{
+    let start = match last {
+        None => 0,
+        Some(port) => port - FIRST + 1,
+    };
+    FIRST + (start + turns) % PORTS
+}
+
+/// Whether a block has the port, at this address or at one that agrees with it.
+pub(crate) fn is_in_use(blocks: &[Block], local: Option<u32>, port: u16) -> bool
+    ensures { result ≡ is_used blocks.now local port }
+{
+    best(
+        blocks,
+        Query {
+            local,
+            port: Some(port),
+            peer: None,
+        },
+    )
+    .is_some()
+}
+
+/// The next ephemeral port that isn't in use. There is one, since there are more ports than blocks.
+pub(crate) fn next_free(blocks: &[Block], local: Option<u32>, last: Option<u16>) -> u16
+    requires few { length blocks.now ≤ 64 }
+    requires last { IsInCircle last }
+    ensures free { IsFreePort blocks.now last local result }
+    ensures least { 1024 ≤ result }
+    ensures most { result ≤ 5000 }
+{
+    for turns in 0..PORTS {
+        let port = port_behind(last, turns);
+        if !is_in_use(blocks, local, port) {
+            return port;
+        }
+    }
+    unreachable!()
+}
+
+/// A port, and the last ephemeral one chosen now.
+#[derive(Clone, Copy)]
+pub(crate) struct Chosen {
+    pub(crate) port: u16,
+    pub(crate) last: Option<u16>,
+}
+
+/// The port asked for, or else the next ephemeral one.
+pub(crate) fn port_for(
+    blocks: &[Block],
+    local: Option<u32>,
+    last: Option<u16>,
+    asked: Option<u16>,
+) -> Chosen
+    requires few { length blocks.now ≤ 64 }
+    requires last { IsInCircle last }
+    ensures port { GivesPort blocks.now last local asked result.port result.last }
+    ensures last { IsInCircle result.last }
+{
+    match asked {
+        Some(port) => Chosen { port, last },
+        None => {
+            let port = next_free(blocks, local, last);
+            Chosen {
+                port,
+                last: Some(port),
+            }
+        }
+    }
+}
+
+/// The lowest descriptor that no block has. There is one of 3 to 66, since fewer than 64 are in use.
+pub(crate) fn lowest_free(blocks: &[Block]) -> u32
+    requires few { length blocks.now < 64 }
+    ensures free { IsLowestFree blocks.now result }
+    ensures most { result < 67 }
+{
+    for fd in LOWEST..67 {
+        if block_of(blocks, fd).is_none() {
+            return fd;
+        }
+    }
+    unreachable!()
+}

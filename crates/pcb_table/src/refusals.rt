@@ -1,0 +1,91 @@
+ghost use Rattle.std.specs.Prelude.{◌≡◌, ℕ};
+ghost use Rattle.flat_model.specs.Header.{first_fault};
+ghost use Rattle.flat_model.specs.Calls as flat;
+ghost use Rattle.pcb_table.specs.Search.{block_bind_faults, block_connect_faults, config_of, is_in_way};
+
+use crate::block::{Block, Query};
+use crate::interface::{Interface, is_reached};
+use crate::ports::is_in_use;
+use crate::search::exact;
+use flat_model::{Addr, Errno};
+
+/// The value, where it isn't 0.
+pub(crate) fn unless_zero(ip: u32) -> Option<u32>
+    ensures { result ≡ flat.unless_zero ip }
+{
+    if ip == 0 { None } else { Some(ip) }
+}
+
+/// The port, where it isn't 0.
+pub(crate) fn port_unless_zero(port: u16) -> Option<u16>
+    ensures { result ≡ flat.unless_zero port }
+{
+    if port == 0 { None } else { Some(port) }
+}
+
+/// Whether a bind meets another block that stands in its way: with the reuse-port option only an exact match
+/// that lacks it, else any that has the port at an address that agrees.
+fn is_taken(blocks: &[Block], me: &Block, local: Option<u32>, port: u16) -> bool
+    ensures { result ≡ is_in_way blocks.now me.now local port }
+{
+    if me.reuse_port {
+        let query = Query {
+            local,
+            port: Some(port),
+            peer: None,
+        };
+        match exact(blocks, query) {
+            None => false,
+            Some(found) => !found.reuse_port,
+        }
+    } else {
+        is_in_use(blocks, local, port)
+    }
+}
+
+/// Why a bind is refused.
+pub(crate) fn bind_fault(
+    blocks: &[Block],
+    interface: Interface,
+    me: &Block,
+    address: Addr,
+) -> Option<Errno>
+    ensures { result ≡ first_fault (block_bind_faults (config_of interface) blocks.now me.now address) }
+{
+    if me.port.is_some() || me.local.is_some() {
+        return Some(Errno::Invalid);
+    }
+    if address.ip != 0 && !interface.is_ours(address.ip) {
+        return Some(Errno::AddressNotAvailable);
+    }
+    if address.port != 0 && is_taken(blocks, me, unless_zero(address.ip), address.port) {
+        return Some(Errno::AddressInUse);
+    }
+    None
+}
+
+/// Why a packet to an address, as it was read, is refused, or a connect to it.
+pub(crate) fn destination_fault(
+    blocks: &[Block],
+    interface: Interface,
+    me: &Block,
+    to: Addr,
+) -> Option<Errno>
+    ensures { result ≡ first_fault (block_connect_faults (config_of interface) blocks.now me.now to) }
+{
+    if to.port == 0 {
+        return Some(Errno::AddressNotAvailable);
+    }
+    if !is_reached(to.ip) {
+        return Some(Errno::HostUnreachable);
+    }
+    let query = Query {
+        local: Some(interface.source(me, to.ip)),
+        port: me.port,
+        peer: Some(to),
+    };
+    if exact(blocks, query).is_some() {
+        return Some(Errno::AddressInUse);
+    }
+    None
+}

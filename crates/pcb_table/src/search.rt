@@ -1,0 +1,107 @@
+ghost use Rattle.std.specs.Prelude.{◌≡◌, ℕ, ◌==◌, ◌+◌, ◌<◌, ◌≤◌, length, map, find, position, IsSome, slice_set};
+ghost use Rattle.arrayvec.specs.ArrayVec.{array_vec_len};
+ghost use Rattle.pcb_table.specs.Table.{sought};
+ghost use Rattle.pcb_table.specs.Search.{best_block, hearing_blocks, youngest_block};
+ghost use Rattle.pcb_table.specs.Sound.{IsLocated, Locates, has_fd};
+
+use crate::block::{Block, Query};
+use crate::table::SOCKETS;
+use arrayvec::ArrayVec;
+
+/// A block and where it stands.
+#[derive(Clone, Copy)]
+pub(crate) struct Place {
+    pub(crate) index: usize,
+    pub(crate) block: Block,
+}
+
+fn index_of(blocks: &[Block], fd: u32) -> Option<usize>
+    ensures { result ≡ position (has_fd fd) blocks.now }
+{
+    blocks.iter().position(|block| block.fd == fd)
+}
+
+/// The block of a descriptor, with its place.
+pub(crate) fn locate(blocks: &[Block], fd: u32) -> Option<Place>
+    ensures { Locates fd blocks.now result }
+{
+    match index_of(blocks, fd) {
+        None => None,
+        Some(index) => Some(Place {
+            index,
+            block: blocks[index],
+        }),
+    }
+}
+
+/// The block of an open descriptor, with its place.
+pub(crate) fn located(blocks: &[Block], fd: u32) -> Place
+    requires { IsSome (find (has_fd fd) blocks.now) }
+    ensures { IsLocated fd blocks.now result.index result.block }
+{
+    locate(blocks, fd).unwrap()
+}
+
+/// Puts a block into a place that holds one.
+pub(crate) fn set_block(blocks: &mut ArrayVec<Block, SOCKETS>, index: usize, block: Block)
+    requires { index < array_vec_len blocks.old }
+    ensures { blocks.new.items ≡ slice_set blocks.old.items index block }
+{
+    blocks[index] = block;
+}
+
+/// The block of a descriptor.
+pub(crate) fn block_of(blocks: &[Block], fd: u32) -> Option<Block>
+    ensures { result ≡ find (has_fd fd) blocks.now }
+{
+    blocks.iter().copied().find(|block| block.fd == fd)
+}
+
+/// The youngest of the blocks that meet the query with the fewest wildcards.
+pub(crate) fn best(blocks: &[Block], query: Query) -> Option<Block>
+    ensures { result ≡ best_block (sought query) blocks.now }
+{
+    let mut found: Option<Block> = None;
+    let mut fewest = 3;
+    for block in blocks {
+        if query.is_met_by(block) {
+            let wildcards = query.wildcards(block);
+            if wildcards == 0 {
+                return Some(*block);
+            }
+            if wildcards < fewest {
+                fewest = wildcards;
+                found = Some(*block);
+            }
+        }
+    }
+    found
+}
+
+/// The youngest of the blocks that meet the query without a wildcard.
+pub(crate) fn exact(blocks: &[Block], query: Query) -> Option<Block>
+    ensures { result ≡ youngest_block 0 (sought query) blocks.now }
+{
+    blocks
+        .iter()
+        .copied()
+        .find(|block| query.is_exactly_met_by(block))
+}
+
+/// The descriptors of the blocks that meet the query, the youngest first, up to and with the first one
+/// that doesn't share its port.
+pub(crate) fn receivers(blocks: &[Block], query: Query) -> ArrayVec<u32, SOCKETS>
+    requires { length blocks.now ≤ 64 }
+    ensures { result.items ≡ map (λ b. b.fd) (hearing_blocks (sought query) blocks.now) }
+{
+    let mut fds = ArrayVec::new();
+    for block in blocks {
+        if query.is_met_by(block) {
+            fds.push(block.fd);
+            if !block.reuse_port {
+                return fds;
+            }
+        }
+    }
+    fds
+}
