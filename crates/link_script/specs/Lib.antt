@@ -1,0 +1,10 @@
+pub mod FirstPath
+pub mod Requests
+pub mod Parts
+pub mod Replies
+pub mod Streams
+pub mod Serves
+pub mod Chunks
+pub mod Datagrams
+pub mod Hosts
+pub mod Ports

@@ -1,0 +1,81 @@
+-- What serving a script did, by its outcome.
+use Rattle.std.specs.Prelude.{◌≡◌, ◌≢◌, ℕ, ◌<◌, ◌≤◌, ◌^◌, ◌⊎◌, Bool, List, [], ◌∷◌, ◌++◌, length, take, slice_index, Option, Result, Ok, Err}
+use Rattle.std.specs.Io.KnownBytes.{Consumes, Appends, IsAtEnd}
+use Rattle.flat_model.specs.declared.config.Config.{Config}
+use Rattle.flat_model.specs.Event.{Event, Reply}
+use Rattle.flat_model.specs.State.{State, IsConfig}
+use Rattle.flat_model.specs.Lines.{whole_lines, begun_line, lines}
+use Rattle.flat_model.specs.Script.{Prints}
+use Rattle.link_script.specs.declared.fault.RunFault.{RunFault}
+use Rattle.link_script.specs.declared.fault.RunFault.TheVariants.{Read, Write, Memory, TooManyLines, BadSizes, BadConfig}
+
+-- ---- limits
+
+-- Behind this input the byte comes after the last line that is allowed, or makes a line too long.
+abbrev pub GoesTooFar : List ℕ → ℕ → Type 0
+GoesTooFar input byte = ((length (whole_lines input) ≡ 10000000) × (begun_line input ≡ []))
+    ⊎ ((length (begun_line input) ≡ 1048576) × (byte ≢ 10))
+
+-- no byte of the input goes too far behind those before it
+abbrev pub StaysWithin : List ℕ → Type 0
+StaysWithin input = (k : ℕ) → k < length input → GoesTooFar (take k input) (slice_index input k) → ⊥
+
+-- ---- outcomes
+
+-- The reader gave the bytes read, and the writer took those written, where they tell.
+pub record Moves (unread rest : Option (List ℕ)) (read : List ℕ) (before after : Option (List ℕ)) (written : List ℕ) : Type 0 where
+  pub consumed : Consumes unread rest read
+  pub appended : Appends before after written
+
+-- A machine that serves some events by its steps came from the old state to the new one. The reader had the bytes
+-- `unread` left and has `rest`, and the writer held those `before` and holds those `after`.
+abbrev pub Serves : (Event → Bool) → (State → Event → Reply → State → Type 0) → State → State
+    → Option (List ℕ) → Option (List ℕ) → Option (List ℕ) → Option (List ℕ) → Result Unit RunFault → Type 0
+-- all lines were answered
+Serves serves step old new unread rest before after (Ok done) =
+    (input written : List ℕ) × Moves unread rest input before after written × IsAtEnd rest × StaysWithin input
+    × Prints serves step old (lines input) written new
+-- each whole line was answered, and the line begun was not
+Serves serves step old new unread rest before after (Err Read) =
+    (input written : List ℕ) × Moves unread rest input before after written × StaysWithin input
+    × Prints serves step old (whole_lines input) written new
+-- a front of the answers to the lines so far was written
+Serves serves step old new unread rest before after (Err Write) =
+    (input more written unwritten : List ℕ) × Moves unread rest (input ++ more) before after written × StaysWithin input
+    × Prints serves step old (lines input) (written ++ unwritten) new
+-- each whole line before the byte that goes too far was answered
+Serves serves step old new unread rest before after (Err TooManyLines) =
+    (input : List ℕ) × (byte : ℕ) × (more written : List ℕ)
+    × Moves unread rest (input ++ byte ∷ more) before after written × StaysWithin input × GoesTooFar input byte
+    × Prints serves step old (whole_lines input) written new
+-- nothing was read or written
+Serves serves step old new unread rest before after (Err Memory) = Moves unread rest [] before after [] × (new ≡ old)
+Serves serves step old new unread rest before after (Err BadSizes) = Moves unread rest [] before after [] × (new ≡ old)
+Serves serves step old new unread rest before after (Err BadConfig) = Moves unread rest [] before after [] × (new ≡ old)
+
+-- ---- boot
+
+pub record HasSizes (c : Config) : Type 0 where
+  pub some_mbuf : 1 ≤ c.mbufs
+  pub mbufs : c.mbufs < 2 ^ 16
+  pub clusters : c.clusters ≤ 4096
+
+-- the sizes are tested first, then all else of the configuration
+abbrev pub Boots : Config → Result Unit RunFault → Type 0
+Boots c (Err BadSizes) = ¬ HasSizes c
+Boots c (Err BadConfig) = HasSizes c × ¬ IsConfig c
+Boots c (Ok done) = IsConfig c
+Boots c (Err Read) = IsConfig c
+Boots c (Err Write) = IsConfig c
+Boots c (Err Memory) = IsConfig c
+Boots c (Err TooManyLines) = IsConfig c
+
+-- a refusal of boot is no outcome of serving
+abbrev pub IsServed : Result Unit RunFault → Type 0
+IsServed (Err BadSizes) = ⊥
+IsServed (Err BadConfig) = ⊥
+IsServed (Err Read) = Unit {0}
+IsServed (Err Write) = Unit {0}
+IsServed (Err Memory) = Unit {0}
+IsServed (Err TooManyLines) = Unit {0}
+IsServed (Ok done) = Unit {0}

@@ -1,0 +1,68 @@
+ghost use Rattle.std.specs.Prelude.{◌≡◌, ℕ, ◌+◌, ◌<◌, ◌≤◌, List, [], ◌∷◌, ◌++◌, length, IfOk, IsTrue, ◌↔◌, vec_capacity};
+
+use std::alloc::{AllocError, Global};
+use std::marker::Model;
+
+/// Up to `N` bytes, or somewhat more, whose memory is taken when it is made.
+#[derive(Drop)]
+pub struct Buffer<const N: usize> {
+    bytes: Vec<u8>,
+}
+
+impl<const N: usize> Model for Buffer<N> {
+    ghost Value = { List ℕ };
+
+    ghost view = { λ b. b.bytes.items };
+
+    ghost invariant = { λ b. N ≤ vec_capacity b.bytes };
+}
+
+impl<const N: usize> Buffer<N> {
+    pub fn new(alloc: Global) -> Result<Buffer<N>, AllocError>
+        ensures { IfOk result (λ b. b ≡ []) }
+    {
+        Ok(Buffer {
+            bytes: Vec::with_capacity(alloc, N)?,
+        })
+    }
+
+    pub fn as_slice(&self) -> &[u8]
+        ensures { result.now ≡ self.now }
+    {
+        self.bytes.as_slice()
+    }
+
+    pub fn len(&self) -> usize
+        ensures { result ≡ length self.now }
+    {
+        self.bytes.len()
+    }
+
+    pub fn is_empty(&self) -> bool
+        ensures { IsTrue result ↔ (self.now ≡ []) }
+    {
+        self.bytes.is_empty()
+    }
+
+    pub fn clear(&mut self)
+        ensures { self.new ≡ [] }
+    {
+        self.bytes.clear();
+    }
+
+    pub fn push(&mut self, byte: u8)
+        requires { length self.old < N }
+        ensures items { self.new ≡ self.old ++ byte ∷ [] }
+        ensures len { length self.new ≡ length self.old + 1 }
+    {
+        let _ = self.bytes.push(byte);
+    }
+
+    pub fn append(&mut self, bytes: &[u8])
+        requires { length self.old + length bytes.now ≤ N }
+        ensures items { self.new ≡ self.old ++ bytes.now }
+        ensures len { length self.new ≡ length self.old + length bytes.now }
+    {
+        let _ = self.bytes.extend_from_slice(bytes);
+    }
+}

@@ -1,0 +1,329 @@
+use crate::command_line::{DEFAULTS, Failure};
+use crate::{Config, RunFault, Sink, Source, Untold, program, run};
+use std::alloc::Global;
+use std::io::{self, Read, Write};
+use std::process::Abort;
+use std::test::Fail;
+
+/// Gives its bytes, and then an error.
+#[derive(Drop)]
+struct Breaking<'a>(&'a [u8]);
+
+impl Read for Breaking<'_> {
+    fn read(&mut self, buf: &mut [u8]) -> io::Result<usize> {
+        if self.0.is_empty() {
+            return Err(io::Error::from(io::ErrorKind::Interrupted));
+        }
+        self.0.read(buf)
+    }
+}
+
+/// Gives the same byte without end.
+#[derive(Drop)]
+struct Endless(u8);
+
+impl Read for Endless {
+    fn read(&mut self, buf: &mut [u8]) -> io::Result<usize> {
+        for byte in buf.iter_mut() {
+            *byte = self.0;
+        }
+        Ok(buf.len())
+    }
+}
+
+/// Takes one byte a call, and fails at its third call: by an error, or by taking nothing.
+#[derive(Drop)]
+struct Slow {
+    taken: [u8; 2],
+    calls: usize,
+    errs: bool,
+}
+
+impl Slow {
+    fn new(errs: bool) -> Slow {
+        Slow {
+            taken: [0; 2],
+            calls: 0,
+            errs,
+        }
+    }
+}
+
+impl Write for Slow {
+    fn write(&mut self, buf: &[u8]) -> io::Result<usize> {
+        if self.calls < 2 && !buf.is_empty() {
+            self.taken[self.calls] = buf[0];
+            self.calls += 1;
+            return Ok(1);
+        }
+        if self.errs {
+            return Err(io::Error::from(io::ErrorKind::BrokenPipe));
+        }
+        Ok(0)
+    }
+
+    fn flush(&mut self) -> io::Result<()> {
+        Ok(())
+    }
+}
+
+/// Runs a script on the machine of the command line without options.
+fn replies(alloc: Global, script: &str) -> Result<Vec<u8>, Fail> {
+    let mut written = Vec::new(alloc);
+    run(alloc, DEFAULTS, &mut script.as_bytes(), &mut written)?;
+    Ok(written)
+}
+
+const BOUND: &str = "socket\nbind 3 0.0.0.0 7\n";
+
+#[test]
+fn answers_scripts(rt: HostRuntime) -> Result<(), Fail> {
+    for (script, want) in [
+        // an empty datagram, and none behind it
+        (
+            "rx 4500001c00010000401166ce0a0000020a000001138800070008d84c\nrecvfrom 3 9\nrecvfrom 3 9\n",
+            "ok\nfrom 10.0.0.2 5000 -\nerror 35 EWOULDBLOCK\n",
+        ),
+        // two datagrams, the first received in part
+        (
+            "rx 4500002100010000401166c90a0000020a00000113880007000d947068656c6c6f\nrx 4500001e00010000401166cc0a0000020a00000113880007000a6fdf6869\nrecvfrom 3 2\nrecvfrom 3 2\n",
+            "ok\nok\nfrom 10.0.0.2 5000 6865\nfrom 10.0.0.2 5000 6869\n",
+        ),
+        // no checksum, a wrong one, and upper case
+        (
+            "rx 4500001e00010000401166cc0a0000020a00000113880007000a00006869\nrecvfrom 3 100\nrx 4500001E00010000401166CC0A0000020A00000113880007000A6FDE6869\nrecvfrom 3 100\n",
+            "ok\nfrom 10.0.0.2 5000 6869\nok\nerror 35 EWOULDBLOCK\n",
+        ),
+        // lines of no form, and one that asks for the least
+        (
+            "hello\n\nbind 3 10.0.0.1\nrecvfrom 3 0\nrx 4\ntick \nrx -\n",
+            "? line\n? line\n? line\n? line\n? line\n? line\nok\n",
+        ),
+        // refusals
+        (
+            "socket\nbind 3 10.0.0.1 8\nbind 4 0.0.0.0 8\nrecvfrom 66 1\n",
+            "error 24 EMFILE\nerror 22 EINVAL\nerror 9 EBADF\nerror 9 EBADF\n",
+        ),
+    ] {
+        let mut all = String::from_str(rt.alloc(), BOUND)?;
+        all.push_str(script)?;
+        let written = replies(rt.alloc(), all.as_str())?;
+        let mut wanted = String::from_str(rt.alloc(), "ok 3\nok\n")?;
+        wanted.push_str(want)?;
+        assert_eq!(rt; written.as_slice(), wanted.as_bytes(), "at {script}");
+    }
+    Ok(())
+}
+
+#[test]
+fn binds_by_its_rules(rt: HostRuntime) -> Result<(), Fail> {
+    let script =
+        "recvfrom 3 1\nsocket\nbind 3 10.0.0.9 7\nbind 3 127.0.0.1 0\nrx 4500001e00010000401166cc0a0000020a00000113880007000a6fdf6869\nrecvfrom 3 1";
+    let written = replies(rt.alloc(), script)?;
+    let want =
+        b"error 9 EBADF\nok 3\nerror 49 EADDRNOTAVAIL\nok\nok\nerror 35 EWOULDBLOCK\n".as_slice();
+    assert_eq!(rt; written.as_slice(), want);
+    Ok(())
+}
+
+#[test]
+fn ends_where_a_stream_fails(rt: HostRuntime) -> Result<(), Fail> {
+    let mut written = Vec::new(rt.alloc());
+    let outcome = run(
+        rt.alloc(),
+        DEFAULTS,
+        &mut Untold(Breaking(b"socket\nsoc")),
+        &mut written,
+    );
+    assert_eq!(rt; outcome, Err(RunFault::Read));
+    assert_eq!(rt; written.as_slice(), b"ok 3\n".as_slice());
+
+    for errs in [true, false] {
+        let mut slow = Untold(Slow::new(errs));
+        let outcome = run(rt.alloc(), DEFAULTS, &mut b"socket\n".as_slice(), &mut slow);
+        assert_eq!(rt; outcome, Err(RunFault::Write));
+        assert_eq!(rt; slow.0.taken.as_slice(), b"ok".as_slice());
+    }
+
+    let mut written = Vec::new(rt.alloc());
+    let outcome = run(
+        rt.alloc(),
+        DEFAULTS,
+        &mut Untold(Endless(b'a')),
+        &mut written,
+    );
+    assert_eq!(rt; outcome, Err(RunFault::TooManyLines));
+    assert!(rt; written.is_empty());
+    Ok(())
+}
+
+#[test]
+fn refuses_configurations(rt: HostRuntime) -> Result<(), Fail> {
+    for (config, want) in [
+        (
+            Config {
+                mbufs: 0,
+                mtu: 67,
+                ..DEFAULTS
+            },
+            RunFault::BadSizes,
+        ),
+        (
+            Config {
+                mbufs: 65_536,
+                ..DEFAULTS
+            },
+            RunFault::BadSizes,
+        ),
+        (
+            Config {
+                clusters: 4097,
+                ..DEFAULTS
+            },
+            RunFault::BadSizes,
+        ),
+        (
+            Config {
+                mtu: 67,
+                ..DEFAULTS
+            },
+            RunFault::BadConfig,
+        ),
+        (
+            Config {
+                mtu: 4353,
+                ..DEFAULTS
+            },
+            RunFault::BadConfig,
+        ),
+        (
+            Config {
+                addr: 0,
+                ..DEFAULTS
+            },
+            RunFault::BadConfig,
+        ),
+        (
+            Config {
+                addr: 0x7f00_0001,
+                ..DEFAULTS
+            },
+            RunFault::BadConfig,
+        ),
+        (
+            Config {
+                bcast: 0xe000_0000,
+                ..DEFAULTS
+            },
+            RunFault::BadConfig,
+        ),
+        (
+            Config {
+                bcast: DEFAULTS.addr,
+                ..DEFAULTS
+            },
+            RunFault::BadConfig,
+        ),
+    ] {
+        let mut written = Vec::new(rt.alloc());
+        let outcome = run(
+            rt.alloc(),
+            config,
+            &mut b"socket\n".as_slice(),
+            &mut written,
+        );
+        assert_eq!(rt; outcome, Err(want), "at {config:?}");
+        assert!(rt; written.is_empty());
+    }
+    Ok(())
+}
+
+/// Where an allocation of `run` is refused, nothing is read or written. `rt try --test --fail-alloc N` refuses the Nth.
+#[test]
+fn takes_memory_first(rt: HostRuntime) -> Result<(), Fail> {
+    let mut slow = Untold(Slow::new(true));
+    let mut script = b"socket\n".as_slice();
+    match run(rt.alloc(), DEFAULTS, &mut script, &mut slow) {
+        Err(RunFault::Memory) => {
+            assert_eq!(rt; slow.0.calls, 0);
+            assert_eq!(rt; script.len(), 7);
+        }
+        outcome => {
+            assert_eq!(rt; outcome, Err(RunFault::Write));
+            assert_eq!(rt; slow.0.taken.as_slice(), b"ok".as_slice());
+        }
+    }
+    Ok(())
+}
+
+/// Checks the status of a command line, and what it says and writes.
+fn expect_program<R: Source, W: Sink>(
+    rt: &impl Abort,
+    alloc: Global,
+    line: &str,
+    reader: &mut R,
+    writer: &mut W,
+    want: (u8, &str),
+) -> Result<(), Fail> {
+    let mut words = Vec::new(alloc);
+    for word in line.split(' ') {
+        words.push(String::from_str(alloc, word)?)?;
+    }
+    let mut errors = Vec::new(alloc);
+    let status = program(alloc, words, reader, writer, &mut errors);
+    assert_eq!(rt; status, want.0, "at {line}");
+    assert_eq!(rt; errors.as_slice(), want.1.as_bytes(), "at {line}");
+    Ok(())
+}
+
+#[test]
+fn reads_its_words(rt: HostRuntime) -> Result<(), Fail> {
+    let usage = (2, "bsdudp: usage\n");
+    for (line, want) in [
+        ("bsdudp run", (0, "")),
+        ("bsdudp", usage),
+        ("bsdudp ru", usage),
+        ("bsdudp run extra", usage),
+        ("bsdudp run --mtu 68", usage),
+        ("bsdudp run --", usage),
+        ("bsdudp run --help", usage),
+        ("bsdudp --version", usage),
+        ("bsdudp help", usage),
+        ("bsdudp chain", usage),
+    ] {
+        let mut written = Vec::new(rt.alloc());
+        let mut reader = b"".as_slice();
+        expect_program(&rt, rt.alloc(), line, &mut reader, &mut written, want)?;
+        assert!(rt; written.is_empty());
+    }
+    Ok(())
+}
+
+#[test]
+fn says_what_failed(rt: HostRuntime) -> Result<(), Fail> {
+    let alloc = rt.alloc();
+    let mut written = Vec::new(alloc);
+    let mut reader = Untold(Breaking(b""));
+    let want = (4, "bsdudp: read failed\n");
+    expect_program(&rt, alloc, "bsdudp run", &mut reader, &mut written, want)?;
+
+    let mut reader = b"socket\n".as_slice();
+    let mut slow = Untold(Slow::new(false));
+    let want = (4, "bsdudp: write failed\n");
+    expect_program(&rt, alloc, "bsdudp run", &mut reader, &mut slow, want)?;
+
+    let mut reader = Untold(Endless(b'a'));
+    let want = (4, "bsdudp: too many lines\n");
+    expect_program(&rt, alloc, "bsdudp run", &mut reader, &mut written, want)?;
+
+    for (fault, want) in [
+        (RunFault::Memory, "no memory"),
+        (RunFault::BadSizes, "bad sizes"),
+        (RunFault::BadConfig, "bad config"),
+    ] {
+        let failure = Failure::Run(fault);
+        assert_eq!(rt; failure.status(), 3);
+        assert_eq!(rt; failure.to_string(alloc)?.as_str(), want);
+    }
+    Ok(())
+}
