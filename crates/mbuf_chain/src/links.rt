@@ -232,14 +232,15 @@ fn join(store: &mut Store, front: u32, last: Place, back: u32, added: u32)
     set_total(store, front, added, 0);
 }
 
-/// Links a chain behind another. It loses its packet header.
-pub(crate) fn link(store: &mut Store, front: u32, last: Place, back: u32) -> Place
+/// Links a chain of so many bytes behind another. It loses its packet header.
+pub(crate) fn link(store: &mut Store, front: u32, last: Place, back: u32, added: u32) -> Place
     requires pool { IsPool store.old }
     requires front { IsLive (pool_of store.old) front }
     requires back { IsLive (pool_of store.old) back }
     requires apart { front ≢ back }
     requires place { IsPlace (chain_of (pool_of store.old) front) last }
     requires last { last.index + 1 ≡ length (chain_of (pool_of store.old) front).entries }
+    requires bytes { added ≡ length (string (chain_of (pool_of store.old) back)) }
     ensures pool { IsPool store.new }
     ensures change { pool_of store.new ≡
         with_chain (without (pool_of store.old) back) front
@@ -247,7 +248,6 @@ pub(crate) fn link(store: &mut Store, front: u32, last: Place, back: u32) -> Pla
     ensures place { IsPlace (chain_of (pool_of store.new) front) result }
     ensures index { result.index ≡ last.index + 1 }
 {
-    let added = bytes_of(store, back);
     strip(store, back);
     join(store, front, last, back, added);
     Place {

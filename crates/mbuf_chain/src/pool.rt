@@ -361,7 +361,8 @@ impl Pool {
     }
 
     /// Links a chain behind the last mbuf of another. It loses its packet header. The answer is the
-    /// place of its first mbuf in the whole.
+    /// place of its first mbuf in the whole. A chain that has no packet header is walked for its length;
+    /// `link_counted` is told it.
     pub fn link(&mut self, chain: &Chain, last: Place, back: Chain) -> Place
         requires front { IsLive self.old chain.now }
         requires back { IsLive self.old back }
@@ -375,7 +376,27 @@ impl Pool {
         ensures index { result.index ≡ last.index + 1 }
     {
         let Chain { first } = back;
-        links::link(&mut self.store, chain.first, last, first)
+        let len = links::bytes_of(&self.store, first);
+        links::link(&mut self.store, chain.first, last, first, len)
+    }
+
+    /// Links a chain of `len` bytes behind the last mbuf of another, as `link` does. It takes the same few
+    /// steps whatever the chain.
+    pub fn link_counted(&mut self, chain: &Chain, last: Place, back: Chain, len: u32) -> Place
+        requires front { IsLive self.old chain.now }
+        requires back { IsLive self.old back }
+        requires apart { chain.now ≢ back }
+        requires place { IsPlace (chain_of self.old chain.now) last }
+        requires last { last.index + 1 ≡ length (chain_of self.old chain.now).entries }
+        requires len { len ≡ length (string (chain_of self.old back)) }
+        ensures change { self.new ≡
+            with_chain (without self.old back) chain.now
+            (joined (chain_of self.old chain.now) (chain_of self.old back)) }
+        ensures place { IsPlace (chain_of self.new chain.now) result }
+        ensures index { result.index ≡ last.index + 1 }
+    {
+        let number = back.into_number();
+        links::link(&mut self.store, chain.first, last, number, len)
     }
 
     /// Cuts a chain behind its first `keep` mbufs, and answers the chain of the others. It has no packet

@@ -54,7 +54,10 @@ fn bytes_of_another_chain(rt: HostRuntime) -> Result<(), Fail> {
     append(&rt, &mut pool, &chain, at, &other, from);
     assert_eq!(rt; pool.bytes(&chain, at), b"datagram".as_slice());
     assert_eq!(rt; (pool.len(&chain), pool.len(&other)), (8, 4));
-    pool.free_chain(other);
+    let last = pool.last(&chain);
+    let len = pool.len(&other);
+    let _ = pool.link_counted(&chain, last, other, len);
+    assert_eq!(rt; (pool.len(&chain), pool.mbufs(&chain)), (12, 2));
     pool.free_chain(chain);
     assert_eq!(rt; pool.free_mbufs(), 2);
     Ok(())

@@ -23,7 +23,7 @@ join-requires-clause-bare c = (bared _ _ _ _ c.requires.apart c.requires.front c
 
 pub join-requires-clause-bytes : goal.join-requires-clause-bytes
 join-requires-clause-bytes c =
-    c.bytes_of-added.ensures
+    c.requires.bytes
     ∙ sym (ap (λ (q : PoolView). length (string (chain_of q c.args.back))) c.strip.ensures.change
     ∙ ap (λ (v : ChainView). length (string v)) (chain_here (pool_of c.args.store.now) c.args.back (headless (chain_of (pool_of c.args.store.now) c.args.back))))
 
