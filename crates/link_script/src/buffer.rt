@@ -18,6 +18,7 @@ impl<const N: usize> Model for Buffer<N> {
 }
 
 impl<const N: usize> Buffer<N> {
+    /// An empty buffer. It takes the memory for all `N` bytes, and is refused only where that is.
     pub fn new(alloc: Global) -> Result<Buffer<N>, AllocError>
         ensures { IfOk result (λ b. b ≡ []) }
     {
@@ -26,30 +27,35 @@ impl<const N: usize> Buffer<N> {
         })
     }
 
+    /// The bytes so far, without copying.
     pub fn as_slice(&self) -> &[u8]
         ensures { result.now ≡ self.now }
     {
         self.bytes.as_slice()
     }
 
+    /// How many bytes there are, at most `N`.
     pub fn len(&self) -> usize
         ensures { result ≡ length self.now }
     {
         self.bytes.len()
     }
 
+    /// Whether there is no byte.
     pub fn is_empty(&self) -> bool
         ensures { IsTrue result ↔ (self.now ≡ []) }
     {
         self.bytes.is_empty()
     }
 
+    /// Drops all bytes, and keeps the memory.
     pub fn clear(&mut self)
         ensures { self.new ≡ [] }
     {
         self.bytes.clear();
     }
 
+    /// Puts a byte behind the others. There must be room for it.
     pub fn push(&mut self, byte: u8)
         requires { length self.old < N }
         ensures items { self.new ≡ self.old ++ byte ∷ [] }
@@ -58,6 +64,7 @@ impl<const N: usize> Buffer<N> {
         let _ = self.bytes.push(byte);
     }
 
+    /// Puts bytes behind the others. There must be room for all of them.
     pub fn append(&mut self, bytes: &[u8])
         requires { length self.old + length bytes.now ≤ N }
         ensures items { self.new ≡ self.old ++ bytes.now }

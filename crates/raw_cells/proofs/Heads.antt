@@ -1,5 +1,7 @@
 -- The heads that lie in the block.
 use Rattle.std.proofs.Common.{◌≡◌, ℕ, zero, suc, ◌+◌, ◌*◌, ◌/◌, ◌%◌, ◌==◌, ◌≤◌, ◌<◌, ◌⊎◌, inl, inr, Bool, true, false, if◌then◌else◌, Some, None, is_some, List, [], length, take, get_or, set, replicate, refl, sym, ap, ◌∙◌, subst, arith, lit≤, length-set, get_or-set_same, get_or-set_other, length-take-le}
+use Rattle.std.proofs.Math.Dec.{ltb}
+use Rattle.std.proofs.lemmas.Bool.{ltb-true, ltb-false}
 use Rattle.std.proofs.lemmas.List.{length-replicate, get_or-replicate, get_or-take}
 use Rattle.std.proofs.lemmas.List.FromFn.{length-map-range_with_len, get_or-map-range_with_len, fill_by_all}
 use Rattle.raw_cells.specs.Over.{over}
@@ -124,20 +126,22 @@ heads_new n m =
     sym (fill_by_all (λ i. head_in (replicate m 0) (128 * i)) (replicate n zero_head) n zero_head (length-replicate n zero_head)
     (λ i lt. get_or-replicate n i zero_head zero_head lt ∙ sym (none_in (128 * i)) ∙ same_head [] (replicate m 0) (128 * i) (128 * i) (λ k less. sym (zero_at m (128 * i + k)))))
 
-pub below_or_from : (a b : ℕ) → (a < b) ⊎ (b ≤ a)
-below_or_from zero zero = inr (omega arith)
-below_or_from zero (suc b) = inl (omega arith)
-below_or_from (suc a) zero = inr (omega arith)
-below_or_from (suc a) (suc b) = elim (below_or_from a b) [ inl h ↦ inl (omega arith) | inr h ↦ inr (omega arith) ]
+-- by the test, which says which of the two holds
+tested : (a b : ℕ) (is_less : Bool) → ltb a b ≡ is_less → (a < b) ⊎ (b ≤ a)
+tested a b true is = inl (ltb-true a b is)
+tested a b false is = inr (ltb-false a b is)
+
+pub less_or_at_least : (a b : ℕ) → (a < b) ⊎ (b ≤ a)
+less_or_at_least a b = tested a b (ltb a b) refl
 
 -- two mbufs, or the room and the head of one, lie apart
 pub mbufs_apart : (bs : List ℕ) (n i j k s m : ℕ) → j < n → k < head_size (head_in bs (128 * j)) → head_size (head_in bs (128 * i)) ≤ s → s + m ≤ 128
     → (128 * j + k < 128 * i + s) ⊎ (128 * i + s + m ≤ 128 * j + k)
 mbufs_apart bs n i j k s m lt less past fits =
     let small = head_size_le (head_in bs (128 * j)) in
-    elim (below_or_from i j) [
+    elim (less_or_at_least i j) [
       | inl above ↦ inr (omega arith)
-      | inr le ↦ elim (below_or_from j i) [
+      | inr le ↦ elim (less_or_at_least j i) [
         | inl below ↦ inl (omega (arith, small))
         | inr ge ↦ let same : j ≡ i = omega arith in
             let here : k < head_size (head_in bs (128 * i)) = subst (λ (l : ℕ). k < head_size (head_in bs (128 * l))) same less in
@@ -166,9 +170,9 @@ head_written bs enc n i h lt room long is =
       | inr above ↦ sym (over_above bs o b (128 * j + k) 0 fits (omega (arith, size, head_size_le h)))
     ]) in
     sym (fill_by_all (λ j. head_in (over bs o b) (128 * j)) xs n zero_head (length-set (heads_in n bs) i h ∙ count)
-    (λ j less. elim (below_or_from j i) [
+    (λ j less. elim (less_or_at_least j i) [
       | inl below ↦ get_or-set_other (heads_in n bs) i j h zero_head (λ e. omega arith) ∙ head_at n bs j zero_head less ∙ there j (inl below)
-      | inr ge ↦ elim (below_or_from i j) [
+      | inr ge ↦ elim (less_or_at_least i j) [
         | inl above ↦ get_or-set_other (heads_in n bs) i j h zero_head (λ e. omega arith) ∙ head_at n bs j zero_head less ∙ there j (inr above)
         | inr le ↦ let same : i ≡ j = omega arith in
             subst (λ (l : ℕ). get_or xs l zero_head ≡ head_in (over bs o b) (128 * l)) same (get_or-set_same (heads_in n bs) i h zero_head (omega arith) ∙ sym here)

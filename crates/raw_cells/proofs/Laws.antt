@@ -8,7 +8,7 @@ use Rattle.raw_cells.specs.declared.part.Part.{Part}
 use Rattle.raw_cells.specs.declared.part.Buffer.{Buffer}
 use Rattle.raw_cells.specs.declared.part.Buffer.TheVariants.{Mbuf, Cluster}
 use Rattle.raw_cells.proofs.Over.{over_below, over_above, over_in, length_over}
-use Rattle.raw_cells.proofs.Heads.{head_size_le, below_or_from}
+use Rattle.raw_cells.proofs.Heads.{head_size_le, less_or_at_least}
 
 -- a region as it is made has the sizes of a region
 pub sized_zero : (m k : ℕ) → 0 < m → m ≤ 65535 → k ≤ 4096 → IsSized (zero_cells m k)
@@ -100,9 +100,9 @@ module _ (c : Cells) (sized : IsSized c) where
   rooms_apart : (a b : Buffer) (s n t m : ℕ) → IsRoom c a s n → IsRoom c b t m → (a ≢ b) ⊎ ((s + n ≤ t) ⊎ (t + m ≤ s))
       → (origin c a + s + n ≤ origin c b + t) ⊎ (origin c b + t + m ≤ origin c a + s)
   rooms_apart (Mbuf i) (Mbuf j) s n t m x y h =
-      elim (below_or_from i j) [
+      elim (less_or_at_least i j) [
         | inl lt ↦ inl (omega (arith, x.3))
-        | inr ge ↦ elim (below_or_from j i) [
+        | inr ge ↦ elim (less_or_at_least j i) [
           | inl lt ↦ inr (omega (arith, y.3))
           | inr le ↦ let same : i ≡ j = omega arith in elim h [
             | inl ne ↦ absurd (ne (ap Mbuf same))
@@ -113,9 +113,9 @@ module _ (c : Cells) (sized : IsSized c) where
   rooms_apart (Mbuf i) (Cluster j) s n t m x y h = inl (omega (arith, x.0, x.3))
   rooms_apart (Cluster i) (Mbuf j) s n t m x y h = inr (omega (arith, y.0, y.3))
   rooms_apart (Cluster i) (Cluster j) s n t m x y h =
-      elim (below_or_from i j) [
+      elim (less_or_at_least i j) [
         | inl lt ↦ inl (omega (arith, x.1))
-        | inr ge ↦ elim (below_or_from j i) [
+        | inr ge ↦ elim (less_or_at_least j i) [
           | inl lt ↦ inr (omega (arith, y.1))
           | inr le ↦ let same : i ≡ j = omega arith in elim h [
             | inl ne ↦ absurd (ne (ap Cluster same))
@@ -163,9 +163,9 @@ module _ (old new : Cells) (i : ℕ) (h : Head) (sized : IsSized old) (lt : i < 
   room_apart (Mbuf j) s n at =
       let count = heads_after_head in (
         omega (arith, sized.block, at.0, at.3),
-        elim (below_or_from i j) [
+        elim (less_or_at_least i j) [
           | inl below ↦ inl (omega (arith, head_size_le h))
-          | inr ge ↦ elim (below_or_from j i) [
+          | inr ge ↦ elim (less_or_at_least j i) [
             | inl above ↦ inr (omega (arith, at.3))
             | inr le ↦ let same : j ≡ i = omega arith in
                 let past : head_size h ≤ s = subst (λ (g : Head). head_size g ≤ s) (ap (head_of new) same ∙ head_set) at.2 in
