@@ -1,6 +1,6 @@
 -- What is free and what is held add up.
 use Rattle.std.proofs.Common.{◌≡◌, ℕ, zero, suc, ◌+◌, ◌<◌, Bool, true, false, List, [], ◌∷◌, length, map, refl, sym, ◌∙◌, ap, arith, cond}
-use Rattle.std.specs.Prelude.{◌==◌, count_by, sum}
+use Rattle.std.specs.Prelude.{◌==◌, count_by, sum, fold, max}
 use Rattle.std.specs.List.{AllByRecursion as Each, range_with_len}
 use Rattle.std.proofs.lemmas.Bool.{eqb-true, eqb-false}
 use Rattle.std.proofs.lemmas.List.Sums.{sum_by-cons}
@@ -62,8 +62,25 @@ all_pass p at (suc n) h =
     let here : cond {A = ℕ} (p at) 1 0 ≡ 1 = ap (λ b. cond {A = ℕ} b 1 0) (h at) in
     omega (arith, count_cons p at (range_with_len (at + 1) n))
 
-pub all_free : (s : State) → s.sockets ≡ [] → s.unfinished ≡ [] → s.output ≡ [] → (free_mbufs s nothing ≡ s.config.mbufs) × (free_clusters s nothing ≡ s.config.clusters)
+all_free : (s : State) → s.sockets ≡ [] → s.unfinished ≡ [] → s.output ≡ [] → (free_mbufs s nothing ≡ s.config.mbufs) × (free_clusters s nothing ≡ s.config.clusters)
 all_free s es eu eo = (
   (let none : (weight_of_state s).mbufs ≡ 0 = rw (es, eu, eo) refl in omega arith),
   all_pass (λ c. count_of s nothing c == 0) 0 s.config.clusters (λ k. rw (es, eu, eo) refl),
 )
+
+sum_zero : (g : ℕ → ℕ) (at n : ℕ) → ((k : ℕ) → g k ≡ 0) → sum (map g (range_with_len at n)) ≡ 0
+sum_zero g at n none = sum_total g at n ∙ total_same g (λ k. 0) at n none ∙ zeros at n
+
+most_zero : (g : ℕ → ℕ) (at n : ℕ) → ((k : ℕ) → g k ≡ 0) → fold max 0 (map g (range_with_len at n)) ≡ 0
+most_zero g at zero none = refl
+most_zero g at (suc n) none = rw (none at) (most_zero g (at + 1) n none)
+
+-- where nothing is held, all is free and no cluster is referred to
+pub none_held : (s : State) → s.sockets ≡ [] → s.unfinished ≡ [] → s.output ≡ []
+    → usage_of s ≡ record { free_mbufs = s.config.mbufs; mbufs = s.config.mbufs; free_clusters = s.config.clusters; clusters = s.config.clusters; refs = 0; most = 0 }
+none_held s es eu eo =
+    let counts : (k : ℕ) → count_of s nothing k ≡ 0 = (λ k. rw (es, eu, eo) refl) in
+    let free = all_free s es eu eo in
+    let refs = sum_zero (count_of s nothing) 0 s.config.clusters counts in
+    let most = most_zero (count_of s nothing) 0 s.config.clusters counts in
+    rw (free.0, free.1, refs, most) refl

@@ -42,12 +42,12 @@ module _ (M : Ledger) where
   pub record IsClosed (K : State → Type 0) : Type 0 where
     pub ended : (why : Why) (s : State) → K s → K (ends why s)
     pub dropped : (s : State) → K s → K (reclaimed s)
-    pub queued : (fd : ℕ) (d : Datagram) (s : State) → K s → K (change_socket fd (Arrival.queued M d) s)
+    pub queued : (fd : ℕ) (d : Datagram) (s : State) → K s → K (change_socket fd (Arrival.queued d) s)
     pub begins : (k : Key) (s : State) → K s → K (begin_unfinished k s)
     pub sets : (k : Key) (bytes : Map) (s : State) → K s → K (set_bytes k bytes s)
-    pub finishes : (k : Key) (s : State) → K s → K (Arrival.counts_reassembled M (end_unfinished k s))
-    pub fragment : (s : State) → K s → K (Arrival.counts_fragment M s)
-    pub packet : (s : State) → K s → K (Arrival.counts_packet M s)
+    pub finishes : (k : Key) (s : State) → K s → K (Arrival.counts_reassembled (end_unfinished k s))
+    pub fragment : (s : State) → K s → K (Arrival.counts_fragment s)
+    pub packet : (s : State) → K s → K (Arrival.counts_packet s)
 
   module _ (K : State → Type 0) (closed : IsClosed K) where
     pub kept_affords : (old new : State) (held : Weight) (n : Need) (answer : Bool) → K old → Affords M old held n answer new → K new
@@ -107,14 +107,14 @@ module _ (M : Ledger) where
         (λ e c. by_choice c
         (λ e f. by_choice f
         (λ e g. kept_ends old new _ k g)
-        (λ e p. kept_pulls origin held _ _ (Arrival.counts_fragment M old) new _ (closed.fragment old k) (λ w mid at j. kept_joins held _ _ mid new at j) p))
-        (λ e w. kept_whole held (head_of item.bytes).source (head_of item.bytes).destination (head_of item.bytes).protocol (Arrival.carried M item) old new k w))
+        (λ e p. kept_pulls origin held _ _ (Arrival.counts_fragment old) new _ (closed.fragment old k) (λ w mid at j. kept_joins held _ _ mid new at j) p))
+        (λ e w. kept_whole held (head_of item.bytes).source (head_of item.bytes).destination (head_of item.bytes).protocol (Arrival.carried item) old new k w))
         (λ e g. kept_ends old new _ k g)
 
     pub kept_arrives : (origin : Origin) (held : Weight) (item : Item) (old new : State) → K old → Arrival.Arrives M origin held item old new → K new
     kept_arrives origin held item old new k h = by_case h
-        (λ e p. kept_passes origin held item (Arrival.counts_packet M old) new (closed.packet old k) p)
-        (λ why e g. kept_ends (Arrival.counts_packet M old) new why (closed.packet old k) g)
+        (λ e p. kept_passes origin held item (Arrival.counts_packet old) new (closed.packet old k) p)
+        (λ why e g. kept_ends (Arrival.counts_packet old) new why (closed.packet old k) g)
 
     pub kept_all : (items : List Item) (old new : State) → K old → Arrival.AllArrive M items old new → K new
     kept_all [] old new k e = subst K (sym e) k

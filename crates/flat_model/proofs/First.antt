@@ -56,7 +56,7 @@ module _ (M : Ledger) (c : Config) (out : List Item) (next count : ℕ) (boots :
     packet = λ s k. record { config = k.config; output = k.output; id = k.id; sends = k.sends; sockets = k.sockets };
   }
     where
-      go : (fd : ℕ) (d : Datagram) (socket : Socket) → IsSound socket → (b : Bool) → IsSound (cond b (Arrival.queued M d socket) socket)
+      go : (fd : ℕ) (d : Datagram) (socket : Socket) → IsSound socket → (b : Bool) → IsSound (cond b (Arrival.queued d socket) socket)
       go fd d socket g true = record { local = g.local; port = g.port; peer = g.peer }
       go fd d socket g false = g
 

@@ -260,7 +260,7 @@ apart_some (Some x) = (tt, tt)
 
 -- those who hear a datagram are open sockets, no two the same
 hearers_in : (s : State) (destination : ℕ) (q : Sought) → ((fd : ℕ) → count_by (λ (x : Socket). x.fd == fd) s.sockets ≤ 1)
-    → Each (AreIn s) (Arrival.hearers exact_ledger s destination q) × Apart (Arrival.hearers exact_ledger s destination q)
+    → Each (AreIn s) (Arrival.hearers s destination q) × Apart (Arrival.hearers s destination q)
 hearers_in s destination q distinct = go (Arrival.is_broadcast s.config destination)
   where
     all : Apart s.sockets
@@ -393,12 +393,12 @@ module _ (c : Config) where
   -- ---- what an arrival changes
 
   pub good_queued : (h fd : ℕ) (d : Datagram) (me : Socket) (s : State) → Good c (h + d.item.weight.mbufs) s → IsQueued c d → socket_at fd s ≡ Some me
-      → 16 + length d.item.bytes + bytes_queued me.queue ≤ 41600 → length me.queue + 1 ≤ 325 → Good c h (change_socket fd (Arrival.queued exact_ledger d) s)
+      → 16 + length d.item.bytes + bytes_queued me.queue ≤ 41600 → length me.queue + 1 ≤ 325 → Good c h (change_socket fd (Arrival.queued d) s)
   good_queued h fd d me s good is at room more = record {
     config = good.config;
     sockets = each-map_to (IsSocket c) _ (λ socket g. g) s.sockets (each-both (λ socket g one. go socket g (socket.fd == fd) refl one) s.sockets good.sockets (the_one fd s.sockets me (good.distinct fd) at));
-    few = omega (arith, good.few, length-map s.sockets (λ (socket : Socket). cond (socket.fd == fd) (Arrival.queued exact_ledger d socket) socket));
-    distinct = λ k. let same = count-map (λ (socket : Socket). socket.fd == k) (λ socket. cond (socket.fd == fd) (Arrival.queued exact_ledger d socket) socket) (λ socket. fd_same socket k (socket.fd == fd)) s.sockets in omega (arith, good.distinct k);
+    few = omega (arith, good.few, length-map s.sockets (λ (socket : Socket). cond (socket.fd == fd) (Arrival.queued d socket) socket));
+    distinct = λ k. let same = count-map (λ (socket : Socket). socket.fd == k) (λ socket. cond (socket.fd == fd) (Arrival.queued d socket) socket) (λ socket. fd_same socket k (socket.fd == fd)) s.sockets in omega (arith, good.distinct k);
     unfinished = good.unfinished;
     keys = good.keys;
     output = good.output;
@@ -406,16 +406,16 @@ module _ (c : Config) where
     last_port = good.last_port;
     next_id = good.next_id;
     mbufs =
-        let more = mbufs-changed weight_of_socket (λ (socket : Socket). socket.fd == fd) (Arrival.queued exact_ledger d) d.item.weight.mbufs
+        let more = mbufs-changed weight_of_socket (λ (socket : Socket). socket.fd == fd) (Arrival.queued d) d.item.weight.mbufs
         (λ socket. let app = mbufs-append (λ (x : Datagram). x.item.weight) socket.queue (d ∷ []) in omega arith) s.sockets (good.distinct fd) in
         omega (arith, good.mbufs);
   }
     where
-      fd_same : (socket : Socket) (k : ℕ) (b : Bool) → ((cond b (Arrival.queued exact_ledger d socket) socket).fd == k) ≡ (socket.fd == k)
+      fd_same : (socket : Socket) (k : ℕ) (b : Bool) → ((cond b (Arrival.queued d socket) socket).fd == k) ≡ (socket.fd == k)
       fd_same socket k true = refl
       fd_same socket k false = refl
 
-      go : (socket : Socket) → IsSocket c socket → (b : Bool) → (socket.fd == fd) ≡ b → ((socket.fd == fd) ≡ true → socket ≡ me) → IsSocket c (cond b (Arrival.queued exact_ledger d socket) socket)
+      go : (socket : Socket) → IsSocket c socket → (b : Bool) → (socket.fd == fd) ≡ b → ((socket.fd == fd) ≡ true → socket ≡ me) → IsSocket c (cond b (Arrival.queued d socket) socket)
       go socket g true e one =
           let same : socket.queue ≡ me.queue = ap (λ (x : Socket). x.queue) (one e) in
           let bytes_same : bytes_queued socket.queue ≡ bytes_queued me.queue = ap bytes_queued same in
@@ -496,7 +496,7 @@ module _ (c : Config) where
       key_kept k' x false = refl
 
   pub good_finishes : (h : ℕ) (k : Key) (u : Unfinished) (s : State) → Good c h s → unfinished_at k s ≡ Some u
-      → Good c (h + (1 + (weight_of_pieces u.bytes).mbufs)) (Arrival.counts_reassembled exact_ledger (end_unfinished k s))
+      → Good c (h + (1 + (weight_of_pieces u.bytes).mbufs)) (Arrival.counts_reassembled (end_unfinished k s))
   good_finishes h k u s good at = record {
     config = good.config;
     sockets = good.sockets;
@@ -542,11 +542,11 @@ module _ (c : Config) where
           let at = afforded s t.mid h (need_mbufs n) t.answer t.affords e in
           by_choice t.goes_on (λ p r. goes t.mid r at) (λ p r. ap (socket_at y.fd) r ∙ at)
 
-      queued_at : (d : Datagram) (s : State) → after ≡ change_socket to.fd (Arrival.queued exact_ledger d) s → socket_at y.fd s ≡ Some y → socket_at y.fd after ≡ Some y
+      queued_at : (d : Datagram) (s : State) → after ≡ change_socket to.fd (Arrival.queued d) s → socket_at y.fd s ≡ Some y → socket_at y.fd after ≡ Some y
       queued_at d s e at =
           ap (socket_at y.fd) e
-          ∙ find-changed y.fd to.fd (Arrival.queued exact_ledger d) s.sockets y (λ x. refl) at
-          ∙ ap (λ b. Some (cond b (Arrival.queued exact_ledger d y) y)) other
+          ∙ find-changed y.fd to.fd (Arrival.queued d) s.sockets y (λ x. refl) at
+          ∙ ap (λ b. Some (cond b (Arrival.queued d y) y)) other
 
       appended : (mid : State) → Arrival.Appends exact_ledger (held ⊕ item.weight) sender item to mid after → socket_at y.fd mid ≡ Some y → socket_at y.fd after ≡ Some y
       appended mid a at = by_choice a
@@ -564,7 +564,7 @@ module _ (c : Config) where
       d : Datagram
       d = record { sender = sender; item = record item { weight = mbuf ⊕ item.weight } }
 
-      fits : (mid : State) → Good c (held.mbufs + item.weight.mbufs + 1) mid → socket_at to.fd mid ≡ Some to → Fits.fits to.queue (length item.bytes) ≡ true → Good c held.mbufs (change_socket to.fd (Arrival.queued exact_ledger (record { sender = sender; item = record item { weight = mbuf ⊕ item.weight } })) mid)
+      fits : (mid : State) → Good c (held.mbufs + item.weight.mbufs + 1) mid → socket_at to.fd mid ≡ Some to → Fits.fits to.queue (length item.bytes) ≡ true → Good c held.mbufs (change_socket to.fd (Arrival.queued (record { sender = sender; item = record item { weight = mbuf ⊕ item.weight } })) mid)
       fits mid at found e =
           let limits = and_parts _ _ e in
           let memory = leb-true _ _ limits.1 in
@@ -597,7 +597,7 @@ module _ (c : Config) where
       let sender : Addr = record { ip = source; port = u16_at 0 item.bytes } in
       let q : Sought = record { local = Some destination; port = Some (u16_at 2 item.bytes); peer = Some sender } in
       let heard = hearers_in old destination q (good.distinct) in
-      good_goes held sender (record item { bytes = udp_bytes item.bytes }) destination (Arrival.hearers exact_ledger old destination q) old new good shorter heard.0 heard.1 g)
+      good_goes held sender (record item { bytes = udp_bytes item.bytes }) destination (Arrival.hearers old destination q) old new good shorter heard.0 heard.1 g)
       (λ why e g. good_ends held.mbufs (held.mbufs + item.weight.mbufs) old new why (omega arith) good g))
       (λ e g. good_ends held.mbufs (held.mbufs + item.weight.mbufs) old new _ (omega arith) good g)
     where
@@ -657,7 +657,7 @@ module _ (c : Config) where
   each_drop P (x ∷ xs) h = h.1
 
   -- a weight pulled up still has room
-  pulled : (total n : ℕ) (w : Weight) → total ≡ 20 + n → Carries c w n → Carries c (Arrival.pulled_up exact_ledger total w) n
+  pulled : (total n : ℕ) (w : Weight) → total ≡ 20 + n → Carries c w n → Carries c (Arrival.pulled_up total w) n
   pulled total n w e is = go (nat_lt 40 total) refl
     where
       go : (b : Bool) → nat_lt 40 total ≡ b → Carries c (cond b (record w { mbufs = w.mbufs + 1 }) (record w { bag = drop 1 w.bag })) n
@@ -670,7 +670,7 @@ module _ (c : Config) where
             exist = each_drop (λ i. i < c.clusters) w.bag is.exist;
           }
 
-  pulled_mbufs : (total : ℕ) (w : Weight) → (Arrival.pulled_up exact_ledger total w).mbufs ≤ w.mbufs + 1
+  pulled_mbufs : (total : ℕ) (w : Weight) → (Arrival.pulled_up total w).mbufs ≤ w.mbufs + 1
   pulled_mbufs total w = go (nat_lt 40 total)
     where
       go : (b : Bool) → (cond b (record w { mbufs = w.mbufs + 1 }) (record w { bag = drop 1 w.bag })).mbufs ≤ w.mbufs + 1
@@ -685,23 +685,23 @@ module _ (c : Config) where
       (λ e t. good_tests old (held ⊕ w) 1 new _ held.mbufs (omega arith) good
       (λ mid at from r.
       let le = pulled_mbufs (20 + n) w in
-      goes (Arrival.pulled_up exact_ledger (20 + n) w) mid (less_held (held.mbufs + (Arrival.pulled_up exact_ledger (20 + n) w).mbufs) (held.mbufs + w.mbufs + 1) mid (omega arith) at) (pulled (20 + n) n w refl is) r) t)
+      goes (Arrival.pulled_up (20 + n) w) mid (less_held (held.mbufs + (Arrival.pulled_up (20 + n) w).mbufs) (held.mbufs + w.mbufs + 1) mid (omega arith) at) (pulled (20 + n) n w refl is) r) t)
       (λ e r. goes w old good is r)
 
   good_fragment : (origin : Origin) (held : Weight) (head : Head) (item : Item) (old new : State) → Good c (held.mbufs + item.weight.mbufs) old → Carries c item.weight (length item.bytes)
       → Arrival.FragmentArrives exact_ledger origin held head item old new → Good c held.mbufs new
   good_fragment origin held head item old new good is h = by_choice h
       (λ e g. good_ends held.mbufs (held.mbufs + item.weight.mbufs) old new _ (omega arith) good g)
-      (λ e p. good_pulls origin held item.weight (length item.bytes) (Arrival.counts_fragment exact_ledger old) new _
-      (same_rest (held.mbufs + item.weight.mbufs) old (Arrival.counts_fragment exact_ledger old) refl refl refl refl refl refl good) is
+      (λ e p. good_pulls origin held item.weight (length item.bytes) (Arrival.counts_fragment old) new _
+      (same_rest (held.mbufs + item.weight.mbufs) old (Arrival.counts_fragment old) refl refl refl refl refl refl good) is
       (λ v mid at carries j. good_joins held _ _ mid new at (record { carries = carries; inside = ltb-false _ _ (or_parts _ _ e).1 }) j) p)
 
   good_passes : (origin : Origin) (held : Weight) (item : Item) (old new : State) → Good c (held.mbufs + item.weight.mbufs) old → Carries c item.weight (length item.bytes)
       → Arrival.Passes exact_ledger origin held item old new → Good c held.mbufs new
   good_passes origin held item old new good is h = by_choice h
       (λ e x. by_choice x
-      (λ t f. good_fragment origin held (head_of item.bytes) (Arrival.carried exact_ledger item) old new good shorter f)
-      (λ t w. good_whole held (head_of item.bytes).source (head_of item.bytes).destination (head_of item.bytes).protocol (Arrival.carried exact_ledger item) old new good shorter w))
+      (λ t f. good_fragment origin held (head_of item.bytes) (Arrival.carried item) old new good shorter f)
+      (λ t w. good_whole held (head_of item.bytes).source (head_of item.bytes).destination (head_of item.bytes).protocol (Arrival.carried item) old new good shorter w))
       (λ e g. good_ends held.mbufs (held.mbufs + item.weight.mbufs) old new _ (omega arith) good g)
     where
       shorter : Carries c item.weight (length (drop 20 (take (total_of item.bytes) item.bytes)))
@@ -711,10 +711,10 @@ module _ (c : Config) where
   pub good_arrives : (origin : Origin) (held : Weight) (item : Item) (old new : State) → Good c (held.mbufs + item.weight.mbufs) old → Carries c item.weight (length item.bytes)
       → Arrival.Arrives exact_ledger origin held item old new → Good c held.mbufs new
   good_arrives origin held item old new good is h =
-      let counted = same_rest (held.mbufs + item.weight.mbufs) old (Arrival.counts_packet exact_ledger old) refl refl refl refl refl refl good in
+      let counted = same_rest (held.mbufs + item.weight.mbufs) old (Arrival.counts_packet old) refl refl refl refl refl refl good in
       by_case h
-      (λ e p. good_passes origin held item (Arrival.counts_packet exact_ledger old) new counted is p)
-      (λ why e g. good_ends held.mbufs (held.mbufs + item.weight.mbufs) (Arrival.counts_packet exact_ledger old) new why (omega arith) counted g)
+      (λ e p. good_passes origin held item (Arrival.counts_packet old) new counted is p)
+      (λ why e g. good_ends held.mbufs (held.mbufs + item.weight.mbufs) (Arrival.counts_packet old) new why (omega arith) counted g)
 
   pub good_all_arrive : (items : List Item) (old new : State) → Good c (all_of weight_of_item items).mbufs old → Each (λ (item : Item). Carries c item.weight (length item.bytes)) items
       → Arrival.AllArrive exact_ledger items old new → Good c 0 new

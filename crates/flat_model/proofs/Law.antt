@@ -11,7 +11,7 @@ use Rattle.flat_model.specs.Ledger.{Ledger}
 use Rattle.flat_model.specs.Run.{Turn}
 use Rattle.flat_model.specs.Sending.{Sending, datagram}
 use Rattle.flat_model.proofs.Sendable.{IsSendable}
-use Rattle.flat_model.specs.Wire.{packet_out, packet_in, came_in, source_of, IsAnswered, AreWired, WireLaw}
+use Rattle.flat_model.specs.Wire.{packet_out, packet_in, came_in, ComesFrom, IsAnswered, AreWired, WireLaw}
 use Rattle.flat_model.specs.declared.address.Addr.{Addr}
 use Rattle.flat_model.proofs.Second as Second
 use Rattle.flat_model.proofs.SecondSteps as Steps
@@ -50,10 +50,10 @@ module _ (L M : Ledger) (first second : Config) (sent came : List Turn) (s t : S
     logged : Among told.log x
     sendable : IsSendable first.mtu x
     is_part : Contains (cuts (length (datagram x)) first.mtu) p
-    answered : p.more ≡ false → IsAnswered L first sent x.port x.to x.bytes
+    answered : p.more ≡ false → IsAnswered L first sent s x.port x.to x.bytes
 
   Answered : Sending → Type 0
-  Answered x = IsAnswered L first sent x.port x.to x.bytes
+  Answered x = IsAnswered L first sent s x.port x.to x.bytes
 
   log : Second.IsLog first.addr second.addr second.bcast first.mtu IsPart Answered M
   unfolding Answered
@@ -64,9 +64,9 @@ module _ (L M : Ledger) (first second : Config) (sent came : List Turn) (s t : S
     answered = λ x p is e. is.answered e;
   }
 
-  given : (packet : List ℕ) → (source_of packet ≡ first.addr → Contains (filter_map packet_out sent) packet) → Second.IsGoodPacket first.addr second.addr second.bcast first.mtu IsPart Answered M packet
+  given : (packet : List ℕ) → (ComesFrom first.addr packet → Contains (filter_map packet_out sent) packet) → Second.IsGoodPacket first.addr second.addr second.bcast first.mtu IsPart Answered M packet
   given packet is from =
-      let g = All-contains (Told.IsGiven L first w.first_boots told.log sent) (filter_map packet_out sent) packet (All-from_recursion _ (filter_map packet_out sent) told.gave) (is from) in
+      let g = All-contains (Told.IsGiven L first w.first_boots told.log sent s) (filter_map packet_out sent) packet (All-from_recursion _ (filter_map packet_out sent) told.gave) (is from) in
       (g.sending, g.part, record { logged = g.logged; sendable = g.sendable; is_part = g.is_part; answered = g.answered }, g.is)
 
   not_loopback : loopback ≢ first.addr
@@ -76,7 +76,7 @@ module _ (L M : Ledger) (first second : Config) (sent came : List Turn) (s t : S
   low = let least : 68 ≤ first.mtu = w.first_boots.least_mtu in omega arith
 
   abbrev FromFirst : List ℕ → Type 0
-  FromFirst packet = source_of packet ≡ first.addr → Contains (filter_map packet_out sent) packet
+  FromFirst packet = ComesFrom first.addr packet → Contains (filter_map packet_out sent) packet
 
   abbrev IsGoodEvent : Event → Type 0
   IsGoodEvent = Steps.IsGoodEvent first.addr second.addr second.bcast first.mtu IsPart Answered M log low (λ e. w.not_addr (sym e)) (λ e. w.not_bcast (sym e)) not_loopback
@@ -111,7 +111,7 @@ module _ (L M : Ledger) (first second : Config) (sent came : List Turn) (s t : S
   IsGoodDatagram = Second.IsGoodDatagram first.addr second.addr second.bcast first.mtu IsPart Answered M
 
   pub law : (socket : Socket) (d : Datagram) → Contains t.sockets socket → Contains socket.queue d → d.sender.ip ≡ first.addr →
-      (to : Addr) × IsAnswered L first sent d.sender.port to d.item.bytes × (socket.port ≡ Some to.port) × ((to.ip ≡ second.addr) ⊎ (to.ip ≡ second.bcast))
+      (to : Addr) × IsAnswered L first sent s d.sender.port to d.item.bytes × (socket.port ≡ Some to.port) × ((to.ip ≡ second.addr) ⊎ (to.ip ≡ second.bcast))
   unfolding Answered
   law socket d in_sockets in_queue from =
       let ports : ℕ → Option ℕ = good.0 in
@@ -119,7 +119,7 @@ module _ (L M : Ledger) (first second : Config) (sent came : List Turn) (s t : S
       let datagram_good : IsGoodDatagram socket.port d = All-contains (IsGoodDatagram socket.port) socket.queue d (All-from_recursion (IsGoodDatagram socket.port) socket.queue socket_good.queue) in_queue in
       let is = datagram_good.sent from in (
         is.sending.to,
-        subst (λ port. IsAnswered L first sent port is.sending.to d.item.bytes) is.sender (subst (λ bytes. IsAnswered L first sent is.sending.port is.sending.to bytes) is.bytes is.answered),
+        subst (λ port. IsAnswered L first sent s port is.sending.to d.item.bytes) is.sender (subst (λ bytes. IsAnswered L first sent s is.sending.port is.sending.to bytes) is.bytes is.answered),
         is.receiver,
         is.here,
       )

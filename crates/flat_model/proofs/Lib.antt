@@ -1,27 +1,32 @@
 mod Values
 mod WorkedRun
-pub mod Sendable
-pub mod Folds
-pub mod Grid
-pub mod Laying
-pub mod Order
-pub mod Decode
-pub mod Maps
-pub mod Stretch
-pub mod Reading
-pub mod Each
-pub mod Second
-pub mod SecondSteps
-pub mod Closed
-pub mod First
-pub mod Output
-pub mod Told
-pub mod Law
-pub mod Weaker
-pub mod Totals
-pub mod Overlaid
-pub mod Laid
-pub mod Kept
-pub mod KeptCalls
-pub mod KeptSteps
-pub mod Books
+mod Sendable
+mod Folds
+mod Grid
+mod Laying
+mod Order
+mod Decode
+mod Maps
+mod Stretch
+mod Reading
+mod Each
+mod Second
+mod SecondSteps
+mod Closed
+mod First
+mod Output
+mod Ranges
+mod Runs
+mod Told
+mod Law
+mod Weaker
+mod Totals
+mod Overlaid
+mod Laid
+mod Kept
+mod KeptCalls
+mod KeptSteps
+mod Books
+mod Weights
+mod Putting
+pub mod Laws

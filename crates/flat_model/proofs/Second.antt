@@ -1,13 +1,13 @@
 -- The second machine: from the first's address it holds only what the first sent.
 use Rattle.std.proofs.Common.{◌≡◌, ◌≢◌, ℕ, ◌≤◌, Bool, true, false, List, [], ◌∷◌, length, take, drop, refl, sym, ◌∙◌, ap, subst, ◌⊎◌, inl, inr, arith, Option, Some, None, cond}
-use Rattle.std.specs.Prelude.{◌==◌, ◌&&◌, not, Contains, filter, option_to_list}
+use Rattle.std.specs.Prelude.{◌==◌, ◌&&◌, not, nat_lt, Contains, filter, option_to_list}
 use Rattle.std.specs.List.{AllByRecursion as Each}
 use Rattle.std.specs.Option.{option_or}
 use Rattle.std.proofs.lemmas.Bool.{or_parts, eqb-true, ltb-false, and_parts}
 use Rattle.std.proofs.lemmas.Option.{none-some}
 use Rattle.flat_model.specs.Weight.{Weight, Item, mbuf, ◌⊕◌}
 use Rattle.flat_model.specs.Cuts.{Part, cuts}
-use Rattle.flat_model.specs.Header.{Head, head_of, total_of, udp_bytes, u16_at}
+use Rattle.flat_model.specs.Header.{Head, head_of, head_fault, total_of, udp_bytes, u16_at}
 use Rattle.flat_model.specs.Layout.{Need}
 use Rattle.flat_model.specs.Overlay.{Map, Fragment, Held, empty, overlay}
 use Rattle.flat_model.specs.Whole.{IsWhole, bytes_below}
@@ -20,7 +20,7 @@ use Rattle.flat_model.specs.Arrival.{Origin, By_wire, Looped}
 use Rattle.flat_model.specs.Laws.{bytes_of}
 use Rattle.flat_model.specs.Sending.{Sending, datagram, packet_for, head_for}
 use Rattle.flat_model.proofs.Sendable.{IsSendable}
-use Rattle.flat_model.specs.Wire.{source_of}
+use Rattle.flat_model.specs.Wire.{ComesFrom}
 use Rattle.flat_model.specs.declared.address.Addr.{Addr}
 use Rattle.flat_model.specs.declared.counters.Why.{Why}
 use Rattle.flat_model.specs.declared.counters.Why.TheVariants.{NoBufs, UdpFullSocket}
@@ -29,6 +29,14 @@ use Rattle.flat_model.proofs.Maps.{IsMapOf, IsStretch, overlay_is_map, overlay_c
 use Rattle.flat_model.proofs.Reading.{read_head, read_carried, read_whole, here_is}
 use Rattle.flat_model.proofs.Stretch.{part_is_stretch}
 use Rattle.flat_model.proofs.Decode.{port_read, to_read, bytes_read, length-udp}
+
+-- a packet without a fault has a header
+header_long : (bytes : List ℕ) → head_fault bytes ≡ None → 20 ≤ length bytes
+header_long bytes passed = go (nat_lt (length bytes) 20) refl
+  where
+    go : (b : Bool) → nat_lt (length bytes) 20 ≡ b → 20 ≤ length bytes
+    go false long = ltb-false (length bytes) 20 long
+    go true short = absurd (none-some _ (sym (rw short at passed)))
 
 module _ (S A B mtu : ℕ) (P : Sending → Part → Type 0) (Answered : Sending → Type 0) (M : Ledger) where
   -- what was given out by the first
@@ -78,7 +86,7 @@ module _ (S A B mtu : ℕ) (P : Sending → Part → Type 0) (Answered : Sending
 
   -- a packet that, if it is from the first, the first gave out
   abbrev pub IsGoodPacket : List ℕ → Type 0
-  IsGoodPacket bytes = source_of bytes ≡ S → (x : Sending) × (p : Part) × P x p × (bytes ≡ packet_for x p)
+  IsGoodPacket bytes = ComesFrom S bytes → (x : Sending) × (p : Part) × P x p × (bytes ≡ packet_for x p)
 
   module _ (ports : ℕ → Option ℕ) where
     -- the counters are no part of it
@@ -108,7 +116,7 @@ module _ (S A B mtu : ℕ) (P : Sending → Part → Type 0) (Answered : Sending
         by_choice t.goes_on (λ e h. goes t.mid at h) (λ e h. good_ends t.mid at new NoBufs h)
 
     -- a datagram comes into the queue of the sockets with a descriptor
-    good_queued : (s : State) (fd : ℕ) (d : Datagram) → IsGood ports s → IsGoodDatagram (ports fd) d → IsGood ports (change_socket fd (Arrival.queued M d) s)
+    good_queued : (s : State) (fd : ℕ) (d : Datagram) → IsGood ports s → IsGoodDatagram (ports fd) d → IsGood ports (change_socket fd (Arrival.queued d) s)
     good_queued s fd d good is = record {
       addr = good.addr;
       bcast = good.bcast;
@@ -116,7 +124,7 @@ module _ (S A B mtu : ℕ) (P : Sending → Part → Type 0) (Answered : Sending
       unfinished = good.unfinished;
     }
       where
-        go : (socket : Socket) → IsGoodSocket ports socket → (b : Bool) → (socket.fd == fd) ≡ b → IsGoodSocket ports (cond b (Arrival.queued M d socket) socket)
+        go : (socket : Socket) → IsGoodSocket ports socket → (b : Bool) → (socket.fd == fd) ≡ b → IsGoodSocket ports (cond b (Arrival.queued d socket) socket)
         go socket g false e = g
         go socket g true e =
             let at : socket.port ≡ ports fd = g.port ∙ ap ports (eqb-true socket.fd fd e) in
@@ -188,7 +196,7 @@ module _ (S A B mtu : ℕ) (P : Sending → Part → Type 0) (Answered : Sending
         go None None (Some to) ex ey ez = (youngest_hears q port at 2 sockets to g ez, tt)
         go None None None ex ey ez = tt
 
-    each_hearer : (s : State) (destination : ℕ) (q : Sought) (port : ℕ) → q.port ≡ Some port → IsGood ports s → Each (Hears port) (Arrival.hearers M s destination q)
+    each_hearer : (s : State) (destination : ℕ) (q : Sought) (port : ℕ) → q.port ≡ Some port → IsGood ports s → Each (Hears port) (Arrival.hearers s destination q)
     each_hearer s destination q port at good = go (Arrival.is_broadcast s.config destination)
       where
         go : (b : Bool) → Each (Hears port) (cond b (receivers q s.sockets) (option_to_list (best q s.sockets)))
@@ -273,7 +281,7 @@ module _ (S A B mtu : ℕ) (P : Sending → Part → Type 0) (Answered : Sending
         go u g false e = g
         go u g true e = record { of = λ from x p given id. is.of (sym (key_source k u e) ∙ from) x p given (id ∙ key_id k u e) }
 
-    good_end : (k : Key) (s : State) → IsGood ports s → IsGood ports (Arrival.counts_reassembled M (end_unfinished k s))
+    good_end : (k : Key) (s : State) → IsGood ports s → IsGood ports (Arrival.counts_reassembled (end_unfinished k s))
     good_end k s good = record {
       addr = good.addr;
       bcast = good.bcast;
@@ -356,15 +364,15 @@ module _ (S A B mtu : ℕ) (P : Sending → Part → Type 0) (Answered : Sending
           by_choice h (λ e t. good_tests old new (held ⊕ w) 1 _ good (λ mid at r. goes _ mid at r) t) (λ e r. goes w old good r)
 
       good_fragment : (origin : Origin) (held : Weight) (head : Head) (item : Item) (old new : State) → IsGood ports old
-          → ((w : Weight) → head.source ≡ S → IsPartOf (Arrival.key_of M head) (record { offset = head.offset; bytes = item.bytes; more = head.more; weight = w }))
+          → ((w : Weight) → head.source ≡ S → IsPartOf (Arrival.key_of head) (record { offset = head.offset; bytes = item.bytes; more = head.more; weight = w }))
           → Arrival.FragmentArrives M origin held head item old new → IsGood ports new
       good_fragment origin held head item old new good is h =
           by_choice h
           (λ e g. good_ends old good new _ g)
-          (λ e p. good_pulls origin held item.weight _ (Arrival.counts_fragment M old) new _ (same_but_counters old (Arrival.counts_fragment M old) good refl refl refl)
+          (λ e p. good_pulls origin held item.weight _ (Arrival.counts_fragment old) new _ (same_but_counters old (Arrival.counts_fragment old) good refl refl refl)
           (λ w mid at j. good_joins held _ _ mid new at (is w) j) p)
 
-      good_here : (old : State) (ip : ℕ) → IsGood ports old → Arrival.is_for_us M old.config ip ≡ true → ip ≢ loopback → ip ≢ everyone → IsHere ip
+      good_here : (old : State) (ip : ℕ) → IsGood ports old → Arrival.is_for_us old.config ip ≡ true → ip ≢ loopback → ip ≢ everyone → IsHere ip
       good_here old ip good ours a b = go (here_is old.config ip ours a b)
         where
           go : (ip ≡ old.config.addr) ⊎ (ip ≡ old.config.bcast) → IsHere ip
@@ -373,14 +381,14 @@ module _ (S A B mtu : ℕ) (P : Sending → Part → Type 0) (Answered : Sending
 
       -- what is read in such a packet
       module _ (item : Item) (old : State) (good : IsGood ports old) (x : Sending) (p : Part) (given : P x p) (bytes_are : item.bytes ≡ packet_for x p)
-          (ours : Arrival.is_for_us M old.config (head_of item.bytes).destination ≡ true) where
+          (ours : Arrival.is_for_us old.config (head_of item.bytes).destination ≡ true) where
         sendable : IsSendable mtu x
         sendable = log.sendable x p given
 
         head_is : head_of item.bytes ≡ head_for x p
         head_is = ap head_of bytes_are ∙ read_head mtu low x p sendable (log.part x p given)
 
-        carried_is : (Arrival.carried M item).bytes ≡ bytes_of (datagram x) p
+        carried_is : (Arrival.carried item).bytes ≡ bytes_of (datagram x) p
         carried_is = ap (λ bytes. drop 20 (take (total_of bytes) bytes)) bytes_are ∙ read_carried mtu low x p sendable (log.part x p given)
 
         to_is : x.to.ip ≡ (head_of item.bytes).destination
@@ -390,7 +398,7 @@ module _ (S A B mtu : ℕ) (P : Sending → Part → Type 0) (Answered : Sending
         here = good_here old (head_of item.bytes).destination good ours
             (λ e. sendable.not_loopback (to_is ∙ e)) (λ e. sendable.not_everyone (to_is ∙ e))
 
-        part_read : (w : Weight) → IsPartOf (Arrival.key_of M (head_of item.bytes)) (record { offset = (head_of item.bytes).offset; bytes = (Arrival.carried M item).bytes; more = (head_of item.bytes).more; weight = w })
+        part_read : (w : Weight) → IsPartOf (Arrival.key_of (head_of item.bytes)) (record { offset = (head_of item.bytes).offset; bytes = (Arrival.carried item).bytes; more = (head_of item.bytes).more; weight = w })
         part_read w = record {
           sending = x;
           part = p;
@@ -403,7 +411,7 @@ module _ (S A B mtu : ℕ) (P : Sending → Part → Type 0) (Answered : Sending
           more = ap (λ (h : Head). h.more) head_is;
         }
 
-        whole_read : Arrival.is_fragment M (head_of item.bytes) ≡ false → IsWholeOf (head_of item.bytes).destination (Arrival.carried M item).bytes
+        whole_read : Arrival.is_fragment (head_of item.bytes) ≡ false → IsWholeOf (head_of item.bytes).destination (Arrival.carried item).bytes
         whole_read e =
             let parts = or_parts _ _ e in
             let more : p.more ≡ false = sym (ap (λ (h : Head). h.more) head_is) ∙ parts.0 in
@@ -417,20 +425,23 @@ module _ (S A B mtu : ℕ) (P : Sending → Part → Type 0) (Answered : Sending
               here = here;
             }
 
-      good_passes : (origin : Origin) (held : Weight) (item : Item) (old new : State) → IsGood ports old → IsGoodPacket item.bytes → Arrival.Passes M origin held item old new → IsGood ports new
-      good_passes origin held item old new good is h =
+      good_passes : (origin : Origin) (held : Weight) (item : Item) (old new : State) → IsGood ports old → 20 ≤ length item.bytes → IsGoodPacket item.bytes → Arrival.Passes M origin held item old new → IsGood ports new
+      good_passes origin held item old new good whole is h =
           by_choice h
           (λ ours c. by_choice c
-          (λ e f. good_fragment origin held (head_of item.bytes) (Arrival.carried M item) old new good (λ w from. let o = is from in part_read item old good o.0 o.1 o.2 o.3 ours w) f)
-          (λ e w. good_whole held _ _ _ (Arrival.carried M item) old new good (λ from. let o = is from in whole_read item old good o.0 o.1 o.2 o.3 ours e) w))
+          (λ e f. good_fragment origin held (head_of item.bytes) (Arrival.carried item) old new good (λ w from. let o = is (named from) in part_read item old good o.0 o.1 o.2 o.3 ours w) f)
+          (λ e w. good_whole held _ _ _ (Arrival.carried item) old new good (λ from. let o = is (named from) in whole_read item old good o.0 o.1 o.2 o.3 ours e) w))
           (λ e g. good_ends old good new _ g)
+        where
+          named : (head_of item.bytes).source ≡ S → ComesFrom S item.bytes
+          named from = record { long = omega arith; source = from }
 
       pub good_arrives : (origin : Origin) (held : Weight) (item : Item) (old new : State) → IsGood ports old → IsGoodPacket item.bytes → Arrival.Arrives M origin held item old new → IsGood ports new
       good_arrives origin held item old new good is h =
-          let counted : IsGood ports (Arrival.counts_packet M old) = same_but_counters old (Arrival.counts_packet M old) good refl refl refl in
+          let counted : IsGood ports (Arrival.counts_packet old) = same_but_counters old (Arrival.counts_packet old) good refl refl refl in
           by_case h
-          (λ e p. good_passes origin held item (Arrival.counts_packet M old) new counted is p)
-          (λ why e g. good_ends (Arrival.counts_packet M old) counted new why g)
+          (λ e p. good_passes origin held item (Arrival.counts_packet old) new counted (header_long item.bytes e) is p)
+          (λ why e g. good_ends (Arrival.counts_packet old) counted new why g)
 
       pub good_all_arrive : (items : List Item) (old new : State) → IsGood ports old → Each (λ item. IsGoodPacket item.bytes) items → Arrival.AllArrive M items old new → IsGood ports new
       good_all_arrive [] old new good is e = subst (IsGood ports) (sym e) good

@@ -265,7 +265,7 @@ module _ (S A B mtu : ℕ) (P : Sent.Sending → Part → Type 0) (Answered : Se
 
   -- a packet of its own is from none of the first's addresses
   own_packet : (x : Sent.Sending) (p : Part) → x.source ≢ S → IsGoodPacket (packet_for x p)
-  own_packet x p not from = absurd (not (sym (source_read (head_for x p) (take p.size (drop p.offset (datagram x)))) ∙ from))
+  own_packet x p not from = absurd (not (sym (source_read (head_for x p) (take p.size (drop p.offset (datagram x)))) ∙ from.source))
 
   own_items : (entries : List Entry) (bytes : Part → List ℕ) (parts : List Part) → ((p : Part) → IsGoodPacket (bytes p)) → Each {X = Item} (λ item. IsGoodPacket item.bytes) (items entries bytes parts)
   own_items entries bytes [] good = tt

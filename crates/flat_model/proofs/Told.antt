@@ -25,6 +25,7 @@ use Rattle.flat_model.specs.Arrival as Arrival
 use Rattle.flat_model.specs.Step.{StepBy, Transmits}
 use Rattle.flat_model.specs.Run.{Turn, Leads}
 use Rattle.flat_model.specs.Sending.{Sending, datagram, packet_for, packets, parts_of, is_looped}
+use Rattle.flat_model.proofs.Runs.{one_more_turn}
 use Rattle.flat_model.proofs.Sendable.{IsSendable}
 use Rattle.flat_model.specs.Wire.{packet_out, given, IsAnswered}
 use Rattle.flat_model.specs.declared.address.Addr.{Addr}
@@ -65,7 +66,7 @@ module _ (L : Ledger) (fd port : ℕ) where
   port_closed = record {
     ended = λ why s h. h;
     dropped = λ s h. h;
-    queued = λ k d s h. (_, find-changed fd k (Arrival.queued L d) s.sockets h.0 (λ x. refl) h.1, at k d h.0 (h.0.fd == k) ∙ h.2);
+    queued = λ k d s h. (_, find-changed fd k (Arrival.queued d) s.sockets h.0 (λ x. refl) h.1, at k d h.0 (h.0.fd == k) ∙ h.2);
     begins = λ k s h. h;
     sets = λ k bytes s h. h;
     finishes = λ k s h. h;
@@ -73,7 +74,7 @@ module _ (L : Ledger) (fd port : ℕ) where
     packet = λ s h. h;
   }
     where
-      at : (k : ℕ) (d : Datagram) (me : Socket) (b : Bool) → (cond b (Arrival.queued L d me) me).port ≡ me.port
+      at : (k : ℕ) (d : Datagram) (me : Socket) (b : Bool) → (cond b (Arrival.queued d me) me).port ≡ me.port
       at k d me true = refl
       at k d me false = refl
 
@@ -91,13 +92,13 @@ module _ (L : Ledger) (c : Config) (boots : IsConfig c) where
   Numbered [] = ⊤
   Numbered (x ∷ older) = (x.id ≡ (c.first_id + length older) % 65536) × Numbered older
 
-  pub record IsGiven (log : List Sending) (turns : List Turn) (bytes : List ℕ) : Type 0 where
+  pub record IsGiven (log : List Sending) (turns : List Turn) (last : State) (bytes : List ℕ) : Type 0 where
     pub sending : Sending
     pub part : Part
     pub logged : Among log sending
     pub sendable : IsSendable c.mtu sending
     pub is_part : Contains (cuts (length (datagram sending)) c.mtu) part
-    pub answered : part.more ≡ false → IsAnswered L c turns sending.port sending.to sending.bytes
+    pub answered : part.more ≡ false → IsAnswered L c turns last sending.port sending.to sending.bytes
     pub is : bytes ≡ packet_for sending part
 
   pub record IsTold (turns : List Turn) (s : State) : Type 0 where
@@ -106,12 +107,13 @@ module _ (L : Ledger) (c : Config) (boots : IsConfig c) where
     pub count : s.counters.ip_localout ≡ min (length log) (2 ^ 64 - 1)
     pub next : s.next_id ≡ (c.first_id + length log) % 65536
     pub numbered : Numbered log
-    pub output : Each (IsGiven log turns) (all_bytes s.output)
-    pub gave : Each (IsGiven log turns) (filter_map packet_out turns)
+    pub output : Each (IsGiven log turns s) (all_bytes s.output)
+    pub gave : Each (IsGiven log turns s) (filter_map packet_out turns)
 
   -- one more turn
-  later_answered : (turns : List Turn) (turn : Turn) (port : ℕ) (to : Addr) (bytes : List ℕ) → IsAnswered L c turns port to bytes → IsAnswered L c (turns ++ turn ∷ []) port to bytes
-  later_answered turns turn port to bytes a = record {
+  later_answered : (turns : List Turn) (turn : Turn) (old new : State) → IsEvent turn.event → StepBy L old turn.event turn.reply new
+      → (port : ℕ) (to : Addr) (bytes : List ℕ) → IsAnswered L c turns old port to bytes → IsAnswered L c (turns ++ turn ∷ []) new port to bytes
+  later_answered turns turn old new range step port to bytes a = record {
     before = a.before;
     after = a.after ++ turn ∷ [];
     fd = a.fd;
@@ -121,6 +123,7 @@ module _ (L : Ledger) (c : Config) (boots : IsConfig c) where
     new = a.new;
     leads = a.leads;
     step = a.step;
+    goes_on = one_more_turn L a.new old new a.after turn a.goes_on range step;
     me = a.me;
     then' = a.then';
     found = a.found;
@@ -129,28 +132,29 @@ module _ (L : Ledger) (c : Config) (boots : IsConfig c) where
     from_port = a.from_port;
   }
 
-  later_given : (log more : List Sending) (turns : List Turn) (turn : Turn) (bytes : List ℕ) → ((x : Sending) → Among log x → Among more x) → IsGiven log turns bytes → IsGiven more (turns ++ turn ∷ []) bytes
-  later_given log more turns turn bytes up g = record {
+  later_given : (log more : List Sending) (turns : List Turn) (turn : Turn) (old new : State) → IsEvent turn.event → StepBy L old turn.event turn.reply new
+      → (bytes : List ℕ) → ((x : Sending) → Among log x → Among more x) → IsGiven log turns old bytes → IsGiven more (turns ++ turn ∷ []) new bytes
+  later_given log more turns turn old new range step bytes up g = record {
     sending = g.sending;
     part = g.part;
     logged = up g.sending g.logged;
     sendable = g.sendable;
     is_part = g.is_part;
-    answered = λ e. later_answered turns turn g.sending.port g.sending.to g.sending.bytes (g.answered e);
+    answered = λ e. later_answered turns turn old new range step g.sending.port g.sending.to g.sending.bytes (g.answered e);
     is = g.is;
   }
 
   -- a turn that changes neither queue nor log
-  quiet : (turns : List Turn) (turn : Turn) (old new : State) → IsTold turns old → IsKept c old.output old.next_id old.counters.ip_localout new → packet_out turn ≡ None → IsTold (turns ++ turn ∷ []) new
-  quiet turns turn old new told k none = record {
+  quiet : (turns : List Turn) (turn : Turn) (old new : State) → IsTold turns old → IsEvent turn.event → StepBy L old turn.event turn.reply new → IsKept c old.output old.next_id old.counters.ip_localout new → packet_out turn ≡ None → IsTold (turns ++ turn ∷ []) new
+  quiet turns turn old new told range step k none = record {
     log = told.log;
     kept = record { config = k.config; output = refl; id = refl; sends = refl; sockets = k.sockets };
     count = k.sends ∙ told.count;
     next = k.id ∙ told.next;
     numbered = told.numbered;
-    output = subst (λ xs. Each (IsGiven told.log (turns ++ turn ∷ [])) (all_bytes xs)) (sym k.output) (each-weaker (λ b g. later_given told.log told.log turns turn b (λ x h. h) g) (all_bytes old.output) told.output);
-    gave = subst (Each (IsGiven told.log (turns ++ turn ∷ []))) (sym (filter_map-append packet_out turns (turn ∷ []) ∙ ap (λ o. filter_map packet_out turns ++ cons_option o []) none ∙ append-nil (filter_map packet_out turns)))
-        (each-weaker (λ b g. later_given told.log told.log turns turn b (λ x h. h) g) (filter_map packet_out turns) told.gave);
+    output = subst (λ xs. Each (IsGiven told.log (turns ++ turn ∷ []) new) (all_bytes xs)) (sym k.output) (each-weaker (λ b g. later_given told.log told.log turns turn old new range step b (λ x h. h) g) (all_bytes old.output) told.output);
+    gave = subst (Each (IsGiven told.log (turns ++ turn ∷ []) new)) (sym (filter_map-append packet_out turns (turn ∷ []) ∙ ap (λ o. filter_map packet_out turns ++ cons_option o []) none ∙ append-nil (filter_map packet_out turns)))
+        (each-weaker (λ b g. later_given told.log told.log turns turn old new range step b (λ x h. h) g) (filter_map packet_out turns) told.gave);
   }
 
   -- ---- a send
@@ -169,7 +173,7 @@ module _ (L : Ledger) (c : Config) (boots : IsConfig c) where
   -- a send that went on, from a state with the sockets of the one before
   module _ (turns : List Turn) (fd : ℕ) (to : Option Addr) (me : Socket) (bytes : List ℕ) (before old new : State) (reply : Reply)
       (told : IsTold turns before) (leads : Leads L (boot c) turns before) (at : socket_at fd before ≡ Some me)
-      (step : StepBy L before (Send fd to bytes) reply new)
+      (range : IsEvent (Send fd to bytes)) (step : StepBy L before (Send fd to bytes) reply new)
       (k : IsKept c before.output before.next_id before.counters.ip_localout old) (same : old.sockets ≡ before.sockets)
       (sound : IsSound me) (aim : IsTarget (target before me to)) (short : length bytes ≤ 9216) where
     module _ (port : ℕ) (named : State) (clusters : List ℕ) (g : GetsPort old me.local me.port port named) where
@@ -253,7 +257,7 @@ module _ (L : Ledger) (c : Config) (boots : IsConfig c) where
           turn = record { event = Send fd to bytes; reply = reply }
 
           Given : List ℕ → Type 0
-          Given b = IsGiven (x ∷ told.log) (turns ++ turn ∷ []) b
+          Given b = IsGiven (x ∷ told.log) (turns ++ turn ∷ []) new b
 
           link_out : List Item
           link_out = to_link named.config x.to.ip (packets named.config clusters x)
@@ -261,8 +265,8 @@ module _ (L : Ledger) (c : Config) (boots : IsConfig c) where
           parts : List Part
           parts = parts_of named.config x
 
-          up : (b : List ℕ) → IsGiven told.log turns b → IsGiven (x ∷ told.log) (turns ++ turn ∷ []) b
-          up b given = later_given told.log (x ∷ told.log) turns turn b (λ y h. inr h) given
+          up : (b : List ℕ) → IsGiven told.log turns before b → IsGiven (x ∷ told.log) (turns ++ turn ∷ []) new b
+          up b given = later_given told.log (x ∷ told.log) turns turn before new range step b (λ y h. inr h) given
 
           held : Each Given (all_bytes before.output)
           held = each-weaker up (all_bytes before.output) told.output
@@ -282,7 +286,7 @@ module _ (L : Ledger) (c : Config) (boots : IsConfig c) where
             not_everyone = aim.known;
           }
 
-          answered : length before.output + length parts ≤ 50 → is_looped named.config x.to.ip ≡ false → IsAnswered L c (turns ++ turn ∷ []) port (target before me to) bytes
+          answered : length before.output + length parts ≤ 50 → is_looped named.config x.to.ip ≡ false → IsAnswered L c (turns ++ turn ∷ []) new port (target before me to) bytes
           answered fit e =
               let size : length (left.output ++ link_out) ≤ 50 =
               omega (arith, length-append left.output link_out, ap length left_is.output, ap length (ap (λ b. cond b [] (packets named.config clusters x)) e), length_parts) in
@@ -298,6 +302,7 @@ module _ (L : Ledger) (c : Config) (boots : IsConfig c) where
                 new = new;
                 leads = leads;
                 step = subst (λ r. StepBy L before (Send fd to bytes) r new) is_sent step;
+                goes_on = refl;
                 me = me;
                 then' = port_then.0;
                 found = at;
@@ -326,7 +331,7 @@ module _ (L : Ledger) (c : Config) (boots : IsConfig c) where
                 is = refl;
               }))
             where
-              answered_at : (p : Part) → (p.more ≡ true) ⊎ (length (all_bytes before.output) + length parts ≤ 50) → p.more ≡ false → is_looped named.config x.to.ip ≡ false → IsAnswered L c (turns ++ turn ∷ []) port (target before me to) bytes
+              answered_at : (p : Part) → (p.more ≡ true) ⊎ (length (all_bytes before.output) + length parts ≤ 50) → p.more ≡ false → is_looped named.config x.to.ip ≡ false → IsAnswered L c (turns ++ turn ∷ []) new port (target before me to) bytes
               answered_at p (inl more) last e = absurd (both (sym more ∙ last))
                 where
                   both : true ≡ false → ⊥
@@ -337,10 +342,6 @@ module _ (L : Ledger) (c : Config) (boots : IsConfig c) where
           after = kept_all L Next (First.closed L c (take 50 (before.output ++ link)) ((before.next_id + 1) % 65536) (one_more before.counters.ip_localout) boots) (to_self named.config x.to.ip (packets named.config clusters x)) (enqueued link left) new queued_is h.0
 
   -- ---- every step
-
-  leads_on : (old mid new : State) (turns : List Turn) (turn : Turn) → Leads L old turns mid → IsEvent turn.event → StepBy L mid turn.event turn.reply new → Leads L old (turns ++ turn ∷ []) new
-  leads_on old mid new [] turn l is step = (is, new, subst (λ s. StepBy L s turn.event turn.reply new) l step, refl)
-  leads_on old mid new (t ∷ turns) turn (range, next, first, later) is step = (range, next, first, leads_on next mid new turns turn later is step)
 
   target_is : (s : State) (me : Socket) (to : Option Addr) → s.config ≡ c → IsSound me → (to_is : (a : Addr) → to ≡ Some a → IsAddr a) → IsTarget (target s me to)
   target_is s me (Some a) e sound to_is = First.target_read L c s.output 0 0 boots s.config a e (to_is a refl)
@@ -363,8 +364,8 @@ module _ (L : Ledger) (c : Config) (boots : IsConfig c) where
     abbrev Now : State → Type 0
     Now = IsKept c old.output old.next_id old.counters.ip_localout
 
-    silent : (event : Event) → Now new → packet_out (record { event = event; reply = reply }) ≡ None → IsTold (turns ++ record { event = event; reply = reply } ∷ []) new
-    silent event k e = quiet turns (record { event = event; reply = reply }) old new told k e
+    silent : (event : Event) → IsEvent event → StepBy L old event reply new → Now new → packet_out (record { event = event; reply = reply }) ≡ None → IsTold (turns ++ record { event = event; reply = reply } ∷ []) new
+    silent event range step k e = quiet turns (record { event = event; reply = reply }) old new told range step k e
 
     refuses : (errno : Errno) → Refuses errno old reply new → Now new
     refuses errno h = subst Now (sym h.1) told.kept
@@ -372,65 +373,65 @@ module _ (L : Ledger) (c : Config) (boots : IsConfig c) where
     on_fd : (fd : ℕ) (Call : Socket → Type 0) → OnSocket fd old reply new Call → ((me : Socket) → socket_at fd old ≡ Some me → Call me → Now new) → Now new
     on_fd fd Call h goes = by_case h (λ e r. refuses _ r) goes
 
-    transmits : (output : List Item) → old.output ≡ output → Transmits output old reply new → IsTold (turns ++ record { event = Transmit; reply = reply } ∷ []) new
-    transmits [] e h = silent Transmit (subst Now (sym h.1) told.kept) (ap (given Transmit) h.0)
-    transmits (item ∷ later) e h = record {
+    transmits : StepBy L old Transmit reply new → (output : List Item) → old.output ≡ output → Transmits output old reply new → IsTold (turns ++ record { event = Transmit; reply = reply } ∷ []) new
+    transmits step [] e h = silent Transmit tt step (subst Now (sym h.1) told.kept) (ap (given Transmit) h.0)
+    transmits step (item ∷ later) e h = record {
       log = told.log;
       kept = subst (λ s. IsKept c s.output s.next_id s.counters.ip_localout s) (sym h.1) (record { config = told.kept.config; output = refl; id = refl; sends = refl; sockets = told.kept.sockets });
       count = ap (λ (s : State). s.counters.ip_localout) h.1 ∙ told.count;
       next = ap (λ (s : State). s.next_id) h.1 ∙ told.next;
       numbered = told.numbered;
-      output = subst (λ (s : State). Each (IsGiven told.log (turns ++ turn ∷ [])) (all_bytes s.output)) (sym h.1) held.1;
-      gave = subst (Each (IsGiven told.log (turns ++ turn ∷ []))) (sym (filter_map-append packet_out turns (turn ∷ []) ∙ ap (λ r. filter_map packet_out turns ++ cons_option (given Transmit r) []) h.0))
-          (each-append (IsGiven told.log (turns ++ turn ∷ [])) (filter_map packet_out turns) (item.bytes ∷ []) (each-weaker up (filter_map packet_out turns) told.gave) (held.0, tt));
+      output = subst (λ (s : State). Each (IsGiven told.log (turns ++ turn ∷ []) new) (all_bytes s.output)) (sym h.1) held.1;
+      gave = subst (Each (IsGiven told.log (turns ++ turn ∷ []) new)) (sym (filter_map-append packet_out turns (turn ∷ []) ∙ ap (λ r. filter_map packet_out turns ++ cons_option (given Transmit r) []) h.0))
+          (each-append (IsGiven told.log (turns ++ turn ∷ []) new) (filter_map packet_out turns) (item.bytes ∷ []) (each-weaker up (filter_map packet_out turns) told.gave) (held.0, tt));
     }
       where
         turn : Turn
         turn = record { event = Transmit; reply = reply }
 
-        up : (b : List ℕ) → IsGiven told.log turns b → IsGiven told.log (turns ++ turn ∷ []) b
-        up b g = later_given told.log told.log turns turn b (λ x i. i) g
+        up : (b : List ℕ) → IsGiven told.log turns old b → IsGiven told.log (turns ++ turn ∷ []) new b
+        up b g = later_given told.log told.log turns turn old new tt step b (λ x i. i) g
 
-        held : Each (IsGiven told.log (turns ++ turn ∷ [])) (all_bytes (item ∷ later))
-        held = each-weaker up (all_bytes (item ∷ later)) (subst (λ xs. Each (IsGiven told.log turns) (all_bytes xs)) e told.output)
+        held : Each (IsGiven told.log (turns ++ turn ∷ []) new) (all_bytes (item ∷ later))
+        held = each-weaker up (all_bytes (item ∷ later)) (subst (λ xs. Each (IsGiven told.log turns old) (all_bytes xs)) e told.output)
 
-    sends : (fd : ℕ) (to : Option Addr) (bytes : List ℕ) → IfSome to IsAddr → StepBy L old (Send fd to bytes) reply new → IsTold (turns ++ record { event = Send fd to bytes; reply = reply } ∷ []) new
+    sends : (fd : ℕ) (to : Option Addr) (bytes : List ℕ) → IsEvent (Send fd to bytes) → StepBy L old (Send fd to bytes) reply new → IsTold (turns ++ record { event = Send fd to bytes; reply = reply } ∷ []) new
     unfolding x
     sends fd to bytes is step = by_case step
-        (λ e r. silent (Send fd to bytes) (refuses _ r) refl)
+        (λ e r. silent (Send fd to bytes) is step (refuses _ r) refl)
         (λ me at h. by_case h
         (λ e (answer, mid, a, rest).
         let passed = none_passed (send_faults old me to (length bytes)) e in
         let short : length bytes ≤ 9216 = ltb-false _ _ passed.1.0 in
         let k : Now mid = kept_affords L Now (First.closed L c old.output old.next_id old.counters.ip_localout boots) old mid nothing _ answer told.kept a in
         let sound : IsSound me = First.found L c old.output old.next_id old.counters.ip_localout boots fd old me told.kept at in
-        let aim : IsTarget (target old me to) = target_is old me to told.kept.config sound (some_addr to is) in
+        let aim : IsTarget (target old me to) = target_is old me to told.kept.config sound (some_addr to is.0) in
         let same : mid.sockets ≡ old.sockets = affords_sockets old mid nothing _ answer a in
         by_choice rest
-        (λ e (port, named, clusters, g, taken, left). leaves turns fd to me bytes old mid new reply told leads at step k same sound aim short port named clusters g left)
-        (λ e r. silent (Send fd to bytes) (subst Now (sym r.1) k) refl))
-        (λ errno e r. silent (Send fd to bytes) (refuses errno r) refl))
+        (λ e (port, named, clusters, g, taken, left). leaves turns fd to me bytes old mid new reply told leads at is step k same sound aim short port named clusters g left)
+        (λ e r. silent (Send fd to bytes) is step (subst Now (sym r.1) k) refl))
+        (λ errno e r. silent (Send fd to bytes) is step (refuses errno r) refl))
 
     pub told_step : (event : Event) → IsEvent event → StepBy L old event reply new → IsTold (turns ++ record { event = event; reply = reply } ∷ []) new
-    told_step Open is h = silent Open (First.opens L c old.output old.next_id old.counters.ip_localout boots old new reply told.kept h) refl
-    told_step (Bind fd a) is h = silent (Bind fd a) (on_fd fd _ h (λ me at r. First.binds L c old.output old.next_id old.counters.ip_localout boots fd a me old new reply told.kept is r)) refl
-    told_step (Connect fd a) is h = silent (Connect fd a) (on_fd fd _ h (λ me at r. First.connects L c old.output old.next_id old.counters.ip_localout boots fd a me old new reply told.kept is
+    told_step Open is h = silent Open is h (First.opens L c old.output old.next_id old.counters.ip_localout boots old new reply told.kept h) refl
+    told_step (Bind fd a) is h = silent (Bind fd a) is h (on_fd fd _ h (λ me at r. First.binds L c old.output old.next_id old.counters.ip_localout boots fd a me old new reply told.kept is r)) refl
+    told_step (Connect fd a) is h = silent (Connect fd a) is h (on_fd fd _ h (λ me at r. First.connects L c old.output old.next_id old.counters.ip_localout boots fd a me old new reply told.kept is
         (First.found L c old.output old.next_id old.counters.ip_localout boots fd old me told.kept at) r)) refl
-    told_step (Send fd to bytes) is h = sends fd to bytes is.0 h
-    told_step (Receive fd most) is h = silent (Receive fd most) (on_fd fd _ h (λ me at r. First.receives L c old.output old.next_id old.counters.ip_localout boots fd most me.queue old new reply told.kept r)) refl
-    told_step (Close fd) is h = silent (Close fd) (on_fd fd _ h (λ me at r. First.closes L c old.output old.next_id old.counters.ip_localout boots fd old new reply told.kept r)) refl
-    told_step (Set_option fd option on) is h = silent (Set_option fd option on) (on_fd fd _ h (λ me at r. First.sets L c old.output old.next_id old.counters.ip_localout boots fd option on old new reply told.kept r)) refl
-    told_step (Comes packet) is h = silent (Comes packet) (First.comes_in L c old.output old.next_id old.counters.ip_localout boots packet old new told.kept h.1) refl
-    told_step Transmit is h = transmits old.output refl h
-    told_step Tick is h = silent Tick (subst Now (sym h.1) (record { config = told.kept.config; output = refl; id = refl; sends = refl; sockets = told.kept.sockets })) refl
-    told_step Ask_counters is h = silent Ask_counters (subst Now (sym h.1) told.kept) refl
-    told_step Ask_usage is h = silent Ask_usage (subst Now (sym h.3) told.kept) refl
+    told_step (Send fd to bytes) is h = sends fd to bytes is h
+    told_step (Receive fd most) is h = silent (Receive fd most) is h (on_fd fd _ h (λ me at r. First.receives L c old.output old.next_id old.counters.ip_localout boots fd most me.queue old new reply told.kept r)) refl
+    told_step (Close fd) is h = silent (Close fd) is h (on_fd fd _ h (λ me at r. First.closes L c old.output old.next_id old.counters.ip_localout boots fd old new reply told.kept r)) refl
+    told_step (Set_option fd option on) is h = silent (Set_option fd option on) is h (on_fd fd _ h (λ me at r. First.sets L c old.output old.next_id old.counters.ip_localout boots fd option on old new reply told.kept r)) refl
+    told_step (Comes packet) is h = silent (Comes packet) is h (First.comes_in L c old.output old.next_id old.counters.ip_localout boots packet old new told.kept h.1) refl
+    told_step Transmit is h = transmits h old.output refl h
+    told_step Tick is h = silent Tick is h (subst Now (sym h.1) (record { config = told.kept.config; output = refl; id = refl; sends = refl; sockets = told.kept.sockets })) refl
+    told_step Ask_counters is h = silent Ask_counters is h (subst Now (sym h.1) told.kept) refl
+    told_step Ask_usage is h = silent Ask_usage is h (subst Now (sym h.3) told.kept) refl
 
   pub told_run : (before : List Turn) (s : State) (turns : List Turn) (new : State) → IsTold before s → Leads L (boot c) before s → Leads L s turns new → IsTold (before ++ turns) new
   told_run before s [] new told leads e = subst (λ ts. IsTold ts new) (sym (append-nil before)) (subst (IsTold before) (sym e) told)
   told_run before s (turn ∷ turns) new told leads (is, mid, step, later) =
       subst (λ ts. IsTold ts new) (append_assoc before (turn ∷ []) turns)
-      (told_run (before ++ turn ∷ []) mid turns new (told_step before s mid turn.reply told leads turn.event is step) (leads_on (boot c) s mid before turn leads is step) later)
+      (told_run (before ++ turn ∷ []) mid turns new (told_step before s mid turn.reply told leads turn.event is step) (one_more_turn L (boot c) s mid before turn leads is step) later)
 
   pub told_boot : IsTold [] (boot c)
   told_boot = record {

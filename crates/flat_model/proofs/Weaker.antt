@@ -81,7 +81,7 @@ module _ (L M : Ledger) (weaker : IsWeaker L M) where
     w,
     joined,
     record { mbufs = j.mbufs; bag = j.bag; covers = j.covers },
-    whole held k.source k.destination k.protocol (record { bytes = bytes_below bytes n; weight = joined }) (Arrival.counts_reassembled L (end_unfinished k old)) new a,
+    whole held k.source k.destination k.protocol (record { bytes = bytes_below bytes n; weight = joined }) (Arrival.counts_reassembled (end_unfinished k old)) new a,
   )
   settles held k bytes old new (inr h) = inr h
 
@@ -99,16 +99,16 @@ module _ (L M : Ledger) (weaker : IsWeaker L M) where
   pulls_up (By_wire received) held w total old new P Q f h = choice (tests old (held ⊕ w) 1 new _ _ (λ mid r. f _ mid r)) (f w old) h
 
   fragment : (origin : Origin) (held : Weight) (h : Head) (item : Item) (old new : State) → Arrival.FragmentArrives L origin held h item old new → Arrival.FragmentArrives M origin held h item old new
-  fragment origin held h item old new = choice same (pulls_up origin held item.weight _ (Arrival.counts_fragment L old) new _ _ (λ w mid j. joins held _ _ mid new j))
+  fragment origin held h item old new = choice same (pulls_up origin held item.weight _ (Arrival.counts_fragment old) new _ _ (λ w mid j. joins held _ _ mid new j))
 
   passes : (origin : Origin) (held : Weight) (item : Item) (old new : State) → Arrival.Passes L origin held item old new → Arrival.Passes M origin held item old new
   passes origin held item old new = choice
-      (choice (fragment origin held (head_of item.bytes) (Arrival.carried L item) old new)
-      (whole held (head_of item.bytes).source (head_of item.bytes).destination (head_of item.bytes).protocol (Arrival.carried L item) old new))
+      (choice (fragment origin held (head_of item.bytes) (Arrival.carried item) old new)
+      (whole held (head_of item.bytes).source (head_of item.bytes).destination (head_of item.bytes).protocol (Arrival.carried item) old new))
       same
 
   pub arrives : (origin : Origin) (held : Weight) (item : Item) (old new : State) → Arrival.Arrives L origin held item old new → Arrival.Arrives M origin held item old new
-  arrives origin held item old new = by_value (passes origin held item (Arrival.counts_packet L old) new) (λ why e. e)
+  arrives origin held item old new = by_value (passes origin held item (Arrival.counts_packet old) new) (λ why e. e)
 
   all_arrive : (items : List Item) (old new : State) → Arrival.AllArrive L items old new → Arrival.AllArrive M items old new
   all_arrive [] old new h = h

@@ -27,6 +27,72 @@ pub data Origin : Type 0 where
 abbrev pub is_broadcast : Config → ℕ → Bool
 is_broadcast c ip = (ip == c.bcast) || (ip == everyone)
 
+-- ---- what a delivery adds
+
+-- a socket with one more datagram in its queue
+abbrev pub queued : Datagram → Socket → Socket
+queued d socket = record socket { queue = socket.queue ++ d ∷ [] }
+
+-- who hears a datagram: many for a broadcast, else one
+abbrev pub hearers : State → ℕ → Sought → List Socket
+hearers s destination q =
+    if is_broadcast s.config destination then receivers q s.sockets else option_to_list (best q s.sockets)
+
+-- how one is counted that nobody hears
+abbrev pub no_port : State → ℕ → Why
+no_port s destination = if is_broadcast s.config destination then UdpNoPortBroadcast else UdpNoPort
+
+-- ---- what a fragment says, and what comes of it
+
+-- the key that a fragment goes by
+abbrev pub key_of : Head → Key
+key_of h = record { source = h.source; destination = h.destination; id = h.id; protocol = h.protocol }
+
+-- A fragment of n bytes that none can be: without a byte, one with others behind it that is no multiple of 8, or one
+-- that reaches past the longest datagram.
+abbrev pub is_bad_fragment : Head → ℕ → Bool
+is_bad_fragment h n = (n == 0) || (h.more && not (n % 8 == 0)) || nat_lt 65515 (h.offset + n)
+
+-- one more fragment passed these tests
+abbrev pub counts_fragment : State → State
+counts_fragment s = record s { counters = record (s.counters) { ip_fragments = one_more s.counters.ip_fragments } }
+
+-- The weight once the header stands in one plain mbuf (`m_pullup` of volume 2, chapter 2, which moves 40 bytes): a
+-- packet of at most 40 bytes leaves its cluster, a longer one has one mbuf more.
+abbrev pub pulled_up : ℕ → Weight → Weight
+pulled_up total w = if nat_lt 40 total then record w { mbufs = w.mbufs + 1 } else record w { bag = drop 1 w.bag }
+
+-- How far a join may shrink the weight of the pieces (`m_cat` of volume 2, chapter 2, moves what fits): they take no
+-- more than before, refer to no other cluster, and have room for all n bytes.
+pub record IsJoin (pieces joined : Weight) (n : ℕ) : Type 0 where
+  pub mbufs : joined.mbufs ≤ pieces.mbufs
+  pub bag : IsSubBag joined.bag pieces.bag
+  pub covers : Covers joined n
+
+-- one more datagram was made whole
+abbrev pub counts_reassembled : State → State
+counts_reassembled s = record s { counters = record (s.counters) { ip_reassembled = one_more s.counters.ip_reassembled } }
+
+-- ---- what a packet says
+
+-- one more packet reached the input
+abbrev pub counts_packet : State → State
+counts_packet s = record s { counters = record (s.counters) { ip_total = one_more s.counters.ip_total } }
+
+-- an address that this machine hears
+abbrev pub is_for_us : Config → ℕ → Bool
+is_for_us c ip = is_ours c ip || (ip == everyone)
+
+-- more come behind it, or some in front
+abbrev pub is_fragment : Head → Bool
+is_fragment h = h.more || nat_lt 0 h.offset
+
+-- what a packet carries behind its header, cut to its total length; the cut leaves its weight
+abbrev pub carried : Item → Item
+carried item = record item { bytes = drop 20 (take (total_of item.bytes) item.bytes) }
+
+-- ---- the steps of an arrival, whatever answers for the buffers
+
 module _ (L : Ledger) where
   -- A test of n mbufs. Where it passes, Then goes on from the state that it leaves; else what is in hand ends there
   -- for want of buffers.
@@ -37,10 +103,6 @@ module _ (L : Ledger) where
     pub goes_on : Choice answer (Then mid) (new ≡ ends NoBufs mid)
 
   -- ---- delivery
-
-  -- a socket with one more datagram in its queue
-  abbrev pub queued : Datagram → Socket → Socket
-  queued d socket = record socket { queue = socket.queue ++ d ∷ [] }
 
   -- the datagram comes into a socket's queue, with an mbuf for the sender's address, where both fit
   abbrev pub Appends : Weight → Addr → Item → Socket → State → State → Type 0
@@ -58,15 +120,6 @@ module _ (L : Ledger) where
       (after : State)
       × Tests old (held ⊕ item.weight) item.weight.mbufs after (λ mid. Appends (held ⊕ item.weight) sender item to mid after)
       × Delivers held sender item (next ∷ more) after new
-
-  -- who hears a datagram: many for a broadcast, else one
-  abbrev pub hearers : State → ℕ → Sought → List Socket
-  hearers s destination q =
-      if is_broadcast s.config destination then receivers q s.sockets else option_to_list (best q s.sockets)
-
-  -- how one is counted that nobody hears
-  abbrev pub no_port : State → ℕ → Why
-  no_port s destination = if is_broadcast s.config destination then UdpNoPortBroadcast else UdpNoPort
 
   -- a datagram goes to those who hear it
   abbrev pub GoesTo : Weight → Addr → Item → ℕ → List Socket → State → State → Type 0
@@ -86,21 +139,6 @@ module _ (L : Ledger) where
 
   -- ---- fragments
 
-  -- the key that a fragment goes by
-  abbrev pub key_of : Head → Key
-  key_of h = record { source = h.source; destination = h.destination; id = h.id; protocol = h.protocol }
-
-  -- How far a join may shrink the weight of the pieces (`m_cat` of volume 2, chapter 2, moves what fits): they take no
-  -- more than before, refer to no other cluster, and have room for all n bytes.
-  pub record IsJoin (pieces joined : Weight) (n : ℕ) : Type 0 where
-    pub mbufs : joined.mbufs ≤ pieces.mbufs
-    pub bag : IsSubBag joined.bag pieces.bag
-    pub covers : Covers joined n
-
-  -- one more datagram was made whole
-  abbrev pub counts_reassembled : State → State
-  counts_reassembled s = record s { counters = record (s.counters) { ip_reassembled = one_more s.counters.ip_reassembled } }
-
   -- These bytes are held under a key now. Where they are whole, the datagram goes on, as one item of less weight, and
   -- its key is held no more; else they wait.
   abbrev pub Settles : Weight → Key → Map → State → State → Type 0
@@ -110,7 +148,7 @@ module _ (L : Ledger) where
       (counts_reassembled (end_unfinished k old)) new)
       ⊎ (((n : ℕ) → ¬ IsWhole bytes n) × (new ≡ set_bytes k bytes old))
 
-  -- the fragment is laid over what is held under its key, or ends where all its bytes are held already
+  -- the fragment is laid over what is held under its key, or ends where pieces that begin no later hold all its bytes
   abbrev pub Lays : Weight → Key → Fragment → Unfinished → State → State → Type 0
   Lays held k f u old new =
       Choice (is_covered u.bytes f)
@@ -123,26 +161,12 @@ module _ (L : Ledger) where
       (Tests old (held ⊕ f.weight) 1 new (λ mid. Lays held k f (begun k) (begin_unfinished k mid) new))
       (λ u. Lays held k f u old new)
 
-  -- The weight once the header stands in one plain mbuf (`m_pullup` of volume 2, chapter 2, which moves 40 bytes): a
-  -- packet of at most 40 bytes leaves its cluster, a longer one has one mbuf more.
-  abbrev pub pulled_up : ℕ → Weight → Weight
-  pulled_up total w = if nat_lt 40 total then record w { mbufs = w.mbufs + 1 } else record w { bag = drop 1 w.bag }
-
   -- A fragment that came from the wire into a cluster is pulled up, which takes an mbuf. This comes before its key is
   -- looked for.
   abbrev pub PullsUp : Origin → Weight → Weight → ℕ → State → State → (Weight → State → Type 0) → Type 0
   PullsUp Looped held w total old new Then = Then w old
   PullsUp (By_wire received) held w total old new Then =
       Choice (nat_le 208 received) (Tests old (held ⊕ w) 1 new (λ mid. Then (pulled_up total w) mid)) (Then w old)
-
-  -- A fragment of n bytes that none can be: without a byte, one with others behind it that is no multiple of 8, or one
-  -- that reaches past the longest datagram.
-  abbrev pub is_bad_fragment : Head → ℕ → Bool
-  is_bad_fragment h n = (n == 0) || (h.more && not (n % 8 == 0)) || nat_lt 65515 (h.offset + n)
-
-  -- one more fragment passed these tests
-  abbrev pub counts_fragment : State → State
-  counts_fragment s = record s { counters = record (s.counters) { ip_fragments = one_more s.counters.ip_fragments } }
 
   -- a fragment, without its IP header
   abbrev pub FragmentArrives : Origin → Weight → Head → Item → State → State → Type 0
@@ -153,22 +177,6 @@ module _ (L : Ledger) where
       Joins held (key_of h) (record { offset = h.offset; bytes = item.bytes; more = h.more; weight = w }) mid new))
 
   -- ---- packets
-
-  -- more come behind it, or some in front
-  abbrev pub is_fragment : Head → Bool
-  is_fragment h = h.more || nat_lt 0 h.offset
-
-  -- an address that this machine hears
-  abbrev pub is_for_us : Config → ℕ → Bool
-  is_for_us c ip = is_ours c ip || (ip == everyone)
-
-  -- one more packet reached the input
-  abbrev pub counts_packet : State → State
-  counts_packet s = record s { counters = record (s.counters) { ip_total = one_more s.counters.ip_total } }
-
-  -- what a packet carries behind its header, cut to its total length; the cut leaves its weight
-  abbrev pub carried : Item → Item
-  carried item = record item { bytes = drop 20 (take (total_of item.bytes) item.bytes) }
 
   -- a packet whose header has no fault
   abbrev pub Passes : Origin → Weight → Item → State → State → Type 0

@@ -26,3 +26,5 @@ pub mod Lines
 pub mod Grammar
 pub mod Texts
 pub mod Script
+pub mod Replies
+pub mod Puts

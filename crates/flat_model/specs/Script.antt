@@ -2,6 +2,8 @@
 use Rattle.std.specs.Prelude.{◌≡◌, ℕ, Bool, IsTrue, List, [], ◌∷◌, flat_map, Option, Some, None}
 use Rattle.flat_model.specs.Event.{Event, Reply}
 use Rattle.flat_model.specs.State.{State}
+use Rattle.flat_model.specs.Ledger.{Ledger}
+use Rattle.flat_model.specs.Run.{Turn, Leads}
 use Rattle.flat_model.specs.Grammar.{IsLine}
 use Rattle.flat_model.specs.Texts.{answer_text}
 
@@ -29,3 +31,22 @@ module _ (serves : Event → Bool) (step : State → Event → Reply → State �
   abbrev pub Prints : State → List (List ℕ) → List ℕ → State → Type 0
   Prints old lines printed new =
       (answers : List (Option Reply)) × AnswersAll old lines answers new × (printed ≡ flat_map answer_text answers)
+
+-- ---- the run that a script makes
+
+-- the turns of the lines that ask for something, in their order, with the replies that their lines have
+abbrev pub AreTurns : (Event → Bool) → List (List ℕ) → List (Option Reply) → List Turn → Type 0
+AreTurns serves [] [] turns = turns ≡ []
+AreTurns serves (line ∷ lines) (Some reply ∷ answers) (turn ∷ turns) =
+    Asks serves line turn.event × (turn.reply ≡ reply) × AreTurns serves lines answers turns
+AreTurns serves (line ∷ lines) (None ∷ answers) turns =
+    ((event : Event) → ¬ Asks serves line event) × AreTurns serves lines answers turns
+AreTurns serves lines answers turns = ⊥
+
+-- what is printed for the lines is what a run from old to new replies
+pub record IsPrintOfRun (L : Ledger) (serves : Event → Bool) (old : State) (lines : List (List ℕ)) (printed : List ℕ) (new : State) : Type 0 where
+  pub answers : List (Option Reply)
+  pub turns : List Turn
+  pub are : AreTurns serves lines answers turns
+  pub leads : Leads L old turns new
+  pub text : printed ≡ flat_map answer_text answers

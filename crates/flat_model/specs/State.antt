@@ -23,7 +23,13 @@ pub record IsHost (address : ℕ) : Type 0 where
   pub high : address < 224 * 2 ^ 24
   pub no_loopback : address / 2 ^ 24 ≢ 127
 
--- what boot accepts; the clusters may be none
+-- sizes that a pool may have; the clusters may be none
+pub record HasSizes (c : Config) : Type 0 where
+  pub some_mbuf : 1 ≤ c.mbufs
+  pub mbufs : c.mbufs < 2 ^ 16
+  pub clusters : c.clusters ≤ 4096
+
+-- what boot accepts
 pub record IsConfig (c : Config) : Type 0 where
   pub some_mbuf : 1 ≤ c.mbufs
   pub mbufs : c.mbufs < 2 ^ 16

@@ -1,6 +1,6 @@
 -- Weights: how many mbufs something takes, and to which clusters they refer. Mbufs of 128 bytes and clusters
 -- of 2048 are those of volume 2, chapter 2; to count them as weights is this project's own.
-use Rattle.std.specs.Prelude.{ℕ, ◌+◌, ◌-◌, ◌*◌, ◌≤◌, ◌==◌, List, [], ◌∷◌, ◌++◌, length, count_by}
+use Rattle.std.specs.Prelude.{◌≡◌, ℕ, ◌+◌, ◌-◌, ◌*◌, ◌≤◌, ◌==◌, List, [], ◌∷◌, ◌++◌, length, count_by}
 
 -- so many mbufs, and a cluster number for each of them that refers to a cluster
 pub record Weight : Type 0 where
@@ -37,6 +37,11 @@ times c bag = count_by (λ k. k == c) bag
 -- the small bag has no cluster more often than the large one
 abbrev pub IsSubBag : List ℕ → List ℕ → Type 0
 IsSubBag small large = (c : ℕ) → times c small ≤ times c large
+
+-- the same number of mbufs, and each cluster as often: the order of a bag says nothing
+pub record SameWeight (a b : Weight) : Type 0 where
+  pub mbufs : a.mbufs ≡ b.mbufs
+  pub bag : (c : ℕ) → times c a.bag ≡ times c b.bag
 
 -- There is room for n bytes: a plain mbuf has room for 108 bytes, one that refers to a cluster for 2048, and
 -- even an empty string takes an mbuf.

@@ -1,6 +1,6 @@
 -- Two machines on one wire (this project's own). The wire loses, repeats and reorders packets, and others send on it
 -- too, but nobody forges the first machine's address.
-use Rattle.std.specs.Prelude.{◌≡◌, ◌≢◌, ◌⊎◌, ℕ, ◌<◌, ◌^◌, List, ◌∷◌, ◌++◌, length, filter_map, All, Contains, Option, Some, None}
+use Rattle.std.specs.Prelude.{◌≡◌, ◌≢◌, ◌⊎◌, ℕ, ◌<◌, ◌≤◌, ◌^◌, List, ◌∷◌, ◌++◌, length, filter_map, All, Contains, Option, Some, None}
 use Rattle.flat_model.specs.Header.{u32_at}
 use Rattle.flat_model.specs.Event.{Event, Reply, Send, Sent, Comes, Transmit, Given}
 use Rattle.flat_model.specs.State.{IsConfig, State, Socket, Datagram, boot, socket_at}
@@ -29,13 +29,18 @@ came_in _ = None
 abbrev pub packet_in : Turn → Option (List ℕ)
 packet_in turn = came_in turn.event
 
--- the source that a packet names
+-- the source that a packet of 16 bytes or more names
 abbrev pub source_of : List ℕ → ℕ
 source_of packet = u32_at 12 packet
 
--- A send that a run answered with its number of bytes: from which port, and where to,
+-- the packet names this source; one that is too short for the field names none
+pub record ComesFrom (address : ℕ) (packet : List ℕ) : Type 0 where
+  pub long : 16 ≤ length packet
+  pub source : source_of packet ≡ address
+
+-- A send that the run of these turns to `last` answered with its number of bytes: from which port, and where to,
 -- 0.0.0.0 and 255.255.255.255 read as the machine reads them.
-pub record IsAnswered (L : Ledger) (config : Config) (turns : List Turn) (port : ℕ) (to : Addr) (bytes : List ℕ) : Type 0 where
+pub record IsAnswered (L : Ledger) (config : Config) (turns : List Turn) (last : State) (port : ℕ) (to : Addr) (bytes : List ℕ) : Type 0 where
   pub before : List Turn
   pub after : List Turn
   pub fd : ℕ
@@ -45,6 +50,7 @@ pub record IsAnswered (L : Ledger) (config : Config) (turns : List Turn) (port :
   pub new : State
   pub leads : Leads L (boot config) before old
   pub step : StepBy L old (Send fd address bytes) (Sent (length bytes)) new
+  pub goes_on : Leads L new after last
   pub me : Socket
   pub then' : Socket
   pub found : socket_at fd old ≡ Some me
@@ -63,7 +69,7 @@ pub record AreWired (L M : Ledger) (first second : Config) (sent came : List Tur
   pub not_addr : first.addr ≢ second.addr
   pub not_bcast : first.addr ≢ second.bcast
   pub few : s.counters.ip_localout < 2 ^ 16
-  pub wire : All (λ packet. source_of packet ≡ first.addr → Contains (filter_map packet_out sent) packet) (filter_map packet_in came)
+  pub wire : All (λ packet. ComesFrom first.addr packet → Contains (filter_map packet_out sent) packet) (filter_map packet_in came)
 
 -- Then what waits in the second's queues with the first's address as its sender was sent so by the first, whole, from
 -- that port and to one of the second's addresses and the port of the socket that has it, and the send was answered with its
@@ -71,4 +77,4 @@ pub record AreWired (L M : Ledger) (first second : Config) (sent came : List Tur
 abbrev pub WireLaw : Ledger → Ledger → Type 0
 WireLaw L M = (first second : Config) (sent came : List Turn) (s t : State) → AreWired L M first second sent came s t →
     (socket : Socket) (d : Datagram) → Contains t.sockets socket → Contains socket.queue d → d.sender.ip ≡ first.addr →
-    (to : Addr) × IsAnswered L first sent d.sender.port to d.item.bytes × (socket.port ≡ Some to.port) × ((to.ip ≡ second.addr) ⊎ (to.ip ≡ second.bcast))
+    (to : Addr) × IsAnswered L first sent s d.sender.port to d.item.bytes × (socket.port ≡ Some to.port) × ((to.ip ≡ second.addr) ⊎ (to.ip ≡ second.bcast))

@@ -8,8 +8,8 @@ mod checksum;
 mod config;
 mod counters;
 mod errno;
-mod laws;
 mod option;
+mod theorems;
 mod usage;
 
 pub use address::Addr;
@@ -17,8 +17,9 @@ pub use checksum::{fold, fold_law};
 pub use config::Config;
 pub use counters::{Counters, Why};
 pub use errno::{Errno, Lack};
-pub use laws::{
-    books_balance, cuts_join, exact_is_loose, overlay_order, states_are_consistent, wire_law,
-};
 pub use option::Opt;
+pub use theorems::{
+    books_balance, cuts_join, exact_is_loose, leads_on, overlay_order, printed_is_run,
+    states_are_consistent, wire_law,
+};
 pub use usage::Mbstat;

@@ -65,8 +65,8 @@ reclaimed-same config socket queue last counters small =
 
 pub GoesTo-nobody : (config : Config) (socket : Option LocalEnd) (queue : List Datagram) (last : Option ℕ) (counters : Counters)
     (d p : ℕ) (sender : Addr) (item : Item) (new : State) → is_heard socket d p ≡ false
-    → new ≡ ends (no_port loose_ledger (host_state config socket queue last counters) d) (host_state config socket queue last counters)
-    → GoesTo loose_ledger nothing sender item d (hearers loose_ledger (host_state config socket queue last counters) d (sought d p sender))
+    → new ≡ ends (no_port (host_state config socket queue last counters) d) (host_state config socket queue last counters)
+    → GoesTo loose_ledger nothing sender item d (hearers (host_state config socket queue last counters) d (sought d p sender))
     (host_state config socket queue last counters) new
 GoesTo-nobody config socket queue last counters d p sender item new unheard is =
     let s : State = host_state config socket queue last counters in
@@ -76,7 +76,7 @@ GoesTo-nobody config socket queue last counters d p sender item new unheard is =
 GoesTo-me : (config : Config) (end : LocalEnd) (queue : List Datagram) (last : Option ℕ) (counters : Counters)
     (d p : ℕ) (sender : Addr) (item : Item) (new : State) → is_heard (Some end) d p ≡ true
     → Appends loose_ledger nothing sender item (socket_of end queue) (host_state config (Some end) queue last counters) new
-    → GoesTo loose_ledger nothing sender item d (hearers loose_ledger (host_state config (Some end) queue last counters) d (sought d p sender))
+    → GoesTo loose_ledger nothing sender item d (hearers (host_state config (Some end) queue last counters) d (sought d p sender))
     (host_state config (Some end) queue last counters) new
 GoesTo-me config end queue last counters d p sender item new heard is =
     let s : State = host_state config (Some end) queue last counters in
@@ -86,7 +86,7 @@ GoesTo-me config end queue last counters d p sender item new heard is =
 pub GoesTo-full : (config : Config) (socket : Option LocalEnd) (queue : List Datagram) (last : Option ℕ) (counters : Counters)
     (d p : ℕ) (sender : Addr) (item : Item) (new : State) → is_heard socket d p ≡ true → fits queue (length item.bytes) ≡ false
     → new ≡ ends UdpFullSocket (host_state config socket queue last counters)
-    → GoesTo loose_ledger nothing sender item d (hearers loose_ledger (host_state config socket queue last counters) d (sought d p sender))
+    → GoesTo loose_ledger nothing sender item d (hearers (host_state config socket queue last counters) d (sought d p sender))
     (host_state config socket queue last counters) new
 GoesTo-full config None queue last counters d p sender item new heard full is = absurd (false≢true heard)
 GoesTo-full config (Some end) queue last counters d p sender item new heard full is =
@@ -97,7 +97,7 @@ pub GoesTo-queue : (config : Config) (socket : Option LocalEnd) (queue : List Da
     (d p : ℕ) (sender : Addr) (bytes : List ℕ) (mbufs : ℕ) (queue' : List Datagram) → is_heard socket d p ≡ true
     → fits queue (length bytes) ≡ true → queue' ≡ queue ++ plain_datagram sender bytes (mbufs + 1) ∷ []
     → GoesTo loose_ledger nothing sender (plain_item bytes mbufs) d
-    (hearers loose_ledger (host_state config socket queue last counters) d (sought d p sender))
+    (hearers (host_state config socket queue last counters) d (sought d p sender))
     (host_state config socket queue last counters) (host_state config socket queue' last counters)
 GoesTo-queue config None queue last counters d p sender bytes mbufs queue' heard room is = absurd (false≢true heard)
 GoesTo-queue config (Some end) queue last counters d p sender bytes mbufs queue' heard room is =
@@ -117,12 +117,12 @@ pub FragmentArrives-refused : (config : Config) (socket : Option LocalEnd) (queu
     → FragmentArrives loose_ledger (By_wire received) nothing h item (host_state config socket queue last counters) new
 FragmentArrives-refused config socket queue last counters received h item new short small is =
     let s : State = host_state config socket queue last counters in
-    let bad : Bool = is_bad_fragment loose_ledger h (length item.bytes) in
+    let bad : Bool = is_bad_fragment h (length item.bytes) in
     elim (either bad) [
       | inl so ↦ choose-yes bad _ _ so (is ∙ if-true bad _ _ so)
       | inr fine ↦
-          let same : reclaimed (counts_fragment loose_ledger s) ≡ counts_fragment loose_ledger s =
-          reclaimed-same config socket queue last (counts_fragment loose_ledger s).counters small in
+          let same : reclaimed (counts_fragment s) ≡ counts_fragment s =
+          reclaimed-same config socket queue last (counts_fragment s).counters small in
           choose-no bad _ _ fine
           (choose-no (nat_le 208 received) _ _ (longer received short)
           (case-none Unfinished None _ _ refl
@@ -143,15 +143,15 @@ range-is (suc a) (suc b) [] = take-nil (suc b - suc a)
 range-is (suc a) (suc b) (x ∷ xs) = let e : suc b - suc a ≡ b - a = omega arith in rw e (range-is a b xs)
 
 pub Passes-foreign : (config : Config) (socket : Option LocalEnd) (queue : List Datagram) (last : Option ℕ) (counters : Counters)
-    (packet : List ℕ) (new : State) → is_for_us loose_ledger config (head_of packet).destination ≡ false
+    (packet : List ℕ) (new : State) → is_for_us config (head_of packet).destination ≡ false
     → new ≡ ends CantForward (host_state config socket queue last counters)
     → Passes loose_ledger (By_wire (length packet)) nothing (packet_item packet) (host_state config socket queue last counters) new
 Passes-foreign config socket queue last counters packet new foreign is =
-    choose-no (is_for_us loose_ledger config (head_of packet).destination) _ _ foreign is
+    choose-no (is_for_us config (head_of packet).destination) _ _ foreign is
 
 pub Passes-fragment : (config : Config) (socket : Option LocalEnd) (queue : List Datagram) (last : Option ℕ) (counters : Counters)
-    (packet : List ℕ) (new : State) → is_for_us loose_ledger config (head_of packet).destination ≡ true
-    → is_fragment loose_ledger (head_of packet) ≡ true
+    (packet : List ℕ) (new : State) → is_for_us config (head_of packet).destination ≡ true
+    → is_fragment (head_of packet) ≡ true
     → length packet < 208 → counters.ip_reclaimed ≡ 0
     → (more : Bool) (offset len : ℕ) → more ≡ (head_of packet).more → offset ≡ (head_of packet).offset
     → len ≡ length (drop 20 (take (total_of packet) packet))
@@ -160,16 +160,16 @@ pub Passes-fragment : (config : Config) (socket : Option LocalEnd) (queue : List
 Passes-fragment config socket queue last counters packet new ours part short reclaimed_none more offset len more_is offset_is len_is is =
     let s : State = host_state config socket queue last counters in
     let small : counters.ip_reclaimed < 2 ^ 64 = rw reclaimed_none (omega arith) in
-    choose-yes (is_for_us loose_ledger config (head_of packet).destination) _ _ ours
-    (choose-yes (is_fragment loose_ledger (head_of packet)) _ _ part
+    choose-yes (is_for_us config (head_of packet).destination) _ _ ours
+    (choose-yes (is_fragment (head_of packet)) _ _ part
     (FragmentArrives-refused config socket queue last counters (length packet) (head_of packet)
-    (carried loose_ledger (packet_item packet)) new short small
+    (carried (packet_item packet)) new short small
     (is ∙ ap (λ (b : Bool). after_fragment b offset len s) more_is ∙ ap (λ (o : ℕ). after_fragment (head_of packet).more o len s) offset_is
     ∙ ap (λ (n : ℕ). after_fragment (head_of packet).more (head_of packet).offset n s) len_is)))
 
 pub Passes-whole : (config : Config) (socket : Option LocalEnd) (queue : List Datagram) (last : Option ℕ) (counters : Counters)
     (packet : List ℕ) (new : State) (source destination protocol total mbufs : ℕ)
-    → is_for_us loose_ledger config (head_of packet).destination ≡ true → is_fragment loose_ledger (head_of packet) ≡ false
+    → is_for_us config (head_of packet).destination ≡ true → is_fragment (head_of packet) ≡ false
     → source ≡ (head_of packet).source → destination ≡ (head_of packet).destination → protocol ≡ (head_of packet).protocol
     → total ≡ total_of packet → mbufs ≡ plain_mbufs (length packet)
     → WholeArrives loose_ledger nothing source destination protocol (plain_item (take (total - 20) (drop 20 packet)) mbufs)
@@ -185,8 +185,8 @@ Passes-whole config socket queue last counters packet new source destination pro
     let with_protocol = subst (λ (p : ℕ). WholeArrives loose_ledger nothing source destination p (plain_item (drop 20 (take n packet)) (plain_mbufs (length packet))) s new) by with_total in
     let with_destination = subst (λ (d : ℕ). WholeArrives loose_ledger nothing source d h.protocol (plain_item (drop 20 (take n packet)) (plain_mbufs (length packet))) s new) to with_protocol in
     let with_source = subst (λ (f : ℕ). WholeArrives loose_ledger nothing f h.destination h.protocol (plain_item (drop 20 (take n packet)) (plain_mbufs (length packet))) s new) from with_destination in
-    choose-yes (is_for_us loose_ledger config h.destination) _ _ ours
-    (choose-no (is_fragment loose_ledger h) _ _ whole with_source)
+    choose-yes (is_for_us config h.destination) _ _ ours
+    (choose-no (is_fragment h) _ _ whole with_source)
 
 -- ---- whole datagrams
 
@@ -194,16 +194,16 @@ pub WholeArrives-on : (source destination protocol : ℕ) (bytes : List ℕ) (mb
     → udp_fault source destination bytes ≡ None
     → from ≡ u16_at 0 bytes → to ≡ u16_at 2 bytes → len ≡ u16_at 4 bytes
     → GoesTo loose_ledger nothing (record { ip = source; port = from }) (plain_item (take (len - 8) (drop 8 bytes)) mbufs) destination
-    (hearers loose_ledger old destination (sought destination to (record { ip = source; port = from }))) old new
+    (hearers old destination (sought destination to (record { ip = source; port = from }))) old new
     → WholeArrives loose_ledger nothing source destination protocol (plain_item bytes mbufs) old new
 WholeArrives-on source destination protocol bytes mbufs old new from to len is sound from_is to_is len_is goes =
     let with_data = subst (λ (t : List ℕ). GoesTo loose_ledger nothing (record { ip = source; port = from }) (plain_item t mbufs) destination
-    (hearers loose_ledger old destination (sought destination to (record { ip = source; port = from }))) old new) (range-is 8 len bytes) goes in
+    (hearers old destination (sought destination to (record { ip = source; port = from }))) old new) (range-is 8 len bytes) goes in
     let with_len = subst (λ (n : ℕ). GoesTo loose_ledger nothing (record { ip = source; port = from }) (plain_item (drop 8 (take n bytes)) mbufs) destination
-    (hearers loose_ledger old destination (sought destination to (record { ip = source; port = from }))) old new) len_is with_data in
+    (hearers old destination (sought destination to (record { ip = source; port = from }))) old new) len_is with_data in
     let with_to = subst (λ (p : ℕ). GoesTo loose_ledger nothing (record { ip = source; port = from }) (plain_item (udp_bytes bytes) mbufs) destination
-    (hearers loose_ledger old destination (sought destination p (record { ip = source; port = from }))) old new) to_is with_len in
+    (hearers old destination (sought destination p (record { ip = source; port = from }))) old new) to_is with_len in
     let with_from = subst (λ (p : ℕ). GoesTo loose_ledger nothing (record { ip = source; port = p }) (plain_item (udp_bytes bytes) mbufs) destination
-    (hearers loose_ledger old destination (sought destination (u16_at 2 bytes) (record { ip = source; port = p }))) old new) from_is with_to in
+    (hearers old destination (sought destination (u16_at 2 bytes) (record { ip = source; port = p }))) old new) from_is with_to in
     choose-yes (protocol == 17) _ _ (eq-eqb protocol 17 is)
     (case-none Why (udp_fault source destination bytes) _ _ sound with_from)

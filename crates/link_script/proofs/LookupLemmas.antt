@@ -86,7 +86,7 @@ choice false xs ys zs first second = second
 
 pub hearers-me : (config : Config) (end : LocalEnd) (queue : List Datagram) (last : Option ℕ) (counters : Counters) (d p : ℕ) (sender : Addr)
     → is_heard (Some end) d p ≡ true
-    → hearers loose_ledger (host_state config (Some end) queue last counters) d (sought d p sender) ≡ socket_of end queue ∷ []
+    → hearers (host_state config (Some end) queue last counters) d (sought d p sender) ≡ socket_of end queue ∷ []
 hearers-me config end queue last counters d p sender heard =
     let is : matches (sought d p sender) (socket_of end queue) ≡ true = matches-heard end queue d p sender ∙ heard in
     choice (is_broadcast config d) _ _ _
@@ -95,7 +95,7 @@ hearers-me config end queue last counters d p sender heard =
 
 pub hearers-none : (config : Config) (socket : Option LocalEnd) (queue : List Datagram) (last : Option ℕ) (counters : Counters) (d p : ℕ) (sender : Addr)
     → is_heard socket d p ≡ false
-    → hearers loose_ledger (host_state config socket queue last counters) d (sought d p sender) ≡ []
+    → hearers (host_state config socket queue last counters) d (sought d p sender) ≡ []
 hearers-none config None queue last counters d p sender heard = choice (is_broadcast config d) _ _ _ refl refl
 hearers-none config (Some end) queue last counters d p sender heard =
     let un : matches (sought d p sender) (socket_of end queue) ≡ false = matches-heard end queue d p sender ∙ heard in

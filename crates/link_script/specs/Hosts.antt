@@ -61,9 +61,9 @@ is_heard (Some end) ip port = are_same end.port (Some port) && agree ◌==◌ en
 -- a bad one is counted so, and every other one finds no buffer for its key
 abbrev pub after_fragment : Bool → ℕ → ℕ → State → State
 after_fragment more offset len s =
-    if is_bad_fragment loose_ledger (record { id = 0; more = more; offset = offset; protocol = 0; source = 0; destination = 0 }) len
+    if is_bad_fragment (record { id = 0; more = more; offset = offset; protocol = 0; source = 0; destination = 0 }) len
     then ends BadFragment s
-    else ends NoBufs (counts_fragment loose_ledger s)
+    else ends NoBufs (counts_fragment s)
 
 -- ---- binding
 

@@ -4,6 +4,7 @@ use Rattle.std.specs.Io.KnownBytes.{Consumes, Appends, IsAtEnd}
 use Rattle.flat_model.specs.declared.config.Config.{Config}
 use Rattle.flat_model.specs.Event.{Event, Reply}
 use Rattle.flat_model.specs.State.{State, IsConfig}
+pub use Rattle.flat_model.specs.State.{HasSizes}
 use Rattle.flat_model.specs.Lines.{whole_lines, begun_line, lines}
 use Rattle.flat_model.specs.Script.{Prints}
 use Rattle.link_script.specs.declared.fault.RunFault.{RunFault}
@@ -54,11 +55,6 @@ Serves serves step old new unread rest before after (Err BadSizes) = Moves unrea
 Serves serves step old new unread rest before after (Err BadConfig) = Moves unread rest [] before after [] × (new ≡ old)
 
 -- ---- boot
-
-pub record HasSizes (c : Config) : Type 0 where
-  pub some_mbuf : 1 ≤ c.mbufs
-  pub mbufs : c.mbufs < 2 ^ 16
-  pub clusters : c.clusters ≤ 4096
 
 -- the sizes are tested first, then all else of the configuration
 abbrev pub Boots : Config → Result Unit RunFault → Type 0

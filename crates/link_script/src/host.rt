@@ -125,7 +125,7 @@ impl Host {
 
     /// Whether a packet to this address is for this machine.
     fn is_for_us(&self, ip: u32) -> bool
-        ensures { result ≡ arrival.is_for_us loose_ledger self.now.config ip }
+        ensures { result ≡ arrival.is_for_us self.now.config ip }
     {
         self.is_ours(ip) || ip == EVERYONE
     }
@@ -171,7 +171,7 @@ impl Host {
         requires least { 1 ≤ mbufs }
         requires most { mbufs ≤ 2 }
         ensures { arrival.GoesTo loose_ledger nothing sender (plain_item payload.now mbufs) destination
-            (arrival.hearers loose_ledger (state_of self.old) destination (sought destination port sender))
+            (arrival.hearers (state_of self.old) destination (sought destination port sender))
             (state_of self.old) (state_of self.new) }
     {
         if !self.hears(destination, port) {

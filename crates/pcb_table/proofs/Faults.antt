@@ -1,5 +1,5 @@
 -- For the layer above: the first fault of two lists in a row.
-use Rattle.std.proofs.Common.{◌≡◌, Bool, true, false, cond, List, [], ◌∷◌, ◌++◌, Option, Some, refl}
+use Rattle.std.proofs.Common.{◌≡◌, Bool, true, false, cond, List, [], ◌∷◌, ◌++◌, Some, refl}
 use Rattle.std.specs.Option.{option_or}
 use Rattle.flat_model.specs.Header.{first_fault}
 

@@ -1,11 +1,10 @@
 -- The control blocks of a machine (volume 2 chapter 22), and the machines that have them (this project's own).
-use Rattle.std.specs.Prelude.{◌≡◌, ◌≢◌, ℕ, ◌==◌, List, map, find, Option, Some, IsSome, IsNone, is_some, Result, Ok, Err, unwrap_or, ◌≤◌}
+use Rattle.std.specs.Prelude.{◌≡◌, ◌≢◌, ℕ, ◌==◌, List, map, find, Option, Some, IsSome, IsNone, is_some, unwrap_or, ◌≤◌}
 use Rattle.flat_model.specs.State.{State, Socket, Datagram}
 use Rattle.flat_model.specs.Lookup.{Sought}
-use Rattle.flat_model.specs.Event.{Event, Reply, Done, Opened, Refused}
+use Rattle.flat_model.specs.Event.{Event, Reply}
 use Rattle.flat_model.specs.Step.{Step}
 use Rattle.flat_model.specs.declared.address.Addr.{Addr}
-use Rattle.flat_model.specs.declared.errno.Errno.{Errno}
 use Rattle.pcb_table.specs.declared.block.Block.{Block}
 use Rattle.pcb_table.specs.declared.block.Query.{Query}
 
@@ -68,16 +67,6 @@ machine rest queues t = record rest {
 abbrev pub IsCall : Table → Event → Reply → Table → Type 0
 IsCall old event reply new =
     (rest : State) (queues : Queues) → Step (machine rest queues old) event reply (machine rest queues new)
-
--- ---- replies
-
-abbrev pub reply_of : {T : Type 0} → Result T Errno → Reply
-reply_of (Ok _) = Done
-reply_of (Err errno) = Refused errno
-
-abbrev pub opened_or : Result ℕ Errno → Reply
-opened_or (Ok fd) = Opened fd
-opened_or (Err errno) = Refused errno
 
 -- ---- what is looked for
 

@@ -4,7 +4,8 @@ ghost use Rattle.flat_model.specs.State.{State};
 ghost use Rattle.flat_model.specs.Step.{Step};
 ghost use Rattle.flat_model.specs.Calls.{disconnected};
 ghost use Rattle.flat_model.specs.Lookup as flat;
-ghost use Rattle.pcb_table.specs.Table.{ClosesOnly, IsCall, IsDescriptor, IsOpen, KeepsOpen, OpensOnly, Queues, block_at, local_of, machine, opened_or, packet_sought, peer_of, reply_of, sought};
+ghost use Rattle.pcb_table.specs.Table.{ClosesOnly, IsCall, IsDescriptor, IsOpen, KeepsOpen, OpensOnly, Queues, block_at, local_of, machine, packet_sought, peer_of, sought};
+ghost use Rattle.flat_model.specs.Replies.{done_reply, opened_reply};
 ghost use Rattle.pcb_table.specs.Changed.{forgotten};
 ghost use Rattle.pcb_table.specs.Sound.{AreApart};
 ghost use Rattle.pcb_table.specs.Found.{Changes, ChecksDestination, ChoosesNext, EnsuresPort, Finds, FindsAll, SendsFrom};
@@ -171,7 +172,7 @@ impl Pcbs {
     /// changes: `TooManyFiles` where 64 are open.
     pub fn open(&mut self) -> Result<u32, Errno>
         ensures step { (rest : State) (queues : Queues) → IfOk result (λ fd. queues fd ≡ [])
-            → Step (machine rest queues self.old) Open (opened_or result) (machine rest queues self.new) }
+            → Step (machine rest queues self.old) Open (opened_reply result) (machine rest queues self.new) }
         ensures range { IfOk result IsDescriptor }
         ensures opened { IfOk result (λ fd. OpensOnly self.old fd self.new) }
         ensures err { OnErr result (self.new ≡ self.old) }
@@ -186,7 +187,7 @@ impl Pcbs {
 
     /// Closes a socket (volume 2 section 22.4). Refused, and then nothing changes: `BadDescriptor` where it isn't open.
     pub fn close(&mut self, fd: u32) -> Result<(), Errno>
-        ensures step { IsCall self.old (Close fd) (reply_of result) self.new }
+        ensures step { IsCall self.old (Close fd) (done_reply result) self.new }
         ensures closed { OnOk result (ClosesOnly self.old fd self.new) }
         ensures err { OnErr result (self.new ≡ self.old) }
     {
@@ -200,7 +201,7 @@ impl Pcbs {
 
     /// Sets or clears an option. Refused, and then nothing changes: `BadDescriptor` where the socket isn't open.
     pub fn set_option(&mut self, fd: u32, option: Opt, on: bool) -> Result<(), Errno>
-        ensures step { IsCall self.old (Set_option fd option on) (reply_of result) self.new }
+        ensures step { IsCall self.old (Set_option fd option on) (done_reply result) self.new }
         ensures descriptors { KeepsOpen self.old self.new }
         ensures err { OnErr result (self.new ≡ self.old) }
     {
@@ -216,7 +217,7 @@ impl Pcbs {
     /// socket has a port or a local address; `AddressNotAvailable` where the address isn't 0.0.0.0 or one of the
     /// machine; `AddressInUse` where the port isn't 0 and another block stands in the way.
     pub fn bind(&mut self, fd: u32, address: Addr) -> Result<(), Errno>
-        ensures step { IsCall self.old (Bind fd address) (reply_of result) self.new }
+        ensures step { IsCall self.old (Bind fd address) (done_reply result) self.new }
         ensures descriptors { KeepsOpen self.old self.new }
         ensures err { OnErr result (self.new ≡ self.old) }
     {
@@ -249,7 +250,7 @@ impl Pcbs {
     /// `AddressNotAvailable` where the port is 0; `HostUnreachable`; `AddressInUse` where another socket has the
     /// same four values. A socket that was connected is then disconnected, and any other is as it was.
     pub fn connect(&mut self, fd: u32, address: Addr) -> Result<(), Errno>
-        ensures step { IsCall self.old (Connect fd address) (reply_of result) self.new }
+        ensures step { IsCall self.old (Connect fd address) (done_reply result) self.new }
         ensures descriptors { KeepsOpen self.old self.new }
     {
         let Some(at) = locate(self.blocks.as_slice(), fd) else {

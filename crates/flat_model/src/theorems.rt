@@ -1,13 +1,14 @@
-//! Laws of the definitions. Each is a function that does nothing, and its contract is the law.
-ghost use Rattle.std.specs.Prelude.{◌≡◌, ◌+◌, ℕ, List, [], ◌≤◌, ◌<◌, length, All};
+//! Theorems of the definitions. Each is a function that does nothing, and its contract is the theorem.
+ghost use Rattle.std.specs.Prelude.{◌≡◌, ◌+◌, ℕ, Bool, List, [], ◌∷◌, ◌++◌, ◌≤◌, ◌<◌, length, All};
 ghost use Rattle.flat_model.specs.Overlay.{Fragment};
 ghost use Rattle.flat_model.specs.Weight.{nothing};
-ghost use Rattle.flat_model.specs.Ledger.{exact_ledger, loose_ledger, weight_of_state, free_mbufs, free_clusters, usage_of};
+ghost use Rattle.flat_model.specs.Ledger.{exact_ledger, loose_ledger, weight_of_state, free_mbufs, usage_of};
 ghost use Rattle.flat_model.specs.Event.{Event, Reply, IsEvent};
 ghost use Rattle.flat_model.specs.State.{IsConfig, State, boot};
 ghost use Rattle.flat_model.specs.Consistent.{IsConsistent};
 ghost use Rattle.flat_model.specs.Step.{Step, Loose};
 ghost use Rattle.flat_model.specs.Run.{Turn, Leads, Run};
+ghost use Rattle.flat_model.specs.Script.{Prints, IsPrintOfRun};
 ghost use Rattle.flat_model.specs.declared.config.Config.{Config};
 ghost use Rattle.flat_model.specs.Wire.{WireLaw};
 ghost use Rattle.flat_model.specs.Laws.{CutsJoin, IsFragmentOf, OverlayOrder};
@@ -51,13 +52,37 @@ pub fn states_are_consistent()
         IsConfig config → Run config turns new → IsConsistent new }
 {}
 
+/// A run goes on with one more event, as the machine answers it.
+pub fn leads_on()
+    ensures exact { (old mid new : State) (turns : List Turn) (turn : Turn) → Leads exact_ledger old turns mid →
+        IsEvent turn.event → Step mid turn.event turn.reply new → Leads exact_ledger old (turns ++ turn ∷ []) new }
+    ensures loose { (old mid new : State) (turns : List Turn) (turn : Turn) → Leads loose_ledger old turns mid →
+        IsEvent turn.event → Loose mid turn.event turn.reply new → Leads loose_ledger old (turns ++ turn ∷ []) new }
+{}
+
+/// What is printed for the lines of a script is told by a run: each line that asks for an event has its turn, in
+/// their order, and what is printed are the replies of these turns, with a question mark for every other line.
+pub fn printed_is_run()
+    ensures exact { (serves : Event → Bool) (old new : State) (lines : List (List ℕ)) (printed : List ℕ) →
+        Prints serves Step old lines printed new → IsPrintOfRun exact_ledger serves old lines printed new }
+    ensures loose { (serves : Event → Bool) (old new : State) (lines : List (List ℕ)) (printed : List ℕ) →
+        Prints serves Loose old lines printed new → IsPrintOfRun loose_ledger serves old lines printed new }
+{}
+
 /// The books balance: free and held mbufs are all that there are, the counts of all clusters add up to the
-/// references, and where nothing is held everything is free.
+/// references, and where nothing is held everything is free and nothing refers to a cluster.
 pub fn books_balance()
     ensures mbufs { (s : State) → IsConsistent s →
         free_mbufs s nothing + (weight_of_state s).mbufs ≡ s.config.mbufs }
     ensures references { (s : State) → IsConsistent s →
         (usage_of s).refs ≡ length (weight_of_state s).bag }
     ensures nothing_held { (s : State) → s.sockets ≡ [] → s.unfinished ≡ [] → s.output ≡ [] →
-        (free_mbufs s nothing ≡ s.config.mbufs) × (free_clusters s nothing ≡ s.config.clusters) }
+        usage_of s ≡ record {
+          free_mbufs = s.config.mbufs;
+          mbufs = s.config.mbufs;
+          free_clusters = s.config.clusters;
+          clusters = s.config.clusters;
+          refs = 0;
+          most = 0;
+        } }
 {}

@@ -1,6 +1,6 @@
 -- The law is proved on the parts by their index.
 use Rattle.flat_model.proofs.Grid.{cuts_join_lem}
-use Rattle.flat_model.proofs.laws.cuts_join.Goals as goal
+use Rattle.flat_model.proofs.theorems.cuts_join.Goals as goal
 
 pub returns : goal.returns
 returns c = cuts_join_lem

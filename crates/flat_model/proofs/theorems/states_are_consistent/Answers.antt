@@ -1,7 +1,7 @@
 -- It holds at the start, and every step keeps it.
 use Rattle.flat_model.specs.State.{boot}
 use Rattle.flat_model.proofs.KeptSteps.{boot_is_consistent, step_is_consistent, run_is_consistent}
-use Rattle.flat_model.proofs.laws.states_are_consistent.Goals as goal
+use Rattle.flat_model.proofs.theorems.states_are_consistent.Goals as goal
 
 pub returns-clause-start : goal.returns-clause-start
 returns-clause-start c = boot_is_consistent

@@ -1,7 +1,7 @@
 -- The law holds whatever a machine answers for its buffers.
 use Rattle.flat_model.specs.Ledger.{exact_ledger}
 use Rattle.flat_model.proofs.Law.{wire_law_lem}
-use Rattle.flat_model.proofs.laws.wire_law.Goals as goal
+use Rattle.flat_model.proofs.theorems.wire_law.Goals as goal
 
 pub returns : goal.returns
 returns c = wire_law_lem exact_ledger exact_ledger

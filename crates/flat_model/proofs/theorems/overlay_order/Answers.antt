@@ -1,6 +1,6 @@
 -- The law is proved on a grid.
 use Rattle.flat_model.proofs.Order.{overlay_order_lem}
-use Rattle.flat_model.proofs.laws.overlay_order.Goals as goal
+use Rattle.flat_model.proofs.theorems.overlay_order.Goals as goal
 
 pub returns : goal.returns
 returns c = overlay_order_lem

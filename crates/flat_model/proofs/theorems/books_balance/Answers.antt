@@ -1,6 +1,6 @@
 -- What is free is what isn't held.
-use Rattle.flat_model.proofs.Books.{free_and_held, references_are, all_free}
-use Rattle.flat_model.proofs.laws.books_balance.Goals as goal
+use Rattle.flat_model.proofs.Books.{free_and_held, references_are, none_held}
+use Rattle.flat_model.proofs.theorems.books_balance.Goals as goal
 
 pub returns-clause-mbufs : goal.returns-clause-mbufs
 returns-clause-mbufs c = free_and_held
@@ -9,4 +9,4 @@ pub returns-clause-references : goal.returns-clause-references
 returns-clause-references c = references_are
 
 pub returns-clause-nothing_held : goal.returns-clause-nothing_held
-returns-clause-nothing_held c = all_free
+returns-clause-nothing_held c = none_held

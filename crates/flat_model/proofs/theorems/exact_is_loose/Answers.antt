@@ -2,7 +2,7 @@
 use Rattle.flat_model.specs.State.{boot}
 use Rattle.flat_model.specs.Ledger.{exact_ledger, loose_ledger}
 use Rattle.flat_model.proofs.Weaker.{loose_is_weaker, step_too, run_too}
-use Rattle.flat_model.proofs.laws.exact_is_loose.Goals as goal
+use Rattle.flat_model.proofs.theorems.exact_is_loose.Goals as goal
 
 pub returns-clause-step : goal.returns-clause-step
 returns-clause-step c = step_too exact_ledger loose_ledger loose_is_weaker

@@ -1,0 +1,10 @@
+-- The law holds whatever answers for the buffers.
+use Rattle.flat_model.specs.Ledger.{exact_ledger, loose_ledger}
+use Rattle.flat_model.proofs.Runs.{print_of_run}
+use Rattle.flat_model.proofs.theorems.printed_is_run.Goals as goal
+
+pub returns-clause-exact : goal.returns-clause-exact
+returns-clause-exact c = print_of_run exact_ledger
+
+pub returns-clause-loose : goal.returns-clause-loose
+returns-clause-loose c = print_of_run loose_ledger
