@@ -1,0 +1,7 @@
+pub mod Laws
+mod Weights
+mod Accounts
+mod Moved
+mod PoolTests
+mod Counted
+mod Shown

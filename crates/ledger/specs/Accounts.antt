@@ -1,0 +1,48 @@
+-- What chains weigh, and when a pool holds what a state of the flat machine weighs (this project's own).
+use Rattle.std.specs.Prelude.{◌≡◌, ℕ, ◌+◌, List, length, filter_map}
+use Rattle.flat_model.specs.Weight.{Weight, Item, ◌⊕◌, all_of, times}
+use Rattle.flat_model.specs.State.{State}
+use Rattle.flat_model.specs.Ledger.{weight_of_state, count_of}
+use Rattle.mbuf_chain.specs.Chain.{Entry, PoolView, chain_of, flat_bytes, held_mbufs, references}
+
+-- ---- what chains weigh
+
+-- what entries weigh: one mbuf each, and the clusters to which they refer
+abbrev pub weight_of : List Entry → Weight
+weight_of es = record { mbufs = length es; bag = filter_map (λ e. e.cluster) es }
+
+-- entries as an item: all their bytes, and what they weigh
+abbrev pub item_of : List Entry → Item
+item_of es = record { bytes = flat_bytes es; weight = weight_of es }
+
+-- the chain with that number as an item
+abbrev pub item_at : PoolView → ℕ → Item
+item_at p c = item_of (chain_of p c).entries
+
+-- what the chain with that number weighs
+abbrev pub weight_at : PoolView → ℕ → Weight
+weight_at p c = weight_of (chain_of p c).entries
+
+-- what an owner's chains weigh together
+abbrev pub weight_owned : PoolView → List ℕ → Weight
+weight_owned p xs = all_of (weight_at p) xs
+
+-- ---- accounts
+
+-- the same number of mbufs, and each cluster as often
+pub record Balances (a b : Weight) : Type 0 where
+  pub mbufs : a.mbufs ≡ b.mbufs
+  pub bag : (c : ℕ) → times c a.bag ≡ times c b.bag
+
+-- The pool accounts for the state and for the weight held beside it: the totals are those of the configuration, as
+-- many mbufs are held as both weigh, and each cluster is referred to as often as it stands in their bags.
+pub record IsAccounted (p : PoolView) (s : State) (held : Weight) : Type 0 where
+  pub mbufs : s.config.mbufs ≡ p.mbufs
+  pub clusters : s.config.clusters ≡ p.clusters
+  pub total : held_mbufs p ≡ (weight_of_state s ⊕ held).mbufs
+  pub references : (c : ℕ) → references p c ≡ count_of s held c
+
+-- what state and hand weigh changes from s with `held` to t with `kept` as an owner's chains change from `before` to `after`
+pub record Shifts (s : State) (held before : Weight) (t : State) (kept after : Weight) : Type 0 where
+  pub mbufs : (weight_of_state s ⊕ held).mbufs + after.mbufs ≡ (weight_of_state t ⊕ kept).mbufs + before.mbufs
+  pub bag : (c : ℕ) → times c (weight_of_state s ⊕ held).bag + times c after.bag ≡ times c (weight_of_state t ⊕ kept).bag + times c before.bag

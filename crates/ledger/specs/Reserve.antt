@@ -1,0 +1,18 @@
+-- A test of the pool beside the flat machine's (this project's own; what is given back where it fails is `ip_drain`
+-- of TCP/IP Illustrated, volume 2, chapter 10).
+use Rattle.std.specs.Prelude.{ℕ, ◌-◌, Bool, nat_le, ◌&&◌}
+use Rattle.mbuf_chain.specs.Chain.{PoolView, held_mbufs, free_clusters}
+use Rattle.flat_model.specs.Weight.{Weight}
+use Rattle.flat_model.specs.State.{State}
+use Rattle.flat_model.specs.Layout.{Need}
+use Rattle.flat_model.specs.Ledger.{exact_ledger, Affords}
+use Rattle.ledger.specs.Accounts.{IsAccounted}
+
+-- so many mbufs and clusters are free
+abbrev pub are_free : PoolView → ℕ → ℕ → Bool
+are_free p mbufs clusters = nat_le mbufs (p.mbufs - held_mbufs p) && nat_le clusters (free_clusters p)
+
+-- the exact machine's test of what is needed may have this answer and leave `after`, and q accounts for that
+pub record Reserves (s : State) (held : Weight) (need : Need) (answer : Bool) (after : State) (q : PoolView) : Type 0 where
+  pub affords : Affords exact_ledger s held need answer after
+  pub accounted : IsAccounted q after held

@@ -1,0 +1,17 @@
+//! The pool's accounts beside those of the flat machine: what chains weigh, when a pool holds what a state weighs,
+//! and the one function that tests the pool, gives back the unfinished datagrams and tests once more.
+//!
+//! The flat machine counts its buffers by weights, the pool by its chains. `specs/Accounts` says when the two agree,
+//! and `proofs/Laws` how a step carries that on, by the weights of the chains that it touched alone: no proof sums
+//! over all owners.
+#![tactic(auto)]
+
+mod reservation;
+#[cfg(test)]
+mod tests;
+mod usage;
+mod waiting;
+
+pub use reservation::reserve;
+pub use usage::mbstat;
+pub use waiting::Waiting;

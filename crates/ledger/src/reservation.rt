@@ -1,0 +1,54 @@
+//! The test of the pool, and what is given back where it fails.
+
+ghost use Rattle.std.specs.Prelude.{◌≡◌};
+ghost use Rattle.flat_model.specs.State.{State};
+ghost use Rattle.flat_model.specs.Weight.{Weight};
+ghost use Rattle.mbuf_chain.specs.Owners.{Moves};
+ghost use Rattle.ledger.specs.Accounts.{IsAccounted};
+ghost use Rattle.ledger.specs.Reserve.{are_free, Reserves};
+
+use crate::Waiting;
+use flat_model::Counters;
+use mbuf_chain::Pool;
+
+/// Whether so many mbufs and clusters are free.
+fn are_free(pool: &Pool, mbufs: u32, clusters: u32) -> bool
+    ensures { result ≡ are_free pool.now mbufs clusters }
+{
+    let free = pool.free_mbufs();
+    let free_clusters = pool.free_clusters();
+    mbufs <= free && clusters <= free_clusters
+}
+
+/// Tests whether so many mbufs and clusters are free, before a step takes them. Where they aren't, all that waits is
+/// given back and counted in `ip_reclaimed`, and the test is made once more: that answer stands. Where they are,
+/// nothing changes.
+///
+/// `true` says that they are free now, so that the caller takes them without a refusal. Nothing is set aside: a call
+/// of somebody else in between may take them.
+///
+/// After a clause of `Affords` in the definitions of the ledger (`ip_drain` of TCP/IP Illustrated, volume 2, chapter
+/// 10). The clause holds for each state whose accounts the pool keeps, and for each weight held beside it.
+pub fn reserve<R: Waiting>(
+    pool: &mut Pool,
+    waiting: &mut R,
+    counters: &mut Counters,
+    mbufs: u32,
+    clusters: u32,
+) -> bool
+    requires { R.is_ready pool.old waiting.old }
+    ensures reserves { (s : State) (held : Weight) →
+        s.unfinished ≡ R.unfinished pool.old waiting.old → s.counters ≡ counters.old → IsAccounted pool.old s held →
+        Reserves s held (record { mbufs = mbufs; clusters = clusters }) result
+        (record s { unfinished = R.unfinished pool.new waiting.new; counters = counters.new }) pool.new }
+    ensures moves { Moves pool.old (R.owned pool.old waiting.old) pool.new (R.owned pool.new waiting.new) }
+    ensures ready { R.is_ready pool.new waiting.new }
+    ensures answer { result ≡ are_free pool.new mbufs clusters }
+{
+    if are_free(pool, mbufs, clusters) {
+        return true;
+    }
+    let datagrams = waiting.reclaim(pool);
+    counters.ip_reclaimed = counters.ip_reclaimed.saturating_add(u64::from(datagrams));
+    are_free(pool, mbufs, clusters)
+}

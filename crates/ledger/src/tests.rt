@@ -1,0 +1,152 @@
+//! The test of the pool and what is shown of it, on pools of a few buffers.
+
+mod nobody;
+
+ghost use Rattle.std.specs.Prelude.{◌≡◌, ◌≢◌, ℕ, IfOk};
+ghost use Rattle.mbuf_chain.specs.Chain.{IsLive};
+
+use crate::{mbstat, reserve};
+use flat_model::{Config, Counters, Mbstat};
+use mbuf_chain::{Chain, Pool};
+use mbuf_pool::{BootFault, NoBufs, Sizes, Store};
+use nobody::Nobody;
+use std::alloc::Global;
+use std::process::Abort;
+use std::test::Fail;
+
+/// A pool of which all is free.
+fn booted(alloc: Global, mbufs: u32, clusters: u32) -> Result<Pool, BootFault>
+    ensures { IfOk result (λ p. (p.mbufs ≡ mbufs) × (p.clusters ≡ clusters)) }
+{
+    let store = Store::boot(alloc, Sizes { mbufs, clusters })?;
+    Ok(Pool::over(store))
+}
+
+/// A chain of one mbuf on a cluster of its own.
+#[tactic(auto, using(mbuf_chain::proofs::Maps::map_steps))]
+fn on_cluster(rt: &impl Abort, pool: &mut Pool) -> Chain
+    ensures made { IsLive pool.new result }
+    ensures live { (k : ℕ) → IsLive pool.old k → IsLive pool.new k }
+    ensures apart { (k : ℕ) → IsLive pool.old k → k ≢ result }
+    ensures mbufs { pool.new.mbufs ≡ pool.old.mbufs }
+    ensures clusters { pool.new.clusters ≡ pool.old.clusters }
+{
+    match pool.new_cluster(true, 0) {
+        Ok(chain) => chain,
+        Err(NoBufs) => panic!(rt; "no cluster is free"),
+    }
+}
+
+/// A chain of one mbuf that shares the cluster of a chain's first mbuf.
+fn shared(rt: &impl Abort, pool: &mut Pool, chain: &Chain) -> Chain
+    requires { IsLive pool.old chain.now }
+    ensures made { IsLive pool.new result }
+    ensures live { (k : ℕ) → IsLive pool.old k → IsLive pool.new k }
+    ensures apart { (k : ℕ) → IsLive pool.old k → k ≢ result }
+    ensures mbufs { pool.new.mbufs ≡ pool.old.mbufs }
+    ensures clusters { pool.new.clusters ≡ pool.old.clusters }
+{
+    let at = pool.first(chain);
+    assert!(rt; pool.extent(chain, at).cluster.is_some());
+    pool.new_shared(true, chain, at, 0, 0)
+        .expect(rt, "an mbuf is free")
+}
+
+/// A configuration with so many buffers.
+fn config(mbufs: u32, clusters: u32) -> Config
+    ensures mbufs { result.mbufs ≡ mbufs }
+    ensures clusters { result.clusters ≡ clusters }
+{
+    Config {
+        addr: 0x0a00_0001,
+        bcast: 0x0a00_00ff,
+        mtu: 1500,
+        mbufs,
+        clusters,
+        first_id: 1,
+    }
+}
+
+/// Nothing was counted.
+const NO_COUNTS: Counters = Counters {
+    ip_total: 0,
+    ip_toosmall: 0,
+    ip_badvers: 0,
+    ip_badhlen: 0,
+    ip_options: 0,
+    ip_badsum: 0,
+    ip_badlen: 0,
+    ip_tooshort: 0,
+    ip_cantforward: 0,
+    ip_badfrag: 0,
+    ip_fragments: 0,
+    ip_fragdropped: 0,
+    ip_fragtimeout: 0,
+    ip_reclaimed: 0,
+    ip_reassembled: 0,
+    ip_noproto: 0,
+    udp_hdrops: 0,
+    udp_badlen: 0,
+    udp_badsum: 0,
+    udp_noport: 0,
+    udp_noportbcast: 0,
+    udp_fullsock: 0,
+    ip_localout: 0,
+    ip_fragmented: 0,
+    out_dropped: 0,
+    nobufs: 0,
+};
+
+#[test]
+#[tactic(auto, using(mbuf_chain::proofs::Maps::map_steps))]
+fn shows_what_is_in_use(rt: HostRuntime) -> Result<(), Fail> {
+    let mut pool = booted(rt.alloc(), 8, 4)?;
+    let config = config(8, 4);
+    let nothing = Mbstat {
+        free_mbufs: 8,
+        mbufs: 8,
+        free_clusters: 4,
+        clusters: 4,
+        refs: 0,
+        most: 0,
+    };
+    assert_eq!(rt; mbstat(&pool, &config), nothing);
+    let a = on_cluster(&rt, &mut pool);
+    let b = shared(&rt, &mut pool, &a);
+    let c = on_cluster(&rt, &mut pool);
+    let in_use = Mbstat {
+        free_mbufs: 5,
+        mbufs: 8,
+        free_clusters: 2,
+        clusters: 4,
+        refs: 3,
+        most: 2,
+    };
+    assert_eq!(rt; mbstat(&pool, &config), in_use);
+    pool.free_chain(a);
+    pool.free_chain(b);
+    pool.free_chain(c);
+    assert_eq!(rt; mbstat(&pool, &config), nothing);
+    Ok(())
+}
+
+#[test]
+fn tests_the_pool(rt: HostRuntime) -> Result<(), Fail> {
+    let mut pool = booted(rt.alloc(), 3, 2)?;
+    let mut nobody = Nobody;
+    let mut counters = NO_COUNTS;
+    for (mbufs, clusters, enough) in [
+        (0, 0, true),
+        (3, 2, true),
+        (4, 0, false),
+        (0, 3, false),
+        (4, 3, false),
+    ] {
+        assert_eq!(rt;
+            reserve(&mut pool, &mut nobody, &mut counters, mbufs, clusters),
+            enough
+        );
+    }
+    assert_eq!(rt; counters, NO_COUNTS);
+    Ok(())
+}

@@ -1,0 +1,36 @@
+//! Unfinished datagrams as the flat machine sees them.
+
+ghost use Rattle.std.specs.Prelude.{◌≡◌, ℕ, List, length};
+ghost use Rattle.flat_model.specs.State.{Unfinished};
+ghost use Rattle.flat_model.specs.Weight.{all_of, mbuf, ◌⊕◌};
+ghost use Rattle.flat_model.specs.Whole.{weight_of_pieces};
+ghost use Rattle.mbuf_chain.specs.Chain.{PoolView};
+ghost use Rattle.mbuf_chain.specs.Frames.{SameAt};
+ghost use Rattle.ledger.specs.Accounts.{weight_owned, Balances};
+
+use mbuf_chain::Reclaim;
+
+/// Datagrams that wait for their other fragments: an owner of chains that can be given back, with what it is for
+/// the flat machine. The layers that take buffers are generic over it, so that none of them stands on the
+/// reassembly.
+///
+/// Its ghost member `unfinished` is the list of datagrams that the object and the pool show. The laws below say that
+/// they are as many as `Reclaim` counts, that its chains weigh what the flat machine says, and that a step of
+/// somebody else leaves them as they were.
+pub trait Waiting: Reclaim {
+    ghost unfinished: { PoolView → Self → List Unfinished };
+
+    /// How many datagrams wait.
+    fn count(&self) -> u32
+        ensures { result ≡ Self.datagrams self.now };
+
+    // the datagrams shown are those counted
+    ghost counts: { (p : PoolView) (s : Self) → Self.is_ready p s → length (unfinished p s) ≡ Self.datagrams s };
+
+    // its chains weigh what the flat machine says: the pieces of each datagram, and an mbuf for its key
+    ghost weighs: { (p : PoolView) (s : Self) → Self.is_ready p s →
+        Balances (weight_owned p (Self.owned p s)) (all_of (λ u. mbuf ⊕ weight_of_pieces u.bytes) (unfinished p s)) };
+
+    // a step of somebody else leaves it as it was
+    ghost unfinished_same: { (p q : PoolView) (s : Self) → SameAt p q (Self.owned p s) → unfinished q s ≡ unfinished p s };
+}
