@@ -1,3 +1,4 @@
 pub mod Words
 pub mod Blocks
 pub mod Wrapped
+pub mod Ranges

@@ -12,8 +12,10 @@ ghost use Rattle.in_cksum.specs.Partial.{Partial, sum_of};
 
 use std::marker::Model;
 
+mod chain;
 mod lanes;
 
+pub use chain::cksum_chain;
 use lanes::{PART_LEN, sum_part};
 
 // 65,536 counts as 1, so what is left is a remainder by 65,535: 1 to 65,535, and 0 of 0 alone.

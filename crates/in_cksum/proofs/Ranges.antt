@@ -1,0 +1,46 @@
+-- Ranges of bytes that lie in pieces.
+use Rattle.std.proofs.Common.{◌≡◌, ℕ, zero, suc, ◌-◌, ◌≤◌, min, List, [], ◌∷◌, ◌++◌, length, take, drop, refl, sym, ap, ◌∙◌, arith, inl, inr, take_all}
+use Rattle.std.proofs.lemmas.List.{length-drop, drop-append-le}
+use Rattle.std.proofs.lemmas.Bool.{cases_lt}
+
+take_over : (m : ℕ) (xs ys : List ℕ) → take m (xs ++ ys) ≡ take m xs ++ take (m - length xs) ys
+take_over zero [] ys = refl
+take_over (suc m) [] ys = let same : suc m ≡ suc m - 0 = omega arith in ap (λ (k : ℕ). take k ys) same
+take_over zero (x ∷ xs) ys = let none : 0 ≡ 0 - suc (length xs) = omega arith in ap (λ (k : ℕ). take k ys) none
+take_over (suc m) (x ∷ xs) ys =
+    let same : m - length xs ≡ suc m - suc (length xs) = omega arith in
+    ap (λ (zs : List ℕ). x ∷ zs) (take_over m xs ys) ∙ ap (λ (k : ℕ). (x ∷ take m xs) ++ take k ys) same
+
+-- a piece that ends in front of the range
+pub drop_over : (m : ℕ) (xs ys : List ℕ) → length xs ≤ m → drop m (xs ++ ys) ≡ drop (m - length xs) ys
+drop_over m [] ys h = let same : m ≡ m - 0 = omega arith in ap (λ (k : ℕ). drop k ys) same
+drop_over zero (x ∷ xs) ys h = absurd (omega arith)
+drop_over (suc m) (x ∷ xs) ys h =
+    let same : m - length xs ≡ suc m - suc (length xs) = omega arith in
+    drop_over m xs ys (omega arith) ∙ ap (λ (k : ℕ). drop k ys) same
+
+take_least : (m : ℕ) (xs : List ℕ) → take m xs ≡ take (min m (length xs)) xs
+take_least m xs = elim (cases_lt m (length xs)) [
+  | inl h ↦ let same : m ≡ min m (length xs) = omega arith in ap (λ (k : ℕ). take k xs) same
+  | inr h ↦ take_all m xs h ∙ sym (take_all (min m (length xs)) xs (omega arith))
+]
+
+-- a piece in which the range begins or goes on
+pub piece_taken : (piece rest : List ℕ) (skip k want : ℕ) → skip ≤ length piece → k ≡ min want (length piece - skip)
+    → take want (drop skip (piece ++ rest)) ≡ take k (drop skip piece) ++ take (want - k) rest
+piece_taken piece rest skip k want inside is =
+    let p : List ℕ = drop skip piece in
+    let len : length p ≡ length piece - skip = length-drop skip piece in
+    let k' : min want (length p) ≡ k = omega arith in
+    let less : want - length p ≡ want - k = omega arith in
+    ap (take want) (drop-append-le skip piece rest inside) ∙ take_over want p rest
+    ∙ (λ j. take_least want p j ++ take (less j) rest)
+    ∙ ap (λ (n : ℕ). take n p ++ take (want - k) rest) k'
+
+pub take_none : (n : ℕ) → take {A = ℕ} n [] ≡ []
+take_none zero = refl
+take_none (suc n) = refl
+
+pub drop_none : (n : ℕ) → drop {A = ℕ} n [] ≡ []
+drop_none zero = refl
+drop_none (suc n) = refl

@@ -1,0 +1,43 @@
+//! The checksum of bytes that lie in a chain.
+ghost use Rattle.std.specs.Prelude.{◌≡◌, ℕ, ◌+◌, ◌≤◌, ◌++◌, List, length, take, drop};
+ghost use Rattle.flat_model.specs.Checksum.{checksum};
+ghost use Rattle.mbuf_chain.specs.Chain.{IsLive, chain_of, string};
+ghost use Rattle.in_cksum.specs.Partial.{sum_of};
+
+use crate::Sum;
+use mbuf_chain::{Chain, Pool};
+
+/// The checksum of what was added to `start`, and behind it of `len` bytes of a chain from `off` on, to be
+/// written big-endian.
+///
+/// It makes no difference how the chain is cut, and empty mbufs count for nothing. No byte is copied. It takes
+/// one step for each mbuf up to the last byte, and none behind it (`in_cksum` of TCP/IP Illustrated volume 2,
+/// chapter 8; RFC 1071).
+#[tactic(auto, using(mbuf_chain::proofs::Iterators::concat_pieces))]
+pub fn cksum_chain(pool: &Pool, chain: &Chain, off: u32, len: u32, start: Sum) -> u16
+    requires live { IsLive pool.now chain.now }
+    requires within { off + len ≤ length (string (chain_of pool.now chain.now)) }
+    ensures { (before : List ℕ) → start ≡ sum_of before
+        → result ≡ checksum (before ++ take len (drop off (string (chain_of pool.now chain.now)))) }
+{
+    let mut sum = start;
+    let mut skip = off as usize;
+    let mut left = len as usize;
+    'mbufs: for piece in pool.pieces(chain) {
+        if left == 0 {
+            return sum.finish();
+        }
+        if skip < piece.len() {
+            let count = left.min(piece.len() - skip);
+            sum.add(&piece[skip..skip + count]);
+            left -= count;
+            skip = 0;
+        } else {
+            skip -= piece.len();
+        }
+    }
+    sum.finish()
+}
+
+#[cfg(test)]
+mod tests;
