@@ -52,11 +52,11 @@ fn share_mbuf(pool: &mut Pool, header: bool, chain: &Chain, at: Place) -> Result
     ensures ok { IfOk result (λ c. (e : Entry) × Adds pool.old pool.new c (one_mbuf header e c)) }
     ensures same { OnErr result (pool.new ≡ pool.old) }
 {
-    let extent = pool.extent(chain, at);
-    if extent.cluster.is_none() {
+    let segment = pool.segment(chain, at);
+    if segment.cluster.is_none() {
         return Err(NoBufs);
     }
-    pool.new_shared(header, chain, at, 0, extent.len)
+    pool.new_shared(header, chain, at, 0, segment.len)
 }
 
 /// Shares all of a chain of clusters.

@@ -1,19 +1,41 @@
--- How large the pool over a store is.
-use Rattle.std.proofs.Common.{ℕ, ◌<◌, Option, Some, None, arith}
+-- How large the pool over a store is, and where its entries lie.
+use Rattle.std.proofs.Common.{◌≡◌, ℕ, zero, suc, ◌<◌, List, [], ◌∷◌, length, Option, Some, None, refl, arith, slice_get, slice_index}
 use Rattle.std.specs.Option.{IfSome}
-use Rattle.mbuf_pool.specs.Store.{StoreView}
-use Rattle.mbuf_chain.specs.Chain.{IsLive}
+use Rattle.mbuf_pool.specs.Store.{StoreView, head_of}
+use Rattle.mbuf_chain.specs.declared.place.Place.{Place}
+use Rattle.mbuf_chain.specs.Chain.{chain_of, IsLive, IsPlace}
 use Rattle.mbuf_chain.specs.Cells.{pool_of, IsPool}
-use Rattle.mbuf_chain.specs.Frames.{IsBounded}
+use Rattle.mbuf_chain.specs.Frames.{Fits, IsBounded}
 use Rattle.mbuf_chain.proofs.Lists.{few_out, out_below}
 use Rattle.mbuf_chain.proofs.Changes.{held_is}
 use Rattle.mbuf_chain.proofs.Focused.{open_on, count_cells, first_out}
 use Rattle.mbuf_chain.proofs.Rewrites.{some_cell}
+use Rattle.mbuf_chain.proofs.Places.{live_cells}
+use Rattle.mbuf_chain.proofs.Grows.{rooms_at}
+use Rattle.mbuf_chain.proofs.Reading.{cluster_known}
+
+get_index : (l : List ℕ) (i : ℕ) → i < length l → slice_get l i ≡ Some (slice_index l i)
+get_index [] i h = absurd (omega arith)
+get_index (x ∷ xs) zero h = refl
+get_index (x ∷ xs) (suc i) h = get_index xs i (omega arith)
+
+fits : (s : StoreView) (c : ℕ) (at : Place) → IsPool s → IsLive (pool_of s) c → IsPlace (chain_of (pool_of s) c) at → Fits (pool_of s) (chain_of (pool_of s) c) at.index
+fits s c at ok live place =
+    let r = rooms_at s c at (head_of s at.cell) ok live place refl in
+    record {
+      low = omega (arith, r.low, r.low_is, r.start);
+      high = omega (arith, r.high, r.high_is, r.start, r.len);
+      known = cluster_known s c at ok live place;
+    }
 
 pub bounded : (s : StoreView) → IsPool s → IsBounded (pool_of s)
 bounded s ok = record {
   some = λ c live. let o = open_on s c ok live in omega (arith, count_cells s c o.at, some_cell s o.at.cells o.at.chain);
   numbers = λ c live. let o = open_on s c ok live in out_below s c (first_out s c o.at);
+  cells = λ c live. (live_cells s c ok live).same;
+  fits = λ c i live lt.
+      fits s c (record { index = i; cell = slice_index (chain_of (pool_of s) c).cells i }) ok live
+      (record { within = lt; cell = get_index (chain_of (pool_of s) c).cells i (omega (arith, lt, (live_cells s c ok live).same)) });
   few = omega (arith, held_is s ok.0 ok.1, few_out s);
   small = ok.1.store.mbufs.1;
 }

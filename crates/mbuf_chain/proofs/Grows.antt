@@ -7,7 +7,7 @@ use Rattle.mbuf_pool.specs.Store.{StoreView, head_of, is_out}
 use Rattle.mbuf_chain.specs.declared.place.Place.{Place}
 use Rattle.mbuf_chain.specs.Chain.{Entry, chain_of, IsLive, IsPlace, with_chain, entry_of, room_start, room_end, front_room, back_room}
 use Rattle.mbuf_chain.specs.Steps.{with_entry, with_front, with_back}
-use Rattle.mbuf_chain.specs.Cells.{weigh, one, entry_from, IsFollower, AllFollow, IsChain, pool_of, IsPool, room_low, room_high, with_extent, WritesPlace}
+use Rattle.mbuf_chain.specs.Cells.{weigh, one, entry_from, IsFollower, AllFollow, IsChain, pool_of, IsPool, room_low, room_high, with_segment, WritesPlace}
 use Rattle.mbuf_chain.proofs.Focused.{open_on, enter}
 use Rattle.mbuf_chain.proofs.Heads.{shown_at}
 use Rattle.mbuf_chain.proofs.Places.{header_is}
@@ -40,7 +40,7 @@ pub record ReadyBehind (s t : StoreView) (c n : ℕ) (at : Place) (h : Head) (ws
   pub place : IsPlace (chain_of (pool_of t) c) at
   pub low : room_low (head_of t at.cell) ≤ h.start
   pub high : h.start + (h.len + n) ≤ room_high (head_of t at.cell)
-  pub done : (u : StoreView) → pool_of u ≡ with_chain (pool_of t) c (with_entry (chain_of (pool_of t) c) at.index (entry_from t at.cell (with_extent (head_of t at.cell) h.start (h.len + n))))
+  pub done : (u : StoreView) → pool_of u ≡ with_chain (pool_of t) c (with_entry (chain_of (pool_of t) c) at.index (entry_from t at.cell (with_segment (head_of t at.cell) h.start (h.len + n))))
       → pool_of u ≡ with_chain (pool_of s) c (with_entry (chain_of (pool_of s) c) at.index (with_back (entry_of (chain_of (pool_of s) c) at.index) ws))
 
 pub ready_behind : (s t : StoreView) (c n : ℕ) (at : Place) (h : Head) (ws : List ℕ) → IsPool s → IsLive (pool_of s) c → IsPlace (chain_of (pool_of s) c) at → h ≡ head_of s at.cell
@@ -119,7 +119,7 @@ pub record ReadyBefore (s t : StoreView) (c n : ℕ) (at : Place) (h : Head) (ws
   pub place : IsPlace (chain_of (pool_of t) c) at
   pub low : room_low (head_of t at.cell) ≤ h.start - n
   pub high : h.start - n + (h.len + n) ≤ room_high (head_of t at.cell)
-  pub done : (u : StoreView) → pool_of u ≡ with_chain (pool_of t) c (with_entry (chain_of (pool_of t) c) at.index (entry_from t at.cell (with_extent (head_of t at.cell) (h.start - n) (h.len + n))))
+  pub done : (u : StoreView) → pool_of u ≡ with_chain (pool_of t) c (with_entry (chain_of (pool_of t) c) at.index (entry_from t at.cell (with_segment (head_of t at.cell) (h.start - n) (h.len + n))))
       → pool_of u ≡ with_chain (pool_of s) c (with_entry (chain_of (pool_of s) c) at.index (with_front (entry_of (chain_of (pool_of s) c) at.index) ws))
 
 pub ready_before : (s t : StoreView) (c n : ℕ) (at : Place) (h : Head) (ws : List ℕ) → IsPool s → IsLive (pool_of s) c → IsPlace (chain_of (pool_of s) c) at → h ≡ head_of s at.cell

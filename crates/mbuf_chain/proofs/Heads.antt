@@ -12,7 +12,7 @@ use Rattle.mbuf_pool.specs.Store.{StoreView, MbufView, ClusterView, is_out, mbuf
 use Rattle.mbuf_chain.specs.declared.place.Place.{Place}
 use Rattle.mbuf_chain.specs.Chain.{Entry, Front, ChainView, PoolView, chain_of, IsLive, with_chain, entry_of, IsPlace}
 use Rattle.mbuf_chain.specs.Steps.{with_entry, narrowed}
-use Rattle.mbuf_chain.specs.Cells.{weigh, is_at, one, len_at, place_bytes, entry_from, entry_at, front_of, arrival_of, refers_at, IsLinked, IsFollower, IsTotal, IsOff, IsFit, pool_of, IsPool, room_low, room_high, with_extent}
+use Rattle.mbuf_chain.specs.Cells.{weigh, is_at, one, len_at, place_bytes, entry_from, entry_at, front_of, arrival_of, refers_at, IsLinked, IsFollower, IsTotal, IsOff, IsFit, pool_of, IsPool, room_low, room_high, with_segment}
 use Rattle.mbuf_chain.proofs.Maps.{get_here, insert_same}
 use Rattle.mbuf_chain.proofs.Lists.{bit, on, is_at_same, out_below, chains_of, high_small}
 use Rattle.mbuf_chain.proofs.Changes.{SameCell, same_cell}
@@ -211,12 +211,12 @@ pub record Resized (s t : StoreView) (c added removed i : ℕ) (e : Entry) : Typ
 pub live_with : (p q : PoolView) (c : ℕ) (v : ChainView) → q ≡ with_chain p c v → IsLive q c
 live_with p q c v is = subst (λ (r : PoolView). IsLive r c) (sym is) (get_here p.chains c v ∙ ap (λ (o : Option ChainView). Some (unwrap_or o Rattle.mbuf_chain.specs.Chain.no_chain)) (sym (get_here p.chains c v)))
 
-pub resized : (s t : StoreView) (c added removed start len : ℕ) (at : Place) → IsPool s → IsLive (pool_of s) c → IsPlace (chain_of (pool_of s) c) at → SetsHead s t at.cell (with_extent (head_of s at.cell) start len) → IsStore t
-    → room_low (head_of s at.cell) ≤ start → start + len ≤ room_high (head_of s at.cell) → len + removed ≡ (head_of s at.cell).len + added → Resized s t c added removed at.index (entry_from s at.cell (with_extent (head_of s at.cell) start len))
+pub resized : (s t : StoreView) (c added removed start len : ℕ) (at : Place) → IsPool s → IsLive (pool_of s) c → IsPlace (chain_of (pool_of s) c) at → SetsHead s t at.cell (with_segment (head_of s at.cell) start len) → IsStore t
+    → room_low (head_of s at.cell) ≤ start → start + len ≤ room_high (head_of s at.cell) → len + removed ≡ (head_of s at.cell).len + added → Resized s t c added removed at.index (entry_from s at.cell (with_segment (head_of s at.cell) start len))
 resized s t c added removed start len at pool live place sets store low high lens =
     let o = open_on s c pool live in
     let e = enter s c at o.at place in
-    let h = with_extent (head_of s at.cell) start len in
+    let h = with_segment (head_of s at.cell) start len in
     let r = rehead s t c at.index at.cell h o.at e sets store refl refl (record { low = low; high = high; kind = e.fit.kind }) (λ _ was. record { packet = was.packet; behind = was.behind }) in
     let same : (k : ℕ) → (head_of t k).packet ≡ (head_of s k).packet = λ k. elim (cases_eq k at.cell) [
       | inl is ↦ subst (λ (j : ℕ). (head_of t j).packet ≡ (head_of s j).packet) (sym is) (ap (λ (y : Head). y.packet) r.head)
@@ -261,7 +261,7 @@ shown_at s c at pool live place =
 
 -- narrowed
 pub narrowed_is : (s : StoreView) (c skip keep : ℕ) (at : Place) → Shown s c at → skip + keep ≤ (head_of s at.cell).len
-    → entry_from s at.cell (with_extent (head_of s at.cell) ((head_of s at.cell).start + skip) keep) ≡ narrowed (entry_of (chain_of (pool_of s) c) at.index) skip keep
+    → entry_from s at.cell (with_segment (head_of s at.cell) ((head_of s at.cell).start + skip) keep) ≡ narrowed (entry_of (chain_of (pool_of s) c) at.index) skip keep
 narrowed_is s c skip keep at k within =
     let h = head_of s at.cell in
     (λ i. record { bytes = sym (run_inner (place_bytes s at.cell (head_of s at.cell).cluster) (head_of s at.cell).start (head_of s at.cell).len skip keep (omega (arith, k.place, k.fit.high)) within) i; start = h.start + skip; cluster = h.cluster })

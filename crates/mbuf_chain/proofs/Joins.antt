@@ -259,7 +259,7 @@ bare_first h e = record { packet = go h.packet refl; behind = ap (λ (f : Front)
     go (Some p) is = absurd (Rattle.std.proofs.lemmas.Bool.false≢true (sym (ap (λ (f : Front). f.header) e) ∙ ap (λ (o : Option PacketHeader). is_some o) is))
 
 pub joined_made : (s t : StoreView) (a b added : ℕ) (last : Place) → IsPool s → IsLive (pool_of s) a → IsLive (pool_of s) b → a ≢ b → IsPlace (chain_of (pool_of s) a) last → last.index + 1 ≡ length (chain_of (pool_of s) a).entries
-    → (chain_of (pool_of s) b).front ≡ alone false → SetsHead s t last.cell (record (head_of s last.cell) { next = Some b }) → IsStore t → added ≡ length (string (chain_of (pool_of s) b)) → Joined s t a b added
+    → (chain_of (pool_of s) b).front ≡ alone false → SetsHead s t last.cell (record (head_of s last.cell) { next = Some b }) → IsStore t → ((chain_of (pool_of s) a).front.header ≡ true → added ≡ length (string (chain_of (pool_of s) b))) → Joined s t a b added
 joined_made s t a b added last pool live_a live_b ne place is_last bare_b sets store added_is =
     let two = open_two s a b pool live_a live_b ne in
     let o = open_on s a pool live_a in
@@ -284,7 +284,9 @@ joined_made s t a b added last pool live_a live_b ne place is_last bare_b sets s
       counted = λ c. omega (arith, r.outs.counts c, refers_like s t r.likes c (two.front ++ two.back), weigh-append (refers_at s c) two.front two.back);
       store = store;
     }) in
-    let back_len : added ≡ weigh (len_at s) two.back = added_is ∙ sym (sum_is s b pool live_b) ∙ ap (weigh (len_at s)) (Rattle.mbuf_chain.proofs.Lists.walk_is (length s.mbufs) s (Some b) two.back two.back_linked (omega (arith, two.sound.total, few_out s))) in
+    let headed : (packet : PacketHeader) → (head_of s (first_of two.front)).packet ≡ Some packet → (chain_of (pool_of s) a).front.header ≡ true =
+    λ packet is. sym (ap (λ (v : ChainView). v.front.header) two.shows_front) ∙ ap (λ (o : Option PacketHeader). is_some o) is in
+    let back_len : (chain_of (pool_of s) a).front.header ≡ true → added ≡ weigh (len_at s) two.back = λ h. added_is h ∙ sym (sum_is s b pool live_b) ∙ ap (weigh (len_at s)) (Rattle.mbuf_chain.proofs.Lists.walk_is (length s.mbufs) s (Some b) two.back two.back_linked (omega (arith, two.sound.total, few_out s))) in
     let alone_a : heads_at a two.rest ≡ 0 =
     omega (arith, once a, subst (λ (j : ℕ). 0 < weigh (is_at j) two.front) two.front_first (in_list two.front 0 (some_cell s two.front two.sound.linked.0)), heads-tails s a two.rest two.sound.linked.1.1) in
     let first_front : front_of (head_of t (first_of (two.front ++ two.back))) ≡ (chain_of (pool_of s) a).front =
@@ -308,7 +310,9 @@ joined_made s t a b added last pool live_a live_b ne place is_last bare_b sets s
         (two.front ++ two.back) ∷ two.rest,
         went.sound,
         (
-          λ packet is. omega (arith, two.front_total packet (sym (r.likes (first_of two.front)).packet ∙ ap (λ (j : ℕ). (head_of t j).packet) (two.front_first ∙ sym new.1) ∙ is), lens_like s t r.likes (two.front ++ two.back), weigh-append (len_at s) two.front two.back, back_len, off_here a added (two.front ++ two.back) new.1, off_here a 0 (two.front ++ two.back) new.1),
+          λ packet is.
+              let was : (head_of s (first_of two.front)).packet ≡ Some packet = sym (r.likes (first_of two.front)).packet ∙ ap (λ (j : ℕ). (head_of t j).packet) (two.front_first ∙ sym new.1) ∙ is in
+              omega (arith, two.front_total packet was, lens_like s t r.likes (two.front ++ two.back), weigh-append (len_at s) two.front two.back, back_len (headed packet was), off_here a added (two.front ++ two.back) new.1, off_here a 0 (two.front ++ two.back) new.1),
           rest_by t a added 0 two.rest alone_a (went.totals two.rest_totals),
         ),
       );

@@ -6,7 +6,7 @@ use Rattle.std.proofs.lemmas.List.{length-append}
 use Rattle.raw_cells.specs.declared.head.Head.{Head}
 use Rattle.mbuf_pool.specs.Store.{StoreView, head_of}
 use Rattle.mbuf_chain.specs.declared.place.Place.{Place}
-use Rattle.mbuf_chain.specs.declared.place.Extent.{Extent}
+use Rattle.mbuf_chain.specs.declared.place.Segment.{Segment}
 use Rattle.mbuf_chain.specs.Chain.{Entry, ChainView, PoolView, chain_of, no_chain, IsLive, IsPlace, with_chain, without, entry_of, alone}
 use Rattle.mbuf_chain.specs.Steps.{headless, joined}
 use Rattle.mbuf_chain.specs.Cells.{weigh, one, front_of, first_of, IsLinked, IsChain, pool_of, IsPool}
@@ -79,9 +79,9 @@ next_none s c at h pool live place head is =
     omega (arith, l.same, place.within, past (chain_of (pool_of s) c).cells (at.index + 1) (sym (next_is s c at pool live place) ∙ ap (λ (y : Head). y.next) (sym head) ∙ is))
 
 -- ---- where the bytes lie
-pub extent_is : (s : StoreView) (c : ℕ) (at : Place) (h : Head) → Shown s c at → h ≡ head_of s at.cell
-    → ◌≡◌ {A = Extent} (record { start = h.start; len = h.len; cluster = h.cluster }) (record { start = (entry_of (chain_of (pool_of s) c) at.index).start; len = length (entry_of (chain_of (pool_of s) c) at.index).bytes; cluster = (entry_of (chain_of (pool_of s) c) at.index).cluster })
-extent_is s c at h k head = λ i. record {
+pub segment_is : (s : StoreView) (c : ℕ) (at : Place) (h : Head) → Shown s c at → h ≡ head_of s at.cell
+    → ◌≡◌ {A = Segment} (record { start = h.start; len = h.len; cluster = h.cluster }) (record { start = (entry_of (chain_of (pool_of s) c) at.index).start; len = length (entry_of (chain_of (pool_of s) c) at.index).bytes; cluster = (entry_of (chain_of (pool_of s) c) at.index).cluster })
+segment_is s c at h k head = λ i. record {
   start = (ap (λ (y : Head). y.start) head ∙ ap (λ (e : Entry). e.start) (sym k.entry)) i;
   len = (ap (λ (y : Head). y.len) head ∙ k.long) i;
   cluster = (ap (λ (y : Head). y.cluster) head ∙ ap (λ (e : Entry). e.cluster) (sym k.entry)) i;

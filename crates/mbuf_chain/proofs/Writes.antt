@@ -11,7 +11,7 @@ use Rattle.mbuf_pool.proofs.Laws.{store_written}
 use Rattle.mbuf_chain.specs.declared.place.Place.{Place}
 use Rattle.mbuf_chain.specs.Chain.{Entry, PoolView, chain_of, IsLive, IsPlace, IsUnshared, with_chain, entry_of, room_end}
 use Rattle.mbuf_chain.specs.Steps.{with_entry, with_front, with_back, overwritten}
-use Rattle.mbuf_chain.specs.Cells.{weigh, weigh_all, is_at, one, len_at, buffer_of, place_bytes, entry_from, entry_at, entry_over, front_of, refers_at, first_of, IsFit, IsTotal, pool_of, IsPool, room_low, room_high, with_extent, WritesPlace}
+use Rattle.mbuf_chain.specs.Cells.{weigh, weigh_all, is_at, one, len_at, buffer_of, place_bytes, entry_from, entry_at, entry_over, front_of, refers_at, first_of, IsFit, IsTotal, pool_of, IsPool, room_low, room_high, with_segment, WritesPlace}
 use Rattle.mbuf_chain.proofs.Lists.{is_at_other, out_below}
 use Rattle.mbuf_chain.proofs.Changes.{SameCell, same_cell}
 use Rattle.mbuf_chain.proofs.Focused.{Focused, open_on, enter, weigh_has}
@@ -193,7 +193,7 @@ grown s t c start ws at pool live place w fits apart =
 
 -- the entry then: with the bytes behind its own, or in front of them
 pub grown_back : (s t : StoreView) (c n : ℕ) (ws : List ℕ) (at : Place) → Shown s c at → WritesPlace s t c at ((head_of s at.cell).start + (head_of s at.cell).len) ws → n ≡ length ws → (head_of s at.cell).start + (head_of s at.cell).len + length ws ≤ room_high (head_of s at.cell)
-    → entry_from t at.cell (with_extent (head_of t at.cell) (head_of s at.cell).start ((head_of s at.cell).len + n)) ≡ with_back (entry_of (chain_of (pool_of s) c) at.index) ws
+    → entry_from t at.cell (with_segment (head_of t at.cell) (head_of s at.cell).start ((head_of s at.cell).len + n)) ≡ with_back (entry_of (chain_of (pool_of s) c) at.index) ws
 grown_back s t c n ws at k w count fits =
     let h = head_of s at.cell in
     (λ i. record { bytes = take (h.len + count i) (drop h.start (place_bytes t at.cell (w.head i).cluster)); start = h.start; cluster = (w.head i).cluster })
@@ -201,7 +201,7 @@ grown_back s t c n ws at k w count fits =
     ∙ ap (λ (e : Entry). with_back e ws) (sym k.entry)
 
 pub grown_front : (s t : StoreView) (c n start : ℕ) (ws : List ℕ) (at : Place) → Shown s c at → WritesPlace s t c at start ws → n ≡ length ws → start + length ws ≡ (head_of s at.cell).start
-    → entry_from t at.cell (with_extent (head_of t at.cell) start ((head_of s at.cell).len + n)) ≡ with_front (entry_of (chain_of (pool_of s) c) at.index) ws
+    → entry_from t at.cell (with_segment (head_of t at.cell) start ((head_of s at.cell).len + n)) ≡ with_front (entry_of (chain_of (pool_of s) c) at.index) ws
 grown_front s t c n start ws at k w count is =
     let h = head_of s at.cell in
     let less : start ≡ (head_of s at.cell).start - length ws = omega (arith, is) in

@@ -129,8 +129,8 @@ pub record IsFit (h : Head) : Type 0 where
   pub kind : h.kind ≡ 1
 
 -- the head of the same mbuf with other bytes of its room
-abbrev pub with_extent : Head → ℕ → ℕ → Head
-with_extent h start len = record h { start = start; len = len }
+abbrev pub with_segment : Head → ℕ → ℕ → Head
+with_segment h start len = record h { start = start; len = len }
 
 -- an mbuf behind another of its chain says nothing of the packet
 pub record IsFollower (h : Head) : Type 0 where

@@ -46,7 +46,7 @@ fn release(store: &mut Store, cluster: Option<u32>)
     match cluster {
         Some(number) => store.release(number),
         None => {
-            let _ = store.mbufs();
+            store.laws();
         }
     }
 }

@@ -3,7 +3,7 @@ ghost use Rattle.std.specs.Prelude.{◌≡◌, ◌≢◌, ℕ, ◌+◌, ◌<◌,
 ghost use Rattle.mbuf_pool.specs.Store.{IsStore, is_out, head_of};
 ghost use Rattle.mbuf_chain.specs.Chain.{IsLive, IsPlace, chain_of, entry_of, with_chain, entry_in};
 ghost use Rattle.mbuf_chain.specs.Steps.{with_entry, narrowed, placed, with_entry_in};
-ghost use Rattle.mbuf_chain.specs.Cells.{IsPool, IsOff, pool_of, room_low, room_high, with_extent, entry_from};
+ghost use Rattle.mbuf_chain.specs.Cells.{IsPool, IsOff, pool_of, room_low, room_high, with_segment, entry_from};
 
 use crate::place::Place;
 use mbuf_pool::Store;
@@ -37,7 +37,7 @@ pub(crate) fn resize(store: &mut Store, first: u32, at: Place, start: u32, len: 
     ensures pool { IsPool store.new }
     ensures change { pool_of store.new ≡
         with_entry_in (pool_of store.old) first at
-        (entry_from store.old at.cell (with_extent (head_of store.old at.cell) start len)) }
+        (entry_from store.old at.cell (with_segment (head_of store.old at.cell) start len)) }
 {
     let head = store.head(at.cell);
     store.set_head(at.cell, Head { start, len, ..head });

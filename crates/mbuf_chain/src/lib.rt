@@ -19,7 +19,7 @@ mod train;
 pub use car::CarPlace;
 pub use chain::Chain;
 pub use pieces::{Entries, Pieces};
-pub use place::{Extent, Place};
+pub use place::{Segment, Place};
 pub use pool::Pool;
 pub use reclaim::Reclaim;
 pub use train::Train;

@@ -7,7 +7,7 @@ ghost use Rattle.mbuf_chain.specs.Cells.{IsPool, IsWhole, pool_of, cells_from, w
 
 use crate::cells::{bytes_from, count_from, free_from};
 use crate::edit::set_total;
-use crate::place::{Extent, Place};
+use crate::place::{Segment, Place};
 use mbuf_pool::Store;
 use raw_cells::{Head, PacketHeader};
 
@@ -78,7 +78,7 @@ pub(crate) fn first(store: &Store, first: u32) -> Place
     ensures place { IsPlace (chain_of (pool_of store.now) first) result }
     ensures index { result.index ≡ 0 }
 {
-    let _ = store.mbufs();
+    store.laws();
     Place {
         index: 0,
         cell: first,
@@ -120,7 +120,7 @@ pub(crate) fn last(store: &Store, start: u32) -> Place
 }
 
 /// Where the bytes of an mbuf lie.
-pub(crate) fn extent(store: &Store, first: u32, at: Place) -> Extent
+pub(crate) fn segment(store: &Store, first: u32, at: Place) -> Segment
     requires pool { IsPool store.now }
     requires live { IsLive (pool_of store.now) first }
     requires place { IsPlace (chain_of (pool_of store.now) first) at }
@@ -131,9 +131,11 @@ pub(crate) fn extent(store: &Store, first: u32, at: Place) -> Extent
     } }
     ensures known { (c : ℕ) → (entry_in (pool_of store.now) first at).cluster ≡ Some c →
         c < length store.now.clusters }
+    ensures low { room_start (chain_of (pool_of store.now) first) at.index ≤ result.start }
+    ensures high { result.start + result.len ≤ room_end (entry_in (pool_of store.now) first at) }
 {
     let head = store.head(at.cell);
-    Extent {
+    Segment {
         start: head.start,
         len: head.len,
         cluster: head.cluster,
@@ -220,7 +222,8 @@ fn join(store: &mut Store, front: u32, last: Place, back: u32, added: u32)
     requires place { IsPlace (chain_of (pool_of store.old) front) last }
     requires last { last.index + 1 ≡ length (chain_of (pool_of store.old) front).entries }
     requires bare { (chain_of (pool_of store.old) back).front ≡ alone false }
-    requires bytes { added ≡ length (string (chain_of (pool_of store.old) back)) }
+    requires bytes { (chain_of (pool_of store.old) front).front.header ≡ true →
+        added ≡ length (string (chain_of (pool_of store.old) back)) }
     ensures pool { IsPool store.new }
     ensures change { pool_of store.new ≡
         with_chain (without (pool_of store.old) back) front
@@ -232,7 +235,24 @@ fn join(store: &mut Store, front: u32, last: Place, back: u32, added: u32)
     set_total(store, front, added, 0);
 }
 
-/// Links a chain of so many bytes behind another. It loses its packet header.
+/// How many bytes are added to the packet length of a chain that has another linked behind it. Without
+/// packet header nothing is added up.
+pub(crate) fn added_by(store: &Store, front: u32, back: u32) -> u32
+    requires pool { IsPool store.now }
+    requires front { IsLive (pool_of store.now) front }
+    requires back { IsLive (pool_of store.now) back }
+    ensures { (chain_of (pool_of store.now) front).front.header ≡ true →
+        result ≡ length (string (chain_of (pool_of store.now) back)) }
+{
+    if has_header(store, front) {
+        bytes_of(store, back)
+    } else {
+        0
+    }
+}
+
+/// Links a chain behind another. It loses its packet header. Where the other has one, `added` is how many
+/// bytes the chain has.
 pub(crate) fn link(store: &mut Store, front: u32, last: Place, back: u32, added: u32) -> Place
     requires pool { IsPool store.old }
     requires front { IsLive (pool_of store.old) front }
@@ -240,7 +260,8 @@ pub(crate) fn link(store: &mut Store, front: u32, last: Place, back: u32, added:
     requires apart { front ≢ back }
     requires place { IsPlace (chain_of (pool_of store.old) front) last }
     requires last { last.index + 1 ≡ length (chain_of (pool_of store.old) front).entries }
-    requires bytes { added ≡ length (string (chain_of (pool_of store.old) back)) }
+    requires bytes { (chain_of (pool_of store.old) front).front.header ≡ true →
+        added ≡ length (string (chain_of (pool_of store.old) back)) }
     ensures pool { IsPool store.new }
     ensures change { pool_of store.new ≡
         with_chain (without (pool_of store.old) back) front

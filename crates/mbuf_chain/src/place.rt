@@ -12,7 +12,7 @@ pub struct Place {
 
 /// Where the bytes of an mbuf lie.
 #[derive(Clone, Copy, Debug, PartialEq, Eq)]
-pub struct Extent {
+pub struct Segment {
     /// Where they begin: in the mbuf, or in its cluster.
     pub start: u32,
     /// How many they are.

@@ -10,7 +10,7 @@ ghost use Rattle.mbuf_chain.specs.Frames.{IsBounded};
 use crate::chain::Chain;
 use crate::links::PACKET_START;
 use crate::pieces::{Entries, Pieces};
-use crate::place::{Extent, Place};
+use crate::place::{Segment, Place};
 use crate::{data, edit, links, make, pieces};
 use mbuf_pool::{NoBufs, Store};
 use std::marker::Model;
@@ -48,8 +48,15 @@ impl Pool {
           chains = finmap.empty;
         } }
     {
-        let _ = store.mbufs();
+        store.laws();
         Pool { store }
+    }
+
+    /// What always holds of a pool. It takes no step.
+    pub const fn laws(&self)
+        ensures { IsBounded self.now }
+    {
+        self.store.laws();
     }
 
     /// How many mbufs are free.
@@ -185,7 +192,7 @@ impl Pool {
     }
 
     /// Where the bytes of an mbuf lie, and how many they are.
-    pub fn extent(&self, chain: &Chain, at: Place) -> Extent
+    pub fn segment(&self, chain: &Chain, at: Place) -> Segment
         requires live { IsLive self.now chain.now }
         requires place { IsPlace (chain_of self.now chain.now) at }
         ensures value { result ≡ record {
@@ -195,8 +202,10 @@ impl Pool {
         } }
         ensures known { (c : ℕ) → (entry_in self.now chain.now at).cluster ≡ Some c →
             c < self.now.clusters }
+        ensures low { room_start (chain_of self.now chain.now) at.index ≤ result.start }
+        ensures high { result.start + result.len ≤ room_end (entry_in self.now chain.now at) }
     {
-        links::extent(&self.store, chain.first, at)
+        links::segment(&self.store, chain.first, at)
     }
 
     /// Leaves `keep` of an mbuf's bytes, behind the first `skip`. An emptied mbuf stays.
@@ -361,8 +370,8 @@ impl Pool {
     }
 
     /// Links a chain behind the last mbuf of another. It loses its packet header. The answer is the
-    /// place of its first mbuf in the whole. A chain that has no packet header is walked for its length;
-    /// `link_counted` is told it.
+    /// place of its first mbuf in the whole. Where the front has a packet header, and the chain behind it has
+    /// none, that one is walked for its length; `link_counted` is told it.
     pub fn link(&mut self, chain: &Chain, last: Place, back: Chain) -> Place
         requires front { IsLive self.old chain.now }
         requires back { IsLive self.old back }
@@ -376,8 +385,8 @@ impl Pool {
         ensures index { result.index ≡ last.index + 1 }
     {
         let Chain { first } = back;
-        let len = links::bytes_of(&self.store, first);
-        links::link(&mut self.store, chain.first, last, first, len)
+        let added = links::added_by(&self.store, chain.first, first);
+        links::link(&mut self.store, chain.first, last, first, added)
     }
 
     /// Links a chain of `len` bytes behind the last mbuf of another, as `link` does. It takes the same few

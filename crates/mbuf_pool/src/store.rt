@@ -180,6 +180,13 @@ impl Store {
         }
     }
 
+    /// What always holds of a store. It takes no step.
+    pub const fn laws(&self)
+        ensures { IsStore self.now }
+    {
+        let _ = &self.region;
+    }
+
     /// How many mbufs there are, 1 to 65,535.
     pub fn mbufs(&self) -> u32
         ensures value { result ≡ length self.now.mbufs }

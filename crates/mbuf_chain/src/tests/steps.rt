@@ -47,7 +47,7 @@ fn must_be_unshared(rt: &impl Abort, pool: &Pool, chain: &Chain, at: Place)
     requires place { IsPlace (chain_of pool.now chain.now) at }
     ensures { IsUnshared pool.now (entry_of (chain_of pool.now chain.now) at.index) }
 {
-    if let Some(cluster) = pool.extent(chain, at).cluster {
+    if let Some(cluster) = pool.segment(chain, at).cluster {
         assert_eq!(rt; pool.count(cluster), 1, "the cluster is shared");
     }
 }
@@ -59,10 +59,10 @@ pub(super) fn put_back(rt: &impl Abort, pool: &mut Pool, chain: &Chain, at: Plac
     ensures place { IsPlace (chain_of pool.new chain.now) at }
     ensures live { (k : ℕ) → IsLive pool.old k → IsLive pool.new k }
 {
-    let extent = pool.extent(chain, at);
-    let end = if extent.cluster.is_some() { 2048 } else { 128 };
+    let segment = pool.segment(chain, at);
+    let end = if segment.cluster.is_some() { 2048 } else { 128 };
     assert!(rt; bytes.len() <= 2048);
-    assert!(rt; u64::from(extent.start) + u64::from(extent.len) + bytes.len() as u64 <= end);
+    assert!(rt; u64::from(segment.start) + u64::from(segment.len) + bytes.len() as u64 <= end);
     must_be_unshared(rt, pool, chain, at);
     pool.put_back(chain, at, bytes);
 }
@@ -95,7 +95,7 @@ pub(super) fn append(
     ensures place { IsPlace (chain_of pool.new chain.now) at }
     ensures live { (k : ℕ) → IsLive pool.old k → IsLive pool.new k }
 {
-    let count = pool.extent(other, from).len;
+    let count = pool.segment(other, from).len;
     assert!(rt; count <= pool.back_room(chain, at));
     must_be_unshared(rt, pool, chain, at);
     pool.append(chain, at, other, from, 0, count);
@@ -115,7 +115,7 @@ pub(super) fn overwrite(
     ensures place { IsPlace (chain_of pool.new chain.now) at }
     ensures live { (k : ℕ) → IsLive pool.old k → IsLive pool.new k }
 {
-    let len = pool.extent(chain, at).len;
+    let len = pool.segment(chain, at).len;
     assert!(rt; bytes.len() <= 2048 && u64::from(offset) + bytes.len() as u64 <= u64::from(len));
     must_be_unshared(rt, pool, chain, at);
     pool.overwrite(chain, at, offset, bytes);
@@ -126,7 +126,7 @@ pub(super) fn count(rt: &impl Abort, pool: &Pool, chain: &Chain, at: Place) -> u
     requires live { IsLive pool.now chain.now }
     requires place { IsPlace (chain_of pool.now chain.now) at }
 {
-    match pool.extent(chain, at).cluster {
+    match pool.segment(chain, at).cluster {
         Some(cluster) => pool.count(cluster),
         None => panic!(rt; "the mbuf has no cluster"),
     }
@@ -147,7 +147,7 @@ pub(super) fn narrow(
     ensures live { (k : ℕ) → IsLive pool.old k → IsLive pool.new k }
     ensures others { (k : ℕ) → k ≢ chain.now → chain_of pool.new k ≡ chain_of pool.old k }
 {
-    let len = pool.extent(chain, at).len;
+    let len = pool.segment(chain, at).len;
     assert!(rt; u64::from(skip) + u64::from(keep) <= u64::from(len));
     pool.narrow(chain, at, skip, keep);
 }
@@ -161,8 +161,8 @@ pub(super) fn share(rt: &impl Abort, pool: &mut Pool, chain: &Chain, at: Place) 
     ensures place { IsPlace (chain_of pool.new chain.now) at }
     ensures live { (k : ℕ) → IsLive pool.old k → IsLive pool.new k }
 {
-    let extent = pool.extent(chain, at);
-    assert!(rt; extent.cluster.is_some());
-    pool.new_shared(false, chain, at, 0, extent.len)
+    let segment = pool.segment(chain, at);
+    assert!(rt; segment.cluster.is_some());
+    pool.new_shared(false, chain, at, 0, segment.len)
         .expect(rt, "an mbuf is free")
 }

@@ -1,7 +1,7 @@
 use Rattle.std.proofs.Common.{arith, ap, subst, ◌∙◌}
 use Rattle.raw_cells.specs.declared.head.Head.{Head}
 use Rattle.mbuf_pool.specs.Store.{SetsHead}
-use Rattle.mbuf_chain.specs.Cells.{with_extent}
+use Rattle.mbuf_chain.specs.Cells.{with_segment}
 use Rattle.mbuf_chain.proofs.Heads.{shown_at, resized}
 use Rattle.mbuf_chain.proofs.edit.resize.Goals as goal
 
@@ -16,14 +16,14 @@ set_total-requires-clause-off c =
     let s = c.args.store.now in
     let at = c.args.at in
     (resized s c.set_head.new.self c.args.first c.args.len c.head-head.result.len c.args.start c.args.len at c.requires.pool c.requires.live c.requires.place
-    (subst (λ (h : Head). SetsHead s c.set_head.new.self at.cell (with_extent h c.args.start c.args.len)) c.head-head.ensures.value c.set_head.ensures.change) c.set_head.ensures.store c.requires.low c.requires.high (omega (arith, ap (λ (h : Head). h.len) c.head-head.ensures.value))).off
+    (subst (λ (h : Head). SetsHead s c.set_head.new.self at.cell (with_segment h c.args.start c.args.len)) c.head-head.ensures.value c.set_head.ensures.change) c.set_head.ensures.store c.requires.low c.requires.high (omega (arith, ap (λ (h : Head). h.len) c.head-head.ensures.value))).off
 
 pub set_total-requires-clause-live : goal.set_total-requires-clause-live
 set_total-requires-clause-live c =
     let s = c.args.store.now in
     let at = c.args.at in
     (resized s c.set_head.new.self c.args.first c.args.len c.head-head.result.len c.args.start c.args.len at c.requires.pool c.requires.live c.requires.place
-    (subst (λ (h : Head). SetsHead s c.set_head.new.self at.cell (with_extent h c.args.start c.args.len)) c.head-head.ensures.value c.set_head.ensures.change) c.set_head.ensures.store c.requires.low c.requires.high (omega (arith, ap (λ (h : Head). h.len) c.head-head.ensures.value))).live
+    (subst (λ (h : Head). SetsHead s c.set_head.new.self at.cell (with_segment h c.args.start c.args.len)) c.head-head.ensures.value c.set_head.ensures.change) c.set_head.ensures.store c.requires.low c.requires.high (omega (arith, ap (λ (h : Head). h.len) c.head-head.ensures.value))).live
 
 pub set_total-requires-clause-few : goal.set_total-requires-clause-few
 set_total-requires-clause-few c = omega (arith, (shown_at _ _ _ c.requires.pool c.requires.live c.requires.place).small, ap (λ (h : Head). h.len) c.head-head.ensures.value)
@@ -33,4 +33,4 @@ returns-clause-change c =
     let s = c.args.store.now in
     let at = c.args.at in
     c.set_total.ensures.same ∙ (resized s c.set_head.new.self c.args.first c.args.len c.head-head.result.len c.args.start c.args.len at c.requires.pool c.requires.live c.requires.place
-    (subst (λ (h : Head). SetsHead s c.set_head.new.self at.cell (with_extent h c.args.start c.args.len)) c.head-head.ensures.value c.set_head.ensures.change) c.set_head.ensures.store c.requires.low c.requires.high (omega (arith, ap (λ (h : Head). h.len) c.head-head.ensures.value))).map_is
+    (subst (λ (h : Head). SetsHead s c.set_head.new.self at.cell (with_segment h c.args.start c.args.len)) c.head-head.ensures.value c.set_head.ensures.change) c.set_head.ensures.store c.requires.low c.requires.high (omega (arith, ap (λ (h : Head). h.len) c.head-head.ensures.value))).map_is

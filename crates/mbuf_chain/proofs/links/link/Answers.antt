@@ -22,8 +22,8 @@ pub join-requires-clause-bare : goal.join-requires-clause-bare
 join-requires-clause-bare c = (bared _ _ _ _ c.requires.apart c.requires.front c.requires.back c.strip.ensures.change).bare
 
 pub join-requires-clause-bytes : goal.join-requires-clause-bytes
-join-requires-clause-bytes c =
-    c.requires.bytes
+join-requires-clause-bytes c = λ headed.
+    c.requires.bytes (sym (ap (λ (v : ChainView). v.front.header) (bared _ _ _ _ c.requires.apart c.requires.front c.requires.back c.strip.ensures.change).front_same) ∙ headed)
     ∙ sym (ap (λ (q : PoolView). length (string (chain_of q c.args.back))) c.strip.ensures.change
     ∙ ap (λ (v : ChainView). length (string v)) (chain_here (pool_of c.args.store.now) c.args.back (headless (chain_of (pool_of c.args.store.now) c.args.back))))
 
