@@ -3,7 +3,7 @@ use Rattle.std.proofs.Common.{◌≡◌, ℕ, ◌+◌, ◌-◌, ◌<◌, ◌≤�
 use Rattle.std.specs.Prelude.{◌&&◌, nat_le}
 use Rattle.std.specs.List.{range_with_len}
 use Rattle.std.proofs.lemmas.Bool.{leb-true, and_parts}
-use Rattle.flat_model.specs.Weight.{Weight, ◌⊕◌}
+use Rattle.flat_model.specs.Weight.{Weight, ◌⊕◌, SameWeight}
 use Rattle.flat_model.specs.State.{State}
 use Rattle.flat_model.specs.Layout.{Need}
 use Rattle.flat_model.specs.Ledger as flat
@@ -12,12 +12,12 @@ use Rattle.flat_model.specs.declared.config.Config.{Config}
 use Rattle.mbuf_chain.specs.Chain.{PoolView, held_mbufs, free_clusters}
 use Rattle.mbuf_chain.specs.Owners.{IsAll}
 use Rattle.mbuf_chain.proofs.Ledger.{held_by_owners, references_by_owners}
-use Rattle.ledger.specs.Accounts.{weight_owned, Balances, IsAccounted}
+use Rattle.ledger.specs.Accounts.{weight_owned, IsAccounted}
 use Rattle.ledger.specs.Reserve.{are_free}
 use Rattle.ledger.proofs.Weights.{owned_mbufs, owned_bag}
 
 -- ---- where each chain stands once in the owners' lists, and these weigh what the state and `held` weigh, the pool accounts for both
-pub accounted_all : (p : PoolView) (s : State) (held : Weight) (all : List ℕ) → IsAll p all → s.config.mbufs ≡ p.mbufs → s.config.clusters ≡ p.clusters → Balances (weight_owned p all) (weight_of_state s ⊕ held) → IsAccounted p s held
+pub accounted_all : (p : PoolView) (s : State) (held : Weight) (all : List ℕ) → IsAll p all → s.config.mbufs ≡ p.mbufs → s.config.clusters ≡ p.clusters → SameWeight (weight_owned p all) (weight_of_state s ⊕ held) → IsAccounted p s held
 accounted_all p s held all h m c b = record {
   mbufs = m;
   clusters = c;
@@ -50,7 +50,7 @@ pub enough_clusters : (p : PoolView) (mbufs clusters : ℕ) → are_free p mbufs
 enough_clusters p mbufs clusters e = leb-true clusters (free_clusters p) (and_parts (nat_le mbufs (p.mbufs - held_mbufs p)) (nat_le clusters (free_clusters p)) e).1
 
 -- ---- the same pool beside another state, and another weight held
-pub accounted_as : {p : PoolView} {s t : State} {held kept : Weight} → IsAccounted p s held → t.config ≡ s.config → Balances (weight_of_state s ⊕ held) (weight_of_state t ⊕ kept) → IsAccounted p t kept
+pub accounted_as : {p : PoolView} {s t : State} {held kept : Weight} → IsAccounted p s held → t.config ≡ s.config → SameWeight (weight_of_state s ⊕ held) (weight_of_state t ⊕ kept) → IsAccounted p t kept
 accounted_as a e b = record {
   mbufs = ap (λ (c : Config). c.mbufs) e ∙ a.mbufs;
   clusters = ap (λ (c : Config). c.clusters) e ∙ a.clusters;

@@ -1,8 +1,7 @@
--- The laws that crates above may cite.
+-- The laws that crates above may cite. Those on weights alone, as of a bag of two together, are flat_model's.
 
--- Weights: what an owner's chains weigh is the sum over them; a bag of two together; two lists of chains together; weights that balance.
-pub use Rattle.ledger.proofs.Weights.{owned_mbufs, owned_bag, owned-append, times-both}
-pub use Rattle.ledger.proofs.Weights.{balances_refl, balances_sym, balances_trans, balances_both}
+-- What an owner's chains weigh is the sum over them.
+pub use Rattle.ledger.proofs.Weights.{owned_mbufs, owned_bag}
 -- Accounts: from the owners of all chains; beside another state of the same weight; what is free is what the machine says is free.
 pub use Rattle.ledger.proofs.Accounts.{accounted_all, accounted_as, free_mbufs_are, free_clusters_are, test_is}
 -- A test that passed: so many are free.

@@ -1,7 +1,7 @@
 -- A test of the pool is the machine's, for each state whose accounts the pool keeps.
 use Rattle.std.proofs.Common.{◌≡◌, ℕ, Bool, true, false, List, [], ◌∷◌, length, refl, sym, ◌∙◌, subst, arith, inl, inr}
 use Rattle.flat_model.specs.Count.{more_by}
-use Rattle.flat_model.specs.Weight.{Weight, Item, mbuf, nothing, ◌⊕◌, all_of}
+use Rattle.flat_model.specs.Weight.{Weight, Item, mbuf, nothing, ◌⊕◌, all_of, SameWeight}
 use Rattle.flat_model.specs.Whole.{weight_of_pieces}
 use Rattle.flat_model.specs.State.{State, Socket, Datagram, Unfinished}
 use Rattle.flat_model.specs.Layout.{Need}
@@ -9,10 +9,10 @@ use Rattle.flat_model.specs.Ledger.{weight_of_state, exact_ledger, Affords, recl
 use Rattle.flat_model.specs.declared.counters.Counters.{Counters}
 use Rattle.mbuf_chain.specs.Chain.{PoolView}
 use Rattle.mbuf_chain.specs.Owners.{IsOwned, Moves}
-use Rattle.ledger.specs.Accounts.{weight_owned, Balances, IsAccounted, Shifts}
+use Rattle.flat_model.proofs.Laws.{times-both}
+use Rattle.ledger.specs.Accounts.{weight_owned, IsAccounted, Shifts}
 use Rattle.ledger.specs.Reserve.{are_free, Reserves}
 use Rattle.ledger.proofs.Accounts.{test_is}
-use Rattle.ledger.proofs.Weights.{times-both}
 use Rattle.ledger.proofs.Moved.{accounted_after}
 
 -- what the unfinished datagrams of a state weigh
@@ -28,7 +28,7 @@ reserves_at_once {p} {need} s held us c enough is_us is_c b =
     (record { affords = inl (sym (test_is p s held need b ∙ enough), refl); accounted = b })
 
 -- ---- all that waited is given back, and the test is made once more
-shifts_reclaimed : (p q : PoolView) (s : State) (held : Weight) (waited : List ℕ) → Balances (weight_owned p waited) (weight_of_unfinished s.unfinished) → Shifts s held (weight_owned p waited) (reclaimed s) held (weight_owned q [])
+shifts_reclaimed : (p q : PoolView) (s : State) (held : Weight) (waited : List ℕ) → SameWeight (weight_owned p waited) (weight_of_unfinished s.unfinished) → Shifts s held (weight_owned p waited) (reclaimed s) held (weight_owned q [])
 shifts_reclaimed p q s held waited w =
     let u : Weight = weight_of_unfinished s.unfinished in
     let queued : Weight = all_of (λ (socket : Socket). all_of (λ (d : Datagram). d.item.weight) socket.queue) s.sockets in
@@ -53,7 +53,7 @@ no_length (x ∷ xs) e = absurd (omega arith)
 pub record GivesBack (p : PoolView) (waited : List ℕ) (us : List Unfinished) (c : Counters) (q : PoolView) (vs : List Unfinished) (d : Counters) : Type 0 where
   pub moves : Moves p waited q []
   pub owned : IsOwned p waited
-  pub weighs : Balances (weight_owned p waited) (weight_of_unfinished us)
+  pub weighs : SameWeight (weight_owned p waited) (weight_of_unfinished us)
   pub none : length vs ≡ 0
   pub counters : d ≡ record c { ip_reclaimed = more_by (length us) c.ip_reclaimed }
 
@@ -61,7 +61,7 @@ pub reserves_again : {p q : PoolView} {need : Need} {waited : List ℕ} {us vs :
     → GivesBack p waited us c q vs d → are_free p need.mbufs need.clusters ≡ false → answer ≡ are_free q need.mbufs need.clusters
     → s.unfinished ≡ us → s.counters ≡ c → IsAccounted p s held → Reserves s held need answer (record s { unfinished = vs; counters = d }) q
 reserves_again {p} {q} {need} {waited} {us} {vs} {c} {d} s held answer g lacking is is_us is_c b =
-    let w : Balances (weight_owned p waited) (weight_of_unfinished s.unfinished) = subst (λ (x : List Unfinished). Balances (weight_owned p waited) (weight_of_unfinished x)) (sym is_us) g.weighs in
+    let w : SameWeight (weight_owned p waited) (weight_of_unfinished s.unfinished) = subst (λ (x : List Unfinished). SameWeight (weight_owned p waited) (weight_of_unfinished x)) (sym is_us) g.weighs in
     let after : IsAccounted q (reclaimed s) held = accounted_after b g.moves g.owned refl (shifts_reclaimed p q s held waited w) in
     let none : [] ≡ vs = sym (no_length vs g.none) in
     let counted : (reclaimed s).counters ≡ d = (λ i. record (is_c i) { ip_reclaimed = more_by (length (is_us i)) (is_c i).ip_reclaimed }) ∙ sym g.counters in

@@ -1,10 +1,10 @@
 -- Weights of chains, and when two weights balance.
-use Rattle.std.proofs.Common.{◌≡◌, ℕ, ◌+◌, cond, List, [], ◌∷◌, ◌++◌, sum_by, count_by, filter_map, Option, None, Some, refl, sym, ◌∙◌, arith}
+use Rattle.std.proofs.Common.{◌≡◌, ℕ, cond, List, [], ◌∷◌, sum_by, count_by, filter_map, Option, None, Some, refl, arith}
 use Rattle.std.specs.Prelude.{◌==◌}
 use Rattle.std.proofs.lemmas.List.Sums.{sum_by-cons, sum_by-append}
-use Rattle.flat_model.specs.Weight.{Weight, ◌⊕◌, times}
+use Rattle.flat_model.specs.Weight.{times}
 use Rattle.mbuf_chain.specs.Chain.{Entry, PoolView, chain_of, mbufs_of, references_of, refers}
-use Rattle.ledger.specs.Accounts.{weight_of, weight_at, weight_owned, Balances}
+use Rattle.ledger.specs.Accounts.{weight_of, weight_at, weight_owned}
 
 -- ---- sums over an owner's chains are its weight
 pub owned_mbufs : (p : PoolView) (xs : List ℕ) → (weight_owned p xs).mbufs ≡ sum_by (λ k. mbufs_of (chain_of p k)) xs
@@ -29,31 +29,3 @@ owned_bag p c (x ∷ xs) =
       sum_by-cons (λ k. references_of c (chain_of p k)) x xs,
       owned_bag p c xs,
     )
-
--- ---- balances
-pub balances_refl : (a : Weight) → Balances a a
-balances_refl a = record { mbufs = refl; bag = λ c. refl }
-
-pub balances_trans : {a b c : Weight} → Balances a b → Balances b c → Balances a c
-balances_trans x y = record { mbufs = x.mbufs ∙ y.mbufs; bag = λ c. x.bag c ∙ y.bag c }
-
-pub balances_sym : {a b : Weight} → Balances a b → Balances b a
-balances_sym x = record { mbufs = sym x.mbufs; bag = λ c. sym (x.bag c) }
-
-pub times-both : (c : ℕ) (a b : Weight) → times c (a ⊕ b).bag ≡ times c a.bag + times c b.bag
-times-both c a b = sum_by-append (λ j. cond {A = ℕ} (j == c) 1 0) a.bag b.bag
-
-pub balances_both : {a b x y : Weight} → Balances a x → Balances b y → Balances (a ⊕ b) (x ⊕ y)
-balances_both {a} {b} {x} {y} u v = record {
-  mbufs = omega (arith, u.mbufs, v.mbufs);
-  bag = λ c. omega (arith, times-both c a b, times-both c x y, u.bag c, v.bag c);
-}
-
-pub owned-append : (p : PoolView) (xs ys : List ℕ) → Balances (weight_owned p (xs ++ ys)) (weight_owned p xs ⊕ weight_owned p ys)
-owned-append p [] ys = record { mbufs = omega arith; bag = λ c. refl }
-owned-append p (x ∷ xs) ys =
-    let rest = owned-append p xs ys in
-    record {
-      mbufs = omega (arith, rest.mbufs);
-      bag = λ c. omega (arith, rest.bag c, times-both c (weight_at p x) (weight_owned p (xs ++ ys)), times-both c (weight_at p x ⊕ weight_owned p xs) (weight_owned p ys), times-both c (weight_at p x) (weight_owned p xs), times-both c (weight_owned p xs) (weight_owned p ys));
-    }

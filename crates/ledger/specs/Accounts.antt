@@ -29,11 +29,6 @@ weight_owned p xs = all_of (weight_at p) xs
 
 -- ---- accounts
 
--- the same number of mbufs, and each cluster as often
-pub record Balances (a b : Weight) : Type 0 where
-  pub mbufs : a.mbufs ≡ b.mbufs
-  pub bag : (c : ℕ) → times c a.bag ≡ times c b.bag
-
 -- The pool accounts for the state and for the weight held beside it: the totals are those of the configuration, as
 -- many mbufs are held as both weigh, and each cluster is referred to as often as it stands in their bags.
 pub record IsAccounted (p : PoolView) (s : State) (held : Weight) : Type 0 where

@@ -2,11 +2,11 @@
 
 ghost use Rattle.std.specs.Prelude.{◌≡◌, ℕ, List, length};
 ghost use Rattle.flat_model.specs.State.{Unfinished};
-ghost use Rattle.flat_model.specs.Weight.{all_of, mbuf, ◌⊕◌};
+ghost use Rattle.flat_model.specs.Weight.{all_of, mbuf, ◌⊕◌, SameWeight};
 ghost use Rattle.flat_model.specs.Whole.{weight_of_pieces};
 ghost use Rattle.mbuf_chain.specs.Chain.{PoolView};
 ghost use Rattle.mbuf_chain.specs.Frames.{SameAt};
-ghost use Rattle.ledger.specs.Accounts.{weight_owned, Balances};
+ghost use Rattle.ledger.specs.Accounts.{weight_owned};
 
 use mbuf_chain::Reclaim;
 
@@ -29,7 +29,7 @@ pub trait Waiting: Reclaim {
 
     // its chains weigh what the flat machine says: the pieces of each datagram, and an mbuf for its key
     ghost weighs: { (p : PoolView) (s : Self) → Self.is_ready p s →
-        Balances (weight_owned p (Self.owned p s)) (all_of (λ u. mbuf ⊕ weight_of_pieces u.bytes) (unfinished p s)) };
+        SameWeight (weight_owned p (Self.owned p s)) (all_of (λ u. mbuf ⊕ weight_of_pieces u.bytes) (unfinished p s)) };
 
     // a step of somebody else leaves it as it was
     ghost unfinished_same: { (p q : PoolView) (s : Self) → SameAt p q (Self.owned p s) → unfinished q s ≡ unfinished p s };
