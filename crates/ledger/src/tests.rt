@@ -47,7 +47,7 @@ fn shared(rt: &impl Abort, pool: &mut Pool, chain: &Chain) -> Chain
     ensures clusters { pool.new.clusters ≡ pool.old.clusters }
 {
     let at = pool.first(chain);
-    assert!(rt; pool.extent(chain, at).cluster.is_some());
+    assert!(rt; pool.segment(chain, at).cluster.is_some());
     pool.new_shared(true, chain, at, 0, 0)
         .expect(rt, "an mbuf is free")
 }
