@@ -1,5 +1,5 @@
 -- What the look-ups, the checks and a new socket are on each machine.
-use Rattle.std.proofs.Common.{◌≡◌, ◌≢◌, ℕ, ◌<◌, ◌≤◌, Bool, true, false, ◌&&◌, ◌==◌, nat_lt, cond, List, [], ◌∷◌, map, find, length, Option, Some, None, Ok, Err, option_map, is_some, refl, sym, ap, ◌∙◌, subst, arith, All}
+use Rattle.std.proofs.Common.{◌≡◌, ◌≢◌, ℕ, ◌<◌, ◌≤◌, Bool, true, false, ◌&&◌, ◌==◌, not, nat_lt, cond, List, [], ◌∷◌, map, filter, find, length, Option, Some, None, Ok, Err, option_map, is_some, refl, sym, ap, ◌∙◌, subst, arith, All}
 use Rattle.std.specs.Prelude.{IsNone, IsSome}
 use Rattle.std.proofs.lemmas.Bool.{and_parts, true≢false, lt-ltb, eqb-false}
 use Rattle.std.proofs.lemmas.List.{length-map}
@@ -19,9 +19,10 @@ use Rattle.pcb_table.specs.declared.block.Connection.{Connection}
 use Rattle.pcb_table.specs.declared.interface.Interface.{Interface}
 use Rattle.pcb_table.specs.Table.{Queues, IsDescriptor, block_at, machine, packet_sought, socket_with}
 use Rattle.pcb_table.specs.Found.{ChecksDestination, Finds, FindsAll, SendsFrom}
-use Rattle.pcb_table.specs.Search.{plain, best_block, youngest_block, hearing_blocks, block_connect_faults, config_of}
+use Rattle.pcb_table.specs.Search.{does_match, plain, best_block, youngest_block, hearing_blocks, block_connect_faults, config_of}
 use Rattle.pcb_table.specs.Sound.{AreApart, IsCached, IsLocated, IsLowestFree, has_fd}
 use Rattle.pcb_table.specs.Changed.{unbound_block}
+use Rattle.pcb_table.proofs.Descriptors.{named_times, up_to_few, filter_few}
 use Rattle.pcb_table.proofs.Keeping.{addr_same, cached_is_best}
 use Rattle.pcb_table.proofs.Lifted.{best-sockets, youngest-sockets, receivers-sockets, sockets-find}
 use Rattle.pcb_table.proofs.Places.{best_by_fd, found_by_fd, hearing_by_fd, hearing_range, located_found}
@@ -46,6 +47,7 @@ module _ (i : Interface) (bs : List Block) (last : Option ℕ) (q : Sought) wher
   receivers_all apart = record {
     found = hearing_blocks q bs;
     named = refl;
+    once = λ fd. omega (arith, named_times fd (hearing_blocks q bs), up_to_few fd (λ b. not b.reuse_port) (filter (does_match q) bs), filter_few fd (does_match q) bs, apart.fds fd);
     held = hearing_by_fd q bs apart;
     sockets = λ queues. receivers-sockets queues q bs;
   }

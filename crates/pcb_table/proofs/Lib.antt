@@ -1,11 +1,11 @@
-pub mod Searching
-pub mod Pigeons
-pub mod Circle
-pub mod Lifted
-pub mod Places
-pub mod Keeping
-pub mod Steps
-pub mod Finding
-pub mod Opened
-pub mod Queues
-pub mod Faults
+pub mod Laws
+mod Searching
+mod Pigeons
+mod Circle
+mod Lifted
+mod Descriptors
+mod Places
+mod Keeping
+mod Steps
+mod Finding
+mod Opened

@@ -1,13 +1,13 @@
 -- The youngest and the best block of a list, one block further on.
-use Rattle.std.proofs.Common.{◌≡◌, ◌≢◌, ℕ, zero, suc, ◌+◌, ◌<◌, ◌≤◌, Bool, true, false, ◌&&◌, ◌==◌, cond, List, [], ◌∷◌, ◌++◌, take, drop, length, get_or, Option, Some, None, is_some, find, filter, not, count_by, refl, sym, ap, ◌∙◌, subst, arith, ◌⊎◌, inl, inr}
+use Rattle.std.proofs.Common.{◌≡◌, ◌≢◌, ℕ, zero, suc, ◌+◌, ◌<◌, ◌≤◌, Bool, true, false, ◌&&◌, ◌==◌, cond, List, [], ◌∷◌, ◌++◌, take, drop, length, get_or, Option, Some, None, is_some, find, count_by, refl, sym, ap, ◌∙◌, subst, arith, ◌⊎◌, inl, inr}
 use Rattle.std.specs.Option.{option_or}
 use Rattle.std.proofs.lemmas.List.Folds.{find-append}
-use Rattle.std.proofs.lemmas.List.{take_more, take-append-drop, drop_more}
+use Rattle.std.proofs.lemmas.List.{take_more, take-append-drop}
 use Rattle.std.proofs.lemmas.List.Sums.{sum_by-cons}
 use Rattle.std.proofs.lemmas.Bool.{and_parts, false≢true}
-use Rattle.flat_model.specs.Lookup.{Sought, wildcards, one_sided, up_to_first}
+use Rattle.flat_model.specs.Lookup.{Sought, wildcards, one_sided}
 use Rattle.pcb_table.specs.declared.block.Block.{Block}
-use Rattle.pcb_table.specs.Search.{plain, does_match, has_score, youngest_block, best_block, hearing_blocks}
+use Rattle.pcb_table.specs.Search.{plain, does_match, has_score, youngest_block, best_block}
 
 -- ---- one block further on
 
@@ -38,9 +38,6 @@ pub record Seen (q : Sought) (xs : List Block) (found : Option Block) (fewest : 
   pub exact : youngest_block 0 q xs ≡ None
   pub found_is : found ≡ option_or (youngest_block 1 q xs) (youngest_block 2 q xs)
   pub fewest_is : fewest ≡ fewest_of (youngest_block 1 q xs) (youngest_block 2 q xs)
-
-pub seen_none : (q : Sought) → Seen q [] None 3
-seen_none q = record { exact = refl; found_is = refl; fewest_is = refl }
 
 pub seen_from : (q : Sought) (xs : List Block) (found : Option Block) (fewest : ℕ) (one two : Option Block) → youngest_block 0 q xs ≡ None → youngest_block 1 q xs ≡ one → youngest_block 2 q xs ≡ two → found ≡ option_or one two → fewest ≡ fewest_of one two → Seen q xs found fewest
 seen_from q xs found fewest one two none is_one is_two f n = record {
@@ -160,9 +157,6 @@ pub walk_skips : (q : Sought) (xs : List Block) (i : ℕ) (d : Block) (found now
 walk_skips q xs i d found now fewest later lt missed n l s =
     walk_on q xs i d found now fewest later lt n l (seen_skips q (take i xs) (get_or xs i d) found fewest missed s)
 
-pub best_seen : (q : Sought) (xs : List Block) (found : Option Block) (fewest : ℕ) → Seen q xs found fewest → found ≡ best_block q xs
-best_seen q xs found fewest s = s.found_is ∙ sym (ap (λ o. option_or o (option_or (youngest_block 1 q xs) (youngest_block 2 q xs))) s.exact)
-
 -- ---- a block that is found is there
 
 pub counted-cons : {X : Type 0} (p : X → Bool) (x : X) (xs : List X) → count_by p (x ∷ xs) ≡ cond (p x) 1 0 + count_by p xs
@@ -187,14 +181,3 @@ best_counts q bs e = go (youngest_block 0 q bs) (youngest_block 1 q bs) refl ref
     go (Some x) b e f g = found_counts (has_score 0 q) (does_match q) (follows 0) bs (ap is_some e)
     go None (Some x) e f g = found_counts (has_score 1 q) (does_match q) (follows 1) bs (ap is_some f)
     go None None e f g = found_counts (has_score 2 q) (does_match q) (follows 2) bs g
-
--- ---- those that hear
-
--- a walk gave these descriptors, and what is left of the list gives the others
-pub hear_skips : (q : Sought) (xs : List Block) (i : ℕ) (d : Block) → i < length xs → does_match q (get_or xs i d) ≡ false → hearing_blocks q (drop i xs) ≡ hearing_blocks q (drop (i + 1) xs)
-hear_skips q xs i d lt missed =
-    ap (hearing_blocks q) (drop_more xs i d lt) ∙ ap (λ t. up_to_first (λ b. not b.reuse_port) (cond t (get_or xs i d ∷ filter (does_match q) (drop (i + 1) xs)) (filter (does_match q) (drop (i + 1) xs)))) missed
-
-pub hear_here : (q : Sought) (xs : List Block) (i : ℕ) (d : Block) → i < length xs → does_match q (get_or xs i d) ≡ true → hearing_blocks q (drop i xs) ≡ cond (not ((get_or xs i d).reuse_port)) (get_or xs i d ∷ []) (get_or xs i d ∷ hearing_blocks q (drop (i + 1) xs))
-hear_here q xs i d lt met =
-    ap (hearing_blocks q) (drop_more xs i d lt) ∙ ap (λ t. up_to_first (λ b. not b.reuse_port) (cond t (get_or xs i d ∷ filter (does_match q) (drop (i + 1) xs)) (filter (does_match q) (drop (i + 1) xs)))) met

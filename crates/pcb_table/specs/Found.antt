@@ -1,5 +1,6 @@
 -- What look-ups answer, and calls on an open descriptor, as facts on each machine that has the blocks (own).
-use Rattle.std.specs.Prelude.{◌≡◌, ℕ, List, map, All, Option, Some, None, Result, MatchResult}
+use Rattle.std.specs.Prelude.{◌≡◌, ℕ, ◌≤◌, List, map, All, Option, Some, None, Result, MatchResult}
+use Rattle.flat_model.specs.Weight.{times}
 use Rattle.flat_model.specs.State.{State, Socket, change_socket}
 use Rattle.flat_model.specs.Header.{first_fault}
 use Rattle.flat_model.specs.Calls.{GetsPort, IsNextPort, read_addr, source_for}
@@ -15,10 +16,11 @@ Finds search t None = (queues : Queues) → search (sockets_with queues t) ≡ N
 Finds search t (Some fd) =
     (b : Block) × (b.fd ≡ fd) × (block_at fd t ≡ Some b) × ((queues : Queues) → search (sockets_with queues t) ≡ Some (socket_with queues b))
 
--- it finds the sockets of these descriptors, in this order
+-- it finds the sockets of these descriptors, in this order, and none twice
 pub record FindsAll (search : List Socket → List Socket) (t : Table) (fds : List ℕ) : Type 0 where
   pub found : List Block
   pub named : fds ≡ map (λ b. b.fd) found
+  pub once : (fd : ℕ) → times fd fds ≤ 1
   pub held : All (λ b. block_at b.fd t ≡ Some b) found
   pub sockets : (queues : Queues) → search (sockets_with queues t) ≡ map (socket_with queues) found
 

@@ -1,5 +1,5 @@
 -- The control blocks of a machine (volume 2 chapter 22), and the machines that have them (this project's own).
-use Rattle.std.specs.Prelude.{◌≡◌, ◌≢◌, ℕ, ◌==◌, List, map, find, Option, Some, IsSome, IsNone, is_some, unwrap_or, ◌≤◌}
+use Rattle.std.specs.Prelude.{◌≡◌, ℕ, ◌==◌, not, List, ◌∷◌, map, filter, find, Option, Some, IsSome, IsNone, unwrap_or, ◌≤◌}
 use Rattle.flat_model.specs.State.{State, Socket, Datagram}
 use Rattle.flat_model.specs.Lookup.{Sought}
 use Rattle.flat_model.specs.Event.{Event, Reply}
@@ -21,19 +21,23 @@ block_at fd t = find (λ block. block.fd == fd) t.blocks
 abbrev pub IsOpen : ℕ → Table → Type 0
 IsOpen fd t = IsSome (block_at fd t)
 
--- the same descriptors are open
-abbrev pub KeepsOpen : Table → Table → Type 0
-KeepsOpen old new = (fd : ℕ) → is_some (block_at fd new) ≡ is_some (block_at fd old)
+-- the open descriptors, in the order of the blocks
+abbrev pub descriptors : Table → List ℕ
+descriptors t = map (λ b. b.fd) t.blocks
 
+-- the same descriptors are open, in the same order
+abbrev pub KeepsOpen : Table → Table → Type 0
+KeepsOpen old new = descriptors new ≡ descriptors old
+
+-- one more is open, and its block is the youngest
 pub record OpensOnly (old : Table) (fd : ℕ) (new : Table) : Type 0 where
   pub before : IsNone (block_at fd old)
-  pub after : IsOpen fd new
-  pub others : (k : ℕ) → k ≢ fd → is_some (block_at k new) ≡ is_some (block_at k old)
+  pub after : descriptors new ≡ fd ∷ descriptors old
 
+-- this one is no longer open, and the others are in the same order
 pub record ClosesOnly (old : Table) (fd : ℕ) (new : Table) : Type 0 where
   pub before : IsOpen fd old
-  pub after : IsNone (block_at fd new)
-  pub others : (k : ℕ) → k ≢ fd → is_some (block_at k new) ≡ is_some (block_at k old)
+  pub after : descriptors new ≡ filter (λ k. not (k == fd)) (descriptors old)
 
 -- ---- the machines that have these blocks
 

@@ -360,6 +360,4 @@ fn without(cache: Option<Connection>, fd: u32) -> Option<Connection>
 }
 
 #[cfg(test)]
-mod beside_plain;
-#[cfg(test)]
 mod tests;

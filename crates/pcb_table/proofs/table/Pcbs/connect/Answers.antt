@@ -180,4 +180,4 @@ returns-clause-descriptors c =
     subst (λ (cs : List Block). KeepsOpen (table_of i bs last) (table_of i cs last)) (sym g) (set_keeps_open i bs last last c.args.fd index b me at (disconnected_fd b)) in
     let then : KeepsOpen (table_of i gone last) (table_of i new later) =
     subst (λ (cs : List Block). KeepsOpen (table_of i gone last) (table_of i cs later)) (sym written) (set_keeps_open i gone last later c.args.fd index me (connected_block source port to me) there refl) in
-    subst (λ (t : Table). KeepsOpen t (table_of i new later)) c.self.view_is (λ k. then k ∙ first k)
+    subst (λ (t : Table). KeepsOpen t (table_of i new later)) c.self.view_is (then ∙ first)

@@ -1,7 +1,6 @@
-//! The table beside flat_plain's programs, on the same blocks and questions.
-use super::*;
-use crate::block::{Block, Query};
+use flat_model::{Addr, Opt};
 use flat_plain::{Pcb, Sought};
+use pcb_table::{Block, Pcbs, Query};
 use std::alloc::Global;
 use std::process::Abort;
 use std::test::Fail;

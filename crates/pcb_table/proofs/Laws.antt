@@ -1,0 +1,256 @@
+-- For the layers above, which have the receive queues: what a table tells of the machines that have its blocks.
+use Rattle.std.proofs.Common.{◌≡◌, ◌≢◌, ℕ, ◌+◌, Bool, true, false, ◌==◌, ◌&&◌, not, nat_lt, cond, List, [], ◌∷◌, ◌++◌, map, filter, find, Option, Some, None, option_map, is_some, is_none, Result, Ok, Err, refl, sym, ap, ◌∙◌, subst, arith}
+use Rattle.std.specs.Prelude.{IsNone, MatchResult, sum_by, if◌then◌else◌}
+use Rattle.std.specs.List.{range_with_len}
+use Rattle.std.specs.Option.{option_or}
+use Rattle.std.proofs.lemmas.Bool.{eq-eqb, eqb-true, eqb-false, ne_eqb, lt-ltb, true≢false}
+use Rattle.std.proofs.lemmas.List.Sums.{sum_by-cons, sum_by-append}
+use Rattle.std.proofs.lemmas.Option.{none-some, same_Some}
+use Rattle.flat_model.specs.Weight.{Weight, times, all_of}
+use Rattle.flat_model.specs.State.{State, Socket, Datagram, socket_at, change_socket}
+use Rattle.flat_model.specs.Header.{first_fault}
+use Rattle.flat_model.specs.Event.{Reply, Refused}
+use Rattle.flat_model.specs.Calls.{OnSocket, GetsPort}
+use Rattle.flat_model.specs.Cuts.{Part}
+use Rattle.flat_model.specs.Send.{address_faults, counts_send, send_faults, spent, target}
+use Rattle.flat_model.specs.declared.address.Addr.{Addr}
+use Rattle.flat_model.specs.declared.errno.Errno.{Errno}
+use Rattle.flat_model.specs.declared.errno.Errno.TheVariants.{Access, BadDescriptor, DestinationRequired, MessageSize}
+use Rattle.pcb_table.specs.declared.block.Block.{Block}
+use Rattle.pcb_table.specs.Table.{Table, Queues, KeepsOpen, OpensOnly, ClosesOnly, IsOpen, block_at, descriptors, machine, socket_with, sockets_with}
+use Rattle.pcb_table.specs.Found.{ChecksDestination, EnsuresPort}
+use Rattle.pcb_table.specs.Sound.{AreApart, has_fd}
+use Rattle.pcb_table.proofs.Searching.{counted-cons}
+use Rattle.pcb_table.proofs.Descriptors.{named_times, sum_in_range}
+use Rattle.pcb_table.proofs.Lifted.{sockets-find}
+use Rattle.pcb_table.proofs.Opened.{is_some-find}
+use Rattle.pcb_table.proofs.Steps as steps
+
+-- ---- which descriptors are open
+
+-- those of the list
+pub open_times : (fd : ℕ) (t : Table) → is_some (block_at fd t) ≡ nat_lt 0 (times fd (descriptors t))
+open_times fd t = is_some-find (has_fd fd) t.blocks ∙ ap (nat_lt 0) (sym (named_times fd t.blocks))
+
+pub same_open : (old new : Table) → KeepsOpen old new → (fd : ℕ) → is_some (block_at fd new) ≡ is_some (block_at fd old)
+same_open old new keeps fd = open_times fd new ∙ ap (λ fds. nat_lt 0 (times fd fds)) keeps ∙ sym (open_times fd old)
+
+pub opened : (old new : Table) (fd : ℕ) → OpensOnly old fd new → IsOpen fd new
+opened old new fd opens =
+    open_times fd new ∙ ap (λ fds. nat_lt 0 (times fd fds)) opens.after
+    ∙ lt-ltb 0 (times fd (fd ∷ descriptors old)) (omega (arith, counted-cons (λ k. k == fd) fd (descriptors old), ap (λ t. cond {A = ℕ} t 1 0) (eq-eqb fd fd refl)))
+
+pub opened_others : (old new : Table) (fd k : ℕ) → OpensOnly old fd new → k ≢ fd → is_some (block_at k new) ≡ is_some (block_at k old)
+opened_others old new fd k opens ne =
+    open_times k new ∙ ap (λ fds. nat_lt 0 (times k fds)) opens.after
+    ∙ ap (nat_lt 0) (let e : times k (fd ∷ descriptors old) ≡ times k (descriptors old) = omega (arith, counted-cons (λ j. j == k) fd (descriptors old), ap (λ t. cond {A = ℕ} t 1 0) (ne_eqb fd k (λ e. ne (sym e)))) in e)
+    ∙ sym (open_times k old)
+
+-- how often a number stands in a list from which another was taken
+times_filtered : (k fd : ℕ) (xs : List ℕ) → times k (filter (λ x. not (x == fd)) xs) ≡ (if k == fd then 0 else times k xs)
+times_filtered k fd [] = go (k == fd)
+  where
+    go : (t : Bool) → times k [] ≡ cond t 0 (times k [])
+    go true = refl
+    go false = refl
+times_filtered k fd (x ∷ xs) = go (x == fd) refl (k == fd) refl (times_filtered k fd xs)
+  where
+    rest : List ℕ
+    rest = filter (λ y. not (y == fd)) xs
+
+    go : (t : Bool) → (x == fd) ≡ t → (u : Bool) → (k == fd) ≡ u → times k rest ≡ cond u 0 (times k xs) → times k (cond (not t) (x ∷ rest) rest) ≡ cond u 0 (times k (x ∷ xs))
+    go true e true f later = later
+    go true e false f later =
+        let x_is : x ≡ fd = eqb-true x fd e in
+        let k_not : k ≡ fd → ⊥ = eqb-false k fd f in
+        omega (arith, later, counted-cons (λ j. j == k) x xs, ap (λ t. cond {A = ℕ} t 1 0) (ne_eqb x k (λ same. k_not (sym same ∙ x_is))))
+    go false e true f later =
+        let k_is : k ≡ fd = eqb-true k fd f in
+        let x_not : x ≡ fd → ⊥ = eqb-false x fd e in
+        omega (arith, later, counted-cons (λ j. j == k) x rest, ap (λ t. cond {A = ℕ} t 1 0) (ne_eqb x k (λ same. x_not (same ∙ k_is))))
+    go false e false f later = omega (arith, later, counted-cons (λ j. j == k) x rest, counted-cons (λ j. j == k) x xs)
+
+pub closed : (old new : Table) (fd : ℕ) → ClosesOnly old fd new → IsNone (block_at fd new)
+closed old new fd closes =
+    open_times fd new ∙ ap (λ fds. nat_lt 0 (times fd fds)) closes.after
+    ∙ ap (nat_lt 0) (times_filtered fd fd (descriptors old) ∙ ap (λ t. if t then 0 else times fd (descriptors old)) (eq-eqb fd fd refl))
+
+pub closed_others : (old new : Table) (fd k : ℕ) → ClosesOnly old fd new → k ≢ fd → is_some (block_at k new) ≡ is_some (block_at k old)
+closed_others old new fd k closes ne =
+    open_times k new ∙ ap (λ fds. nat_lt 0 (times k fds)) closes.after
+    ∙ ap (nat_lt 0) (times_filtered k fd (descriptors old) ∙ ap (λ t. if t then 0 else times k (descriptors old)) (ne_eqb k fd ne))
+    ∙ sym (open_times k old)
+
+-- ---- the socket of a descriptor
+
+pub socket_found : (rest : State) (queues : Queues) (t : Table) (fd : ℕ) → socket_at fd (machine rest queues t) ≡ option_map (socket_with queues) (block_at fd t)
+socket_found rest queues t fd = sockets-find queues fd t.blocks
+
+-- it is that of this block
+pub record HasBlock (t : Table) (queues : Queues) (fd : ℕ) (me : Socket) : Type 0 where
+  pub block : Block
+  pub at : block_at fd t ≡ Some block
+  pub is : me ≡ socket_with queues block
+
+pub has_block : (rest : State) (queues : Queues) (t : Table) (fd : ℕ) (me : Socket) → socket_at fd (machine rest queues t) ≡ Some me → HasBlock t queues fd me
+has_block rest queues t fd me e = go (block_at fd t) refl
+  where
+    there : option_map (socket_with queues) (block_at fd t) ≡ Some me
+    there = sym (socket_found rest queues t fd) ∙ e
+
+    go : (o : Option Block) → block_at fd t ≡ o → HasBlock t queues fd me
+    go (Some b) f = record { block = b; at = f; is = same_Some me (socket_with queues b) (sym there ∙ ap (option_map (socket_with queues)) f) }
+    go None f = absurd (none-some me (sym (ap (option_map (socket_with queues)) f) ∙ there))
+
+-- a call on a descriptor that isn't open, and on one that is
+pub not_open : (rest : State) (queues : Queues) (t : Table) (fd : ℕ) (Call : Socket → Type 0) → block_at fd t ≡ None → OnSocket fd (machine rest queues t) (Refused BadDescriptor) (machine rest queues t) Call
+not_open rest queues t fd Call e = steps.not_open rest queues t fd Call e
+
+pub on_open : (rest : State) (queues : Queues) (t : Table) (fd : ℕ) (b : Block) (reply : Reply) (new : State) (Call : Socket → Type 0) → block_at fd t ≡ Some b → Call (socket_with queues b) → OnSocket fd (machine rest queues t) reply new Call
+on_open rest queues t fd b reply new Call e call = steps.on_open rest queues t fd b reply new Call e call
+
+-- ---- receive queues
+
+-- queues that agree at the descriptors of the blocks
+agree_at : (f g : Queues) (bs : List Block) → ((fd : ℕ) → is_some (find (has_fd fd) bs) ≡ true → f fd ≡ g fd) → map (socket_with f) bs ≡ map (socket_with g) bs
+agree_at f g [] same = refl
+agree_at f g (b ∷ bs) same = λ i. record (socket_with f b) { queue = same b.fd (here b.fd refl) i } ∷ agree_at f g bs (λ fd found. same fd (later fd (has_fd fd b) found)) i
+  where
+    here : (k : ℕ) → b.fd ≡ k → is_some (cond (b.fd == k) (Some b) (find (has_fd k) bs)) ≡ true
+    here k e = ap (λ t. is_some (cond t (Some b) (find (has_fd k) bs))) (eq-eqb b.fd k e)
+
+    later : (fd : ℕ) (t : Bool) → is_some (find (has_fd fd) bs) ≡ true → is_some (cond t (Some b) (find (has_fd fd) bs)) ≡ true
+    later fd true found = refl
+    later fd false found = found
+
+-- what isn't open has no say
+pub same_machine : (f g : Queues) (t : Table) (rest : State) → ((fd : ℕ) → IsOpen fd t → f fd ≡ g fd) → machine rest f t ≡ machine rest g t
+same_machine f g t rest same = ap (λ (s : List Socket). record (machine rest f t) { sockets = s }) (agree_at f g t.blocks same)
+
+-- Another queue at one descriptor, by what it makes of the old one: `queued` of a datagram, or what `recvfrom` leaves.
+pub queue_changed : (f g : Queues) (t : Table) (rest : State) (fd : ℕ) (change : List Datagram → List Datagram) → g fd ≡ change (f fd) → ((k : ℕ) → k ≢ fd → g k ≡ f k)
+    → machine rest g t ≡ change_socket fd (λ socket. record socket { queue = change socket.queue }) (machine rest f t)
+queue_changed f g t rest fd change here others = ap (λ (s : List Socket). record (machine rest f t) { sockets = s }) (go t.blocks)
+  where
+    at : (b : Block) (u : Bool) → (b.fd == fd) ≡ u → socket_with g b ≡ cond u (record (socket_with f b) { queue = change (f b.fd) }) (socket_with f b)
+    at b true e = ap (λ q. record (socket_with g b) { queue = q }) (ap g (eqb-true b.fd fd e) ∙ here ∙ ap (λ k. change (f k)) (sym (eqb-true b.fd fd e)))
+    at b false e = ap (λ q. record (socket_with g b) { queue = q }) (others b.fd (eqb-false b.fd fd e))
+
+    go : (bs : List Block) → map (socket_with g) bs ≡ map (λ socket. cond (socket.fd == fd) (record socket { queue = change socket.queue }) socket) (map (socket_with f) bs)
+    go [] = refl
+    go (b ∷ bs) = λ i. at b (b.fd == fd) refl i ∷ go bs i
+
+-- what a delivery makes of the machine: `queued` at one socket
+pub delivered : (f g : Queues) (t : Table) (rest : State) (fd : ℕ) (d : Datagram) → g fd ≡ f fd ++ d ∷ [] → ((k : ℕ) → k ≢ fd → g k ≡ f k)
+    → machine rest g t ≡ change_socket fd (λ socket. record socket { queue = socket.queue ++ d ∷ [] }) (machine rest f t)
+delivered f g t rest fd d here others = queue_changed f g t rest fd (λ q. q ++ d ∷ []) here others
+
+-- ---- what the receive queues weigh
+
+module _ (queues : Queues) where
+  abbrev queue_weight : List Datagram → Weight
+  queue_weight q = all_of (λ d. d.item.weight) q
+
+  abbrev all_queues : List Socket → Weight
+  all_queues sockets = all_of (λ socket. queue_weight socket.queue) sockets
+
+  mbufs_of : (bs : List Block) → (all_queues (map (socket_with queues) bs)).mbufs ≡ sum_by (λ fd. (queue_weight (queues fd)).mbufs) (map (λ b. b.fd) bs)
+  mbufs_of [] = refl
+  mbufs_of (b ∷ bs) = omega (arith, mbufs_of bs, sum_by-cons (λ fd. (queue_weight (queues fd)).mbufs) b.fd (map (λ c. c.fd) bs))
+
+  times_of : (c : ℕ) (bs : List Block) → times c (all_queues (map (socket_with queues) bs)).bag ≡ sum_by (λ fd. times c (queue_weight (queues fd)).bag) (map (λ b. b.fd) bs)
+  times_of c [] = refl
+  times_of c (b ∷ bs) = omega (
+    arith,
+    times_of c bs,
+    sum_by-append (λ k. cond {A = ℕ} (k == c) 1 0) (queue_weight (queues b.fd)).bag (all_queues (map (socket_with queues) bs)).bag,
+    sum_by-cons (λ fd. times c (queue_weight (queues fd)).bag) b.fd (map (λ d. d.fd) bs),
+  )
+
+  -- their mbufs, and how often they refer to a cluster, as sums over the descriptors by the age of their blocks
+  pub queued_mbufs : (t : Table) → (all_queues (sockets_with queues t)).mbufs ≡ sum_by (λ fd. (queue_weight (queues fd)).mbufs) (descriptors t)
+  queued_mbufs t = mbufs_of t.blocks
+
+  pub queued_times : (c : ℕ) (t : Table) → times c (all_queues (sockets_with queues t)).bag ≡ sum_by (λ fd. times c (queue_weight (queues fd)).bag) (descriptors t)
+  queued_times c t = times_of c t.blocks
+
+-- A sum over the descriptors by age is one over 3 to 66, where f is 0 at those that aren't open.
+pub by_descriptor : (t : Table) (f : ℕ → ℕ) → AreApart t.blocks → ((fd : ℕ) → block_at fd t ≡ None → f fd ≡ 0) → sum_by f (descriptors t) ≡ sum_by f (range_with_len 3 64)
+by_descriptor t f apart none =
+    sum_in_range f 3 64 (descriptors t)
+    (λ k. omega (arith, named_times k t.blocks, apart.fds k))
+    (λ k some. apart.least k (omega (arith, named_times k t.blocks, some)))
+    (λ k some. apart.most k (omega (arith, named_times k t.blocks, some)))
+    (λ k no. none k (is_None (block_at k t) (open_times k t ∙ ap (nat_lt 0) no)))
+  where
+    is_None : (o : Option Block) → is_some o ≡ false → o ≡ None
+    is_None None e = refl
+    is_None (Some b) e = absurd (true≢false e)
+
+-- ---- sends
+
+-- the first fault of two lists in a row
+pub first_fault-append : {E : Type 0} (faults more : List (Bool × E)) → first_fault (faults ++ more) ≡ option_or (first_fault faults) (first_fault more)
+first_fault-append [] more = refl
+first_fault-append (fault ∷ faults) more = go fault.0 (first_fault-append faults more)
+  where
+    go : (t : Bool) → first_fault (faults ++ more) ≡ option_or (first_fault faults) (first_fault more)
+        → cond t (Some fault.1) (first_fault (faults ++ more)) ≡ option_or (cond t (Some fault.1) (first_fault faults)) (first_fault more)
+    go true e = refl
+    go false e = e
+
+-- the faults of a send to all, which come last
+abbrev pub broadcast_faults : State → Socket → Addr → ℕ → List (Bool × Errno)
+broadcast_faults s me to n =
+    let to_all : Bool = to.ip == s.config.bcast in
+    (to_all && not me.broadcast, Access) ∷ (to_all && nat_lt s.config.mtu (n + 28), MessageSize) ∷ []
+
+-- of a send of at most 9216 bytes to an address: those of the address, and then these
+pub faults_of_given : (s : State) (me : Socket) (a : Addr) (n : ℕ) → nat_lt 9216 n ≡ false
+    → first_fault (send_faults s me (Some a) n) ≡ option_or (first_fault (address_faults s me (Some a))) (first_fault (broadcast_faults s me (target s me (Some a)) n))
+faults_of_given s me a n small =
+    let front : List (Bool × Errno) = (false, DestinationRequired) ∷ (nat_lt 9216 n, MessageSize) ∷ [] in
+    let of_address : List (Bool × Errno) = address_faults s me (Some a) in
+    let last : List (Bool × Errno) = broadcast_faults s me (target s me (Some a)) n in
+    first_fault-append (front ++ of_address) last
+    ∙ ap (λ o. option_or o (first_fault last)) (first_fault-append front of_address ∙ (λ i. option_or (if (small i) then Some MessageSize else None) (first_fault of_address)))
+
+-- of one to the peer: these alone
+pub faults_of_peer : (s : State) (me : Socket) (n : ℕ) → is_some me.peer ≡ true → nat_lt 9216 n ≡ false
+    → first_fault (send_faults s me None n) ≡ first_fault (broadcast_faults s me (target s me None) n)
+faults_of_peer s me n connected small =
+    let last : List (Bool × Errno) = broadcast_faults s me (target s me None) n in
+    λ i. cond (unset me.peer connected i) (Some DestinationRequired) (cond (small i) (Some MessageSize) (first_fault last))
+  where
+    unset : (o : Option Addr) → is_some o ≡ true → is_none o ≡ false
+    unset None e = absurd (true≢false (sym e))
+    unset (Some a) e = refl
+
+-- what `check_destination` answers tells the faults of a send there
+pub checked_faults : (t : Table) (fd : ℕ) (a : Addr) (result : Result Addr Errno) → ChecksDestination t fd a result
+    → (rest : State) (queues : Queues) (b : Block) (n : ℕ) → block_at fd t ≡ Some b → nat_lt 9216 n ≡ false
+    → MatchResult result
+    (λ to. (to ≡ target (machine rest queues t) (socket_with queues b) (Some a))
+    × (first_fault (send_faults (machine rest queues t) (socket_with queues b) (Some a) n) ≡ first_fault (broadcast_faults (machine rest queues t) (socket_with queues b) to n)))
+    (λ errno. first_fault (send_faults (machine rest queues t) (socket_with queues b) (Some a) n) ≡ Some errno)
+checked_faults t fd a (Ok to) checks rest queues b n at small =
+    let s : State = machine rest queues t in
+    let me : Socket = socket_with queues b in
+    let passed = checks rest queues b at in
+    (passed.1, faults_of_given s me a n small ∙ (λ i. option_or (passed.0 i) (first_fault (broadcast_faults s me (sym passed.1 i) n))))
+checked_faults t fd a (Err errno) checks rest queues b n at small =
+    let s : State = machine rest queues t in
+    let me : Socket = socket_with queues b in
+    faults_of_given s me a n small ∙ ap (λ o. option_or o (first_fault (broadcast_faults s me (target s me (Some a)) n))) (checks rest queues b at)
+
+-- what `ensure_port` makes of the machine, of which a send counts its parts too
+pub named_port : (old new : Table) (fd port : ℕ) → EnsuresPort old fd port new
+    → (rest : State) (queues : Queues) (me : Socket) (parts : List Part) → socket_at fd (machine rest queues old) ≡ Some me
+    → (named : State) × GetsPort (machine rest queues old) me.local me.port port named × (spent fd port parts named ≡ machine (counts_send parts rest) queues new)
+named_port old new fd port gives rest queues me parts found =
+    let has = has_block rest queues old fd me found in
+    let named : State = machine rest queues (record old { last_port = gives.last }) in (
+      named,
+      subst (λ (m : Socket). GetsPort (machine rest queues old) m.local m.port port named) (sym has.is) (gives.gets rest queues has.block has.at),
+      sym (gives.changes (counts_send parts rest) queues),
+    )
