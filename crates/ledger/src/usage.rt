@@ -17,8 +17,8 @@ fn counts(pool: &Pool, clusters: u32) -> (u32, u32)
     ensures refs { result.0 ≡ sum (map (references pool.now) (range_with_len 0 clusters)) }
     ensures most { result.1 ≡ fold max 0 (map (references pool.now) (range_with_len 0 clusters)) }
 {
-    // its contract bounds the mbufs, and with them the sum
-    let _ = pool.free_mbufs();
+    // they bound the mbufs, and with them the sum
+    pool.laws();
     let mut refs = 0;
     let mut most = 0;
     'clusters: for cluster in 0..clusters {

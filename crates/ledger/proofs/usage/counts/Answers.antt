@@ -5,7 +5,7 @@ use Rattle.ledger.proofs.usage.counts.Goals as goal
 
 pub overflow_add-refs : goal.overflow_add-refs
 overflow_add-refs c =
-    omega (arith, c.clusters.invariant.refs, c.count-count.ensures, sum_more (references c.args.pool.now) c.clusters.cluster, references_few c.args.pool.now (c.clusters.cluster + 1), c.free_mbufs.ensures.bounds.few, c.free_mbufs.ensures.bounds.small)
+    omega (arith, c.clusters.invariant.refs, c.count-count.ensures, sum_more (references c.args.pool.now) c.clusters.cluster, references_few c.args.pool.now (c.clusters.cluster + 1), c.laws.ensures.few, c.laws.ensures.small)
 
 pub clusters-preserved : goal.clusters-preserved
 clusters-preserved c = record {
