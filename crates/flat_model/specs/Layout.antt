@@ -4,6 +4,7 @@
 use Rattle.std.specs.Prelude.{ℕ, zero, suc, ◌+◌, ◌-◌, ◌*◌, min, max, Bool, true, false, nat_lt, nat_le, if◌then◌else◌, List, [], ◌∷◌, length, drop, sum_by, count_by, filter_map, Option, Some, None}
 use Rattle.flat_model.specs.Weight.{Weight}
 use Rattle.flat_model.specs.Cuts.{Part, cuts}
+use Rattle.flat_model.specs.declared.need.Need as declared
 
 -- an mbuf, by the bytes in it: in its own room or in a cluster
 pub data Room : Type 0 where
@@ -88,9 +89,8 @@ abbrev pub entries_met : List Entry → ℕ → ℕ → List Entry
 entries_met entries a b = meets_from (λ entry. entry.size) 0 entries a b
 
 -- how many free buffers something takes
-pub record Need : Type 0 where
-  pub mbufs : ℕ
-  pub clusters : ℕ
+abbrev pub Need : Type 0
+Need = declared.Need
 
 -- what a layout takes
 abbrev pub need_of : List Room → Need

@@ -4,12 +4,11 @@ use Rattle.std.specs.Prelude.{ℕ, ◌+◌, Bool, true, false, ◌==◌, ◌&&�
 use Rattle.std.specs.Option.{option_or}
 use Rattle.flat_model.specs.State.{Socket}
 use Rattle.flat_model.specs.declared.address.Addr.{Addr}
+use Rattle.flat_model.specs.declared.lookup_key.LookupKey.{LookupKey}
 
--- what is looked for, each part set or not; a packet has all of them set, 0.0.0.0 and port 0 too
-pub record Sought : Type 0 where
-  pub local : Option ℕ
-  pub port : Option ℕ
-  pub peer : Option Addr
+-- what is looked for
+abbrev pub Sought : Type 0
+Sought = LookupKey
 
 -- the same address and port
 abbrev pub is_addr : Addr → Addr → Bool

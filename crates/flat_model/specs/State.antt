@@ -6,6 +6,9 @@ use Rattle.flat_model.specs.Overlay.{Map, empty}
 use Rattle.flat_model.specs.Count.{no_counts, counted}
 use Rattle.flat_model.specs.declared.address.Addr.{Addr}
 use Rattle.flat_model.specs.declared.config.Config.{Config}
+use Rattle.flat_model.specs.declared.config.ConfigFault.{ConfigFault}
+use Rattle.flat_model.specs.declared.config.ConfigFault.TheVariants.{BadSizes, BadConfig}
+use Rattle.flat_model.specs.declared.fragment_key.FragmentKey.{FragmentKey}
 use Rattle.flat_model.specs.declared.counters.Why.{Why}
 use Rattle.flat_model.specs.declared.counters.Counters.{Counters}
 
@@ -41,6 +44,11 @@ pub record IsConfig (c : Config) : Type 0 where
   pub apart : c.addr ≢ c.bcast
   pub first_id : c.first_id < 2 ^ 16
 
+-- why boot refuses one: the sizes are tested first
+abbrev pub IsRefused : Config → ConfigFault → Type 0
+IsRefused c BadSizes = ¬ HasSizes c
+IsRefused c BadConfig = HasSizes c × ¬ IsConfig c
+
 -- a datagram in a receive queue, and who sent it; its weight has the mbuf for that address too
 pub record Datagram : Type 0 where
   pub sender : Addr
@@ -57,12 +65,9 @@ pub record Socket : Type 0 where
   pub reuse_port : Bool
   pub queue : List Datagram
 
--- what says that fragments are of one datagram (RFC 791, section 3.2)
-pub record Key : Type 0 where
-  pub source : ℕ
-  pub destination : ℕ
-  pub id : ℕ
-  pub protocol : ℕ
+-- what says that fragments are of one datagram
+abbrev pub Key : Type 0
+Key = FragmentKey
 
 -- A datagram some of whose fragments have come, and for how many more ticks it is kept. It holds the buffers of its
 -- pieces and one mbuf more.

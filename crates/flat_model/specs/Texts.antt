@@ -1,10 +1,11 @@
 -- The line that each reply is printed as (this project's own).
-use Rattle.std.specs.Prelude.{ℕ, ◌==◌, List, [], ◌∷◌, ◌++◌, flat_map, length, codes, decimal, if◌then◌else◌, Option, Some, None}
+use Rattle.std.specs.Prelude.{ℕ, ◌==◌, List, [], ◌++◌, flat_map, map, length, codes, decimal, if◌then◌else◌, Option, Some, None}
 use Rattle.hex.specs.Hex.{encode_lower}
 use Rattle.flat_model.specs.declared.errno.Errno.{Errno}
 use Rattle.flat_model.specs.declared.errno.Errno.TheVariants.{NoBufs}
 use Rattle.flat_model.specs.declared.counters.Counters.{Counters}
 use Rattle.flat_model.specs.declared.usage.Mbstat.{Mbstat}
+use Rattle.flat_model.specs.Count.{value_of, counter_name, all_counters}
 use Rattle.flat_model.specs.Errnos.{number_of, name_of, lack_name}
 use Rattle.flat_model.specs.Event.{Reply, Done, Opened, Sent, Received, Given, Counted, Shown, Refused}
 use Rattle.flat_model.specs.Grammar.{address_text}
@@ -35,34 +36,7 @@ count name value = record { name = name; value = value }
 
 -- in the order of printing
 abbrev pub counts : Counters → List Count
-counts c =
-    count (codes "ip.total") c.ip_total
-    ∷ count (codes "ip.toosmall") c.ip_toosmall
-    ∷ count (codes "ip.badvers") c.ip_badvers
-    ∷ count (codes "ip.badhlen") c.ip_badhlen
-    ∷ count (codes "ip.options") c.ip_options
-    ∷ count (codes "ip.badsum") c.ip_badsum
-    ∷ count (codes "ip.badlen") c.ip_badlen
-    ∷ count (codes "ip.tooshort") c.ip_tooshort
-    ∷ count (codes "ip.cantforward") c.ip_cantforward
-    ∷ count (codes "ip.badfrag") c.ip_badfrag
-    ∷ count (codes "ip.fragments") c.ip_fragments
-    ∷ count (codes "ip.fragdropped") c.ip_fragdropped
-    ∷ count (codes "ip.fragtimeout") c.ip_fragtimeout
-    ∷ count (codes "ip.reclaimed") c.ip_reclaimed
-    ∷ count (codes "ip.reassembled") c.ip_reassembled
-    ∷ count (codes "ip.noproto") c.ip_noproto
-    ∷ count (codes "udp.hdrops") c.udp_hdrops
-    ∷ count (codes "udp.badlen") c.udp_badlen
-    ∷ count (codes "udp.badsum") c.udp_badsum
-    ∷ count (codes "udp.noport") c.udp_noport
-    ∷ count (codes "udp.noportbcast") c.udp_noportbcast
-    ∷ count (codes "udp.fullsock") c.udp_fullsock
-    ∷ count (codes "ip.localout") c.ip_localout
-    ∷ count (codes "ip.fragmented") c.ip_fragmented
-    ∷ count (codes "out.dropped") c.out_dropped
-    ∷ count (codes "nobufs") c.nobufs
-    ∷ []
+counts c = map (λ counter. count (counter_name counter) (value_of counter c)) all_counters
 
 -- a counter at 0 isn't printed
 abbrev pub count_text : Count → List ℕ

@@ -1,40 +1,57 @@
 ghost use Rattle.std.specs.Prelude.{◌≡◌};
 
+use thiserror::Error;
+
 /// What a refused send lacked.
-#[derive(Clone, Copy, Debug, PartialEq, Eq)]
+#[derive(Clone, Copy, Debug, PartialEq, Eq, Error)]
 pub enum Lack {
     /// The pool has too few buffers.
+    #[error("pool")]
     Pool,
     /// The interface's output queue is full.
+    #[error("queue")]
     Queue,
 }
 
-/// Why a socket call was refused, with the meanings of 4.4BSD's error numbers.
-#[derive(Clone, Copy, Debug, PartialEq, Eq)]
+/// Why a socket call was refused, with the meanings of 4.4BSD's error numbers. It's displayed in the words that 4.4BSD
+/// has for them.
+#[derive(Clone, Copy, Debug, PartialEq, Eq, Error)]
 pub enum Errno {
     /// The descriptor isn't open.
+    #[error("bad file descriptor")]
     BadDescriptor,
     /// The destination is the broadcast address, and the socket may not send there.
+    #[error("permission denied")]
     Access,
     /// The socket is bound already.
+    #[error("invalid argument")]
     Invalid,
     /// All descriptors are open.
+    #[error("too many open files")]
     TooManyFiles,
     /// No datagram is queued, and the call doesn't wait.
+    #[error("resource temporarily unavailable")]
     WouldBlock,
     /// The socket isn't connected, and no destination was given.
+    #[error("destination address required")]
     DestinationRequired,
     /// The datagram is too long.
+    #[error("message too long")]
     MessageSize,
     /// Another socket has the address and port.
+    #[error("address already in use")]
     AddressInUse,
     /// The address isn't one of this machine, or the port to connect to is 0.
+    #[error("can't assign requested address")]
     AddressNotAvailable,
     /// There is no buffer, or no room in the output queue.
+    #[error("no buffer space available ({0})")]
     NoBufs(Lack),
     /// The socket is connected, and a destination was given.
+    #[error("socket is already connected")]
     IsConnected,
     /// No interface leads to the destination.
+    #[error("no route to host")]
     HostUnreachable,
 }
 
@@ -93,5 +110,29 @@ impl Errno {
             Errno::IsConnected => "EISCONN",
             Errno::HostUnreachable => "EHOSTUNREACH",
         }
+    }
+}
+
+#[cfg(test)]
+mod tests {
+    use super::{Errno, Lack};
+    use std::alloc::AllocError;
+
+    #[test]
+    fn displays_the_words_of_the_book(rt: HostRuntime) -> Result<(), AllocError> {
+        // The texts of 4.4BSD's `sys_errlist`, and what was lacking.
+        let rows: [(Errno, &str); 3] = [
+            (Errno::BadDescriptor, "bad file descriptor"),
+            (
+                Errno::NoBufs(Lack::Queue),
+                "no buffer space available (queue)",
+            ),
+            (Errno::HostUnreachable, "no route to host"),
+        ];
+        for (errno, text) in rows {
+            let shown = format!(in rt.alloc(); "{errno}")?;
+            assert_eq!(rt; shown.as_str(), text);
+        }
+        Ok(())
     }
 }

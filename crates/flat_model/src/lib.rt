@@ -6,17 +6,25 @@
 mod address;
 mod checksum;
 mod config;
+mod counter;
 mod counters;
 mod errno;
+mod fragment_key;
+mod lookup_key;
+mod need;
 mod option;
 mod theorems;
 mod usage;
 
 pub use address::Addr;
 pub use checksum::{fold, fold_law};
-pub use config::Config;
+pub use config::{Config, ConfigFault};
+pub use counter::Counter;
 pub use counters::{Counters, Why};
 pub use errno::{Errno, Lack};
+pub use fragment_key::FragmentKey;
+pub use lookup_key::LookupKey;
+pub use need::Need;
 pub use option::Opt;
 pub use theorems::{
     books_balance, cuts_join, exact_is_loose, leads_on, overlay_order, printed_is_run,
