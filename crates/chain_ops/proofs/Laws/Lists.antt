@@ -1,0 +1,37 @@
+-- Laws of lists that operations on chains want.
+use Rattle.std.proofs.Common.{◌≡◌, ℕ, zero, suc, ◌+◌, ◌-◌, ◌<◌, ◌≤◌, min, List, [], ◌∷◌, ◌++◌, length, take, drop, refl, sym, ap, ◌∙◌, arith, inl, inr}
+use Rattle.std.proofs.lemmas.Bool.{cases_lt}
+use Rattle.std.proofs.lemmas.List.{take_all, length-drop, drop-append-le}
+
+pub take_over : (m : ℕ) (xs ys : List ℕ) → take m (xs ++ ys) ≡ take m xs ++ take (m - length xs) ys
+take_over zero [] ys = refl
+take_over (suc m) [] ys = let same : suc m ≡ suc m - 0 = omega arith in ap (λ (k : ℕ). take k ys) same
+take_over zero (x ∷ xs) ys = let none : 0 ≡ 0 - suc (length xs) = omega arith in ap (λ (k : ℕ). take k ys) none
+take_over (suc m) (x ∷ xs) ys =
+    let same : m - length xs ≡ suc m - suc (length xs) = omega arith in
+    ap (λ (zs : List ℕ). x ∷ zs) (take_over m xs ys) ∙ ap (λ (k : ℕ). (x ∷ take m xs) ++ take k ys) same
+
+pub drop_over : (m : ℕ) (xs ys : List ℕ) → length xs ≤ m → drop m (xs ++ ys) ≡ drop (m - length xs) ys
+drop_over m [] ys h = let same : m ≡ m - 0 = omega arith in ap (λ (k : ℕ). drop k ys) same
+drop_over zero (x ∷ xs) ys h = absurd (omega arith)
+drop_over (suc m) (x ∷ xs) ys h =
+    let same : m - length xs ≡ suc m - suc (length xs) = omega arith in
+    drop_over m xs ys (omega arith) ∙ ap (λ (k : ℕ). drop k ys) same
+
+pub take_least : (m : ℕ) (xs : List ℕ) → take m xs ≡ take (min (length xs) m) xs
+take_least m xs = elim (cases_lt m (length xs)) [
+  | inl h ↦ let same : m ≡ min (length xs) m = omega arith in ap (λ (k : ℕ). take k xs) same
+  | inr h ↦ take_all m xs h ∙ sym (take_all (min (length xs) m) xs (omega arith))
+]
+
+-- a piece of which the bytes behind `skip` are copied, as many as are wanted
+pub piece_copied : (piece rest : List ℕ) (skip k want : ℕ) → skip ≤ length piece → k ≡ min (length piece - skip) want
+    → take want (drop skip (piece ++ rest)) ≡ take k (drop skip piece) ++ take (want - k) rest
+piece_copied piece rest skip k want inside is =
+    let p : List ℕ = drop skip piece in
+    let len : length p ≡ length piece - skip = length-drop skip piece in
+    let k' : min (length p) want ≡ k = omega arith in
+    let less : want - length p ≡ want - k = omega arith in
+    ap (take want) (drop-append-le skip piece rest (omega arith)) ∙ take_over want p rest
+    ∙ (λ j. take_least want p j ++ take (less j) rest)
+    ∙ ap (λ (n : ℕ). take n p ++ take (want - k) rest) k'

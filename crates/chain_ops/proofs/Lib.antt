@@ -1,0 +1,9 @@
+mod Lists
+mod CopyWeights
+mod Joins
+mod Splits
+mod Stored
+mod Sent
+mod Trims
+mod Two
+pub mod Laws

@@ -1,0 +1,15 @@
+use Rattle.std.proofs.Common.{◌≡◌, ◌-◌, ◌++◌, length, take, drop}
+use Rattle.mbuf_chain.specs.Chain.{IsPlace, chain_of, with_chain}
+use Rattle.chain_ops.specs.Trims.{without_first}
+use Rattle.chain_ops.proofs.adj.trim_front.Given as goal
+
+abbrev pub invariant-mbufs : goal.invariant-mbufs
+invariant-mbufs l = record {
+  step : l.pool ≡ with_chain l.fn.pool l.chain (record (chain_of l.fn.pool l.chain) { entries = (chain_of l.pool l.chain).entries });
+  all : take l.at.index (chain_of l.pool l.chain).entries ++ without_first l.left (drop l.at.index (chain_of l.pool l.chain).entries)
+      ≡ without_first l.n (chain_of l.fn.pool l.chain).entries;
+  place : IsPlace (chain_of l.pool l.chain) l.at;
+}
+
+abbrev pub decreases-mbufs : goal.decreases-mbufs
+decreases-mbufs l = length (chain_of l.pool l.chain).entries - l.at.index

@@ -1,0 +1,151 @@
+use Rattle.std.proofs.Common.{◌≡◌, ℕ, ◌-◌, ◌++◌, List, [], length, take, drop, arith, ap, sym, refl, ◌∙◌, subst}
+use Rattle.std.specs.Prelude.{slice_set}
+use Rattle.std.proofs.lemmas.List.{length-drop}
+use Rattle.mbuf_chain.specs.declared.place.Segment.{Segment}
+use Rattle.mbuf_chain.specs.Chain.{Entry, ChainView, PoolView, HasBackRoom, chain_of, entry_of}
+use Rattle.mbuf_chain.specs.Steps.{narrowed}
+use Rattle.mbuf_chain.proofs.Moves.{shown_with, kept_with, chain_left}
+use Rattle.mbuf_chain.proofs.AfterStep.{place_after}
+use Rattle.chain_ops.specs.Pulls.{moved}
+use Rattle.chain_ops.proofs.Laws.Steps.{place_in}
+use Rattle.chain_ops.proofs.Trims.{length_now, entries_now}
+use Rattle.chain_ops.proofs.Two.{two_start, two_first, two_second, two_next, kept_next, two_freed, two_linked}
+use Rattle.chain_ops.proofs.Joins.{last_split, one_entry, first_split, pull_moved, part_step, stop_step, entry_now, room_left}
+use Rattle.chain_ops.proofs.pullup.pull.Goals as goal
+
+pub mbufs-init : goal.mbufs-init
+mbufs-init c = record {
+  two = two_start _ _ _ c.requires.front c.requires.back c.requires.apart;
+  front = refl;
+  all = refl;
+  place = c.requires.place;
+  end = c.requires.last;
+  plain = c.requires.plain;
+  room = c.requires.room;
+}
+
+pub narrow-requires-clause-live : goal.narrow-requires-clause-live
+narrow-requires-clause-live c = let two = two_first c.append.new.self _ c.mbufs.invariant.two c.append.ensures in two.live_second
+
+pub narrow-requires-clause-place : goal.narrow-requires-clause-place
+narrow-requires-clause-place c =
+    let kept = kept_with c.mbufs.pool c.append.new.self c.args.into.now _ c.mbufs.back c.append.ensures (λ e. c.mbufs.invariant.two.apart (sym e)) in
+    place_in c.mbufs.pool c.append.new.self _ _ kept c.first-from.ensures.place
+
+pub narrow-requires-clause-within : goal.narrow-requires-clause-within
+narrow-requires-clause-within c =
+    let kept = kept_with c.mbufs.pool c.append.new.self c.args.into.now _ c.mbufs.back c.append.ensures (λ e. c.mbufs.invariant.two.apart (sym e)) in
+    omega (arith, c.if-left-len.true, ap (λ (x : Segment). x.len) c.segment-len.ensures.value, ap (λ (v : ChainView). length (entry_of v c.first-from.result.index).bytes) kept)
+
+pub link-requires-clause-front : goal.link-requires-clause-front
+link-requires-clause-front c =
+    let two = two_first c.append.new.self _ c.mbufs.invariant.two c.append.ensures in
+    let two' = two_second c.narrow.new.self _ two c.narrow.ensures in
+    two'.live_first
+
+pub link-requires-clause-back : goal.link-requires-clause-back
+link-requires-clause-back c =
+    let two = two_first c.append.new.self _ c.mbufs.invariant.two c.append.ensures in
+    let two' = two_second c.narrow.new.self _ two c.narrow.ensures in
+    two'.live_second
+
+pub link-requires-clause-place : goal.link-requires-clause-place
+link-requires-clause-place c =
+    let kept = kept_with c.append.new.self c.narrow.new.self c.mbufs.back _ c.args.into.now c.narrow.ensures c.mbufs.invariant.two.apart in
+    place_in c.append.new.self c.narrow.new.self _ _ kept (place_after _ _ _ _ _ _ c.append.ensures c.mbufs.invariant.place)
+
+pub link-requires-clause-last : goal.link-requires-clause-last
+link-requires-clause-last c =
+    let kept = kept_with c.append.new.self c.narrow.new.self c.mbufs.back _ c.args.into.now c.narrow.ensures c.mbufs.invariant.two.apart in
+    c.mbufs.invariant.end ∙ sym (ap (λ (v : ChainView). length v.entries) kept ∙ length_now _ _ _ _ _ c.append.ensures)
+
+pub returns-then-left-len : goal.returns-then-left-len
+returns-then-left-len c =
+    let v : ChainView = chain_of c.mbufs.pool c.args.into.now in
+    let w : ChainView = chain_of c.mbufs.pool c.mbufs.back in
+    let i : ℕ = c.args.last.index in
+    let j : ℕ = c.first-from.result.index in
+    let two = two_first c.append.new.self _ c.mbufs.invariant.two c.append.ensures in
+    let two' = two_second c.narrow.new.self _ two c.narrow.ensures in
+    let m = two_linked c.link.new.self _ two' c.link.ensures.change in
+    let kept = kept_with c.mbufs.pool c.append.new.self c.args.into.now _ c.mbufs.back c.append.ensures (λ e. c.mbufs.invariant.two.apart (sym e)) in
+    let kept' = kept_with c.append.new.self c.narrow.new.self c.mbufs.back _ c.args.into.now c.narrow.ensures c.mbufs.invariant.two.apart in
+    let shown = shown_with _ c.link.new.self _ _ c.link.ensures.change in
+    let len = ap (λ (x : Segment). x.len) c.segment-len.ensures.value in
+    let front = ap (λ (x : ChainView). x.entries) kept' ∙ entries_now _ _ _ _ _ c.append.ensures in
+    let back = entries_now _ _ _ _ _ c.narrow.ensures ∙ ap (λ (x : ChainView). slice_set x.entries j (narrowed (entry_of x j) c.mbufs.left (c.segment-len.result.len - c.mbufs.left))) kept in
+    record {
+      adds = m.adds;
+      front = ap (λ (x : ChainView). x.front) (shown) ∙ ap (λ (x : ChainView). x.front) (kept' ∙ shown_with c.mbufs.pool _ _ _ c.append.ensures) ∙ c.mbufs.invariant.front;
+      entries = ap (λ (x : ChainView). x.entries) shown ∙ (λ k. front k ++ back k)
+          ∙ part_step v.entries w.entries i j c.mbufs.left c.segment-len.result.len (entry_of w j) (drop 1 w.entries) c.mbufs.invariant.end c.first-from.ensures.index
+          (first_split w c.first-from.result c.first-from.ensures.place c.first-from.ensures.index) len c.mbufs-test.true c.if-left-len.true
+          ∙ c.mbufs.invariant.all;
+    }
+
+pub drop_first-requires : goal.drop_first-requires
+drop_first-requires c = let two = two_first c.append-in-mbufs.new.self _ c.mbufs.invariant.two c.append-in-mbufs.ensures in two.live_second
+
+pub returns-in_default : goal.returns-in_default
+returns-in_default c =
+    let w : ChainView = chain_of c.mbufs.pool c.mbufs.back in
+    let i : ℕ = c.args.last.index in
+    let two = two_first c.append-in-mbufs.new.self _ c.mbufs.invariant.two c.append-in-mbufs.ensures in
+    let m = two_freed c.drop_first.new.pool two c.in_default.ensures.1 in
+    let len = ap (λ (x : Segment). x.len) c.segment-len.ensures.value in
+    let now : ChainView = chain_of c.append-in-mbufs.new.self c.args.into.now in
+    let same : chain_of c.drop_first.new.pool c.args.into.now ≡ now = ap (λ (s : PoolView). chain_of s c.args.into.now) c.in_default.ensures.1 ∙ chain_left c.append-in-mbufs.new.self c.mbufs.back c.args.into.now two.apart in
+    let kept = kept_with c.mbufs.pool c.append-in-mbufs.new.self c.args.into.now _ c.mbufs.back c.append-in-mbufs.ensures (λ e. c.mbufs.invariant.two.apart (sym e)) in
+    let split = first_split w c.first-from.result c.first-from.ensures.place c.first-from.ensures.index in
+    let none : drop 1 w.entries ≡ [] = one_entry w.entries _ (drop 1 w.entries) split (sym (ap (λ (x : ChainView). length x.entries) kept) ∙ c.in_default.ensures.0) in
+    let step = pull_moved c.mbufs.pool c.append-in-mbufs.new.self c.args.into.now c.mbufs.back c.args.last c.first-from.result c.segment-len.result.len c.mbufs.left c.append-in-mbufs.ensures c.mbufs.invariant.place c.first-from.ensures.place c.first-from.ensures.index len c.mbufs-test.true c.if-left-len.false in
+    let end = length_now _ _ _ _ _ c.append-in-mbufs.ensures in
+    record {
+      adds = m.adds;
+      front = ap (λ (x : ChainView). x.front) (same ∙ shown_with c.mbufs.pool _ _ _ c.append-in-mbufs.ensures) ∙ c.mbufs.invariant.front;
+      entries = ap (λ (x : ChainView). x.entries) same
+          ∙ sym (last_split now.entries i (c.mbufs.invariant.end ∙ sym end))
+          ∙ ap (λ (es : List Entry). take i now.entries ++ moved (c.mbufs.left - c.segment-len.result.len) (entry_of now i) es) (sym none)
+          ∙ step ∙ c.mbufs.invariant.all;
+    }
+
+pub mbufs-smaller : goal.mbufs-smaller
+mbufs-smaller c =
+    let w : ChainView = chain_of c.mbufs.pool c.mbufs.back in
+    let kept = kept_with c.mbufs.pool c.append-in-mbufs.new.self c.args.into.now _ c.mbufs.back c.append-in-mbufs.ensures (λ e. c.mbufs.invariant.two.apart (sym e)) in
+    omega (arith, ap (λ (es : List Entry). length es) c.in-Some.ensures.entries, ap (λ (x : ChainView). length (drop 1 x.entries)) kept, length-drop 1 w.entries, c.first-from.ensures.place.within)
+
+pub mbufs-preserved : goal.mbufs-preserved
+mbufs-preserved c =
+    let v : ChainView = chain_of c.mbufs.pool c.args.into.now in
+    let i : ℕ = c.args.last.index in
+    let two = two_first c.append-in-mbufs.new.self _ c.mbufs.invariant.two c.append-in-mbufs.ensures in
+    let next = two_next c.drop_first.new.pool c.in-Some.rest two c.in-Some.ensures in
+    let same = kept_next c.drop_first.new.pool c.in-Some.rest two c.in-Some.ensures in
+    let len = ap (λ (x : Segment). x.len) c.segment-len.ensures.value in
+    let kept = kept_with c.mbufs.pool c.append-in-mbufs.new.self c.args.into.now _ c.mbufs.back c.append-in-mbufs.ensures (λ e. c.mbufs.invariant.two.apart (sym e)) in
+    let step = pull_moved c.mbufs.pool c.append-in-mbufs.new.self c.args.into.now c.mbufs.back c.args.last c.first-from.result c.segment-len.result.len c.mbufs.left c.append-in-mbufs.ensures c.mbufs.invariant.place c.first-from.ensures.place c.first-from.ensures.index len c.mbufs-test.true c.if-left-len.false in
+    let rest = c.in-Some.ensures.entries ∙ ap (λ (x : ChainView). drop 1 x.entries) kept in
+    let entry = ap (λ (x : ChainView). entry_of x i) same ∙ entry_now _ _ _ _ _ c.mbufs.invariant.place.within c.append-in-mbufs.ensures in
+    let left : ℕ = c.mbufs.left - c.segment-len.result.len in
+    record {
+      two = next;
+      front = ap (λ (x : ChainView). x.front) (same ∙ shown_with c.mbufs.pool _ _ _ c.append-in-mbufs.ensures) ∙ c.mbufs.invariant.front;
+      all = (λ j. take i (same j).entries ++ moved left (entry_of (same j) i) (rest j)) ∙ step ∙ c.mbufs.invariant.all;
+      place = place_in c.append-in-mbufs.new.self c.drop_first.new.pool _ _ same (place_after _ _ _ _ _ _ c.append-in-mbufs.ensures c.mbufs.invariant.place);
+      end = c.mbufs.invariant.end ∙ sym (ap (λ (x : ChainView). length x.entries) same ∙ length_now _ _ _ _ _ c.append-in-mbufs.ensures);
+      plain = ap (λ (e : Entry). e.cluster) entry ∙ c.mbufs.invariant.plain;
+      room = subst (λ (e : Entry). HasBackRoom e left) (sym entry) (room_left (entry_of v i) (entry_of (chain_of c.mbufs.pool c.mbufs.back) c.first-from.result.index) c.segment-len.result.len c.mbufs.left c.mbufs.invariant.room len c.if-left-len.false);
+    }
+
+pub returns : goal.returns
+returns c =
+    let v : ChainView = chain_of c.mbufs.pool c.args.into.now in
+    let w : ChainView = chain_of c.mbufs.pool c.mbufs.back in
+    let m = two_linked c.link-2.new.self _ c.mbufs.invariant.two c.link-2.ensures.change in
+    let shown = shown_with _ c.link-2.new.self _ _ c.link-2.ensures.change in
+    record {
+      adds = m.adds;
+      front = ap (λ (x : ChainView). x.front) shown ∙ c.mbufs.invariant.front;
+      entries = ap (λ (x : ChainView). x.entries) shown ∙ stop_step v.entries w.entries c.args.last.index c.mbufs.left c.mbufs.invariant.end (omega arith) ∙ c.mbufs.invariant.all;
+    }

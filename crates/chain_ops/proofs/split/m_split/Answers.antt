@@ -1,0 +1,202 @@
+use Rattle.std.proofs.Common.{◌≡◌, ℕ, ◌+◌, ◌++◌, ◌∷◌, [], Bool, true, false, is_some, None, Some, List, Option, length, take, drop, arith, ap, sym, refl, ◌∙◌, append-nil}
+use Rattle.std.specs.Prelude.{slice_set, is_none, not}
+use Rattle.std.proofs.lemmas.Bool.{true≢false}
+use Rattle.std.proofs.lemmas.List.{take_all, take_more, drop-set-lt, length-set}
+use Rattle.mbuf_chain.specs.declared.place.Segment.{Segment}
+use Rattle.mbuf_chain.specs.Chain.{Entry, ChainView, PoolView, no_entry, alone, chain_of, entry_of, with_chain, flat_bytes}
+use Rattle.mbuf_chain.specs.Steps.{narrowed, first_part}
+use Rattle.mbuf_chain.proofs.Moves.{live_here, live_adds, shown_adds, shown_with, kept_with, chain_here, chain_left}
+use Rattle.mbuf_chain.proofs.AfterStep.{live_beside, live_shown, place_after, apart}
+use Rattle.chain_ops.specs.Splits.{rest_of, split_back, split_need}
+use Rattle.chain_ops.proofs.Lists.{none_behind}
+use Rattle.chain_ops.proofs.Laws.Makes.{makes_new, makes_as, makes_held, makes_mbufs, makes_kept}
+use Rattle.chain_ops.proofs.Laws.Strings.{split_front_bytes, split_back_bytes}
+use Rattle.chain_ops.proofs.Laws.Steps.{place_in, kept_adds}
+use Rattle.chain_ops.proofs.Trims.{entries_now, length_now}
+use Rattle.chain_ops.proofs.Two.{two_new, two_first, two_moved, two_parts}
+use Rattle.chain_ops.proofs.Splits.{front_done, back_done, need_done, rest-none, whole_entry, is_end}
+use Rattle.chain_ops.proofs.split.m_split.Goals as goal
+
+no_next : {A : Type 0} (o : Option A) (b : Bool) → is_some o ≡ not b → b ≡ true → is_none o ≡ true
+no_next None b e t = refl
+no_next (Some x) b e t = absurd (true≢false (e ∙ ap not t))
+
+pub narrow-requires-clause-live : goal.narrow-requires-clause-live
+narrow-requires-clause-live c = let two = two_new c.args.chain.now c.requires.live c.in_ok-head.ensures.ok in two.live_first
+
+pub narrow-requires-clause-place : goal.narrow-requires-clause-place
+narrow-requires-clause-place c = place_in c.args.pool.now c.new_head.new.pool _ _ (makes_kept c.args.chain.now c.in_ok-head.ensures.ok c.requires.live) c.find_cut-off.ensures.place
+
+pub narrow-requires-clause-within : goal.narrow-requires-clause-within
+narrow-requires-clause-within c =
+    omega (arith, c.find_cut-off.ensures.within, ap (λ (v : ChainView). length (entry_of v c.find_cut-off.result.0.index).bytes) (makes_kept c.args.chain.now c.in_ok-head.ensures.ok c.requires.live))
+
+pub next-requires-2-clause-live : goal.next-requires-2-clause-live
+next-requires-2-clause-live c = live_shown _ _ _ _ c.narrow.ensures
+
+pub next-requires-2-clause-place : goal.next-requires-2-clause-place
+next-requires-2-clause-place c =
+    place_after _ _ _ _ _ _ c.narrow.ensures (place_in c.args.pool.now c.new_head.new.pool _ _ (makes_kept c.args.chain.now c.in_ok-head.ensures.ok c.requires.live) c.find_cut-off.ensures.place)
+
+pub returns-then-off-len-clause-ok : goal.returns-then-off-len-clause-ok
+returns-then-off-len-clause-ok c =
+    let p : PoolView = c.args.pool.now in
+    let k : ℕ = c.args.chain.now in
+    let v : ChainView = chain_of p k in
+    let i : ℕ = c.find_cut-off.result.0.index in
+    let off : ℕ = c.find_cut-off.result.1 in
+    let e : Entry = entry_of v i in
+    let place = c.find_cut-off.ensures.place in
+    let z : off ≡ length e.bytes = c.if-off-len.true ∙ ap (λ (x : Segment). x.len) c.segment-len.ensures.value in
+    let h : v.front.header ≡ false = sym c.has_header-header.ensures ∙ c.if-not-header.true in
+    let here : chain_of c.cut.new.self k ≡ first_part (i + 1) v =
+    kept_adds _ c.cut.new.self c.cut.result k _ c.cut.ensures (live_here p k (first_part (i + 1) v)) ∙ chain_here p k (first_part (i + 1) v) in
+    let m = makes_new c.cut.ensures in
+    record {
+      made = makes_as (with_chain p k (chain_of c.cut.new.self k)) (alone v.front.header) (split_back v.front.header v.entries c.args.at) m (ap (with_chain p k) (sym here)) (ap alone (sym h))
+          (sym (c.find_cut-off.ensures.back v.front.header ∙ sym (back_done v c.find_cut-off.result.0 off v.front.header place c.find_cut-off.ensures.within)
+          ∙ ap (λ (b : Bool). rest_of b e off ++ drop (i + 1) v.entries) h ∙ ap (λ (es : List Entry). es ++ drop (i + 1) v.entries) (rest-none e off z)));
+      front = ap (λ (x : ChainView). x.front) here;
+      entries = ap (λ (x : ChainView). x.entries) here ∙ take_more v.entries i no_entry place.within ∙ ap (λ (f : Entry). take i v.entries ++ (f ∷ [])) (sym (whole_entry e off z))
+          ∙ sym (Rattle.std.proofs.lemmas.List.take_more_set v.entries i (narrowed e 0 off) place.within) ∙ front_done v c.find_cut-off.result.0 off place c.find_cut-off.ensures.within ∙ sym c.find_cut-off.ensures.front;
+    }
+
+pub returns-then-is_none-clause-enough : goal.returns-then-is_none-clause-enough
+returns-then-is_none-clause-enough c =
+    let v : ChainView = chain_of c.args.pool.now c.args.chain.now in
+    omega (
+      arith,
+      makes_held c.in_ok-head.ensures.ok,
+      makes_mbufs c.in_ok-head.ensures.ok,
+      c.laws-2.ensures.few,
+      need_done v c.find_cut-off.result.0 c.find_cut-off.result.1 c.has_header-header.result c.find_cut-off.ensures.place c.find_cut-off.ensures.within,
+      c.find_cut-off.ensures.need c.has_header-header.result,
+      ap (λ (h : Bool). split_need h v.entries c.args.at) c.has_header-header.ensures,
+    )
+
+pub returns-clause-enough : goal.returns-clause-enough
+returns-clause-enough c =
+    let v : ChainView = chain_of c.args.pool.now c.args.chain.now in
+    omega (
+      arith,
+      makes_held c.in_ok-head.ensures.ok,
+      makes_mbufs c.in_ok-head.ensures.ok,
+      c.laws-2.ensures.few,
+      need_done v c.find_cut-off.result.0 c.find_cut-off.result.1 c.has_header-header.result c.find_cut-off.ensures.place c.find_cut-off.ensures.within,
+      c.find_cut-off.ensures.need c.has_header-header.result,
+      ap (λ (h : Bool). split_need h v.entries c.args.at) c.has_header-header.ensures,
+    )
+
+pub last-last-requires : goal.last-last-requires
+last-last-requires c =
+    let two = two_first c.narrow.new.self _ (two_new c.args.chain.now c.requires.live c.in_ok-head.ensures.ok) c.narrow.ensures in
+    let cut = two_first _ (first_part (c.find_cut-off.result.0.index + 1) (chain_of c.narrow.new.self c.args.chain.now)) two refl in
+    live_beside _ _ _ _ c.cut-back.ensures _ cut.live_second
+
+pub link-requires-clause-back : goal.link-requires-clause-back
+link-requires-clause-back c = live_adds c.cut-back.ensures
+
+pub link-requires-clause-apart : goal.link-requires-clause-apart
+link-requires-clause-apart c =
+    let two = two_first c.narrow.new.self _ (two_new c.args.chain.now c.requires.live c.in_ok-head.ensures.ok) c.narrow.ensures in
+    let cut = two_first _ (first_part (c.find_cut-off.result.0.index + 1) (chain_of c.narrow.new.self c.args.chain.now)) two refl in
+    apart _ _ _ _ c.cut-back.ensures _ cut.live_second
+
+pub returns-then-is_none-clause-ok : goal.returns-then-is_none-clause-ok
+returns-then-is_none-clause-ok c =
+    let p : PoolView = c.args.pool.now in
+    let k : ℕ = c.args.chain.now in
+    let v : ChainView = chain_of p k in
+    let q : PoolView = c.new_head.new.pool in
+    let r : PoolView = c.narrow.new.self in
+    let d : ℕ = c.in_ok-head.head in
+    let i : ℕ = c.find_cut-off.result.0.index in
+    let off : ℕ = c.find_cut-off.result.1 in
+    let h : Bool = c.has_header-header.result in
+    let e : Entry = entry_of v i in
+    let place = c.find_cut-off.ensures.place in
+    let m = c.in_ok-head.ensures.ok in
+    let two = two_first r _ (two_new k c.requires.live m) c.narrow.ensures in
+    let fin = two_parts p r k d two in
+    let kept_q = makes_kept k m c.requires.live in
+    let kept_d = kept_with q r k _ d c.narrow.ensures (λ x. two.apart (sym x)) in
+    let now = entries_now q r k i _ c.narrow.ensures ∙ ap (λ (x : ChainView). slice_set x.entries i (narrowed (entry_of x i) 0 off)) kept_q in
+    let end = is_end _ _ _ c.next-2.ensures (no_next c.next-2.result c.is_none.result c.is_none.ensures c.if-is_none.true) ∙ length_now q r k i _ c.narrow.ensures ∙ ap (λ (x : ChainView). length x.entries) kept_q in
+    record {
+      made = makes_as (with_chain p k (chain_of r k)) (alone v.front.header) (split_back v.front.header v.entries c.args.at) fin refl (ap (λ (x : ChainView). x.front) kept_d ∙ m.front ∙ ap alone c.has_header-header.ensures)
+          (ap (λ (x : ChainView). x.entries) kept_d ∙ m.entries ∙ sym (append-nil (rest_of h e off)) ∙ ap (λ (es : List Entry). rest_of h e off ++ es) (sym (none_behind v.entries i end))
+          ∙ back_done v c.find_cut-off.result.0 off h place c.find_cut-off.ensures.within ∙ sym (c.find_cut-off.ensures.back h) ∙ ap (λ (b : Bool). split_back b v.entries c.args.at) c.has_header-header.ensures);
+      front = ap (λ (x : ChainView). x.front) (shown_with q r k _ c.narrow.ensures) ∙ ap (λ (x : ChainView). x.front) kept_q;
+      entries = now ∙ sym (take_all (i + 1) (slice_set v.entries i (narrowed e 0 off)) (omega (arith, end, length-set v.entries i (narrowed e 0 off)))) ∙ front_done v c.find_cut-off.result.0 off place c.find_cut-off.ensures.within ∙ sym c.find_cut-off.ensures.front;
+    }
+
+pub returns-clause-ok : goal.returns-clause-ok
+returns-clause-ok c =
+    let p : PoolView = c.args.pool.now in
+    let k : ℕ = c.args.chain.now in
+    let v : ChainView = chain_of p k in
+    let q : PoolView = c.new_head.new.pool in
+    let r : PoolView = c.narrow.new.self in
+    let s : PoolView = c.cut-back.new.self in
+    let t : PoolView = c.link.new.self in
+    let d : ℕ = c.in_ok-head.head in
+    let b : ℕ = c.cut-back.result in
+    let i : ℕ = c.find_cut-off.result.0.index in
+    let off : ℕ = c.find_cut-off.result.1 in
+    let h : Bool = c.has_header-header.result in
+    let e : Entry = entry_of v i in
+    let place = c.find_cut-off.ensures.place in
+    let m = c.in_ok-head.ensures.ok in
+    let kept_q = makes_kept k m c.requires.live in
+    let two = two_first r _ (two_new k c.requires.live m) c.narrow.ensures in
+    let part : ChainView = first_part (i + 1) (chain_of r k) in
+    let cut = two_first (with_chain r k part) part two refl in
+    let fin = two_parts p t k d (two_moved s t b part _ _ two c.cut-back.ensures c.link.ensures.change) in
+    let now = entries_now q r k i _ c.narrow.ensures ∙ ap (λ (x : ChainView). slice_set x.entries i (narrowed (entry_of x i) 0 off)) kept_q in
+    let here : chain_of t k ≡ part =
+    kept_with _ t d _ k c.link.ensures.change two.apart ∙ chain_left s b k (apart _ _ _ _ c.cut-back.ensures k cut.live_first) ∙ kept_adds _ s b k _ c.cut-back.ensures cut.live_first ∙ chain_here r k part in
+    let head : chain_of s d ≡ chain_of q d =
+    kept_adds _ s b d _ c.cut-back.ensures cut.live_second ∙ kept_with r (with_chain r k part) k part d refl (λ x. two.apart (sym x)) ∙ kept_with q r k _ d c.narrow.ensures (λ x. two.apart (sym x)) in
+    let shown = shown_with _ t d _ c.link.ensures.change in
+    let back = ap (λ (x : ChainView). x.entries) (shown_adds c.cut-back.ensures) ∙ ap (λ (es : List Entry). drop (i + 1) es) now ∙ drop-set-lt (i + 1) v.entries i (narrowed e 0 off) (omega arith) in
+    let front' = ap (λ (x : ChainView). x.entries) head ∙ m.entries in
+    record {
+      made = makes_as (with_chain p k (chain_of t k)) (alone v.front.header) (split_back v.front.header v.entries c.args.at) fin refl (ap (λ (x : ChainView). x.front) shown ∙ ap (λ (x : ChainView). x.front) head ∙ m.front ∙ ap alone c.has_header-header.ensures)
+          (ap (λ (x : ChainView). x.entries) shown ∙ (λ j. front' j ++ back j)
+          ∙ back_done v c.find_cut-off.result.0 off h place c.find_cut-off.ensures.within ∙ sym (c.find_cut-off.ensures.back h) ∙ ap (λ (x : Bool). split_back x v.entries c.args.at) c.has_header-header.ensures);
+      front = ap (λ (x : ChainView). x.front) here ∙ ap (λ (x : ChainView). x.front) (shown_with q r k _ c.narrow.ensures) ∙ ap (λ (x : ChainView). x.front) kept_q;
+      entries = ap (λ (x : ChainView). x.entries) here ∙ ap (λ (es : List Entry). take (i + 1) es) now ∙ front_done v c.find_cut-off.result.0 off place c.find_cut-off.ensures.within ∙ sym c.find_cut-off.ensures.front;
+    }
+
+pub returns-then-off-len-clause-front : goal.returns-then-off-len-clause-front
+returns-then-off-len-clause-front c =
+    let parts = returns-then-off-len-clause-ok c in
+    ap flat_bytes parts.entries ∙ split_front_bytes (chain_of c.args.pool.now c.args.chain.now).entries c.args.at
+
+pub returns-then-off-len-clause-back : goal.returns-then-off-len-clause-back
+returns-then-off-len-clause-back c =
+    let v : ChainView = chain_of c.args.pool.now c.args.chain.now in
+    let parts = returns-then-off-len-clause-ok c in
+    ap flat_bytes parts.made.entries ∙ split_back_bytes v.front.header v.entries c.args.at
+
+pub returns-then-is_none-clause-front : goal.returns-then-is_none-clause-front
+returns-then-is_none-clause-front c =
+    let parts = returns-then-is_none-clause-ok c in
+    ap flat_bytes parts.entries ∙ split_front_bytes (chain_of c.args.pool.now c.args.chain.now).entries c.args.at
+
+pub returns-then-is_none-clause-back : goal.returns-then-is_none-clause-back
+returns-then-is_none-clause-back c =
+    let v : ChainView = chain_of c.args.pool.now c.args.chain.now in
+    let parts = returns-then-is_none-clause-ok c in
+    ap flat_bytes parts.made.entries ∙ split_back_bytes v.front.header v.entries c.args.at
+
+pub returns-clause-front : goal.returns-clause-front
+returns-clause-front c =
+    let parts = returns-clause-ok c in
+    ap flat_bytes parts.entries ∙ split_front_bytes (chain_of c.args.pool.now c.args.chain.now).entries c.args.at
+
+pub returns-clause-back : goal.returns-clause-back
+returns-clause-back c =
+    let v : ChainView = chain_of c.args.pool.now c.args.chain.now in
+    let parts = returns-clause-ok c in
+    ap flat_bytes parts.made.entries ∙ split_back_bytes v.front.header v.entries c.args.at

@@ -1,0 +1,8 @@
+use Rattle.chain_ops.proofs.Stored.{user_laid, wire_laid}
+use Rattle.chain_ops.proofs.theorems.stored_layout.Goals as goal
+
+pub returns-clause-user : goal.returns-clause-user
+returns-clause-user c = user_laid
+
+pub returns-clause-wire : goal.returns-clause-wire
+returns-clause-wire c = wire_laid

@@ -1,0 +1,12 @@
+pub mod Makes
+pub mod Rooms
+pub mod Copies
+pub mod Cursors
+pub mod Extents
+pub mod Trims
+pub mod Joins
+pub mod Pulls
+pub mod Prepends
+pub mod Splits
+pub mod Stored
+pub mod Weights

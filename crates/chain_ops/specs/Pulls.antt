@@ -1,0 +1,48 @@
+-- Bytes moved to the front of a chain (m_pullup; TCP/IP Illustrated, volume 2, chapter 2).
+use Rattle.std.specs.Prelude.{ℕ, ◌+◌, ◌-◌, ◌==◌, ◌<◌, ◌≤◌, min, max, Bool, ◌&&◌, not, nat_le, if◌then◌else◌, List, [], ◌∷◌, length, take, drop, None, is_some}
+use Rattle.params.specs.declared.TheConstants.{MSIZE, MHLEN, MAX_PROTOCOL_HEADER}
+use Rattle.mbuf_chain.specs.Chain.{Entry, Front, ChainView, PoolView, alone, flat_bytes, string, entry_of}
+use Rattle.mbuf_chain.specs.Steps.{narrowed, with_back, empty_entry}
+use Rattle.chain_ops.specs.declared.pullup.Refusal.{Refusal}
+use Rattle.chain_ops.specs.declared.pullup.Refusal.TheVariants.{TooLong, TooShort, NoBufs}
+use Rattle.chain_ops.specs.Makes.{LacksMbufs}
+use Rattle.chain_ops.specs.Rooms.{room_low}
+
+-- an entry, and those that stand behind it: the next n bytes are moved into it. An entry that is emptied goes, and so does one without bytes that is passed
+abbrev pub moved : ℕ → Entry → List Entry → List Entry
+moved n e [] = e ∷ []
+moved n e (f ∷ fs) =
+    if n == 0
+    then e ∷ f ∷ fs
+    else if nat_le (length f.bytes) n
+    then moved (n - length f.bytes) (with_back e f.bytes) fs
+    else with_back e (take n f.bytes) ∷ narrowed f n (length f.bytes - n) ∷ fs
+
+-- whether n bytes have room in a first entry: it's plain, and they end in its mbuf
+abbrev pub has_room : Entry → ℕ → Bool
+has_room e n = not (is_some e.cluster) && nat_le (e.start + n) MSIZE
+
+-- how many bytes a new first entry takes
+abbrev pub pulled_len : ℕ → List Entry → ℕ
+pulled_len n es = min (max n MAX_PROTOCOL_HEADER) (length (flat_bytes es))
+
+-- the entries with the first n bytes in one entry
+abbrev pub pulled_up : ChainView → ℕ → List Entry
+pulled_up v n =
+    if has_room (entry_of v 0) n
+    then moved (n - length (entry_of v 0).bytes) (entry_of v 0) (drop 1 v.entries)
+    else moved (pulled_len n v.entries) (empty_entry (room_low v.front.header) None) v.entries
+
+-- a new first mbuf is in no train
+abbrev pub pulled_front : ChainView → ℕ → Front
+pulled_front v n = if has_room (entry_of v 0) n then v.front else alone v.front.header
+
+-- how many mbufs that takes
+abbrev pub pull_need : ChainView → ℕ → ℕ
+pull_need v n = if has_room (entry_of v 0) n then 0 else 1
+
+-- what it is refused for: the first that fits
+abbrev pub IsRefused : PoolView → ChainView → ℕ → Refusal → Type 0
+IsRefused p v n TooLong = MHLEN < n
+IsRefused p v n TooShort = (n ≤ MHLEN) × (length (string v) < n)
+IsRefused p v n NoBufs = (n ≤ MHLEN) × (n ≤ length (string v)) × LacksMbufs p (pull_need v n)

@@ -1,0 +1,51 @@
+-- Bytes put into new mbufs (sosend, chapter 16, and m_devget, chapter 2 of TCP/IP Illustrated, volume 2): the layouts are the flat machine's.
+use Rattle.std.specs.Prelude.{◌≡◌, ℕ, ◌<◌, ◌≤◌, ◌-◌, Bool, true, false, ◌⊎◌, List, [], ◌∷◌, length, take, drop, count_by, Option, Some, None, if◌then◌else◌}
+use Rattle.std.specs.List.{AllByRecursion}
+use Rattle.params.specs.declared.TheConstants.{MBUF_HEADER, MHLEN, MCLBYTES}
+use Rattle.mbuf_chain.specs.Chain.{Entry, PoolView, references, free_clusters}
+use Rattle.mbuf_chain.specs.Owners.{times}
+use Rattle.flat_model.specs.Layout.{Room, Plain, Cluster, filled, or_empty, is_cluster}
+use Rattle.chain_ops.specs.Makes.{LacksMbufs, HasMbufs}
+use Rattle.chain_ops.specs.Rooms.{room_low, at_end}
+
+-- clusters of the pool to which nothing refers, each once
+pub record AreFree (p : PoolView) (cs : List ℕ) : Type 0 where
+  pub exist : AllByRecursion (λ c. c < p.clusters) cs
+  pub free : AllByRecursion (λ c. references p c ≡ 0) cs
+  pub once : (c : ℕ) → times c cs ≤ 1
+
+-- the bytes in mbufs of these rooms, behind a first one
+abbrev pub stored : List ℕ → List Room → List ℕ → List Entry
+stored cs [] xs = []
+stored cs (Plain n ∷ rooms) xs = record { bytes = take n xs; start = MBUF_HEADER; cluster = None } ∷ stored cs rooms (drop n xs)
+stored [] (Cluster n ∷ rooms) xs = []
+stored (c ∷ cs) (Cluster n ∷ rooms) xs = record { bytes = take n xs; start = 0; cluster = Some c } ∷ stored cs rooms (drop n xs)
+
+-- where the bytes of a first plain mbuf begin: at the end, or at the front
+abbrev pub first_start : Bool → ℕ → ℕ
+first_start ends n = if ends then at_end true n else room_low true
+
+-- the bytes in mbufs of these rooms; in a first cluster they begin at `large`
+abbrev pub stored_first : ℕ → Bool → List ℕ → List Room → List ℕ → List Entry
+stored_first large ends cs [] xs = []
+stored_first large ends cs (Plain n ∷ rooms) xs = record { bytes = take n xs; start = first_start ends n; cluster = None } ∷ stored cs rooms (drop n xs)
+stored_first large ends [] (Cluster n ∷ rooms) xs = []
+stored_first large ends (c ∷ cs) (Cluster n ∷ rooms) xs = record { bytes = take n xs; start = large; cluster = Some c } ∷ stored cs rooms (drop n xs)
+
+-- the rooms for n bytes, of which a first cluster begins at `large`: `user` with 56, CLUSTER_LEADING_SPACE, and `wire` with 0
+abbrev pub rooms_for : ℕ → ℕ → List Room
+rooms_for large n = or_empty (filled n (MCLBYTES - large) MHLEN n)
+
+-- more buffers are needed than are free, or not
+abbrev pub Lacks : PoolView → List Room → Type 0
+Lacks p rooms = LacksMbufs p (length rooms) ⊎ (free_clusters p < count_by is_cluster rooms)
+
+abbrev pub Has : PoolView → List Room → Type 0
+Has p rooms = HasMbufs p (length rooms) × (count_by is_cluster rooms ≤ free_clusters p)
+
+-- the cluster that a new mbuf takes, where it takes one
+abbrev pub IsTaken : PoolView → Bool → Option ℕ → Type 0
+IsTaken p true None = ⊥
+IsTaken p true (Some c) = (c < p.clusters) × (references p c ≡ 0)
+IsTaken p false None = Unit {0}
+IsTaken p false (Some c) = ⊥

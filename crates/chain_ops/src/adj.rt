@@ -1,0 +1,68 @@
+//! Bytes taken off an end of a chain.
+ghost use Rattle.std.specs.Prelude.{◌≡◌, ◌≤◌, length};
+ghost use Rattle.mbuf_chain.specs.Chain.{IsLive, chain_of, string, with_chain};
+ghost use Rattle.chain_ops.specs.Trims.{without_first, only_first, adjusted, adjusted_bytes};
+
+use mbuf_chain::{Chain, Pool};
+
+/// Takes the first `n` bytes off a chain, or all where it has fewer.
+pub fn trim_front(pool: &mut Pool, chain: &Chain, n: u32)
+    requires { IsLive pool.old chain.now }
+    ensures { pool.new ≡ with_chain pool.old chain.now (record (chain_of pool.old chain.now) {
+      entries = without_first n (chain_of pool.old chain.now).entries;
+    }) }
+{
+    let mut at = pool.first(chain);
+    let mut left = n;
+    'mbufs: while left > 0 {
+        let len = pool.segment(chain, at).len;
+        let skip = left.min(len);
+        pool.narrow(chain, at, skip, len - skip);
+        left -= skip;
+        let Some(place) = pool.next(chain, at) else {
+            return;
+        };
+        at = place;
+    }
+}
+
+/// Leaves the first `keep` bytes of a chain, or all where it has fewer.
+pub fn trim_back(pool: &mut Pool, chain: &Chain, keep: u32)
+    requires { IsLive pool.old chain.now }
+    ensures { pool.new ≡ with_chain pool.old chain.now (record (chain_of pool.old chain.now) {
+      entries = only_first keep (chain_of pool.old chain.now).entries;
+    }) }
+{
+    let mut at = pool.first(chain);
+    let mut left = keep;
+    'mbufs: loop {
+        let len = pool.segment(chain, at).len;
+        let kept = left.min(len);
+        pool.narrow(chain, at, 0, kept);
+        left -= kept;
+        let Some(place) = pool.next(chain, at) else {
+            return;
+        };
+        at = place;
+    }
+}
+
+/// Takes the first `n` bytes off a chain, or where `n` is below 0 the last ones; all where it has fewer. No
+/// mbuf is freed: one that loses bytes at its front begins that much later, also where all go. It takes one step
+/// for each mbuf in front of the bytes that stay, or for each of the chain where bytes go behind (TCP/IP
+/// Illustrated, volume 2, chapter 2).
+pub fn m_adj(pool: &mut Pool, chain: &Chain, n: i32)
+    requires { IsLive pool.old chain.now }
+    ensures change { pool.new ≡ with_chain pool.old chain.now (record (chain_of pool.old chain.now) {
+      entries = adjusted n (chain_of pool.old chain.now).entries;
+    }) }
+    ensures string { string (chain_of pool.new chain.now)
+        ≡ adjusted_bytes n (string (chain_of pool.old chain.now)) }
+{
+    if n >= 0 {
+        trim_front(pool, chain, n as u32);
+    } else {
+        let keep = pool.len(chain).saturating_sub(n.unsigned_abs());
+        trim_back(pool, chain, keep);
+    }
+}

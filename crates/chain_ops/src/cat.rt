@@ -1,0 +1,92 @@
+//! Chains joined.
+ghost use Rattle.std.specs.Prelude.{◌≡◌, ◌≢◌, ◌+◌, ◌-◌, ◌++◌, length, MatchOption, drop, false};
+ghost use Rattle.mbuf_chain.specs.Chain.{IsLive, IsPlace, chain_of, without, alone, string};
+ghost use Rattle.chain_ops.specs.Makes.{Makes};
+ghost use Rattle.chain_ops.specs.Joins.{cat};
+
+use mbuf_chain::{Chain, Place, Pool};
+
+/// Frees the first mbuf of a chain. The answer is the chain of the others, if there are any.
+pub(crate) fn drop_first(pool: &mut Pool, chain: Chain) -> Option<Chain>
+    requires { IsLive pool.old chain }
+    ensures { MatchOption result
+        ((length (chain_of pool.old chain).entries ≡ 1) × (pool.new ≡ without pool.old chain))
+        (λ d. Makes (without pool.old chain) pool.new d (alone false)
+        (drop 1 (chain_of pool.old chain).entries)) }
+{
+    let first = pool.first(&chain);
+    if pool.next(&chain, first).is_none() {
+        pool.free_chain(chain);
+        return None;
+    }
+    let rest = pool.cut(&chain, 1);
+    pool.free_chain(chain);
+    Some(rest)
+}
+
+/// The place of a chain's last mbuf, from another place on.
+fn last_from(pool: &Pool, chain: &Chain, from: Place) -> Place
+    requires live { IsLive pool.now chain.now }
+    requires place { IsPlace (chain_of pool.now chain.now) from }
+    ensures place { IsPlace (chain_of pool.now chain.now) result }
+    ensures last { result.index + 1 ≡ length (chain_of pool.now chain.now).entries }
+{
+    let mut at = from;
+    'mbufs: loop {
+        let Some(next) = pool.next(chain, at) else {
+            return at;
+        };
+        at = next;
+    }
+}
+
+/// Joins a chain to another, whose last mbuf is told, as `m_cat` does. The answer is the place of the last mbuf
+/// then, so that many chains are joined in one walk over their mbufs.
+pub fn cat_behind(pool: &mut Pool, chain: &Chain, last: Place, second: Chain) -> Place
+    requires front { IsLive pool.old chain.now }
+    requires back { IsLive pool.old second }
+    requires apart { chain.now ≢ second }
+    requires place { IsPlace (chain_of pool.old chain.now) last }
+    requires last { last.index + 1 ≡ length (chain_of pool.old chain.now).entries }
+    ensures makes { Makes (without (without pool.old second) chain.now) pool.new chain.now
+        (chain_of pool.old chain.now).front
+        (cat (chain_of pool.old chain.now).entries (chain_of pool.old second).entries) }
+    ensures string { string (chain_of pool.new chain.now)
+        ≡ string (chain_of pool.old chain.now) ++ string (chain_of pool.old second) }
+    ensures place { IsPlace (chain_of pool.new chain.now) result }
+    ensures last { result.index + 1 ≡ length (chain_of pool.new chain.now).entries }
+{
+    let mut back = second;
+    'mbufs: loop {
+        let from = pool.first(&back);
+        let len = pool.segment(&back, from).len;
+        if pool.back_room(chain, last) <= len {
+            let from = pool.link(chain, last, back);
+            return last_from(pool, chain, from);
+        }
+        pool.append(chain, last, &back, from, 0, len);
+        let Some(rest) = drop_first(pool, back) else {
+            return last;
+        };
+        back = rest;
+    }
+}
+
+/// Joins a chain to another: as long as its first mbuf is shorter than the room behind the last bytes of the first
+/// chain, its bytes are moved there and it is freed, with its reference. What is left is linked, and loses its packet
+/// header; so is an mbuf that would fill the room exactly. A cluster takes nothing. It's never refused (TCP/IP
+/// Illustrated, volume 2, chapter 2). The mbufs of the first chain are walked for its last one: `cat_behind` is told
+/// it.
+pub fn m_cat(pool: &mut Pool, chain: &Chain, second: Chain)
+    requires front { IsLive pool.old chain.now }
+    requires back { IsLive pool.old second }
+    requires apart { chain.now ≢ second }
+    ensures makes { Makes (without (without pool.old second) chain.now) pool.new chain.now
+        (chain_of pool.old chain.now).front
+        (cat (chain_of pool.old chain.now).entries (chain_of pool.old second).entries) }
+    ensures string { string (chain_of pool.new chain.now)
+        ≡ string (chain_of pool.old chain.now) ++ string (chain_of pool.old second) }
+{
+    let last = pool.last(chain);
+    let _ = cat_behind(pool, chain, last, second);
+}

@@ -1,0 +1,30 @@
+//! Bytes copied out of a chain.
+ghost use Rattle.std.specs.Prelude.{◌≡◌, ◌+◌, ◌≤◌, length, take, drop};
+ghost use Rattle.mbuf_chain.specs.Chain.{IsLive, chain_of, string};
+
+use mbuf_chain::{Chain, Pool};
+
+/// Copies bytes of a chain out, from `off` on: as many as `to` has, which must lie in the chain (TCP/IP
+/// Illustrated, volume 2, chapter 2).
+#[tactic(auto, using(mbuf_chain::proofs::Iterators::concat_pieces))]
+pub fn m_copydata(pool: &Pool, chain: &Chain, off: usize, to: &mut [u8])
+    requires live { IsLive pool.now chain.now }
+    requires within { off + length to.old ≤ length (string (chain_of pool.now chain.now)) }
+    ensures { to.new ≡ take (length to.old) (drop off (string (chain_of pool.now chain.now))) }
+{
+    let mut skip = off;
+    let mut at = 0;
+    'mbufs: for piece in pool.pieces(chain) {
+        if at == to.len() {
+            return;
+        }
+        if skip < piece.len() {
+            let end = at + (piece.len() - skip).min(to.len() - at);
+            to[at..end].copy_from_slice(&piece[skip..skip + (end - at)]);
+            at = end;
+            skip = 0;
+        } else {
+            skip -= piece.len();
+        }
+    }
+}

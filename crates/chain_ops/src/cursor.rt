@@ -1,0 +1,116 @@
+//! Places in a chain by the byte, and copies from there on.
+ghost use Rattle.std.specs.Prelude.{◌≡◌, ◌+◌, ◌≤◌, ◌<◌, length, IfOk, OnOk, OnErr};
+ghost use Rattle.mbuf_chain.specs.Chain.{IsLive, chain_of, string, alone};
+ghost use Rattle.chain_ops.specs.Makes.{Makes, HasMbufs, LacksMbufs};
+ghost use Rattle.chain_ops.specs.Copies.{copied, copy_header};
+ghost use Rattle.chain_ops.specs.Cursors.{IsCursor};
+
+use crate::step::{append_copy, new_copy};
+use mbuf_chain::{Chain, Place, Pool};
+use mbuf_pool::NoBufs;
+
+/// Where a byte of a chain lies. `cursor_at` finds it, `advance` goes on from there. Any change of the chain
+/// makes it void.
+#[derive(Clone, Copy, Debug, PartialEq, Eq)]
+pub struct Cursor {
+    /// How many bytes of the chain are in front.
+    pub off: u32,
+    /// The mbuf in which the byte lies.
+    pub place: Place,
+    /// How many bytes of that mbuf are in front.
+    pub skip: u32,
+}
+
+/// Where the byte at `off` of a chain lies. Mbufs that end at the byte or in front of it are passed; at 0 none is. It
+/// takes one step for each mbuf that is passed.
+pub fn cursor_at(pool: &Pool, chain: &Chain, off: u32) -> Cursor
+    requires live { IsLive pool.now chain.now }
+    requires within { off < length (string (chain_of pool.now chain.now)) }
+    ensures cursor { IsCursor (chain_of pool.now chain.now) result }
+    ensures off { result.off ≡ off }
+{
+    let mut place = pool.first(chain);
+    let mut skip = off;
+    'mbufs: while skip > 0 {
+        let len = pool.segment(chain, place).len;
+        if skip < len {
+            return Cursor { off, place, skip };
+        }
+        skip -= len;
+        place = pool.next(chain, place).unwrap();
+    }
+    Cursor { off, place, skip }
+}
+
+/// Where the byte lies that is `by` bytes, 1 or more, behind that of a cursor. It takes one step for each mbuf
+/// that is passed on the way.
+pub fn advance(pool: &Pool, chain: &Chain, from: Cursor, by: u32) -> Cursor
+    requires live { IsLive pool.now chain.now }
+    requires cursor { IsCursor (chain_of pool.now chain.now) from }
+    requires some { 0 < by }
+    requires small { from.off + by ≤ 65535 }
+    requires within { from.off + by < length (string (chain_of pool.now chain.now)) }
+    ensures cursor { IsCursor (chain_of pool.now chain.now) result }
+    ensures off { result.off ≡ from.off + by }
+{
+    let off = from.off + by;
+    let mut place = from.place;
+    let mut skip = from.skip + by;
+    'mbufs: while skip > 0 {
+        let len = pool.segment(chain, place).len;
+        if skip < len {
+            return Cursor { off, place, skip };
+        }
+        skip -= len;
+        place = pool.next(chain, place).unwrap();
+    }
+    Cursor { off, place, skip }
+}
+
+/// Whether a copy from `off` on has a packet header.
+fn copy_header(pool: &Pool, chain: &Chain, off: u32) -> bool
+    requires { IsLive pool.now chain.now }
+    ensures { result ≡ copy_header (chain_of pool.now chain.now).front.header off }
+{
+    pool.has_header(chain) && off == 0
+}
+
+/// Copies `len` bytes of a chain, 1 or more, from a cursor on, as `m_copym` does. It takes one step for each
+/// mbuf that it copies, so several ranges in order are copied in one walk. `NoBufs` comes exactly where fewer
+/// mbufs are free than the copy has, and changes nothing.
+pub fn copy_at(pool: &mut Pool, chain: &Chain, from: Cursor, len: u32) -> Result<Chain, NoBufs>
+    requires live { IsLive pool.old chain.now }
+    requires cursor { IsCursor (chain_of pool.old chain.now) from }
+    requires some { 0 < len }
+    requires within { from.off + len ≤ length (string (chain_of pool.old chain.now)) }
+    ensures ok { IfOk result (λ d. Makes pool.old pool.new d
+        (alone (copy_header (chain_of pool.old chain.now).front.header from.off))
+        (copied (copy_header (chain_of pool.old chain.now).front.header from.off)
+        (chain_of pool.old chain.now).entries from.off len)) }
+    ensures enough { OnOk result (HasMbufs pool.old
+        (length (copied (copy_header (chain_of pool.old chain.now).front.header from.off)
+        (chain_of pool.old chain.now).entries from.off len))) }
+    ensures err { OnErr result (LacksMbufs pool.old
+        (length (copied (copy_header (chain_of pool.old chain.now).front.header from.off)
+        (chain_of pool.old chain.now).entries from.off len))) }
+    ensures same { OnErr result (pool.new ≡ pool.old) }
+{
+    let mut at = from.place;
+    let header = copy_header(pool, chain, from.off);
+    let first = (pool.segment(chain, at).len - from.skip).min(len);
+    let copy = new_copy(pool, header, chain, at, from.skip, first)?;
+    let mut last = pool.first(&copy);
+    let mut left = len - first;
+    'mbufs: while left > 0 {
+        at = pool.next(chain, at).unwrap();
+        let n = pool.segment(chain, at).len.min(left);
+        let Ok(place) = append_copy(pool, &copy, last, chain, at, 0, n) else {
+            pool.free_chain(copy);
+            return Err(NoBufs);
+        };
+        last = place;
+        left -= n;
+    }
+    pool.laws();
+    Ok(copy)
+}

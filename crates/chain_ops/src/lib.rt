@@ -1,0 +1,26 @@
+//! The operations of 4.4BSD on chains of mbufs: `m_copym`, `m_pullup` and their like, over the pool of
+//! `mbuf_chain`. Each is written by that crate's steps alone, and its contract says what it makes of the list
+//! of the chain's entries; every other chain stays as it is.
+#![tactic(auto)]
+
+mod adj;
+mod cat;
+mod copydata;
+mod copym;
+mod cursor;
+mod prepend;
+mod pullup;
+mod split;
+mod step;
+mod store;
+pub mod theorems;
+
+pub use adj::{m_adj, trim_back, trim_front};
+pub use cat::{cat_behind, m_cat};
+pub use copydata::m_copydata;
+pub use copym::{Extent, m_copym};
+pub use cursor::{Cursor, advance, copy_at, cursor_at};
+pub use prepend::m_prepend;
+pub use pullup::{Refusal, m_pullup};
+pub use split::m_split;
+pub use store::{from_user, from_wire};

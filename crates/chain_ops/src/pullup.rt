@@ -1,0 +1,148 @@
+//! The first bytes of a chain brought into one mbuf.
+ghost use Rattle.std.specs.Prelude.{◌≡◌, ◌≢◌, ◌+◌, ◌-◌, ◌≤◌, ◌++◌, None, length, take, drop, OnOk, OnErr, IfErr, IsTrue};
+ghost use Rattle.mbuf_chain.specs.Chain.{IsLive, IsPlace, HasBackRoom, chain_of, entry_in, entry_of, without, string, alone};
+ghost use Rattle.mbuf_chain.specs.Steps.{empty_entry};
+ghost use Rattle.chain_ops.specs.Rooms.{room_low};
+ghost use Rattle.chain_ops.specs.Makes.{Makes, HasMbufs, LacksMbufs};
+ghost use Rattle.chain_ops.specs.Pulls.{IsRefused, moved, has_room, pulled_up, pulled_front, pull_need};
+
+use crate::cat::drop_first;
+use crate::step::room_low;
+use mbuf_chain::{Chain, Place, Pool};
+use mbuf_pool::NoBufs;
+use params::{MAX_PROTOCOL_HEADER, MHLEN, MSIZE};
+use std::mem;
+
+/// Why a chain wasn't pulled up.
+#[derive(Clone, Copy, Debug, PartialEq, Eq)]
+pub enum Refusal {
+    /// More than 100 bytes were asked for.
+    TooLong,
+    /// The chain has fewer bytes.
+    TooShort,
+    /// A new first mbuf is needed, and none is free.
+    NoBufs,
+}
+
+/// Moves the first `n` bytes of a chain behind those of the last mbuf of another, and links what is left.
+/// An mbuf that is emptied goes, and so does one without bytes that is passed.
+fn pull(pool: &mut Pool, into: &Chain, last: Place, second: Chain, n: u32)
+    requires front { IsLive pool.old into.now }
+    requires back { IsLive pool.old second }
+    requires apart { into.now ≢ second }
+    requires place { IsPlace (chain_of pool.old into.now) last }
+    requires last { last.index + 1 ≡ length (chain_of pool.old into.now).entries }
+    requires plain { (entry_in pool.old into.now last).cluster ≡ None }
+    requires room { HasBackRoom (entry_in pool.old into.now last) n }
+    ensures { Makes (without (without pool.old second) into.now) pool.new into.now
+        (chain_of pool.old into.now).front
+        (take last.index (chain_of pool.old into.now).entries
+        ++ moved n (entry_in pool.old into.now last) (chain_of pool.old second).entries) }
+{
+    let mut back = second;
+    let mut left = n;
+    'mbufs: while left > 0 {
+        let from = pool.first(&back);
+        let len = pool.segment(&back, from).len;
+        if left < len {
+            pool.append(into, last, &back, from, 0, left);
+            pool.narrow(&back, from, left, len - left);
+            pool.link(into, last, back);
+            return;
+        }
+        pool.append(into, last, &back, from, 0, len);
+        left -= len;
+        let Some(rest) = drop_first(pool, back) else {
+            return;
+        };
+        back = rest;
+    }
+    pool.link(into, last, back);
+}
+
+/// Whether `n` bytes have room in the first mbuf.
+fn has_room(pool: &Pool, chain: &Chain, n: u32) -> bool
+    requires live { IsLive pool.now chain.now }
+    requires most { n ≤ MHLEN }
+    ensures { result ≡ has_room (entry_of (chain_of pool.now chain.now) 0) n }
+{
+    let first = pool.first(chain);
+    let segment = pool.segment(chain, first);
+    segment.cluster.is_none() && segment.start <= MSIZE - n
+}
+
+/// Brings the first `n` bytes of a chain into its first mbuf, which has room for them.
+fn pull_in_place(pool: &mut Pool, chain: &Chain, n: u32)
+    requires live { IsLive pool.old chain.now }
+    requires room { IsTrue (has_room (entry_of (chain_of pool.old chain.now) 0) n) }
+    requires some { n ≤ length (string (chain_of pool.old chain.now)) }
+    ensures { Makes (without pool.old chain.now) pool.new chain.now
+        (chain_of pool.old chain.now).front
+        (moved (n - length (entry_of (chain_of pool.old chain.now) 0).bytes)
+        (entry_of (chain_of pool.old chain.now) 0) (drop 1 (chain_of pool.old chain.now).entries)) }
+{
+    let first = pool.first(chain);
+    let len = pool.segment(chain, first).len;
+    if len < n {
+        let rest = pool.cut(chain, 1);
+        let at = pool.first(chain);
+        pull(pool, chain, at, rest, n - len);
+    }
+}
+
+/// Brings the first `n` bytes of a chain into a new first mbuf, which takes over the packet header.
+fn pull_new(pool: &mut Pool, chain: &mut Chain, n: u32) -> Result<(), NoBufs>
+    requires live { IsLive pool.old chain.old }
+    requires most { n ≤ MHLEN }
+    ensures ok { OnOk result (Makes (without pool.old chain.old) pool.new chain.new
+        (alone (chain_of pool.old chain.old).front.header)
+        (moved n (empty_entry (room_low (chain_of pool.old chain.old).front.header) None)
+        (chain_of pool.old chain.old).entries)) }
+    ensures enough { OnOk result (HasMbufs pool.old 1) }
+    ensures err { OnErr result (LacksMbufs pool.old 1) }
+    ensures same { OnErr result ((pool.new ≡ pool.old) × (chain.new ≡ chain.old)) }
+{
+    let header = pool.has_header(chain);
+    let new = pool.new_plain(header, room_low(header))?;
+    pool.laws();
+    let at = pool.first(&new);
+    let old = mem::replace(chain, new);
+    pull(pool, chain, at, old, n);
+    Ok(())
+}
+
+/// Brings the first `n` bytes of a chain into its first mbuf: in place where that is plain and has room for
+/// them, else at the front of a new first mbuf, which takes up to 40 bytes if `n` is less, and takes over the packet
+/// header. A cluster is never pulled into, also one that has the `n` bytes. An mbuf that is emptied goes, with its
+/// reference, and so does an empty one in front of the last byte that is moved. `TooLong` comes where `n` is above
+/// 100, else `TooShort` where the chain has fewer bytes, else `NoBufs` exactly where a new first mbuf is needed and no
+/// mbuf is free; each changes nothing (TCP/IP Illustrated, volume 2, chapter 2).
+pub fn m_pullup(pool: &mut Pool, chain: &mut Chain, n: u32) -> Result<(), Refusal>
+    requires { IsLive pool.old chain.old }
+    ensures ok { OnOk result (Makes (without pool.old chain.old) pool.new chain.new
+        (pulled_front (chain_of pool.old chain.old) n) (pulled_up (chain_of pool.old chain.old) n)) }
+    ensures string { OnOk result (string (chain_of pool.new chain.new)
+        ≡ string (chain_of pool.old chain.old)) }
+    ensures fits { OnOk result ((n ≤ MHLEN) × (n ≤ length (string (chain_of pool.old chain.old)))) }
+    ensures enough { OnOk result (HasMbufs pool.old (pull_need (chain_of pool.old chain.old) n)) }
+    ensures err { IfErr result (IsRefused pool.old (chain_of pool.old chain.old) n) }
+    ensures same { OnErr result ((pool.new ≡ pool.old) × (chain.new ≡ chain.old)) }
+{
+    if n > MHLEN {
+        return Err(Refusal::TooLong);
+    }
+    let total = pool.len(chain);
+    if n > total {
+        return Err(Refusal::TooShort);
+    }
+    pool.laws();
+    if has_room(pool, chain, n) {
+        pull_in_place(pool, chain, n);
+        return Ok(());
+    }
+    let taken = n.max(MAX_PROTOCOL_HEADER).min(total);
+    match pull_new(pool, chain, taken) {
+        Ok(()) => Ok(()),
+        Err(_) => Err(Refusal::NoBufs),
+    }
+}

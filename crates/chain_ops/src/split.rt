@@ -1,0 +1,155 @@
+//! Chains cut in two.
+ghost use Rattle.std.specs.Prelude.{◌≡◌, ℕ, ◌+◌, ◌-◌, ◌<◌, ◌≤◌, ◌++◌, ◌∷◌, [], Bool, true, false, None, Some, length, take, drop, IfOk, OnOk, OnErr, IsTrue};
+ghost use Rattle.mbuf_chain.specs.Chain.{IsLive, IsPlace, chain_of, entry_in, string, flat_bytes, alone, held_mbufs, Adds};
+ghost use Rattle.mbuf_chain.specs.Steps.{one_mbuf, empty_entry};
+ghost use Rattle.chain_ops.specs.Makes.{Makes, Parts, HasMbufs, LacksMbufs};
+ghost use Rattle.chain_ops.specs.Rooms.{room_low, end_entry};
+ghost use Rattle.chain_ops.specs.Copies.{copied_entry};
+ghost use Rattle.chain_ops.specs.Splits.{rest_of, split_front, split_back, split_need};
+
+use crate::prepend::at_end;
+use crate::step::{append_copy, new_copy};
+use mbuf_chain::{Chain, Place, Pool};
+use mbuf_pool::NoBufs;
+use params::{MBUF_HEADER, MHLEN};
+
+/// The mbuf that a cut at `off` bytes goes through, and how far in: the first one that is as long as the
+/// offset left.
+fn find_cut(pool: &Pool, chain: &Chain, off: u32) -> (Place, u32)
+    requires live { IsLive pool.now chain.now }
+    requires within { off < length (string (chain_of pool.now chain.now)) }
+    ensures place { IsPlace (chain_of pool.now chain.now) result.0 }
+    ensures within { result.1 ≤ length (entry_in pool.now chain.now result.0).bytes }
+    ensures behind { result.1 < length (flat_bytes (drop result.0.index (chain_of pool.now chain.now).entries)) }
+    ensures front { split_front (chain_of pool.now chain.now).entries off
+        ≡ take result.0.index (chain_of pool.now chain.now).entries
+        ++ split_front (drop result.0.index (chain_of pool.now chain.now).entries) result.1 }
+    ensures back { (h : Bool) → split_back h (chain_of pool.now chain.now).entries off
+        ≡ split_back h (drop result.0.index (chain_of pool.now chain.now).entries) result.1 }
+    ensures need { (h : Bool) → split_need h (chain_of pool.now chain.now).entries off
+        ≡ split_need h (drop result.0.index (chain_of pool.now chain.now).entries) result.1 }
+{
+    let mut at = pool.first(chain);
+    let mut left = off;
+    'mbufs: loop {
+        let len = pool.segment(chain, at).len;
+        if left <= len {
+            return (at, left);
+        }
+        left -= len;
+        at = pool.next(chain, at).unwrap();
+    }
+}
+
+/// A chain of one plain mbuf with packet header that has the bytes of another plain mbuf from `off` on, 1 to
+/// 100, at its end.
+fn new_end(pool: &mut Pool, chain: &Chain, at: Place, off: u32, n: u32) -> Result<Chain, NoBufs>
+    requires live { IsLive pool.old chain.now }
+    requires place { IsPlace (chain_of pool.old chain.now) at }
+    requires most { n ≤ MHLEN }
+    requires whole { off + n ≡ length (entry_in pool.old chain.now at).bytes }
+    ensures ok { IfOk result (λ d. Adds pool.old pool.new d
+        (one_mbuf true (end_entry true (drop off (entry_in pool.old chain.now at).bytes)) d)) }
+    ensures err { OnErr result (held_mbufs pool.old ≡ pool.old.mbufs) }
+    ensures same { OnErr result (pool.new ≡ pool.old) }
+{
+    let head = pool.new_plain(true, at_end(true, n))?;
+    let to = pool.first(&head);
+    pool.append(&head, to, chain, at, off, n);
+    Ok(head)
+}
+
+/// A chain of an empty mbuf with packet header, and behind it one with the bytes of a plain mbuf.
+fn new_two(pool: &mut Pool, chain: &Chain, at: Place, off: u32, n: u32) -> Result<Chain, NoBufs>
+    requires live { IsLive pool.old chain.now }
+    requires place { IsPlace (chain_of pool.old chain.now) at }
+    requires within { off + n ≤ length (entry_in pool.old chain.now at).bytes }
+    ensures ok { IfOk result (λ d. Makes pool.old pool.new d (alone true)
+        (empty_entry (room_low true) None ∷ copied_entry MBUF_HEADER (entry_in pool.old chain.now at) off n ∷ [])) }
+    ensures err { OnErr result (LacksMbufs pool.old 2) }
+    ensures same { OnErr result (pool.new ≡ pool.old) }
+{
+    let head = pool.new_chain()?;
+    let last = pool.first(&head);
+    let Ok(_) = append_copy(pool, &head, last, chain, at, off, n) else {
+        pool.free_chain(head);
+        return Err(NoBufs);
+    };
+    Ok(head)
+}
+
+/// A chain of what a new chain begins with that has the bytes of an mbuf from `off` on.
+fn new_head(
+    pool: &mut Pool,
+    header: bool,
+    chain: &Chain,
+    at: Place,
+    off: u32,
+) -> Result<Chain, NoBufs>
+    requires live { IsLive pool.old chain.now }
+    requires place { IsPlace (chain_of pool.old chain.now) at }
+    requires within { off ≤ length (entry_in pool.old chain.now at).bytes }
+    requires some { header ≡ false → off < length (entry_in pool.old chain.now at).bytes }
+    ensures ok { IfOk result (λ d. Makes pool.old pool.new d (alone header)
+        (rest_of header (entry_in pool.old chain.now at) off)) }
+    ensures err { OnErr result (LacksMbufs pool.old
+        (length (rest_of header (entry_in pool.old chain.now at) off))) }
+    ensures same { OnErr result (pool.new ≡ pool.old) }
+{
+    let segment = pool.segment(chain, at);
+    let n = segment.len - off;
+    if n == 0 {
+        return pool.new_chain();
+    }
+    if segment.cluster.is_some() {
+        return pool.new_shared(header, chain, at, off, n);
+    }
+    if !header {
+        return new_copy(pool, false, chain, at, off, n);
+    }
+    if n <= MHLEN {
+        return new_end(pool, chain, at, off, n);
+    }
+    new_two(pool, chain, at, off, n)
+}
+
+/// Cuts a chain in two behind its first `at` bytes, fewer than it has. The chain keeps these, the answer has the
+/// others: of an mbuf that is cut through, a cluster is shared, and bytes of a plain one are copied. Where the chain
+/// has a packet header, both have one. `NoBufs` comes exactly where fewer mbufs are free than that takes, and
+/// changes nothing (`m_split` of 4.4BSD; the details are this project's own).
+pub fn m_split(pool: &mut Pool, chain: &Chain, at: u32) -> Result<Chain, NoBufs>
+    requires live { IsLive pool.old chain.now }
+    requires within { at < length (string (chain_of pool.old chain.now)) }
+    ensures ok { IfOk result (λ d. Parts pool.old pool.new chain.now d
+        (chain_of pool.old chain.now).front (split_front (chain_of pool.old chain.now).entries at)
+        (alone (chain_of pool.old chain.now).front.header)
+        (split_back (chain_of pool.old chain.now).front.header (chain_of pool.old chain.now).entries at)) }
+    ensures front { OnOk result (string (chain_of pool.new chain.now)
+        ≡ take at (string (chain_of pool.old chain.now))) }
+    ensures back { IfOk result (λ d. string (chain_of pool.new d)
+        ≡ drop at (string (chain_of pool.old chain.now))) }
+    ensures enough { OnOk result (HasMbufs pool.old
+        (split_need (chain_of pool.old chain.now).front.header (chain_of pool.old chain.now).entries at)) }
+    ensures err { OnErr result (LacksMbufs pool.old
+        (split_need (chain_of pool.old chain.now).front.header (chain_of pool.old chain.now).entries at)) }
+    ensures same { OnErr result (pool.new ≡ pool.old) }
+{
+    let (place, off) = find_cut(pool, chain, at);
+    let len = pool.segment(chain, place).len;
+    let header = pool.has_header(chain);
+    pool.laws();
+    if !header && off == len {
+        let _ = pool.next(chain, place).unwrap();
+        return Ok(pool.cut(chain, place.index + 1));
+    }
+    let head = new_head(pool, header, chain, place, off)?;
+    pool.laws();
+    pool.narrow(chain, place, 0, off);
+    if pool.next(chain, place).is_none() {
+        return Ok(head);
+    }
+    let back = pool.cut(chain, place.index + 1);
+    let last = pool.last(&head);
+    pool.link(&head, last, back);
+    Ok(head)
+}

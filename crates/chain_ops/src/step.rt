@@ -1,0 +1,82 @@
+//! Steps that several operations share.
+ghost use Rattle.std.specs.Prelude.{◌≡◌, ℕ, ◌+◌, ◌≤◌, false, length, IfOk, OnErr, IsTrue};
+ghost use Rattle.mbuf_chain.specs.Chain.{IsLive, IsPlace, HasFrontRoom, HasBackRoom, chain_of, entry_in, held_mbufs, room_start, room_end, with_chain, string, Adds, Entry};
+ghost use Rattle.mbuf_chain.specs.Frames.{IsBounded};
+ghost use Rattle.mbuf_chain.specs.Steps.{one_mbuf, joined};
+ghost use Rattle.chain_ops.specs.Rooms.{room_low};
+ghost use Rattle.chain_ops.specs.Copies.{copied_entry};
+
+use mbuf_chain::{Chain, Place, Pool};
+use mbuf_pool::NoBufs;
+use params::{MBUF_HEADER, PACKET_HEADER};
+
+/// Where the room of a plain mbuf begins.
+pub(crate) fn room_low(header: bool) -> u32
+    ensures { result ≡ room_low header }
+{
+    if header {
+        MBUF_HEADER + PACKET_HEADER
+    } else {
+        MBUF_HEADER
+    }
+}
+
+/// A chain of one mbuf that has a copy of `n` bytes of another mbuf, behind the first `skip`: a cluster is
+/// shared.
+pub(crate) fn new_copy(
+    pool: &mut Pool,
+    header: bool,
+    chain: &Chain,
+    at: Place,
+    skip: u32,
+    n: u32,
+) -> Result<Chain, NoBufs>
+    requires live { IsLive pool.old chain.now }
+    requires place { IsPlace (chain_of pool.old chain.now) at }
+    requires within { skip + n ≤ length (entry_in pool.old chain.now at).bytes }
+    requires headed { IsTrue header →
+        IsTrue (chain_of pool.old chain.now).front.header × (at.index ≡ 0) }
+    ensures ok { IfOk result (λ d. Adds pool.old pool.new d
+        (one_mbuf header (copied_entry (room_low header) (entry_in pool.old chain.now at) skip n) d)) }
+    ensures err { OnErr result (held_mbufs pool.old ≡ pool.old.mbufs) }
+    ensures same { OnErr result (pool.new ≡ pool.old) }
+{
+    let segment = pool.segment(chain, at);
+    if segment.cluster.is_some() {
+        return pool.new_shared(header, chain, at, skip, n);
+    }
+    pool.laws();
+    let copy = pool.new_plain(header, room_low(header))?;
+    let to = pool.first(&copy);
+    pool.append(&copy, to, chain, at, skip, n);
+    Ok(copy)
+}
+
+/// Links a chain of one mbuf, a copy of `n` bytes of an mbuf of another chain behind the first `skip`, behind
+/// the last mbuf of a chain. Answers its place.
+pub(crate) fn append_copy(
+    pool: &mut Pool,
+    copy: &Chain,
+    last: Place,
+    chain: &Chain,
+    at: Place,
+    skip: u32,
+    n: u32,
+) -> Result<Place, NoBufs>
+    requires copy { IsLive pool.old copy.now }
+    requires last { IsPlace (chain_of pool.old copy.now) last }
+    requires end { last.index + 1 ≡ length (chain_of pool.old copy.now).entries }
+    requires live { IsLive pool.old chain.now }
+    requires place { IsPlace (chain_of pool.old chain.now) at }
+    requires within { skip + n ≤ length (entry_in pool.old chain.now at).bytes }
+    ensures ok { IfOk result (λ q. (d : ℕ) × (pool.new ≡ with_chain pool.old copy.now
+        (joined (chain_of pool.old copy.now)
+        (one_mbuf false (copied_entry MBUF_HEADER (entry_in pool.old chain.now at) skip n) d)))
+        × IsPlace (chain_of pool.new copy.now) q × (q.index ≡ last.index + 1)) }
+    ensures err { OnErr result (held_mbufs pool.old ≡ pool.old.mbufs) }
+    ensures same { OnErr result (pool.new ≡ pool.old) }
+{
+    let back = new_copy(pool, false, chain, at, skip, n)?;
+    let place = pool.link_counted(copy, last, back, n);
+    Ok(place)
+}

@@ -1,0 +1,183 @@
+//! Bytes put into new chains.
+ghost use Rattle.std.specs.Prelude.{◌≡◌, ℕ, ◌+◌, ◌-◌, ◌<◌, ◌≤◌, ◌⊎◌, List, Bool, true, false, Option, Some, None, min, nat_le, length, count_by, IfOk, OnOk, OnErr, if◌then◌else◌};
+ghost use Rattle.mbuf_chain.specs.Chain.{alone, held_mbufs, references, free_clusters, string, chain_of, Adds};
+ghost use Rattle.mbuf_chain.specs.Steps.{one_mbuf};
+ghost use Rattle.flat_model.specs.Layout.{user, wire, is_cluster, next_room, size_of};
+ghost use Rattle.chain_ops.specs.Makes.{Makes};
+ghost use Rattle.chain_ops.specs.Rooms.{room_low};
+ghost use Rattle.chain_ops.specs.Stored.{AreFree, IsTaken, Lacks, Has, rooms_for, stored_first, first_start};
+
+use crate::prepend::at_end;
+use crate::step::room_low;
+use mbuf_chain::{Chain, Pool};
+use mbuf_pool::NoBufs;
+use params::{
+    CLUSTER_LEADING_SPACE, IP_MAX_PACKET, MBUF_HEADER, MCLBYTES, MHLEN, MINCLSIZE, MLEN, MSIZE,
+};
+
+/// A chain of one mbuf with bytes in a cluster of its own, from `start` on.
+fn new_cluster(pool: &mut Pool, header: bool, start: u32, bytes: &[u8]) -> Result<Chain, NoBufs>
+    requires { start + length bytes.now ≤ MCLBYTES }
+    ensures ok { IfOk result (λ c. (k : ℕ) × (k < pool.old.clusters) × (references pool.old k ≡ 0)
+        × Adds pool.old pool.new c (one_mbuf header (record { bytes = bytes.now; start = start; cluster = Some k }) c)) }
+    ensures err { OnErr result ((held_mbufs pool.old ≡ pool.old.mbufs) ⊎
+        (free_clusters pool.old ≡ 0)) }
+    ensures same { OnErr result (pool.new ≡ pool.old) }
+{
+    let chain = pool.new_cluster(header, start)?;
+    let at = pool.first(&chain);
+    pool.put_back(&chain, at, bytes);
+    Ok(chain)
+}
+
+/// A chain of one plain mbuf with bytes, from `start` on.
+fn new_plain(pool: &mut Pool, header: bool, start: u32, bytes: &[u8]) -> Result<Chain, NoBufs>
+    requires low { room_low header ≤ start }
+    requires high { start + length bytes.now ≤ MSIZE }
+    ensures ok { IfOk result (λ c. Adds pool.old pool.new c
+        (one_mbuf header (record { bytes = bytes.now; start = start; cluster = None }) c)) }
+    ensures err { OnErr result (held_mbufs pool.old ≡ pool.old.mbufs) }
+    ensures same { OnErr result (pool.new ≡ pool.old) }
+{
+    let chain = pool.new_plain(header, start)?;
+    let at = pool.first(&chain);
+    pool.put_back(&chain, at, bytes);
+    Ok(chain)
+}
+
+/// How many bytes go into the next mbuf, of those left: `large` at most into a cluster, `small` at most into
+/// a plain one.
+fn room_len(large: usize, small: usize, left: usize) -> usize
+    ensures { result ≡ size_of (next_room large small left) }
+{
+    if left >= MINCLSIZE as usize {
+        left.min(large)
+    } else {
+        left.min(small)
+    }
+}
+
+/// Where `n` bytes begin in a first plain mbuf: at its end or at its front.
+fn first_start(ends: bool, n: usize) -> u32
+    requires { n ≤ MCLBYTES }
+    ensures value { result ≡ first_start ends (min n MHLEN) }
+    ensures low { room_low true ≤ result }
+    ensures high { n ≤ MHLEN → result + n ≤ MSIZE }
+{
+    if ends {
+        at_end(true, (n as u32).min(MHLEN))
+    } else {
+        room_low(true)
+    }
+}
+
+/// A chain of one mbuf with bytes: in a cluster from `large` on, or in its own room from `plain` on.
+fn new_stored(
+    pool: &mut Pool,
+    header: bool,
+    is_large: bool,
+    large: u32,
+    plain: u32,
+    bytes: &[u8],
+) -> Result<Chain, NoBufs>
+    requires large { is_large ≡ true → large + length bytes.now ≤ MCLBYTES }
+    requires low { room_low header ≤ plain }
+    requires high { is_large ≡ false → plain + length bytes.now ≤ MSIZE }
+    ensures ok { IfOk result (λ c. (o : Option ℕ) × IsTaken pool.old is_large o
+        × Adds pool.old pool.new c (one_mbuf header (record {
+          bytes = bytes.now;
+          start = if is_large then large else plain;
+          cluster = o;
+        }) c)) }
+    ensures err { OnErr result ((held_mbufs pool.old ≡ pool.old.mbufs) ⊎
+        ((is_large ≡ true) × (free_clusters pool.old ≡ 0))) }
+    ensures same { OnErr result (pool.new ≡ pool.old) }
+{
+    if is_large {
+        new_cluster(pool, header, large, bytes)
+    } else {
+        new_plain(pool, header, plain, bytes)
+    }
+}
+
+/// A chain with packet header of these bytes. In a first cluster they begin at `large`, and in a first plain
+/// mbuf at its end or at its front.
+fn store(pool: &mut Pool, bytes: &[u8], large: u32, ends: bool) -> Result<Chain, NoBufs>
+    requires large { large ≤ CLUSTER_LEADING_SPACE }
+    requires most { length bytes.now ≤ IP_MAX_PACKET }
+    ensures ok { IfOk result (λ d. (cs : List ℕ) × AreFree pool.old cs
+        × (length cs ≡ count_by is_cluster (rooms_for large (length bytes.now)))
+        × Makes pool.old pool.new d (alone true)
+        (stored_first large ends cs (rooms_for large (length bytes.now)) bytes.now)) }
+    ensures enough { OnOk result (Has pool.old (rooms_for large (length bytes.now))) }
+    ensures err { OnErr result (Lacks pool.old (rooms_for large (length bytes.now))) }
+    ensures same { OnErr result (pool.new ≡ pool.old) }
+{
+    let len = room_len((MCLBYTES - large) as usize, MHLEN as usize, bytes.len());
+    let (piece, mut rest) = bytes.split_at(len);
+    let start = first_start(ends, len);
+    let chain = new_stored(
+        pool,
+        true,
+        bytes.len() >= MINCLSIZE as usize,
+        large,
+        start,
+        piece,
+    )?;
+    let mut last = pool.first(&chain);
+    'rooms: while !rest.is_empty() {
+        let next = room_len(MCLBYTES as usize, MLEN as usize, rest.len());
+        let (piece, behind) = rest.split_at(next);
+        let Ok(back) = new_stored(
+            pool,
+            false,
+            rest.len() >= MINCLSIZE as usize,
+            0,
+            MBUF_HEADER,
+            piece,
+        ) else {
+            pool.free_chain(chain);
+            return Err(NoBufs);
+        };
+        last = pool.link_counted(&chain, last, back, next as u32);
+        rest = behind;
+    }
+    pool.laws();
+    Ok(chain)
+}
+
+/// A chain with packet header of bytes to send, at most 65,535: clusters as long as 208 bytes or more are left,
+/// then plain mbufs. 56 bytes are left free in front of a first cluster, and a first plain mbuf is filled at its
+/// end. `NoBufs` comes exactly where fewer mbufs or clusters are free than that takes, and changes nothing. Which free
+/// clusters are taken isn't said (sosend; TCP/IP Illustrated, volume 2, chapter 16).
+pub fn from_user(pool: &mut Pool, bytes: &[u8]) -> Result<Chain, NoBufs>
+    requires { length bytes.now ≤ IP_MAX_PACKET }
+    ensures ok { IfOk result (λ d. (cs : List ℕ) × AreFree pool.old cs
+        × (length cs ≡ count_by is_cluster (user (length bytes.now)))
+        × Makes pool.old pool.new d (alone true)
+        (stored_first CLUSTER_LEADING_SPACE true cs (user (length bytes.now)) bytes.now)) }
+    ensures string { IfOk result (λ d. string (chain_of pool.new d) ≡ bytes.now) }
+    ensures enough { OnOk result (Has pool.old (user (length bytes.now))) }
+    ensures err { OnErr result (Lacks pool.old (user (length bytes.now))) }
+    ensures same { OnErr result (pool.new ≡ pool.old) }
+{
+    store(pool, bytes, CLUSTER_LEADING_SPACE, true)
+}
+
+/// A chain with packet header of the bytes of a packet that arrived, at most 65,535: clusters as long as 208 bytes
+/// or more are left, then plain mbufs, all filled at the front. `NoBufs` comes exactly where fewer mbufs or clusters
+/// are free than that takes, and changes nothing. Which free clusters are taken isn't said (m_devget; TCP/IP
+/// Illustrated, volume 2, chapter 2).
+pub fn from_wire(pool: &mut Pool, bytes: &[u8]) -> Result<Chain, NoBufs>
+    requires { length bytes.now ≤ IP_MAX_PACKET }
+    ensures ok { IfOk result (λ d. (cs : List ℕ) × AreFree pool.old cs
+        × (length cs ≡ count_by is_cluster (wire (length bytes.now)))
+        × Makes pool.old pool.new d (alone true)
+        (stored_first 0 false cs (wire (length bytes.now)) bytes.now)) }
+    ensures string { IfOk result (λ d. string (chain_of pool.new d) ≡ bytes.now) }
+    ensures enough { OnOk result (Has pool.old (wire (length bytes.now))) }
+    ensures err { OnErr result (Lacks pool.old (wire (length bytes.now))) }
+    ensures same { OnErr result (pool.new ≡ pool.old) }
+{
+    store(pool, bytes, 0, false)
+}

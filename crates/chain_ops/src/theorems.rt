@@ -1,0 +1,62 @@
+//! Laws of the definitions. Each is a function that does nothing, and its contract is the law.
+ghost use Rattle.std.specs.Prelude.{◌≡◌, ◌≢◌, ℕ, ◌+◌, ◌<◌, ◌≤◌, Bool, true, false, List, [], ◌∷◌, length, count_by};
+ghost use Rattle.mbuf_chain.specs.Chain.{Entry, Front, PoolView, IsLive, without, alone, flat_bytes};
+ghost use Rattle.mbuf_chain.specs.Owners.{Moves};
+ghost use Rattle.chain_ops.specs.Makes.{Makes};
+ghost use Rattle.flat_model.specs.Weight.{Covers, IsSubBag, ◌⊕◌};
+ghost use Rattle.flat_model.specs.Layout.{weight_of, entries_met, user, sent, wire, is_cluster, laid_on};
+ghost use Rattle.chain_ops.specs.Copies.{copied};
+ghost use Rattle.chain_ops.specs.Joins.{cat};
+ghost use Rattle.chain_ops.specs.Prepends.{prepended};
+ghost use Rattle.chain_ops.specs.Stored.{stored_first};
+ghost use Rattle.chain_ops.specs.Weights.{laid, HaveBytes, AreFit};
+
+use params::{CLUSTER_LEADING_SPACE, IP_UDP_HEADERS};
+
+/// The copy of a range weighs what the entries weigh that share a byte with it, where none is empty.
+pub fn copy_weight()
+    ensures { (header : Bool) (es : List Entry) (off len : ℕ) → HaveBytes es → 0 < len →
+        weight_of (laid (copied header es off len))
+        ≡ weight_of (entries_met (laid es) off (off + len)) }
+{}
+
+/// A join takes no more mbufs and refers to no other cluster than the two chains, and has room for its bytes.
+pub fn join_weight()
+    ensures mbufs { (es fs : List Entry) → (weight_of (laid (cat es fs))).mbufs
+        ≤ (weight_of (laid es) ⊕ weight_of (laid fs)).mbufs }
+    ensures bag { (es fs : List Entry) → IsSubBag (weight_of (laid (cat es fs))).bag
+        (weight_of (laid es) ⊕ weight_of (laid fs)).bag }
+    ensures fit { (es fs : List Entry) → AreFit es → AreFit fs → AreFit (cat es fs) }
+    ensures covers { (es : List Entry) → 0 < length es → AreFit es →
+        Covers (weight_of (laid es)) (length (flat_bytes es)) }
+{}
+
+/// Bytes that were stored lie in the layout of the flat machine.
+pub fn stored_layout()
+    ensures user { (cs xs : List ℕ) → length cs ≡ count_by is_cluster (user (length xs)) →
+        laid (stored_first CLUSTER_LEADING_SPACE true cs (user (length xs)) xs) ≡ laid_on cs (user (length xs)) }
+    ensures wire { (cs xs : List ℕ) → length cs ≡ count_by is_cluster (wire (length xs)) →
+        laid (stored_first 0 false cs (wire (length xs)) xs) ≡ laid_on cs (wire (length xs)) }
+{}
+
+/// Who owns what after an operation: a new chain, a chain changed, perhaps under another number, and two
+/// joined. Every other chain is as it was.
+pub fn frame()
+    ensures made { (p q : PoolView) (d : ℕ) (f : Front) (es : List Entry) → Makes p q d f es →
+        Moves p [] q (d ∷ []) }
+    ensures changed { (p q : PoolView) (c d : ℕ) (f : Front) (es : List Entry) → IsLive p c →
+        Makes (without p c) q d f es → Moves p (c ∷ []) q (d ∷ []) }
+    ensures joined { (p q : PoolView) (c d : ℕ) (f : Front) (es : List Entry) → IsLive p c → IsLive p d →
+        c ≢ d → Makes (without (without p d) c) q c f es → Moves p (c ∷ d ∷ []) q (c ∷ []) }
+{}
+
+/// The 28 bytes of headers that `m_prepend` puts in front of bytes to send give the layout of the flat machine: in
+/// the room of the first mbuf for at most 72 bytes, else in an mbuf of their own.
+pub fn sent_layout()
+    ensures { (cs xs hs : List ℕ) → length cs ≡ count_by is_cluster (user (length xs)) → length hs ≡ IP_UDP_HEADERS →
+        laid (prepended (record {
+          front = alone true;
+          entries = stored_first CLUSTER_LEADING_SPACE true cs (user (length xs)) xs;
+          cells = [];
+        }) hs) ≡ laid_on cs (sent (length xs)) }
+{}
