@@ -13,7 +13,7 @@ use std::alloc::Global;
 const CLUSTER_LEN: usize = 2048;
 
 /// Puts at most 2,048 bytes into a cluster.
-#[tactic(auto, using(mbuf_chain::proofs::Maps::map_steps))]
+#[tactic(auto, using(mbuf_chain::proofs::Laws::Maps::map_steps))]
 fn fill_cluster(pool: &mut Pool, header: bool, bytes: &[u8]) -> Result<Chain, NoBufs>
     requires { length bytes.now ≤ 2048 }
     ensures ok { IfOk result (λ c. (e : Entry) × Adds pool.old pool.new c (one_mbuf header e c)) }
@@ -26,7 +26,7 @@ fn fill_cluster(pool: &mut Pool, header: bool, bytes: &[u8]) -> Result<Chain, No
 }
 
 /// Puts bytes into as many clusters as they need, 1 or more.
-#[tactic(auto, using(mbuf_chain::proofs::Maps::map_steps))]
+#[tactic(auto, using(mbuf_chain::proofs::Laws::Maps::map_steps))]
 fn fill(pool: &mut Pool, bytes: &[u8]) -> Result<Chain, NoBufs>
     ensures { IfOk result (λ c. IsLive pool.new c) }
 {
@@ -60,7 +60,7 @@ fn share_mbuf(pool: &mut Pool, header: bool, chain: &Chain, at: Place) -> Result
 }
 
 /// Shares all of a chain of clusters.
-#[tactic(auto, using(mbuf_chain::proofs::Maps::map_steps))]
+#[tactic(auto, using(mbuf_chain::proofs::Laws::Maps::map_steps))]
 fn share(pool: &mut Pool, chain: &Chain) -> Result<Chain, NoBufs>
     requires { IsLive pool.old chain.now }
     ensures live { IsLive pool.new chain.now }
@@ -82,7 +82,7 @@ fn share(pool: &mut Pool, chain: &Chain) -> Result<Chain, NoBufs>
 }
 
 /// Fills a chain, shares all of it and frees both. Answers whether the copy had all bytes.
-#[tactic(auto, using(mbuf_chain::proofs::Maps::map_steps))]
+#[tactic(auto, using(mbuf_chain::proofs::Laws::Maps::map_steps))]
 fn turn(pool: &mut Pool, bytes: &[u8]) -> bool {
     let Ok(chain) = fill(pool, bytes) else {
         return false;

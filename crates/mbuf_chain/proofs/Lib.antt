@@ -13,6 +13,7 @@ pub mod Opening
 pub mod Trained
 pub mod Writes
 pub mod Bounds
+pub mod Laws
 pub mod Moves
 pub mod Ledger
 pub mod Runs

@@ -5,7 +5,7 @@ use Rattle.std.proofs.lemmas.Option.{none-some, same_Some}
 use Rattle.mbuf_chain.specs.Chain.{PoolView, chain_of}
 use Rattle.mbuf_chain.specs.Owners.{times}
 use Rattle.mbuf_chain.specs.Train.{follow, last_number}
-use Rattle.mbuf_chain.proofs.Moves.{times_same}
+use Rattle.mbuf_chain.proofs.Laws.Owners.{times_same}
 
 -- the chains follow one another, from `at` on, and none stands behind the last
 abbrev pub IsRun : PoolView → Option ℕ → List ℕ → Type 0

@@ -13,8 +13,8 @@ use Rattle.mbuf_chain.specs.Frames.{SameAt, IsBounded}
 use Rattle.mbuf_chain.specs.Train.{TrainView, Car, no_car, follow, numbers, car_of, cars, car_at, last_number, IsHeld, Inserts, Takes}
 pub use Rattle.mbuf_chain.specs.Kept.{numbers_same, cars_same, held_same, none_left}
 use Rattle.mbuf_chain.specs.Kept.{cars_of_same}
-use Rattle.mbuf_chain.proofs.Moves.{times_same, times_other, times-append, owned_more, owned_after, live_owned, live_first, apart_first, same_without, same_with, same_adds, same_behind, apart_new, moves_none, then_adds, then_without, shown_with, kept_with, live_with, moves_within, moves_trans, moves_reordered, live_at_most}
-use Rattle.mbuf_chain.proofs.Ledger.{owned_at_most}
+use Rattle.mbuf_chain.proofs.Laws.Owners.{times_same, times_other, times-append, owned_more, owned_after, live_owned, live_first, apart_first, same_without, same_with, same_adds, same_behind, apart_new, moves_none, then_adds, then_without, shown_with, kept_with, live_with, moves_within, moves_trans, moves_reordered, live_at_most}
+use Rattle.mbuf_chain.proofs.Laws.Accounts.{owned_at_most}
 use Rattle.mbuf_chain.proofs.Runs.{IsRun, Split, split_at, times_get, times_twice, passing, run_follow, run_ends, run_of, run_same, run_with, run_without, run_next, last-append, insert-append, remove-append}
 
 -- ---- a train by the list of its numbers

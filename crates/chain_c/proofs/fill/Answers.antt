@@ -1,6 +1,5 @@
 use Rattle.std.proofs.Common.{arith}
-use Rattle.mbuf_chain.proofs.AfterStep.{live_shown, apart, count_joined}
-use Rattle.chain_c.proofs.Steps.{count_new}
+use Rattle.mbuf_chain.proofs.Laws.Steps.{live_shown, apart, count_joined, count_new}
 use Rattle.chain_c.proofs.fill.Goals as goal
 
 pub clusters-init : goal.clusters-init

@@ -1,7 +1,6 @@
 use Rattle.std.proofs.Common.{ap, arith, length}
 use Rattle.mbuf_chain.specs.Chain.{ChainView}
-use Rattle.mbuf_chain.proofs.AfterStep.{live_shown, live_beside, apart, place_beside, count_joined}
-use Rattle.chain_c.proofs.Steps.{count_new, kept_link, same_chain, same_live, place_still}
+use Rattle.mbuf_chain.proofs.Laws.Steps.{live_shown, live_beside, apart, place_beside, count_joined, count_new, kept_link, kept_chain, kept_live, kept_place}
 use Rattle.chain_c.proofs.share.Goals as goal
 
 pub mbufs-init : goal.mbufs-init
@@ -18,8 +17,8 @@ mbufs-init c =
 pub mbufs-preserved : goal.mbufs-preserved
 mbufs-preserved c =
     record {
-      live = same_live c.mbufs.pool c.link-last.new.self _ (kept_link c.mbufs.pool _ c.link-last.new.self _ _ _ _ _ c.in-Ok.ensures.ok.1 c.link-last.ensures.change c.mbufs.invariant.live c.mbufs.invariant.apart) c.mbufs.invariant.live;
-      at = place_still c.mbufs.pool c.link-last.new.self _ _ (kept_link c.mbufs.pool _ c.link-last.new.self _ _ _ _ _ c.in-Ok.ensures.ok.1 c.link-last.ensures.change c.mbufs.invariant.live c.mbufs.invariant.apart) c.in-Some.ensures.0;
+      live = kept_live c.mbufs.pool c.link-last.new.self _ (kept_link c.mbufs.pool _ c.link-last.new.self _ _ _ _ _ c.in-Ok.ensures.ok.1 c.link-last.ensures.change c.mbufs.invariant.live c.mbufs.invariant.apart) c.mbufs.invariant.live;
+      at = kept_place c.mbufs.pool c.link-last.new.self _ _ (kept_link c.mbufs.pool _ c.link-last.new.self _ _ _ _ _ c.in-Ok.ensures.ok.1 c.link-last.ensures.change c.mbufs.invariant.live c.mbufs.invariant.apart) c.in-Some.ensures.0;
       copy = live_shown _ _ _ _ c.link-last.ensures.change;
       apart = c.mbufs.invariant.apart;
       place = c.link-last.ensures.place;
@@ -28,4 +27,4 @@ mbufs-preserved c =
 
 pub mbufs-smaller : goal.mbufs-smaller
 mbufs-smaller c =
-    omega (arith, c.in-Some.ensures.1, c.in-Some.ensures.0.within, ap (λ (v : ChainView). length v.entries) (same_chain c.mbufs.pool c.link-last.new.self _ (kept_link c.mbufs.pool _ c.link-last.new.self _ _ _ _ _ c.in-Ok.ensures.ok.1 c.link-last.ensures.change c.mbufs.invariant.live c.mbufs.invariant.apart)))
+    omega (arith, c.in-Some.ensures.1, c.in-Some.ensures.0.within, ap (λ (v : ChainView). length v.entries) (kept_chain c.mbufs.pool c.link-last.new.self _ (kept_link c.mbufs.pool _ c.link-last.new.self _ _ _ _ _ c.in-Ok.ensures.ok.1 c.link-last.ensures.change c.mbufs.invariant.live c.mbufs.invariant.apart)))

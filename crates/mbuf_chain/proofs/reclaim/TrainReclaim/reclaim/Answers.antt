@@ -1,5 +1,5 @@
 use Rattle.std.proofs.Common.{arith}
-use Rattle.mbuf_chain.proofs.Moves.{moves_trans}
+use Rattle.mbuf_chain.proofs.Laws.Owners.{moves_trans}
 use Rattle.mbuf_chain.proofs.Trains.{freed_car}
 use Rattle.mbuf_chain.proofs.reclaim.TrainReclaim.reclaim.Goals as goal
 

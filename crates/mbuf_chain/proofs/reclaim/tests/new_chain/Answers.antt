@@ -1,7 +1,7 @@
 use Rattle.std.proofs.Common.{[], ◌∷◌, sym, ◌∙◌, subst}
 use Rattle.std.proofs.lemmas.Result.{IfOk-weaker}
 use Rattle.mbuf_chain.specs.Owners.{Moves}
-use Rattle.mbuf_chain.proofs.Moves.{moves_none, then_adds, same_adds, same_nothing}
+use Rattle.mbuf_chain.proofs.Laws.Owners.{moves_none, then_adds, same_adds, same_nothing}
 use Rattle.mbuf_chain.proofs.reclaim.tests.new_chain.Goals as goal
 
 -- what is there stays, and the new chain comes to it

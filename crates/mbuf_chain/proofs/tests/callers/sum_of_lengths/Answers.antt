@@ -1,6 +1,6 @@
 use Rattle.std.proofs.Common.{ℕ, Option, ap, ◌∙◌, arith, sum_by}
 use Rattle.mbuf_chain.specs.Chain.{chain_of}
-use Rattle.mbuf_chain.proofs.Iterators.{sum_layout}
+use Rattle.mbuf_chain.proofs.Laws.Iterators.{sum_layout}
 use Rattle.mbuf_chain.proofs.tests.callers.sum_of_lengths.Goals as goal
 
 pub mbufs-init : goal.mbufs-init

@@ -1,5 +1,5 @@
 use Rattle.std.proofs.Common.{arith}
-use Rattle.mbuf_chain.proofs.AfterStep.{live_shown, apart, count_joined}
+use Rattle.mbuf_chain.proofs.Laws.Steps.{live_shown, apart, count_joined}
 use Rattle.mbuf_chain.proofs.tests.large.chain_of_empty.Goals as goal
 
 pub mbufs-preserved : goal.mbufs-preserved

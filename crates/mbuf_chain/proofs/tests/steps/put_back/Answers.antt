@@ -1,5 +1,5 @@
-use Rattle.mbuf_chain.proofs.Moves.{live_with}
-use Rattle.mbuf_chain.proofs.AfterStep.{place_after}
+use Rattle.mbuf_chain.proofs.Laws.Owners.{live_with}
+use Rattle.mbuf_chain.proofs.Laws.Steps.{place_after}
 use Rattle.mbuf_chain.proofs.tests.steps.put_back.Goals as goal
 
 pub returns-clause-place : goal.returns-clause-place

@@ -1,7 +1,7 @@
 use Rattle.std.proofs.Common.{subst, arith}
 use Rattle.mbuf_chain.specs.Owners.{Moves}
 use Rattle.mbuf_chain.specs.Train.{numbers}
-use Rattle.mbuf_chain.proofs.Moves.{moves_none, moves_trans}
+use Rattle.mbuf_chain.proofs.Laws.Owners.{moves_none, moves_trans}
 use Rattle.mbuf_chain.proofs.Trains.{freed_car, none_left}
 use Rattle.mbuf_chain.proofs.train.Train.free.Goals as goal
 

@@ -4,7 +4,7 @@ use Rattle.mbuf_chain.specs.Chain.{ChainView, IsLive, chain_of}
 use Rattle.mbuf_chain.specs.Steps.{placed}
 use Rattle.mbuf_chain.specs.Train.{TrainView}
 use Rattle.mbuf_chain.specs.declared.train.Train.TheInside.{Inside}
-use Rattle.mbuf_chain.proofs.Moves.{live_with, kept_with}
+use Rattle.mbuf_chain.proofs.Laws.Owners.{live_with, kept_with}
 use Rattle.mbuf_chain.proofs.Trains.{inserted_behind, room_for, live_car, headed_car, apart_car, live_behind}
 use Rattle.mbuf_chain.proofs.train.Train.insert_behind.Goals as goal
 use Rattle.mbuf_chain.proofs.train.Train.insert_behind.Goals.{then-i-self, else-i-self}

@@ -4,7 +4,7 @@ use Rattle.mbuf_chain.specs.Chain.{ChainView, IsLive, chain_of}
 use Rattle.mbuf_chain.specs.Steps.{placed}
 use Rattle.mbuf_chain.specs.Train.{TrainView}
 use Rattle.mbuf_chain.specs.declared.train.Train.TheInside.{Inside}
-use Rattle.mbuf_chain.proofs.Moves.{live_with, kept_with}
+use Rattle.mbuf_chain.proofs.Laws.Owners.{live_with, kept_with}
 use Rattle.mbuf_chain.proofs.Trains.{taken_behind, live_car, headed_car, behind_car, next_car, next_apart, live_behind}
 use Rattle.mbuf_chain.proofs.train.Train.take_behind.Goals as goal
 use Rattle.mbuf_chain.proofs.train.Train.take_behind.Goals.{then-self-i, else-self-i}

@@ -1,6 +1,6 @@
 use Rattle.std.proofs.Common.{ap}
 use Rattle.mbuf_chain.specs.Chain.{ChainView}
-use Rattle.mbuf_chain.proofs.Moves.{live_adds, shown_adds, moves_trans}
+use Rattle.mbuf_chain.proofs.Laws.Owners.{live_adds, shown_adds, moves_trans}
 use Rattle.mbuf_chain.proofs.Trains.{beside_adds, apart_adds, moves_new}
 use Rattle.mbuf_chain.proofs.train.tests.put_new.Goals as goal
 

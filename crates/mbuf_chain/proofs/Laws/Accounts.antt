@@ -1,0 +1,343 @@
+-- The pool's accounts: what a step adds to the mbufs held and to a cluster's references, and both as sums over what the owners have.
+use Rattle.std.proofs.Common.{◌≡◌, ◌≢◌, ℕ, zero, suc, ◌+◌, ◌<◌, ◌≤◌, Bool, cond, List, [], ◌∷◌, length, take, drop, take-append-drop, Option, None, Some, sum_by, count_by, nat_eq, slice_index_or, refl, sym, ap, ◌∙◌, subst, arith, inl, inr}
+use Rattle.std.specs.Option.{option_eq}
+use Rattle.std.specs.List.{range_with_len}
+use Rattle.std.specs.Ordering.{nat_cmp}
+use Rattle.std.specs.FinMap as finmap
+use Rattle.std.specs.FinMap.{FinMap, get-empty}
+use Rattle.std.proofs.lemmas.Bool.{cases_eq, cond-true, cond-false, eq-eqb, ne_eqb}
+use Rattle.std.proofs.lemmas.Option.{same_Some}
+use Rattle.std.proofs.lemmas.List.{length-append}
+use Rattle.std.proofs.lemmas.List.Sums.{sum_by-append, sum_by-cons}
+use Rattle.mbuf_chain.specs.declared.place.Place.{Place}
+use Rattle.mbuf_chain.specs.Chain.{Entry, ChainView, PoolView, IsLive, IsPlace, IsUnshared, no_entry, chain_of, entry_of, entry_in, with_chain, without, Adds, mbufs_of, refers, references_of, held_mbufs, references, free_clusters}
+use Rattle.mbuf_chain.specs.Steps.{one_mbuf, empty_entry, joined, first_part, second_part}
+use Rattle.mbuf_chain.specs.Owners.{times, live_at, IsOwned, IsAll, Moves}
+use Rattle.mbuf_chain.specs.Frames.{SameAt, IsBounded}
+use Rattle.mbuf_chain.proofs.Maps.{same, get_gone, get_left, get_here, get_there, total, total_is, total-insert, total-remove, total-empty}
+use Rattle.mbuf_chain.proofs.Laws.Owners.{times_same, times_other, live_same, live_none, live_one, live_at_most, live_from, live_first, live_owned, apart_first, none_from, chain_left, chain_same, owned_after}
+use Rattle.mbuf_chain.proofs.Laws.Steps.{live_without, new_entry}
+
+-- ---- any sum over the chains
+insert-removed : (m : FinMap nat_cmp ChainView) (c : ℕ) (v : ChainView) → finmap.insert (finmap.remove m c) c v ≡ finmap.insert m c v
+insert-removed m c v = same _ _ (λ q. elim (cases_eq q c) [
+  | inl e ↦ subst (λ (j : ℕ). finmap.get (finmap.insert (finmap.remove m c) c v) j ≡ finmap.get (finmap.insert m c v) j) (sym e) (get_here _ c v ∙ sym (get_here m c v))
+  | inr ne ↦ get_there _ c v q ne ∙ get_left m c q ne ∙ sym (get_there m c v q ne)
+])
+
+sum_is : (f : ChainView → ℕ) (p : PoolView) → sum_by f (finmap.values p.chains) ≡ total f p.chains
+sum_is f p = sym (total_is f p.chains)
+
+sum-without : (f : ChainView → ℕ) (p : PoolView) (c : ℕ) → IsLive p c → sum_by f (finmap.values (without p c).chains) + f (chain_of p c) ≡ sum_by f (finmap.values p.chains)
+sum-without f p c l = omega (arith, sum_is f p, sum_is f (without p c), total-remove f p.chains c (chain_of p c) l)
+
+sum-with : (f : ChainView → ℕ) (p : PoolView) (c : ℕ) (v : ChainView) → IsLive p c → sum_by f (finmap.values (with_chain p c v).chains) + f (chain_of p c) ≡ sum_by f (finmap.values p.chains) + f v
+sum-with f p c v l =
+    omega (
+      arith,
+      sum_is f p,
+      sum_is f (with_chain p c v),
+      total-remove f p.chains c (chain_of p c) l,
+      total-insert f (finmap.remove p.chains c) c v (get_gone p.chains c),
+      ap (total f) (insert-removed p.chains c v),
+    )
+
+sum-adds : (f : ChainView → ℕ) (p q : PoolView) (c : ℕ) (v : ChainView) → Adds p q c v → sum_by f (finmap.values q.chains) ≡ sum_by f (finmap.values p.chains) + f v
+sum-adds f p q c v a =
+    omega (arith, sum_is f p, sum_is f q, ap (λ (r : PoolView). total f r.chains) a.pool, total-insert f p.chains c v a.fresh)
+
+-- ---- what a step adds
+pub held-without : (p q : PoolView) (c : ℕ) → IsLive p c → q ≡ without p c → held_mbufs q + mbufs_of (chain_of p c) ≡ held_mbufs p
+held-without p q c l e = ap (λ (r : PoolView). held_mbufs r + mbufs_of (chain_of p c)) e ∙ sum-without mbufs_of p c l
+
+pub held-with : (p q : PoolView) (c : ℕ) (v : ChainView) → IsLive p c → q ≡ with_chain p c v → held_mbufs q + mbufs_of (chain_of p c) ≡ held_mbufs p + mbufs_of v
+held-with p q c v l e = ap (λ (r : PoolView). held_mbufs r + mbufs_of (chain_of p c)) e ∙ sum-with mbufs_of p c v l
+
+pub held-adds : {p q : PoolView} {c : ℕ} {v : ChainView} → Adds p q c v → held_mbufs q ≡ held_mbufs p + mbufs_of v
+held-adds {p} {q} {c} {v} a = sum-adds mbufs_of p q c v a
+
+pub references-without : (p q : PoolView) (c cluster : ℕ) → IsLive p c → q ≡ without p c → references q cluster + references_of cluster (chain_of p c) ≡ references p cluster
+references-without p q c cluster l e = ap (λ (r : PoolView). references r cluster + references_of cluster (chain_of p c)) e ∙ sum-without (references_of cluster) p c l
+
+pub references-with : (p q : PoolView) (c cluster : ℕ) (v : ChainView) → IsLive p c → q ≡ with_chain p c v → references q cluster + references_of cluster (chain_of p c) ≡ references p cluster + references_of cluster v
+references-with p q c cluster v l e = ap (λ (r : PoolView). references r cluster + references_of cluster (chain_of p c)) e ∙ sum-with (references_of cluster) p c v l
+
+pub references-adds : {p q : PoolView} {c : ℕ} {v : ChainView} (cluster : ℕ) → Adds p q c v → references q cluster ≡ references p cluster + references_of cluster v
+references-adds {p} {q} {c} {v} cluster a = sum-adds (references_of cluster) p q c v a
+
+-- a link moves mbufs and references from one chain to another
+pub held-link : (p q : PoolView) (a b : ℕ) → IsLive p a → IsLive p b → a ≢ b → q ≡ with_chain (without p b) a (joined (chain_of p a) (chain_of p b)) → held_mbufs q ≡ held_mbufs p
+held-link p q a b la lb ne e =
+    omega (
+      arith,
+      held-without p (without p b) b lb refl,
+      held-with (without p b) q a (joined (chain_of p a) (chain_of p b)) (live_without p (without p b) b refl a ne la) e,
+      ap mbufs_of (chain_left p b a ne),
+      length-append (chain_of p a).entries (chain_of p b).entries,
+    )
+
+pub references-link : (p q : PoolView) (a b cluster : ℕ) → IsLive p a → IsLive p b → a ≢ b → q ≡ with_chain (without p b) a (joined (chain_of p a) (chain_of p b)) → references q cluster ≡ references p cluster
+references-link p q a b cluster la lb ne e =
+    omega (
+      arith,
+      references-without p (without p b) b cluster lb refl,
+      references-with (without p b) q a cluster (joined (chain_of p a) (chain_of p b)) (live_without p (without p b) b refl a ne la) e,
+      ap (references_of cluster) (chain_left p b a ne),
+      sum_by-append (λ (x : Entry). cond {A = ℕ} (refers cluster x) 1 0) (chain_of p a).entries (chain_of p b).entries,
+    )
+
+-- a cut leaves as many in two chains as there were in one
+pub held-cut : (p q : PoolView) (c d n : ℕ) → IsLive p c → Adds (with_chain p c (first_part n (chain_of p c))) q d (second_part n (chain_of p c)) → held_mbufs q ≡ held_mbufs p
+held-cut p q c d n live a =
+    omega (
+      arith,
+      held-with p (with_chain p c (first_part n (chain_of p c))) c (first_part n (chain_of p c)) live refl,
+      held-adds a,
+      length-append (take n (chain_of p c).entries) (drop n (chain_of p c).entries),
+      ap (λ (es : List Entry). length es) (take-append-drop n (chain_of p c).entries),
+    )
+
+pub references-cut : (p q : PoolView) (c d n cluster : ℕ) → IsLive p c → Adds (with_chain p c (first_part n (chain_of p c))) q d (second_part n (chain_of p c)) → references q cluster ≡ references p cluster
+references-cut p q c d n cluster live a =
+    omega (
+      arith,
+      references-with p (with_chain p c (first_part n (chain_of p c))) c cluster (first_part n (chain_of p c)) live refl,
+      references-adds cluster a,
+      sum_by-append (λ (x : Entry). cond {A = ℕ} (refers cluster x) 1 0) (take n (chain_of p c).entries) (drop n (chain_of p c).entries),
+      ap (λ (es : List Entry). count_by (refers cluster) es) (take-append-drop n (chain_of p c).entries),
+    )
+
+-- ---- what owners have
+-- a sum over a list that lacks c doesn't see that c is gone
+sum_left : (f : ChainView → ℕ) (p : PoolView) (c : ℕ) (xs : List ℕ) → times c xs ≡ 0 → sum_by (λ k. f (chain_of (without p c) k)) xs ≡ sum_by (λ k. f (chain_of p k)) xs
+sum_left f p c [] h = refl
+sum_left f p c (x ∷ xs) h =
+    let ne : x ≢ c = λ e. absurd (omega (arith, ap (λ (j : ℕ). times j (x ∷ xs)) e, times_same x xs)) in
+    omega (
+      arith,
+      sum_by-cons (λ k. f (chain_of (without p c) k)) x xs,
+      sum_by-cons (λ k. f (chain_of p k)) x xs,
+      ap f (chain_left p c x ne),
+      sum_left f p c xs (omega arith),
+    )
+
+all_left : (p : PoolView) (c : ℕ) (xs : List ℕ) → IsAll p (c ∷ xs) → IsAll (without p c) xs
+all_left p c xs h =
+    let gone : times c xs ≡ 0 = apart_first p c xs (λ k. omega (arith, h k)) in
+    λ k. elim (cases_eq k c) [
+      | inl e ↦ subst (λ (j : ℕ). times j xs ≡ live_at (without p c) j) (sym e) (gone ∙ sym (live_none (without p c) c (get_gone p.chains c)))
+      | inr ne ↦ omega (arith, h k, times_other k c xs ne, live_same p (without p c) k (get_left p.chains c k ne))
+    ]
+
+owned_left : (p : PoolView) (c : ℕ) (xs : List ℕ) → IsOwned p (c ∷ xs) → IsOwned (without p c) xs
+owned_left p c xs o =
+    let gone : times c xs ≡ 0 = apart_first p c xs o in
+    λ k. elim (cases_eq k c) [
+      | inl e ↦ subst (λ (j : ℕ). times j xs ≤ live_at (without p c) j) (sym e) (omega (arith, gone))
+      | inr ne ↦ omega (arith, o k, times_other k c xs ne, live_same p (without p c) k (get_left p.chains c k ne))
+    ]
+
+sum_all : (f : ChainView → ℕ) (p : PoolView) (all : List ℕ) → IsAll p all → sum_by f (finmap.values p.chains) ≡ sum_by (λ k. f (chain_of p k)) all
+sum_all f p [] h =
+    sum_is f p ∙ ap (total f) (same p.chains (finmap.empty {R = nat_cmp}) (λ q. none_from p q (sym (h q)) ∙ sym (get-empty nat_cmp q))) ∙ total-empty f
+sum_all f p (c ∷ cs) h =
+    let owned : IsOwned p (c ∷ cs) = λ k. omega (arith, h k) in
+    omega (
+      arith,
+      sum-without f p c (live_first p c cs owned),
+      sum_all f (without p c) cs (all_left p c cs h),
+      sum_left f p c cs (apart_first p c cs owned),
+      sum_by-cons (λ k. f (chain_of p k)) c cs,
+    )
+
+sum_owned : (f : ChainView → ℕ) (p : PoolView) (xs : List ℕ) → IsOwned p xs → sum_by (λ k. f (chain_of p k)) xs ≤ sum_by f (finmap.values p.chains)
+sum_owned f p [] o = omega arith
+sum_owned f p (c ∷ cs) o =
+    omega (
+      arith,
+      sum-without f p c (live_first p c cs o),
+      sum_owned f (without p c) cs (owned_left p c cs o),
+      sum_left f p c cs (apart_first p c cs o),
+      sum_by-cons (λ k. f (chain_of p k)) c cs,
+    )
+
+-- where the owners' lists have each chain once, the pool's counts are the sums over them
+pub held_by_owners : (p : PoolView) (all : List ℕ) → IsAll p all → held_mbufs p ≡ sum_by (λ k. mbufs_of (chain_of p k)) all
+held_by_owners p all h = sum_all mbufs_of p all h
+
+pub references_by_owners : (p : PoolView) (all : List ℕ) (cluster : ℕ) → IsAll p all → references p cluster ≡ sum_by (λ k. references_of cluster (chain_of p k)) all
+references_by_owners p all cluster h = sum_all (references_of cluster) p all h
+
+-- an owner has no more than the pool holds
+pub owned_held : (p : PoolView) (xs : List ℕ) → IsOwned p xs → sum_by (λ k. mbufs_of (chain_of p k)) xs ≤ held_mbufs p
+owned_held p xs o = sum_owned mbufs_of p xs o
+
+pub owned_references : (p : PoolView) (xs : List ℕ) (cluster : ℕ) → IsOwned p xs → sum_by (λ k. references_of cluster (chain_of p k)) xs ≤ references p cluster
+owned_references p xs cluster o = sum_owned (references_of cluster) p xs o
+
+-- ---- what an owner's step makes of the pool's counts: the difference of its own chains
+-- the pool without the chains of a list
+abbrev pub without_all : PoolView → List ℕ → PoolView
+without_all p [] = p
+without_all p (x ∷ xs) = without_all (without p x) xs
+
+sum_rest : (f : ChainView → ℕ) (p : PoolView) (xs : List ℕ) → IsOwned p xs → sum_by f (finmap.values (without_all p xs).chains) + sum_by (λ k. f (chain_of p k)) xs ≡ sum_by f (finmap.values p.chains)
+sum_rest f p [] o = omega arith
+sum_rest f p (x ∷ xs) o =
+    omega (
+      arith,
+      sum-without f p x (live_first p x xs o),
+      sum_rest f (without p x) xs (owned_left p x xs o),
+      sum_left f p x xs (apart_first p x xs o),
+      sum_by-cons (λ k. f (chain_of p k)) x xs,
+    )
+
+rest_kept : (p : PoolView) (xs : List ℕ) (k : ℕ) → times k xs ≡ 0 → finmap.get (without_all p xs).chains k ≡ finmap.get p.chains k
+rest_kept p [] k h = refl
+rest_kept p (x ∷ xs) k h =
+    let ne : k ≢ x = λ e. absurd (omega (arith, h, ap (λ (j : ℕ). times j (x ∷ xs)) e, times_same x xs)) in
+    rest_kept (without p x) xs k (omega (arith, h)) ∙ get_left p.chains x k ne
+
+rest_gone : (p : PoolView) (xs : List ℕ) (k : ℕ) → 0 < times k xs → finmap.get (without_all p xs).chains k ≡ None
+rest_gone p [] k h = absurd (omega (arith, h))
+rest_gone p (x ∷ xs) k h = elim (cases_eq (times k xs) 0) [
+  | inr some ↦ rest_gone (without p x) xs k (omega (arith, some))
+  | inl none ↦ elim (cases_eq k x) [
+    | inl is ↦ rest_kept (without p x) xs k none ∙ subst (λ (j : ℕ). finmap.get (without p x).chains j ≡ None) (sym is) (get_gone p.chains x)
+    | inr ne ↦ absurd (omega (arith, h, none, times_other k x xs ne))
+  ]
+]
+
+-- what there is besides the owner's chains is the same before and after
+rest_same : {p q : PoolView} {xs ys : List ℕ} → Moves p xs q ys → IsOwned p xs → (without_all p xs).chains ≡ (without_all q ys).chains
+rest_same {p} {q} {xs} {ys} m o = same (without_all p xs).chains (without_all q ys).chains (λ k. at k (times k xs) refl (live_at p k) refl (times k ys) refl)
+  where
+    at : (k a : ℕ) → times k xs ≡ a → (b : ℕ) → live_at p k ≡ b → (c : ℕ) → times k ys ≡ c → finmap.get (without_all p xs).chains k ≡ finmap.get (without_all q ys).chains k
+    at k (suc a) ea b eb (suc c) ec = rest_gone p xs k (omega arith) ∙ sym (rest_gone q ys k (omega arith))
+    at k (suc a) ea b eb zero ec = rest_gone p xs k (omega arith) ∙ sym (rest_kept q ys k ec ∙ none_from q k (omega (arith, m.owned k, o k, live_at_most p k)))
+    at k zero ea (suc b) eb c ec =
+        let there : finmap.get q.chains k ≡ finmap.get p.chains k = m.others k (live_from p k (omega arith)) ea in
+        rest_kept p xs k ea ∙ sym there ∙ sym (rest_kept q ys k (omega (arith, m.owned k, live_same p q k there)))
+    at k zero ea zero eb zero ec = rest_kept p xs k ea ∙ none_from p k eb ∙ sym (rest_kept q ys k ec ∙ none_from q k (omega (arith, m.owned k)))
+    at k zero ea zero eb (suc c) ec = rest_kept p xs k ea ∙ none_from p k eb ∙ sym (rest_gone q ys k (omega arith))
+
+pub sum_moves : {p q : PoolView} {xs ys : List ℕ} (f : ChainView → ℕ) → Moves p xs q ys → IsOwned p xs
+    → sum_by f (finmap.values q.chains) + sum_by (λ k. f (chain_of p k)) xs ≡ sum_by f (finmap.values p.chains) + sum_by (λ k. f (chain_of q k)) ys
+sum_moves {p} {q} {xs} {ys} f m o =
+    omega (arith, sum_rest f p xs o, sum_rest f q ys (owned_after m o), ap (λ (c : FinMap nat_cmp ChainView). sum_by f (finmap.values c)) (rest_same m o))
+
+pub held_moves : {p q : PoolView} {xs ys : List ℕ} → Moves p xs q ys → IsOwned p xs → held_mbufs q + sum_by (λ k. mbufs_of (chain_of p k)) xs ≡ held_mbufs p + sum_by (λ k. mbufs_of (chain_of q k)) ys
+held_moves m o = sum_moves mbufs_of m o
+
+pub references_moves : {p q : PoolView} {xs ys : List ℕ} (cluster : ℕ) → Moves p xs q ys → IsOwned p xs
+    → references q cluster + sum_by (λ k. references_of cluster (chain_of p k)) xs ≡ references p cluster + sum_by (λ k. references_of cluster (chain_of q k)) ys
+references_moves cluster m o = sum_moves (references_of cluster) m o
+
+-- ---- an entry refers to its cluster
+refers_some : (es : List Entry) (i c : ℕ) → i < length es → (slice_index_or es i no_entry).cluster ≡ Some c → 0 < count_by (refers c) es
+refers_some [] i c h is = absurd (omega (arith, h))
+refers_some (e ∷ es) zero c h is =
+    omega (arith, sum_by-cons (λ (x : Entry). cond {A = ℕ} (refers c x) 1 0) e es, ap (λ (o : Option ℕ). cond {A = ℕ} (option_eq nat_eq o (Some c)) 1 0) is, ap (λ (b : Bool). cond {A = ℕ} b 1 0) (eq-eqb c c refl))
+refers_some (e ∷ es) (suc i) c h is = omega (arith, sum_by-cons (λ (x : Entry). cond {A = ℕ} (refers c x) 1 0) e es, refers_some es i c (omega (arith, h)) is)
+
+one_owned : (p : PoolView) (k : ℕ) → IsLive p k → IsOwned p (k ∷ [])
+one_owned p k live = λ j. elim (cases_eq j k) [
+  | inl e ↦ subst (λ (i : ℕ). times i (k ∷ []) ≤ live_at p i) (sym e) (omega (arith, times_same k [], live_one p k live))
+  | inr ne ↦ omega (arith, times_other j k [] ne)
+]
+
+-- so the cluster of a live chain's entry isn't free
+pub referred : (p : PoolView) (k cluster : ℕ) (at : Place) → IsLive p k → IsPlace (chain_of p k) at → (entry_in p k at).cluster ≡ Some cluster → 0 < references p cluster
+referred p k cluster at live place is =
+    omega (
+      arith,
+      owned_references p (k ∷ []) cluster (one_owned p k live),
+      sum_by-cons (λ (j : ℕ). references_of cluster (chain_of p j)) k [],
+      refers_some (chain_of p k).entries at.index cluster place.within is,
+    )
+
+-- nobody else refers to the cluster that a new chain was given
+pub unshared_new : (p q : PoolView) (c d i : ℕ) (header : Bool) (start : ℕ) → Adds p q c (one_mbuf header (empty_entry start (Some d)) c) → references p d ≡ 0 → i ≡ 0 → IsUnshared q (entry_of (chain_of q c) i)
+unshared_new p q c d i header start a none first =
+    let one : references q d ≡ 1 = omega (arith, references-adds d a, none, sum_by-cons (λ (e : Entry). cond {A = ℕ} (refers d e) 1 0) (empty_entry start (Some d)) [], ap (λ (b : Bool). cond {A = ℕ} b 1 0) (eq-eqb d d refl)) in
+    subst (IsUnshared q) (sym (new_entry p q c i header (empty_entry start (Some d)) a first)) (λ k is. subst (λ (j : ℕ). references q j ≡ 1) (same_Some d k is) one)
+
+-- where nothing is owned, every buffer is free
+pub none_held : (p : PoolView) → IsAll p [] → held_mbufs p ≡ 0
+none_held p h = held_by_owners p [] h
+
+pub none_referred : (p : PoolView) (cluster : ℕ) → IsAll p [] → references p cluster ≡ 0
+none_referred p cluster h = references_by_owners p [] cluster h
+
+-- owned chains are at most as many as the pool has mbufs
+some_each : (p : PoolView) (xs : List ℕ) → ((c : ℕ) → IsLive p c → 0 < mbufs_of (chain_of p c)) → ((k : ℕ) → 0 < times k xs → IsLive p k) → length xs ≤ sum_by (λ k. mbufs_of (chain_of p k)) xs
+some_each p [] h l = omega arith
+some_each p (x ∷ xs) h l =
+    omega (
+      arith,
+      sum_by-cons (λ k. mbufs_of (chain_of p k)) x xs,
+      h x (l x (omega (arith, times_same x xs))),
+      some_each p xs h (λ k e. l k (omega (arith, e))),
+    )
+
+pub owned_at_most : (p : PoolView) (xs : List ℕ) → IsBounded p → IsOwned p xs → length xs ≤ p.mbufs
+owned_at_most p xs b o =
+    omega (arith, some_each p xs b.some (λ k h. live_owned p xs k o h), owned_held p xs o, b.few)
+
+-- a list's sum stays where its chains do
+pub sum_same : (f : ChainView → ℕ) (p q : PoolView) (xs : List ℕ) → SameAt p q xs → sum_by (λ k. f (chain_of q k)) xs ≡ sum_by (λ k. f (chain_of p k)) xs
+sum_same f p q [] s = refl
+sum_same f p q (x ∷ xs) s =
+    omega (
+      arith,
+      sum_by-cons (λ k. f (chain_of p k)) x xs,
+      sum_by-cons (λ k. f (chain_of q k)) x xs,
+      ap f (chain_same p q (x ∷ xs) x s (omega (arith, times_same x xs))),
+      sum_same f p q xs (record { same = λ k h. s.same k (omega (arith, h)) }),
+    )
+
+-- ---- the free clusters
+free_in : (f : ℕ → ℕ) (a n : ℕ) → ℕ
+free_in f a n = count_by (λ c. nat_eq (f c) 0) (range_with_len a n)
+
+free-step : (f : ℕ → ℕ) (a n : ℕ) → free_in f a (suc n) ≡ cond {A = ℕ} (nat_eq (f a) 0) 1 0 + free_in f (a + 1) n
+unfolding free_in
+free-step f a n = sum_by-cons (λ c. cond {A = ℕ} (nat_eq (f c) 0) 1 0) a (range_with_len (a + 1) n)
+
+free-none : (f : ℕ → ℕ) (a n : ℕ) → ((c : ℕ) → f c ≡ 0) → free_in f a n ≡ n
+unfolding free_in
+free-none f a zero h = refl
+free-none f a (suc n) h = omega (arith, free-step f a n, free-none f (a + 1) n h, cond-true {A = ℕ} _ 1 0 (eq-eqb (f a) 0 (h a)))
+
+free-beside : (f g : ℕ → ℕ) (c a n : ℕ) → ((k : ℕ) → k ≢ c → g k ≡ f k) → c < a → free_in g a n ≡ free_in f a n
+unfolding free_in
+free-beside f g c a zero h l = refl
+free-beside f g c a (suc n) h l =
+    omega (arith, free-step f a n, free-step g a n, free-beside f g c (a + 1) n h (omega arith), ap (λ (k : ℕ). cond {A = ℕ} (nat_eq k 0) 1 0) (h a (λ e. absurd (omega arith))))
+
+free-one : (f g : ℕ → ℕ) (c a n : ℕ) → ((k : ℕ) → k ≢ c → g k ≡ f k) → f c ≡ 0 → 0 < g c → a ≤ c → c < a + n → free_in g a n + 1 ≡ free_in f a n
+free-one f g c a zero h none some l m = absurd (omega arith)
+free-one f g c a (suc n) h none some l m = elim (cases_eq a c) [
+  | inl e ↦
+      let here : cond {A = ℕ} (nat_eq (f a) 0) 1 0 ≡ 1 = cond-true {A = ℕ} _ 1 0 (eq-eqb (f a) 0 (ap f e ∙ none)) in
+      let there : cond {A = ℕ} (nat_eq (g a) 0) 1 0 ≡ 0 = cond-false {A = ℕ} _ 1 0 (ne_eqb (g a) 0 (λ is. absurd (omega (arith, is, some, ap g e)))) in
+      omega (arith, free-step f a n, free-step g a n, here, there, free-beside f g c (a + 1) n h (omega (arith, e)))
+  | inr ne ↦ omega (arith, free-step f a n, free-step g a n, ap (λ (k : ℕ). cond {A = ℕ} (nat_eq k 0) 1 0) (h a ne), free-one f g c (a + 1) n h none some (omega (arith, l, ne)) (omega (arith, m)))
+]
+
+free_is : (p : PoolView) → free_clusters p ≡ free_in (references p) 0 p.clusters
+unfolding free_in
+free_is p = refl
+
+-- where the references are as they were, as many clusters are free
+pub free-same : (p q : PoolView) → q.clusters ≡ p.clusters → ((c : ℕ) → references q c ≡ references p c) → free_clusters q ≡ free_clusters p
+free-same p q e h = λ i. count_by (λ c. nat_eq (h c i) 0) (range_with_len 0 (e i))
+
+-- one cluster is referred to for the first time, or for the last the other way round
+pub free-taken : (p q : PoolView) (c : ℕ) → q.clusters ≡ p.clusters → c < p.clusters → references p c ≡ 0 → 0 < references q c → ((k : ℕ) → k ≢ c → references q k ≡ references p k) → free_clusters q + 1 ≡ free_clusters p
+free-taken p q c e l none some h =
+    omega (arith, free_is p, free_is q, ap (free_in (references q) 0) e, free-one (references p) (references q) c 0 p.clusters h none some (omega arith) (omega arith))
+
+-- where nothing is owned, every cluster is free
+pub none_free : (p : PoolView) → IsAll p [] → free_clusters p ≡ p.clusters
+none_free p h = free_is p ∙ free-none (references p) 0 p.clusters (λ c. none_referred p c h)
