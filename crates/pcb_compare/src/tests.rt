@@ -1,6 +1,6 @@
-use flat_model::{Addr, Opt};
+use flat_model::{Addr, LookupKey, Opt};
 use flat_plain::{Pcb, Sought};
-use pcb_table::{Block, Pcbs, Query};
+use pcb_table::{Block, Pcbs};
 use std::alloc::Global;
 use std::process::Abort;
 use std::test::Fail;
@@ -53,7 +53,7 @@ fn same_answers(
         port: Some(port),
         peer: Some(source),
     };
-    let query = Query {
+    let key = LookupKey {
         local: Some(destination),
         port: Some(port),
         peer: Some(source),
@@ -63,7 +63,7 @@ fn same_answers(
     // the second time the cache may answer
     assert_eq!(rt; table.lookup(destination, port, source), best);
     let exact = flat_plain::exact(sought, pcbs).map(|pcb| pcb.fd);
-    assert_eq!(rt; table.exact(query), exact);
+    assert_eq!(rt; table.exact(key), exact);
     let plain = flat_plain::receivers(alloc, sought, pcbs)?;
     let heard = table.receivers(destination, port, source);
     assert_eq!(rt; heard.len(), plain.len());

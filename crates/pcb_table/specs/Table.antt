@@ -6,7 +6,6 @@ use Rattle.flat_model.specs.Event.{Event, Reply}
 use Rattle.flat_model.specs.Step.{Step}
 use Rattle.flat_model.specs.declared.address.Addr.{Addr}
 use Rattle.pcb_table.specs.declared.block.Block.{Block}
-use Rattle.pcb_table.specs.declared.block.Query.{Query}
 
 -- This project's own record of what volume 2 chapter 22 keeps in a list of control blocks and two variables.
 pub record Table : Type 0 where
@@ -73,9 +72,6 @@ IsCall old event reply new =
     (rest : State) (queues : Queues) → Step (machine rest queues old) event reply (machine rest queues new)
 
 -- ---- what is looked for
-
-abbrev pub sought : Query → Sought
-sought q = record { local = q.local; port = q.port; peer = q.peer }
 
 -- by a packet: its values all count as set, 0 among them
 abbrev pub packet_sought : ℕ → ℕ → Addr → Sought

@@ -1,11 +1,11 @@
 ghost use Rattle.std.specs.Prelude.{◌≡◌, ◌==◌, ◌&&◌, ℕ};
 ghost use Rattle.flat_model.specs.Lookup as flat;
 ghost use Rattle.flat_model.specs.Lookup.{agree, is_addr, one_sided, wildcards};
-ghost use Rattle.pcb_table.specs.Table.{packet_sought, sought};
+ghost use Rattle.pcb_table.specs.Table.{packet_sought};
 ghost use Rattle.pcb_table.specs.Changed.{block_with_option, bound_block, connected_block, connection_of, disconnected_block, unbound_block};
 ghost use Rattle.pcb_table.specs.Search.{does_match, has_score, plain};
 
-use flat_model::{Addr, Opt};
+use flat_model::{Addr, LookupKey, Opt};
 
 /// A control block (volume 2 section 22.3): what a socket is bound and connected to, and its options. The
 /// default, of descriptor 0, stands in places that hold no block.
@@ -23,14 +23,6 @@ pub struct Block {
     pub broadcast: bool,
     /// Whether others that have it too may bind to the same address and port (SO_REUSEPORT).
     pub reuse_port: bool,
-}
-
-/// What a look-up asks for. Unset is not 0: a packet from 0.0.0.0 or to port 0 has these values set.
-#[derive(Clone, Copy, Debug, PartialEq, Eq)]
-pub struct Query {
-    pub local: Option<u32>,
-    pub port: Option<u16>,
-    pub peer: Option<Addr>,
 }
 
 /// A block that has all four of its values set.
@@ -119,6 +111,30 @@ impl Block {
             _ => None,
         }
     }
+
+    /// Whether the block has the port that is looked for, and differs in no address that both have set.
+    pub(crate) fn meets(&self, key: &LookupKey) -> bool
+        ensures { result ≡ does_match key.now self.now }
+    {
+        are_same(self.port, key.port)
+            && address_agrees(self.local, key.local)
+            && peer_agrees(self.peer, key.peer)
+    }
+
+    /// How many of the two sides, local and foreign, one alone has set.
+    pub(crate) fn wildcards(&self, key: &LookupKey) -> u8
+        ensures { result ≡ wildcards key.now (plain self.now) }
+    {
+        u8::from(self.local.is_some() != key.local.is_some())
+            + u8::from(self.peer.is_some() != key.peer.is_some())
+    }
+
+    /// Whether the block meets it without a wildcard.
+    pub(crate) fn meets_exactly(&self, key: &LookupKey) -> bool
+        ensures { result ≡ has_score 0 key.now self.now }
+    {
+        self.meets(key) && self.wildcards(key) == 0
+    }
 }
 
 impl Connection {
@@ -132,40 +148,14 @@ impl Connection {
     }
 }
 
-impl Query {
-    /// What a packet asks for that came to the local end from the peer.
-    pub(crate) fn of_packet(local: Addr, peer: Addr) -> Query
-        ensures { sought result ≡ packet_sought local.ip local.port peer }
-    {
-        Query {
-            local: Some(local.ip),
-            port: Some(local.port),
-            peer: Some(peer),
-        }
-    }
-
-    /// Whether the block has the port, and differs in no address that both have set.
-    pub(crate) fn is_met_by(&self, block: &Block) -> bool
-        ensures { result ≡ does_match (sought self.now) block.now }
-    {
-        are_same(block.port, self.port)
-            && address_agrees(block.local, self.local)
-            && peer_agrees(block.peer, self.peer)
-    }
-
-    /// How many of the two sides, local and foreign, one alone has set.
-    pub(crate) fn wildcards(&self, block: &Block) -> u8
-        ensures { result ≡ wildcards (sought self.now) (plain block.now) }
-    {
-        u8::from(block.local.is_some() != self.local.is_some())
-            + u8::from(block.peer.is_some() != self.peer.is_some())
-    }
-
-    /// Whether the block meets it without a wildcard.
-    pub(crate) fn is_exactly_met_by(&self, block: &Block) -> bool
-        ensures { result ≡ has_score 0 (sought self.now) block.now }
-    {
-        self.is_met_by(block) && self.wildcards(block) == 0
+/// What a packet asks for that came to the local end from the peer.
+pub(crate) fn key_of_packet(local: Addr, peer: Addr) -> LookupKey
+    ensures { result ≡ packet_sought local.ip local.port peer }
+{
+    LookupKey {
+        local: Some(local.ip),
+        port: Some(local.port),
+        peer: Some(peer),
     }
 }
 

@@ -12,5 +12,5 @@ mod refusals;
 mod search;
 mod table;
 
-pub use block::{Block, Query};
+pub use block::Block;
 pub use table::{Pcbs, SOCKETS};

@@ -3,8 +3,9 @@ ghost use Rattle.flat_model.specs.Calls as flat;
 ghost use Rattle.pcb_table.specs.Search.{GivesPort, IsFreePort, is_used};
 ghost use Rattle.pcb_table.specs.Sound.{AreApart, IsInCircle, IsLowestFree};
 
-use crate::block::{Block, Query};
+use crate::block::Block;
 use crate::search::{best, block_of};
+use flat_model::LookupKey;
 
 /// The ephemeral ports are 1024 to 5000, in a circle.
 const FIRST: u16 = 1024;
@@ -35,7 +36,7 @@ pub(crate) fn is_in_use(blocks: &[Block], local: Option<u32>, port: u16) -> bool
 {
     best(
         blocks,
-        Query {
+        LookupKey {
             local,
             port: Some(port),
             peer: None,

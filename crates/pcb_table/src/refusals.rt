@@ -3,11 +3,11 @@ ghost use Rattle.flat_model.specs.Header.{first_fault};
 ghost use Rattle.flat_model.specs.Calls as flat;
 ghost use Rattle.pcb_table.specs.Search.{block_bind_faults, block_connect_faults, config_of, is_in_way};
 
-use crate::block::{Block, Query};
+use crate::block::Block;
 use crate::interface::{Interface, is_reached};
 use crate::ports::is_in_use;
 use crate::search::exact;
-use flat_model::{Addr, Errno};
+use flat_model::{Addr, Errno, LookupKey};
 
 /// The value, where it isn't 0.
 pub(crate) fn unless_zero(ip: u32) -> Option<u32>
@@ -29,12 +29,12 @@ fn is_taken(blocks: &[Block], me: &Block, local: Option<u32>, port: u16) -> bool
     ensures { result ≡ is_in_way blocks.now me.now local port }
 {
     if me.reuse_port {
-        let query = Query {
+        let key = LookupKey {
             local,
             port: Some(port),
             peer: None,
         };
-        match exact(blocks, query) {
+        match exact(blocks, key) {
             None => false,
             Some(found) => !found.reuse_port,
         }
@@ -79,12 +79,12 @@ pub(crate) fn destination_fault(
     if !is_reached(to.ip) {
         return Some(Errno::HostUnreachable);
     }
-    let query = Query {
+    let key = LookupKey {
         local: Some(interface.source(me, to.ip)),
         port: me.port,
         peer: Some(to),
     };
-    if exact(blocks, query).is_some() {
+    if exact(blocks, key).is_some() {
         return Some(Errno::AddressInUse);
     }
     None

@@ -1,12 +1,12 @@
 ghost use Rattle.std.specs.Prelude.{◌≡◌, ℕ, ◌==◌, ◌+◌, ◌<◌, ◌≤◌, length, map, find, position, IsSome, slice_set};
 ghost use Rattle.arrayvec.specs.ArrayVec.{array_vec_len};
-ghost use Rattle.pcb_table.specs.Table.{sought};
 ghost use Rattle.pcb_table.specs.Search.{best_block, hearing_blocks, youngest_block};
 ghost use Rattle.pcb_table.specs.Sound.{IsLocated, Locates, has_fd};
 
-use crate::block::{Block, Query};
+use crate::block::Block;
 use crate::table::SOCKETS;
 use arrayvec::ArrayVec;
+use flat_model::LookupKey;
 
 /// A block and where it stands.
 #[derive(Clone, Copy)]
@@ -57,15 +57,15 @@ pub(crate) fn block_of(blocks: &[Block], fd: u32) -> Option<Block>
     blocks.iter().copied().find(|block| block.fd == fd)
 }
 
-/// The youngest of the blocks that meet the query with the fewest wildcards.
-pub(crate) fn best(blocks: &[Block], query: Query) -> Option<Block>
-    ensures { result ≡ best_block (sought query) blocks.now }
+/// The youngest of the blocks that meet the key with the fewest wildcards.
+pub(crate) fn best(blocks: &[Block], key: LookupKey) -> Option<Block>
+    ensures { result ≡ best_block key blocks.now }
 {
     let mut found: Option<Block> = None;
     let mut fewest = 3;
     for block in blocks {
-        if query.is_met_by(block) {
-            let wildcards = query.wildcards(block);
+        if block.meets(&key) {
+            let wildcards = block.wildcards(&key);
             if wildcards == 0 {
                 return Some(*block);
             }
@@ -78,25 +78,25 @@ pub(crate) fn best(blocks: &[Block], query: Query) -> Option<Block>
     found
 }
 
-/// The youngest of the blocks that meet the query without a wildcard.
-pub(crate) fn exact(blocks: &[Block], query: Query) -> Option<Block>
-    ensures { result ≡ youngest_block 0 (sought query) blocks.now }
+/// The youngest of the blocks that meet the key without a wildcard.
+pub(crate) fn exact(blocks: &[Block], key: LookupKey) -> Option<Block>
+    ensures { result ≡ youngest_block 0 key blocks.now }
 {
     blocks
         .iter()
         .copied()
-        .find(|block| query.is_exactly_met_by(block))
+        .find(|block| block.meets_exactly(&key))
 }
 
-/// The descriptors of the blocks that meet the query, the youngest first, up to and with the first one
+/// The descriptors of the blocks that meet the key, the youngest first, up to and with the first one
 /// that doesn't share its port.
-pub(crate) fn receivers(blocks: &[Block], query: Query) -> ArrayVec<u32, SOCKETS>
+pub(crate) fn receivers(blocks: &[Block], key: LookupKey) -> ArrayVec<u32, SOCKETS>
     requires { length blocks.now ≤ 64 }
-    ensures { result.items ≡ map (λ b. b.fd) (hearing_blocks (sought query) blocks.now) }
+    ensures { result.items ≡ map (λ b. b.fd) (hearing_blocks key blocks.now) }
 {
     let mut fds = ArrayVec::new();
     for block in blocks {
-        if query.is_met_by(block) {
+        if block.meets(&key) {
             fds.push(block.fd);
             if !block.reuse_port {
                 return fds;

@@ -4,19 +4,19 @@ ghost use Rattle.flat_model.specs.State.{State};
 ghost use Rattle.flat_model.specs.Step.{Step};
 ghost use Rattle.flat_model.specs.Calls.{disconnected};
 ghost use Rattle.flat_model.specs.Lookup as flat;
-ghost use Rattle.pcb_table.specs.Table.{ClosesOnly, IsCall, IsDescriptor, IsOpen, KeepsOpen, OpensOnly, Queues, block_at, local_of, machine, packet_sought, peer_of, sought};
+ghost use Rattle.pcb_table.specs.Table.{ClosesOnly, IsCall, IsDescriptor, IsOpen, KeepsOpen, OpensOnly, Queues, block_at, local_of, machine, packet_sought, peer_of};
 ghost use Rattle.flat_model.specs.Replies.{done_reply, opened_reply};
 ghost use Rattle.pcb_table.specs.Changed.{forgotten};
 ghost use Rattle.pcb_table.specs.Sound.{AreApart};
 ghost use Rattle.pcb_table.specs.Found.{Changes, ChecksDestination, ChoosesNext, EnsuresPort, Finds, FindsAll, SendsFrom};
 
-use crate::block::{Block, Connection, Query};
+use crate::block::{Block, Connection, key_of_packet};
 use crate::interface::Interface;
 use crate::ports::{lowest_free, next_free, port_for};
 use crate::refusals::{bind_fault, destination_fault, port_unless_zero, unless_zero};
 use crate::search::{best, block_of, exact, locate, located, receivers, set_block};
 use arrayvec::ArrayVec;
-use flat_model::{Addr, Errno, Opt};
+use flat_model::{Addr, Errno, LookupKey, Opt};
 use std::marker::Model;
 
 /// How many sockets are open at most (this project's own limit).
@@ -125,7 +125,7 @@ impl Pcbs {
                 return Some(cached.fd);
             }
         }
-        match best(self.blocks.as_slice(), Query::of_packet(local, source)) {
+        match best(self.blocks.as_slice(), key_of_packet(local, source)) {
             None => None,
             Some(block) => {
                 self.cache = block.connection();
@@ -134,13 +134,13 @@ impl Pcbs {
         }
     }
 
-    /// The youngest block that meets the query without a wildcard: its port is that of the query, and its local
-    /// address and its peer are set where those of the query are, with the same values.
-    pub fn exact(&self, query: Query) -> Option<u32>
-        ensures found { Finds (flat.exact (sought query)) self.now result }
+    /// The youngest block that meets the key without a wildcard: its port is that of the key, and its local
+    /// address and its peer are set where those of the key are, with the same values.
+    pub fn exact(&self, key: LookupKey) -> Option<u32>
+        ensures found { Finds (flat.exact key) self.now result }
         ensures range { IfSome result IsDescriptor }
     {
-        match exact(self.blocks.as_slice(), query) {
+        match exact(self.blocks.as_slice(), key) {
             None => None,
             Some(block) => Some(block.fd),
         }
@@ -156,7 +156,7 @@ impl Pcbs {
             ip: destination,
             port,
         };
-        receivers(self.blocks.as_slice(), Query::of_packet(local, source))
+        receivers(self.blocks.as_slice(), key_of_packet(local, source))
     }
 
     /// The ephemeral port, 1024 to 5000, that a bind to 0.0.0.0 with port 0 would choose now (volume 2 section 22.7).

@@ -258,16 +258,16 @@ fn gives_a_send_what_it_needs(rt: HostRuntime) {
     assert_eq!(rt; table.ensure_port(fd), 1024);
     assert!(rt; table.block(fd).is_some());
     assert_eq!(rt; table.ensure_port(fd), 1024);
-    let query = Query {
+    let key = LookupKey {
         local: None,
         port: Some(1024),
         peer: None,
     };
-    assert_eq!(rt; table.exact(query), Some(fd));
+    assert_eq!(rt; table.exact(key), Some(fd));
     assert_eq!(rt; table.connect(fd, at(PEER, 9)), Ok(()));
-    assert_eq!(rt; table.exact(query), None);
+    assert_eq!(rt; table.exact(key), None);
     assert!(rt; table.block(fd).is_some());
     assert_eq!(rt; table.ends(fd), (at(OUR, 1024), at(PEER, 9)));
     table.disconnect(fd);
-    assert_eq!(rt; table.exact(query), Some(fd));
+    assert_eq!(rt; table.exact(key), Some(fd));
 }

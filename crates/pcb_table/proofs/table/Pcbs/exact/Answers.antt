@@ -1,5 +1,5 @@
 use Rattle.std.proofs.Common.{Some, None, ap, sym, subst, ◌∙◌}
-use Rattle.pcb_table.specs.Table.{Table, sought}
+use Rattle.pcb_table.specs.Table.{Table}
 use Rattle.pcb_table.specs.Search.{youngest_block}
 use Rattle.flat_model.specs.Lookup as flat
 use Rattle.pcb_table.specs.Found.{Finds}
@@ -9,17 +9,17 @@ use Rattle.pcb_table.proofs.table.Pcbs.exact.Goals as goal
 
 pub returns-in-None-clause-found : goal.returns-in-None-clause-found
 returns-in-None-clause-found c =
-    subst (λ (t : Table). Finds (flat.exact (sought c.args.query)) t None) c.self.view_is
-    (exact_none c.self.inside.interface c.self.inside.blocks.items c.self.inside.last_port (sought c.args.query)
-    (ap (youngest_block 0 (sought c.args.query)) (sym c.as_slice.ensures.value) ∙ sym c.exact.ensures ∙ c.in-None.is))
+    subst (λ (t : Table). Finds (flat.exact c.args.key) t None) c.self.view_is
+    (exact_none c.self.inside.interface c.self.inside.blocks.items c.self.inside.last_port c.args.key
+    (ap (youngest_block 0 c.args.key) (sym c.as_slice.ensures.value) ∙ sym c.exact.ensures ∙ c.in-None.is))
 
 pub returns-in-Some-clause-found : goal.returns-in-Some-clause-found
 returns-in-Some-clause-found c =
-    subst (λ (t : Table). Finds (flat.exact (sought c.args.query)) t (Some c.in-Some.block.fd)) c.self.view_is
-    (exact_some c.self.inside.interface c.self.inside.blocks.items c.self.inside.last_port (sought c.args.query) c.in-Some.block c.self.invariant.0
-    (ap (youngest_block 0 (sought c.args.query)) (sym c.as_slice.ensures.value) ∙ sym c.exact.ensures ∙ c.in-Some.is))
+    subst (λ (t : Table). Finds (flat.exact c.args.key) t (Some c.in-Some.block.fd)) c.self.view_is
+    (exact_some c.self.inside.interface c.self.inside.blocks.items c.self.inside.last_port c.args.key c.in-Some.block c.self.invariant.0
+    (ap (youngest_block 0 c.args.key) (sym c.as_slice.ensures.value) ∙ sym c.exact.ensures ∙ c.in-Some.is))
 
 pub returns-in-Some-clause-range : goal.returns-in-Some-clause-range
 returns-in-Some-clause-range c =
     found_range _ c.self.inside.blocks.items c.in-Some.block c.self.invariant.0
-    (ap (youngest_block 0 (sought c.args.query)) (sym c.as_slice.ensures.value) ∙ sym c.exact.ensures ∙ c.in-Some.is)
+    (ap (youngest_block 0 c.args.key) (sym c.as_slice.ensures.value) ∙ sym c.exact.ensures ∙ c.in-Some.is)
