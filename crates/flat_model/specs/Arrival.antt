@@ -2,6 +2,7 @@
 -- (chapter 10), and `udp_input` (chapter 23).
 -- Every test of the ledger counts the state and what the step holds beside it: the item in hand, and `held`.
 use Rattle.std.specs.Prelude.{◌≡◌, ◌⊎◌, ℕ, ◌+◌, ◌≤◌, ◌%◌, Bool, ◌==◌, nat_lt, nat_le, ◌&&◌, ◌||◌, not, if◌then◌else◌, List, [], ◌∷◌, ◌++◌, take, drop, length, Some, option_to_list}
+use Rattle.params.specs.declared.TheConstants.{IP_HEADER, IP_MAX_DATA, PROTOCOL_UDP, FRAGMENT_UNIT, MINCLSIZE, MAX_PROTOCOL_HEADER}
 use Rattle.flat_model.specs.Choice.{Choice, Case}
 use Rattle.flat_model.specs.Weight.{Weight, Item, Covers, IsSubBag, mbuf, ◌⊕◌, all_of}
 use Rattle.flat_model.specs.Header.{Head, head_of, head_fault, total_of, udp_fault, udp_bytes, u16_at}
@@ -51,7 +52,7 @@ key_of h = record { source = h.source; destination = h.destination; id = h.id; p
 -- A fragment of n bytes that none can be: without a byte, one with others behind it that is no multiple of 8, or one
 -- that reaches past the longest datagram.
 abbrev pub is_bad_fragment : Head → ℕ → Bool
-is_bad_fragment h n = (n == 0) || (h.more && not (n % 8 == 0)) || nat_lt 65515 (h.offset + n)
+is_bad_fragment h n = (n == 0) || (h.more && not (n % FRAGMENT_UNIT == 0)) || nat_lt IP_MAX_DATA (h.offset + n)
 
 -- one more fragment passed these tests
 abbrev pub counts_fragment : State → State
@@ -60,7 +61,7 @@ counts_fragment s = record s { counters = record (s.counters) { ip_fragments = o
 -- The weight once the header stands in one plain mbuf (`m_pullup` of volume 2, chapter 2, which moves 40 bytes): a
 -- packet of at most 40 bytes leaves its cluster, a longer one has one mbuf more.
 abbrev pub pulled_up : ℕ → Weight → Weight
-pulled_up total w = if nat_lt 40 total then record w { mbufs = w.mbufs + 1 } else record w { bag = drop 1 w.bag }
+pulled_up total w = if nat_lt MAX_PROTOCOL_HEADER total then record w { mbufs = w.mbufs + 1 } else record w { bag = drop 1 w.bag }
 
 -- How far a join may shrink the weight of the pieces (`m_cat` of volume 2, chapter 2, moves what fits): they take no
 -- more than before, refer to no other cluster, and have room for all n bytes.
@@ -89,7 +90,7 @@ is_fragment h = h.more || nat_lt 0 h.offset
 
 -- what a packet carries behind its header, cut to its total length; the cut leaves its weight
 abbrev pub carried : Item → Item
-carried item = record item { bytes = drop 20 (take (total_of item.bytes) item.bytes) }
+carried item = record item { bytes = drop IP_HEADER (take (total_of item.bytes) item.bytes) }
 
 -- ---- the steps of an arrival, whatever answers for the buffers
 
@@ -129,7 +130,7 @@ module _ (L : Ledger) where
   -- A whole datagram, without its IP header, of this source, destination and protocol.
   abbrev pub WholeArrives : Weight → ℕ → ℕ → ℕ → Item → State → State → Type 0
   WholeArrives held source destination protocol item old new =
-      Choice (protocol == 17)
+      Choice (protocol == PROTOCOL_UDP)
       (Case (udp_fault source destination item.bytes)
       (let sender : Addr = record { ip = source; port = u16_at 0 item.bytes } in
       let q : Sought = record { local = Some destination; port = Some (u16_at 2 item.bytes); peer = Some sender } in
@@ -166,14 +167,14 @@ module _ (L : Ledger) where
   abbrev pub PullsUp : Origin → Weight → Weight → ℕ → State → State → (Weight → State → Type 0) → Type 0
   PullsUp Looped held w total old new Then = Then w old
   PullsUp (By_wire received) held w total old new Then =
-      Choice (nat_le 208 received) (Tests old (held ⊕ w) 1 new (λ mid. Then (pulled_up total w) mid)) (Then w old)
+      Choice (nat_le MINCLSIZE received) (Tests old (held ⊕ w) 1 new (λ mid. Then (pulled_up total w) mid)) (Then w old)
 
   -- a fragment, without its IP header
   abbrev pub FragmentArrives : Origin → Weight → Head → Item → State → State → Type 0
   FragmentArrives origin held h item old new =
       Choice (is_bad_fragment h (length item.bytes))
       (new ≡ ends BadFragment old)
-      (PullsUp origin held item.weight (20 + length item.bytes) (counts_fragment old) new (λ w mid.
+      (PullsUp origin held item.weight (IP_HEADER + length item.bytes) (counts_fragment old) new (λ w mid.
       Joins held (key_of h) (record { offset = h.offset; bytes = item.bytes; more = h.more; weight = w }) mid new))
 
   -- ---- packets

@@ -2,6 +2,7 @@
 -- `setsockopt`: volume 2, chapters 15 and 17; `bind` and `connect`: `in_pcbbind` and `in_pcbconnect` of chapter 22;
 -- `recvfrom`: chapter 16). Where an order or a list is this project's own, its definition says so.
 use Rattle.std.specs.Prelude.{◌≡◌, ℕ, zero, suc, ◌+◌, ◌-◌, ◌*◌, ◌<◌, ◌≤◌, ◌%◌, ◌/◌, ◌^◌, Bool, true, false, ◌==◌, nat_lt, ◌&&◌, ◌||◌, not, if◌then◌else◌, List, [], ◌∷◌, take, length, filter, Option, Some, None, is_some, IsSome, IsNone, unwrap_or}
+use Rattle.params.specs.declared.TheConstants.{FIRST_EPHEMERAL_PORT, LAST_EPHEMERAL_PORT, FIRST_DESCRIPTOR}
 use Rattle.flat_model.specs.Choice.{Choice, Case}
 use Rattle.flat_model.specs.Header.{first_fault}
 use Rattle.flat_model.specs.Event.{Reply, Done, Opened, Received, Refused}
@@ -62,16 +63,20 @@ unless_zero (suc n) = Some (suc n)
 abbrev pub is_in_use : State → Option ℕ → ℕ → Bool
 is_in_use s local port = is_some (best (record { local = local; port = Some port; peer = None }) s.sockets)
 
+-- how many ports the circle has: 3,977
+abbrev pub ephemeral_ports : ℕ
+ephemeral_ports = LAST_EPHEMERAL_PORT - FIRST_EPHEMERAL_PORT + 1
+
 -- the k-th port behind the last one chosen, in the circle 1024 .. 5000
 abbrev pub port_behind : Option ℕ → ℕ → ℕ
-port_behind None k = 1024 + k % 3977
-port_behind (Some last) k = 1024 + (last - 1023 + k) % 3977
+port_behind None k = FIRST_EPHEMERAL_PORT + k % ephemeral_ports
+port_behind (Some last) k = FIRST_EPHEMERAL_PORT + (last - (FIRST_EPHEMERAL_PORT - 1) + k) % ephemeral_ports
 
 -- The next ephemeral port: the first in the circle that is not in use. One is always found, since fewer sockets can
 -- be open than the circle has ports.
 pub record IsNextPort (s : State) (local : Option ℕ) (port : ℕ) : Type 0 where
   pub turns : ℕ
-  pub within : turns < 3977
+  pub within : turns < ephemeral_ports
   pub here : port ≡ port_behind s.last_port turns
   pub free : is_in_use s local port ≡ false
   pub passed : (k : ℕ) → k < turns → is_in_use s local (port_behind s.last_port k) ≡ true
@@ -89,9 +94,9 @@ fresh fd = record { fd = fd; local = None; port = None; peer = None; broadcast =
 
 -- the least descriptor from 3 on that no socket has
 pub record IsLowestFree (s : State) (fd : ℕ) : Type 0 where
-  pub least : 3 ≤ fd
+  pub least : FIRST_DESCRIPTOR ≤ fd
   pub free : IsNone (socket_at fd s)
-  pub passed : (k : ℕ) → 3 ≤ k → k < fd → IsSome (socket_at k s)
+  pub passed : (k : ℕ) → FIRST_DESCRIPTOR ≤ k → k < fd → IsSome (socket_at k s)
 
 -- A new socket, the youngest from now on, of a machine that has room for so many.
 abbrev pub Opens : ℕ → State → Reply → State → Type 0

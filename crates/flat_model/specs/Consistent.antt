@@ -1,6 +1,7 @@
 -- What holds of every state that the machine reaches, so that its books are never overdrawn (this project's own).
 use Rattle.std.specs.Prelude.{◌≡◌, ℕ, ◌+◌, ◌-◌, ◌<◌, ◌≤◌, true, ◌==◌, length, count_by, Some, None}
 use Rattle.std.specs.List.{AllByRecursion as Each}
+use Rattle.params.specs.declared.TheConstants.{FIRST_DESCRIPTOR, MAX_SOCKETS, UDP_RECEIVE_SPACE, IP_MAX_DATA, FRAGMENT_TICKS, OUTPUT_QUEUE_PACKETS, FIRST_EPHEMERAL_PORT, LAST_EPHEMERAL_PORT}
 use Rattle.flat_model.specs.Weight.{Weight, Item, Covers, mbuf, ◌⊕◌}
 use Rattle.flat_model.specs.Overlay.{Map, Held}
 use Rattle.flat_model.specs.Fits.{bytes_queued}
@@ -29,19 +30,19 @@ pub record IsPeer (a : Addr) : Type 0 where
 
 -- An open socket, its queue within its limits. One with a local address or a peer has a port.
 pub record IsSocket (c : Config) (socket : Socket) : Type 0 where
-  pub least_fd : 3 ≤ socket.fd
-  pub greatest_fd : socket.fd ≤ 66
+  pub least_fd : FIRST_DESCRIPTOR ≤ socket.fd
+  pub greatest_fd : socket.fd ≤ FIRST_DESCRIPTOR + MAX_SOCKETS - 1
   pub local : (ip : ℕ) → socket.local ≡ Some ip → is_ours c ip ≡ true
   pub port : (p : ℕ) → socket.port ≡ Some p → (1 ≤ p) × (p < 65536)
   pub peer : (a : Addr) → socket.peer ≡ Some a → IsPeer a
   pub unbound : socket.port ≡ None → (socket.local ≡ None) × (socket.peer ≡ None)
   pub queue : Each (IsQueued c) socket.queue
-  pub queued_bytes : bytes_queued socket.queue ≤ 41600
+  pub queued_bytes : bytes_queued socket.queue ≤ UDP_RECEIVE_SPACE
   pub queued : length socket.queue ≤ 325
 
 -- What lies at an offset belongs to a piece without gaps from its first offset on, which has room for it.
 pub record IsPlace (c : Config) (bytes : Map) (offset : ℕ) (held : Held) : Type 0 where
-  pub inside : offset < 65515
+  pub inside : offset < IP_MAX_DATA
   pub first : held.piece.first ≤ offset
   pub filled : (k : ℕ) → held.piece.first ≤ k → k ≤ offset → (h : Held) × (bytes k ≡ Some h) × (h.piece ≡ held.piece)
   pub carries : Carries c held.piece.weight (offset + 1 - held.piece.first)
@@ -51,7 +52,7 @@ IsMap c bytes = (offset : ℕ) (held : Held) → bytes offset ≡ Some held → 
 
 pub record IsWaiting (c : Config) (u : Unfinished) : Type 0 where
   pub some_ticks : 1 ≤ u.ticks
-  pub ticks : u.ticks ≤ 60
+  pub ticks : u.ticks ≤ FRAGMENT_TICKS
   pub bytes : IsMap c u.bytes
 
 -- a packet that waits for the link fits it
@@ -63,13 +64,13 @@ pub record IsOutput (c : Config) (item : Item) : Type 0 where
 pub record IsConsistent (s : State) : Type 0 where
   pub config : IsConfig s.config
   pub sockets : Each (IsSocket s.config) s.sockets
-  pub few : length s.sockets ≤ 64
+  pub few : length s.sockets ≤ MAX_SOCKETS
   pub distinct : (fd : ℕ) → count_by (λ socket. socket.fd == fd) s.sockets ≤ 1
   pub unfinished : Each (IsWaiting s.config) s.unfinished
   pub keys : (k : Key) → count_by (is_key k) s.unfinished ≤ 1
   pub output : Each (IsOutput s.config) s.output
-  pub short : length s.output ≤ 50
-  pub last_port : (p : ℕ) → s.last_port ≡ Some p → (1024 ≤ p) × (p ≤ 5000)
+  pub short : length s.output ≤ OUTPUT_QUEUE_PACKETS
+  pub last_port : (p : ℕ) → s.last_port ≡ Some p → (FIRST_EPHEMERAL_PORT ≤ p) × (p ≤ LAST_EPHEMERAL_PORT)
   pub next_id : s.next_id < 65536
   pub mbufs : (weight_of_state s).mbufs ≤ s.config.mbufs
   pub clusters : Each (λ k. k < s.config.clusters) (weight_of_state s).bag

@@ -2,6 +2,7 @@
 -- procedure of section 3.2; volume 2, chapter 10). The IP header of each packet is 20 bytes long.
 use Rattle.std.specs.Prelude.{ℕ, ◌+◌, ◌-◌, ◌*◌, ◌/◌, min, Bool, false, nat_lt, nat_le, if◌then◌else◌, List, [], ◌∷◌, map}
 use Rattle.std.specs.List.{range_with_len}
+use Rattle.params.specs.declared.TheConstants.{IP_HEADER, FRAGMENT_UNIT}
 
 -- one packet's share: from which byte on, how many bytes, and whether more come behind it
 pub record Part : Type 0 where
@@ -11,7 +12,7 @@ pub record Part : Type 0 where
 
 -- the bytes that each fragment but the last one carries: as many as fit, in a multiple of 8
 abbrev pub chunk : ℕ → ℕ
-chunk mtu = (mtu - 20) / 8 * 8
+chunk mtu = (mtu - IP_HEADER) / FRAGMENT_UNIT * FRAGMENT_UNIT
 
 -- the i-th part of n bytes in chunks of c
 abbrev pub part : ℕ → ℕ → ℕ → Part
@@ -24,6 +25,6 @@ chunks n c = (n + (c - 1)) / c
 -- the parts, for a link that takes packets of `mtu` bytes: one where all fits, else in chunks
 unfoldable pub cuts : ℕ → ℕ → List Part
 cuts n mtu =
-    if nat_le (20 + n) mtu
+    if nat_le (IP_HEADER + n) mtu
     then record { offset = 0; size = n; more = false } ∷ []
     else map (part n (chunk mtu)) (range_with_len 0 (chunks n (chunk mtu)))

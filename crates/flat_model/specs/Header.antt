@@ -1,6 +1,7 @@
 -- The bytes of a packet: its IP header (RFC 791, section 3.1), and the UDP header behind it (RFC 768). All
 -- numbers are big-endian.
 use Rattle.std.specs.Prelude.{ℕ, ◌+◌, ◌*◌, ◌/◌, ◌%◌, Bool, false, nat_lt, ◌==◌, not, if◌then◌else◌, List, [], ◌∷◌, ◌++◌, length, take, drop, slice_index, Option, Some, None}
+use Rattle.params.specs.declared.TheConstants.{IP_HEADER, UDP_HEADER, IP_DEFAULT_TTL, PROTOCOL_UDP}
 use Rattle.flat_model.specs.Checksum.{folded_sum, checksum}
 use Rattle.flat_model.specs.declared.counters.Why.{Why}
 use Rattle.flat_model.specs.declared.counters.Why.TheVariants.{TooSmall, BadVersion, BadHeaderLength, Options, BadSum, BadLength, TooShort, UdpHeaderDrops, UdpBadLength, UdpBadSum}
@@ -39,7 +40,7 @@ flag set worth = if set then worth else 0
 -- The ten bytes in front of the header's checksum, of a packet that carries n bytes: version 4 and 5 words of
 -- header, type of service 0, total length, identification, flags and offset, time to live 64, protocol.
 abbrev pub front_bytes : Head → ℕ → List ℕ
-front_bytes h n = 69 ∷ 0 ∷ two_bytes (20 + n) ++ two_bytes h.id ++ two_bytes (flag h.more 8192 + h.offset / 8) ++ 64 ∷ h.protocol ∷ []
+front_bytes h n = 69 ∷ 0 ∷ two_bytes (IP_HEADER + n) ++ two_bytes h.id ++ two_bytes (flag h.more 8192 + h.offset / 8) ++ IP_DEFAULT_TTL ∷ h.protocol ∷ []
 
 -- the eight bytes behind the checksum
 abbrev pub address_bytes : ℕ → ℕ → List ℕ
@@ -76,12 +77,12 @@ first_fault (test ∷ tests) = if test.0 then Some test.1 else first_fault tests
 -- are refused is this project's own).
 abbrev pub head_fault : List ℕ → Option Why
 head_fault bytes = first_fault (
-    (nat_lt (length bytes) 20, TooSmall)
+    (nat_lt (length bytes) IP_HEADER, TooSmall)
     ∷ (not (slice_index bytes 0 / 16 == 4), BadVersion)
     ∷ (nat_lt (slice_index bytes 0 % 16) 5, BadHeaderLength)
     ∷ (nat_lt 5 (slice_index bytes 0 % 16), Options)
-    ∷ (not (folded_sum (take 20 bytes) == 65535), BadSum)
-    ∷ (nat_lt (total_of bytes) 20, BadLength)
+    ∷ (not (folded_sum (take IP_HEADER bytes) == 65535), BadSum)
+    ∷ (nat_lt (total_of bytes) IP_HEADER, BadLength)
     ∷ (nat_lt (length bytes) (total_of bytes), TooShort)
     ∷ [])
 
@@ -89,7 +90,7 @@ head_fault bytes = first_fault (
 
 -- what the UDP checksum covers in front of the UDP header: the addresses, the protocol 17 and the UDP length
 abbrev pub pseudo_header : ℕ → ℕ → ℕ → List ℕ
-pseudo_header source destination n = address_bytes source destination ++ 0 ∷ 17 ∷ two_bytes n
+pseudo_header source destination n = address_bytes source destination ++ 0 ∷ PROTOCOL_UDP ∷ two_bytes n
 
 -- a computed checksum of 0 is written as 65,535, since 0 says that there is none
 abbrev pub not_zero : ℕ → ℕ
@@ -98,7 +99,7 @@ not_zero n = if n == 0 then 65535 else n
 -- a datagram: 8 bytes of header, their checksum always there, and the bytes sent
 unfoldable pub udp : ℕ → ℕ → ℕ → ℕ → List ℕ → List ℕ
 udp source destination source_port destination_port s =
-    let n : ℕ = 8 + length s in
+    let n : ℕ = UDP_HEADER + length s in
     let front : List ℕ = two_bytes source_port ++ two_bytes destination_port ++ two_bytes n in
     front ++ two_bytes (not_zero (checksum (pseudo_header source destination n ++ front ++ 0 ∷ 0 ∷ s))) ++ s
 
@@ -108,12 +109,12 @@ abbrev pub udp_fault : ℕ → ℕ → List ℕ → Option Why
 udp_fault source destination bytes =
     let n : ℕ = u16_at 4 bytes in
     first_fault (
-    (nat_lt (length bytes) 8, UdpHeaderDrops)
+    (nat_lt (length bytes) UDP_HEADER, UdpHeaderDrops)
     ∷ (nat_lt (length bytes) n, UdpBadLength)
-    ∷ (nat_lt n 8, UdpBadLength)
+    ∷ (nat_lt n UDP_HEADER, UdpBadLength)
     ∷ (if u16_at 6 bytes == 0 then false else not (folded_sum (pseudo_header source destination n ++ take n bytes) == 65535), UdpBadSum)
     ∷ [])
 
 -- the bytes that were sent, of a datagram that passed these tests
 abbrev pub udp_bytes : List ℕ → List ℕ
-udp_bytes bytes = drop 8 (take (u16_at 4 bytes) bytes)
+udp_bytes bytes = drop UDP_HEADER (take (u16_at 4 bytes) bytes)

@@ -1,5 +1,6 @@
 -- Laws of cuts and of overlays (RFC 791, section 3.2).
 use Rattle.std.specs.Prelude.{◌≡◌, ◌↔◌, ℕ, ◌+◌, ◌%◌, ◌<◌, ◌≤◌, List, [], ◌∷◌, length, take, drop, slice_index, slice_index_or, All, Contains, Any, flat_map, Some, IsSome, option_map}
+use Rattle.params.specs.declared.TheConstants.{IP_HEADER}
 use Rattle.flat_model.specs.Cuts.{Part, cuts}
 use Rattle.flat_model.specs.Overlay.{Map, Fragment, empty, overlay}
 use Rattle.flat_model.specs.Whole.{IsWhole}
@@ -12,7 +13,7 @@ bytes_of s p = take p.size (drop p.offset s)
 pub record CutsJoin (s : List ℕ) (mtu : ℕ) : Type 0 where
   pub joined : flat_map (bytes_of s) (cuts (length s) mtu) ≡ s
   pub multiples : (k : ℕ) (d : Part) → k + 1 < length (cuts (length s) mtu) → (slice_index_or (cuts (length s) mtu) k d).size % 8 ≡ 0
-  pub within : All (λ p. 20 + p.size ≤ mtu) (cuts (length s) mtu)
+  pub within : All (λ p. IP_HEADER + p.size ≤ mtu) (cuts (length s) mtu)
 
 -- the fragment is a part of the cut string
 pub record IsFragmentOf (s : List ℕ) (mtu : ℕ) (f : Fragment) : Type 0 where

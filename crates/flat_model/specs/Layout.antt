@@ -2,6 +2,7 @@
 -- plain mbuf holds 108 bytes, or 100 behind a packet header, a cluster 2048, and from 208 bytes on a cluster is
 -- taken. The layouts are this project's own, after `sosend` (chapter 16) and `m_devget` (chapter 2).
 use Rattle.std.specs.Prelude.{ℕ, zero, suc, ◌+◌, ◌-◌, ◌*◌, min, max, Bool, true, false, nat_lt, nat_le, if◌then◌else◌, List, [], ◌∷◌, length, drop, sum_by, count_by, filter_map, Option, Some, None}
+use Rattle.params.specs.declared.TheConstants.{MLEN, MHLEN, MINCLSIZE, MCLBYTES, CLUSTER_LEADING_SPACE, IP_HEADER, UDP_HEADER, IP_UDP_HEADERS}
 use Rattle.flat_model.specs.Weight.{Weight}
 use Rattle.flat_model.specs.Cuts.{Part, cuts}
 use Rattle.flat_model.specs.declared.need.Need as declared
@@ -24,7 +25,7 @@ is_cluster (Cluster n) = true
 -- The next mbuf for the bytes left: a cluster from 208 bytes on. A cluster has room for `large` bytes now, a plain
 -- mbuf for `small`.
 abbrev pub next_room : ℕ → ℕ → ℕ → Room
-next_room large small left = if nat_le 208 left then Cluster (min left large) else Plain (min left small)
+next_room large small left = if nat_le MINCLSIZE left then Cluster (min left large) else Plain (min left small)
 
 -- The mbufs for the bytes left, at most `most` of them. `large` and `small` are the rooms of the first one; all
 -- others have the full 2048 and 108 bytes.
@@ -34,7 +35,7 @@ filled (suc most) large small zero = []
 filled (suc most) large small (suc less) =
     let left : ℕ = suc less in
     let room : Room = next_room large small left in
-    room ∷ filled most 2048 108 (left - size_of room)
+    room ∷ filled most MCLBYTES MLEN (left - size_of room)
 
 -- an empty string takes an mbuf too
 abbrev pub or_empty : List Room → List Room
@@ -44,16 +45,16 @@ or_empty (room ∷ rooms) = room ∷ rooms
 -- The mbufs for n bytes to send. The first cluster leaves 56 bytes free in front, and the first mbuf of the chain
 -- has a packet header.
 abbrev pub user : ℕ → List Room
-user n = or_empty (filled n (2048 - 56) 100 n)
+user n = or_empty (filled n (MCLBYTES - CLUSTER_LEADING_SPACE) MHLEN n)
 
 -- The same with the 28 bytes of the IP and UDP headers: with at most 72 bytes they share one mbuf, else they
 -- stand in an mbuf of their own in front.
 abbrev pub sent : ℕ → List Room
-sent n = if nat_le n 72 then Plain (28 + n) ∷ [] else Plain 28 ∷ user n
+sent n = if nat_le n (MHLEN - IP_UDP_HEADERS) then Plain (IP_UDP_HEADERS + n) ∷ [] else Plain IP_UDP_HEADERS ∷ user n
 
 -- the mbufs for a packet of n bytes that arrives
 abbrev pub wire : ℕ → List Room
-wire n = or_empty (filled n 2048 100 n)
+wire n = or_empty (filled n MCLBYTES MHLEN n)
 
 -- the bytes of an mbuf, and the cluster to which it refers, if it does
 pub record Entry : Type 0 where
@@ -99,12 +100,12 @@ need_of rooms = record { mbufs = length rooms; clusters = count_by is_cluster ro
 -- What a later fragment takes: one mbuf for its header, and one for each mbuf in which its bytes lie. The part's
 -- offsets count from behind the IP header, which is 20 bytes long. Clusters are shared.
 abbrev pub need_of_part : List Room → Part → ℕ
-need_of_part rooms p = 1 + length (meets rooms (20 + p.offset) (20 + p.offset + p.size))
+need_of_part rooms p = 1 + length (meets rooms (IP_HEADER + p.offset) (IP_HEADER + p.offset + p.size))
 
 -- what a send of n bytes takes on a link with this MTU: the mbufs of the datagram, and those of its later fragments
 abbrev pub need : ℕ → ℕ → Need
 need n mtu = record {
-  mbufs = length (sent n) + sum_by (need_of_part (sent n)) (drop 1 (cuts (n + 8) mtu));
+  mbufs = length (sent n) + sum_by (need_of_part (sent n)) (drop 1 (cuts (n + UDP_HEADER) mtu));
   clusters = count_by is_cluster (sent n);
 }
 

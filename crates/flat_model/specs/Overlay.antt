@@ -36,17 +36,17 @@ pub record Fragment : Type 0 where
 abbrev pub behind : Fragment → ℕ
 behind f = f.offset + length f.bytes
 
--- what a piece brought stays where the piece begins no later than the fragment
+-- Who wins: what a piece brought stays where the piece begins no later than a fragment at a; else the fragment takes it.
 abbrev pub stays : ℕ → Option Held → Bool
 stays a None = false
 stays a (Some held) = nat_le held.piece.first a
 
--- The least offset that the fragment's piece owns. Of the fragment's offsets those where old bytes stay are the
--- first ones, since only a piece that begins no later than it keeps bytes: so it is enough to count them.
+-- The least offset that the fragment's piece owns. Of the fragment's offsets those where old bytes stay are the first
+-- ones, since a piece that begins no later and reaches so far has no gap in between: so it is enough to count them.
 unfoldable pub first_owned : Map → Fragment → ℕ
 first_owned map f = f.offset + count_by (λ offset. stays f.offset (map offset)) (range_with_len f.offset (length f.bytes))
 
--- every byte of the fragment is held already by pieces that begin no later
+-- nothing is left for the fragment
 abbrev pub is_covered : Map → Fragment → Bool
 is_covered map f = nat_le (behind f) (first_owned map f)
 
@@ -70,8 +70,7 @@ is_within f offset = nat_le f.offset offset && nat_lt offset (behind f)
 
 -- what lies at an offset then, by whether it is one of the fragment's, and what lay there before
 abbrev pub lies : Map → Fragment → ℕ → Bool → Option Held → Option Held
-lies map f offset true None = Some (brought map f offset)
-lies map f offset true (Some held) = if nat_le held.piece.first f.offset then Some held else Some (brought map f offset)
+lies map f offset true old = if stays f.offset old then old else Some (brought map f offset)
 lies map f offset false None = None
 lies map f offset false (Some held) = Some (cut_back f held)
 

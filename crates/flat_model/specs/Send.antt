@@ -1,6 +1,9 @@
 -- A send: its refusals in order, its packets, and where they go (`sosend`, `udp_output` and `ip_output` of volume 2,
--- chapters 16, 23, 8 and 10; the order of the refusals, and that a refusal changes nothing, are this project's own).
+-- chapters 16, 23, 8 and 10). The order of the refusals is this project's own, and that a refusal changes nothing, but
+-- for ENOBUFS: the pool's test has dropped all unfinished datagrams then; and a send that meets a full output queue has
+-- its port chosen and its identification spent, and its first packets may wait for the link.
 use Rattle.std.specs.Prelude.{◌≡◌, ℕ, ◌+◌, ◌%◌, Bool, ◌==◌, nat_lt, ◌&&◌, ◌||◌, not, if◌then◌else◌, List, [], ◌∷◌, ◌++◌, take, length, Option, Some, None, is_some, is_none, unwrap_or}
+use Rattle.params.specs.declared.TheConstants.{IP_UDP_HEADERS, UDP_SEND_SPACE, OUTPUT_QUEUE_PACKETS}
 use Rattle.flat_model.specs.Choice.{Choice}
 use Rattle.flat_model.specs.Weight.{Item, nothing}
 use Rattle.flat_model.specs.Cuts.{Part}
@@ -33,11 +36,11 @@ abbrev pub send_faults : State → Socket → Option Addr → ℕ → List (Bool
 send_faults s me to n =
     let to_all : Bool = (target s me to).ip == s.config.bcast in
     (is_none to && is_none me.peer, DestinationRequired)
-    ∷ (nat_lt 9216 n, MessageSize)
+    ∷ (nat_lt UDP_SEND_SPACE n, MessageSize)
     ∷ []
     ++ address_faults s me to
     ++ (to_all && not me.broadcast, Access)
-    ∷ (to_all && nat_lt s.config.mtu (n + 28), MessageSize)
+    ∷ (to_all && nat_lt s.config.mtu (n + IP_UDP_HEADERS), MessageSize)
     ∷ []
 
 -- ---- what a send takes, and where its packets go
@@ -57,12 +60,12 @@ to_self c ip packets = if is_looped c ip || (ip == c.bcast) then packets else []
 
 -- whether the output queue, which takes 50 packets, is too short for these
 abbrev pub overflows : State → List Item → Bool
-overflows s packets = nat_lt 50 (length (s.output ++ packets))
+overflows s packets = nat_lt OUTPUT_QUEUE_PACKETS (length (s.output ++ packets))
 
 -- the packets that it takes wait for the link, the others are lost; a send that loses one counts as dropped
 abbrev pub enqueued : List Item → State → State
 enqueued packets s = record s {
-  output = take 50 (s.output ++ packets);
+  output = take OUTPUT_QUEUE_PACKETS (s.output ++ packets);
   counters = if overflows s packets then record (s.counters) { out_dropped = one_more s.counters.out_dropped } else s.counters;
 }
 

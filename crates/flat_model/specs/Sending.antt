@@ -1,5 +1,6 @@
 -- A send that isn't refused, and its packets (`udp_output` and `ip_output` of volume 2, chapters 23, 8 and 10).
 use Rattle.std.specs.Prelude.{ℕ, ◌+◌, Bool, ◌==◌, ◌||◌, if◌then◌else◌, List, [], ◌∷◌, take, drop, map, length}
+use Rattle.params.specs.declared.TheConstants.{IP_HEADER, PROTOCOL_UDP, LOOPBACK_MTU}
 use Rattle.flat_model.specs.Weight.{Weight, Item, mbuf, ◌⊕◌}
 use Rattle.flat_model.specs.Cuts.{Part, cuts}
 use Rattle.flat_model.specs.Layout.{Entry, sent, laid_on, weight_of, entries_met}
@@ -22,7 +23,7 @@ datagram x = udp x.source x.to.ip x.port x.to.port x.bytes
 
 -- the header of the packet of one part
 abbrev pub head_for : Sending → Part → Head
-head_for x p = record { id = x.id; more = p.more; offset = p.offset; protocol = 17; source = x.source; destination = x.to.ip }
+head_for x p = record { id = x.id; more = p.more; offset = p.offset; protocol = PROTOCOL_UDP; source = x.source; destination = x.to.ip }
 
 -- the packet of one part
 abbrev pub packet_for : Sending → Part → List ℕ
@@ -34,7 +35,7 @@ is_looped c ip = (ip == c.addr) || (ip == loopback)
 
 -- the longest packet on the way there: 1536 bytes by loopback (`LOMTU` of volume 2, chapter 5), else the link's
 abbrev pub mtu_to : Config → ℕ → ℕ
-mtu_to c ip = if is_looped c ip then 1536 else c.mtu
+mtu_to c ip = if is_looped c ip then LOOPBACK_MTU else c.mtu
 
 -- how the datagram is cut
 abbrev pub parts_of : Config → Sending → List Part
@@ -43,7 +44,7 @@ parts_of c x = cuts (length (datagram x)) (mtu_to c x.to.ip)
 -- The weight of a later packet. The first one lies in the send's own mbufs, trimmed behind; a later one has an mbuf
 -- for its header and one for each mbuf in which its bytes lie, and shares the clusters of these.
 abbrev pub later_weight : List Entry → Part → Weight
-later_weight entries p = mbuf ⊕ weight_of (entries_met entries (20 + p.offset) (20 + p.offset + p.size))
+later_weight entries p = mbuf ⊕ weight_of (entries_met entries (IP_HEADER + p.offset) (IP_HEADER + p.offset + p.size))
 
 -- the packets of the parts, with what they weigh
 abbrev pub items : List Entry → (Part → List ℕ) → List Part → List Item

@@ -1,6 +1,7 @@
 -- The state of the machine between two events (this project's own; what it keeps of a socket is the control block
 -- and the receive queue of volume 2, chapters 22 and 16).
 use Rattle.std.specs.Prelude.{ℕ, ◌*◌, ◌<◌, ◌≤◌, ◌^◌, ◌/◌, ◌≢◌, Bool, ◌==◌, ◌&&◌, not, if◌then◌else◌, List, [], ◌∷◌, ◌++◌, map, filter, find, Option, None}
+use Rattle.params.specs.declared.TheConstants.{LOOPBACK, LIMITED_BROADCAST, MAX_MBUFS, MAX_CLUSTERS, MIN_MTU, MAX_MTU, FRAGMENT_TICKS}
 use Rattle.flat_model.specs.Weight.{Item}
 use Rattle.flat_model.specs.Overlay.{Map, empty}
 use Rattle.flat_model.specs.Count.{no_counts, counted}
@@ -14,11 +15,11 @@ use Rattle.flat_model.specs.declared.counters.Counters.{Counters}
 
 -- 127.0.0.1
 abbrev pub loopback : ℕ
-loopback = 2130706433
+loopback = LOOPBACK
 
 -- 255.255.255.255
 abbrev pub everyone : ℕ
-everyone = 4294967295
+everyone = LIMITED_BROADCAST
 
 -- an address that a host may have: 1.0.0.0 to 223.255.255.255, and not in 127/8
 pub record IsHost (address : ℕ) : Type 0 where
@@ -29,16 +30,16 @@ pub record IsHost (address : ℕ) : Type 0 where
 -- sizes that a pool may have; the clusters may be none
 pub record HasSizes (c : Config) : Type 0 where
   pub some_mbuf : 1 ≤ c.mbufs
-  pub mbufs : c.mbufs < 2 ^ 16
-  pub clusters : c.clusters ≤ 4096
+  pub mbufs : c.mbufs ≤ MAX_MBUFS
+  pub clusters : c.clusters ≤ MAX_CLUSTERS
 
 -- what boot accepts
 pub record IsConfig (c : Config) : Type 0 where
   pub some_mbuf : 1 ≤ c.mbufs
-  pub mbufs : c.mbufs < 2 ^ 16
-  pub clusters : c.clusters ≤ 4096
-  pub least_mtu : 68 ≤ c.mtu
-  pub greatest_mtu : c.mtu ≤ 4352
+  pub mbufs : c.mbufs ≤ MAX_MBUFS
+  pub clusters : c.clusters ≤ MAX_CLUSTERS
+  pub least_mtu : MIN_MTU ≤ c.mtu
+  pub greatest_mtu : c.mtu ≤ MAX_MTU
   pub addr : IsHost c.addr
   pub bcast : IsHost c.bcast
   pub apart : c.addr ≢ c.bcast
@@ -119,7 +120,7 @@ unfinished_at k s = find (is_key k) s.unfinished
 
 -- a datagram none of whose bytes has come; it is kept for 60 ticks (`IPFRAGTTL` of volume 2, chapter 10)
 abbrev pub begun : Key → Unfinished
-begun k = record { key = k; ticks = 60; bytes = empty }
+begun k = record { key = k; ticks = FRAGMENT_TICKS; bytes = empty }
 
 -- one more unfinished datagram
 abbrev pub begin_unfinished : Key → State → State

@@ -1,6 +1,7 @@
 -- One step of the machine: what it may answer to an event, and the state then (this project's own; the clock is
 -- `ip_slowtimo` of volume 2, chapter 10).
 use Rattle.std.specs.Prelude.{◌≡◌, ℕ, ◌-◌, Bool, ◌==◌, nat_lt, List, [], ◌∷◌, length, map, filter, count_by, Some, None}
+use Rattle.params.specs.declared.TheConstants.{MAX_SOCKETS}
 use Rattle.flat_model.specs.Choice.{Choice}
 use Rattle.flat_model.specs.Weight.{Item, nothing}
 use Rattle.flat_model.specs.Layout.{wire, need_of, laid_on, weight_of}
@@ -42,7 +43,7 @@ module _ (L : Ledger) where
 
   -- a step, whatever answers for the buffers
   abbrev pub StepBy : State → Event → Reply → State → Type 0
-  StepBy old Open reply new = Opens 64 old reply new
+  StepBy old Open reply new = Opens MAX_SOCKETS old reply new
   StepBy old (Bind fd a) reply new = OnSocket fd old reply new (λ me. Binds fd a me old reply new)
   StepBy old (Connect fd a) reply new = OnSocket fd old reply new (λ me. Connects fd a me old reply new)
   StepBy old (Send fd to bytes) reply new = OnSocket fd old reply new (λ me. Sends L fd to bytes me old reply new)

@@ -1,6 +1,7 @@
 -- Weights: how many mbufs something takes, and to which clusters they refer. Mbufs of 128 bytes and clusters
 -- of 2048 are those of volume 2, chapter 2; to count them as weights is this project's own.
 use Rattle.std.specs.Prelude.{◌≡◌, ℕ, ◌+◌, ◌-◌, ◌*◌, ◌≤◌, ◌==◌, List, [], ◌∷◌, ◌++◌, length, count_by}
+use Rattle.params.specs.declared.TheConstants.{MLEN, MCLBYTES}
 
 -- so many mbufs, and a cluster number for each of them that refers to a cluster
 pub record Weight : Type 0 where
@@ -48,4 +49,4 @@ pub record SameWeight (a b : Weight) : Type 0 where
 pub record Covers (w : Weight) (n : ℕ) : Type 0 where
   pub some : 1 ≤ w.mbufs
   pub references : length w.bag ≤ w.mbufs
-  pub room : n ≤ 108 * (w.mbufs - length w.bag) + 2048 * length w.bag
+  pub room : n ≤ MLEN * (w.mbufs - length w.bag) + MCLBYTES * length w.bag

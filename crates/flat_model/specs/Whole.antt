@@ -1,6 +1,7 @@
 -- When an unfinished datagram is whole (RFC 791, section 3.2), and what it weighs (this project's own).
 use Rattle.std.specs.Prelude.{◌≡◌, ℕ, ◌-◌, ◌<◌, false, ◌==◌, if◌then◌else◌, List, map, Option, Some, None, IsSome, IfSome, filter_map}
 use Rattle.std.specs.List.{range_with_len}
+use Rattle.params.specs.declared.TheConstants.{IP_MAX_DATA}
 use Rattle.flat_model.specs.Weight.{Weight, all_of}
 use Rattle.flat_model.specs.Overlay.{Held, Piece, Map}
 
@@ -31,7 +32,7 @@ pieces_below most bytes = filter_map (λ offset. piece_at offset (bytes offset))
 
 -- all pieces, since no fragment reaches past 65,515 bytes
 abbrev pub pieces : Map → List Piece
-pieces bytes = pieces_below 65515 bytes
+pieces bytes = pieces_below IP_MAX_DATA bytes
 
 -- what they weigh; a piece that lost its last offset weighs nothing any more
 abbrev pub weight_of_pieces : Map → Weight
