@@ -1,0 +1,45 @@
+-- IP headers with all their fields (RFC 791, section 3.1). Those of the flat machine have type of service 0, time to
+-- live 64 and "don't fragment" clear.
+use Rattle.std.specs.Prelude.{ℕ, ◌+◌, ◌*◌, ◌/◌, ◌%◌, nat_lt, List, [], ◌∷◌, ◌++◌, length, take, drop, slice_index}
+use Rattle.flat_model.specs.Checksum.{checksum}
+use Rattle.flat_model.specs.Header.{flag, two_bytes, address_bytes, u16_at, u32_at}
+use Rattle.ip_out.specs.declared.head.IpHead.{IpHead}
+
+-- bytes written over others, from a place on
+abbrev pub written : List ℕ → ℕ → List ℕ → List ℕ
+written bytes at new = take at bytes ++ (new ++ drop (at + length new) bytes)
+
+-- the field of flags and offset
+abbrev pub flags_of : IpHead → ℕ
+flags_of h = flag h.dont 16384 + (flag h.more 8192 + h.offset / 8)
+
+-- the ten bytes in front of the checksum: version 4, 5 words of header, and what the header says
+abbrev pub front_of : IpHead → List ℕ
+front_of h = 69 ∷ h.tos ∷ two_bytes h.total ++ two_bytes h.id ++ two_bytes (flags_of h) ++ h.ttl ∷ h.proto ∷ []
+
+-- the 20 bytes of a header whose checksum says that number
+abbrev pub bytes_with : IpHead → ℕ → List ℕ
+bytes_with h sum = front_of h ++ two_bytes sum ++ address_bytes h.src h.dst
+
+-- the 20 bytes with 0 in place of the checksum
+abbrev pub blank_bytes : IpHead → List ℕ
+blank_bytes h = bytes_with h 0
+
+-- the 20 bytes of a header
+unfoldable pub head_bytes : IpHead → List ℕ
+head_bytes h = bytes_with h (checksum (blank_bytes h))
+
+-- what a packet's header says
+abbrev pub head_in : List ℕ → IpHead
+head_in bytes = record {
+  tos = slice_index bytes 1;
+  total = u16_at 2 bytes;
+  id = u16_at 4 bytes;
+  dont = nat_lt 0 (u16_at 6 bytes / 16384 % 2);
+  more = nat_lt 0 (u16_at 6 bytes / 8192 % 2);
+  offset = u16_at 6 bytes % 8192 * 8;
+  ttl = slice_index bytes 8;
+  proto = slice_index bytes 9;
+  src = u32_at 12 bytes;
+  dst = u32_at 16 bytes;
+}

@@ -1,0 +1,218 @@
+//! IP headers: what they say, and their bytes.
+ghost use Rattle.std.specs.Prelude.{◌≡◌, ℕ, List, [], ◌∷◌, ◌+◌, ◌%◌, ◌≤◌, length, take, IfOk, IfErr, Some, None};
+ghost use Rattle.flat_model.specs.Header.{u16_at, u32_at, two_bytes, four_bytes, head_fault};
+ghost use Rattle.mbuf_chain.specs.Chain.{IsLive, chain_of, string};
+ghost use Rattle.ip_out.specs.Headings.{flags_of, written, blank_bytes, head_bytes, head_in};
+
+use byteorder::{BigEndian, ByteOrder};
+use chain_ops::m_copydata;
+use flat_model::Why;
+use in_cksum::sum_slice;
+use mbuf_chain::{Chain, Pool};
+use params::{FRAGMENT_UNIT, IP_HEADER};
+
+/// The first byte of a header without options: version 4, and 5 words of 4 bytes.
+const VERSION_AND_LENGTH: u8 = 0x45;
+
+/// The version, in the first byte's high half.
+const VERSION: u8 = 4;
+
+/// The words of a header without options, in the first byte's low half.
+const HEADER_WORDS: u8 = 5;
+
+/// The flag "don't fragment", `IP_DF`.
+const DONT_FRAGMENT: u16 = 0x4000;
+
+/// The flag "more fragments", `IP_MF`.
+const MORE_FRAGMENTS: u16 = 0x2000;
+
+/// The most that a header's offset says, in bytes: 65,528.
+pub const MAX_OFFSET: u32 = (MORE_FRAGMENTS as u32 - 1) * FRAGMENT_UNIT;
+
+/// What the IP header of a packet says, that of an IPv4 header without options (RFC 791, section 3.1).
+#[derive(Clone, Copy, Debug, PartialEq, Eq)]
+pub struct IpHead {
+    /// Type of service.
+    pub tos: u8,
+    /// Bytes of the whole packet, its header included.
+    pub total: u16,
+    /// The identification, by which fragments of one datagram are known.
+    pub id: u16,
+    /// The flag "don't fragment".
+    pub dont: bool,
+    /// The flag "more fragments".
+    pub more: bool,
+    /// From which byte of its datagram on the packet carries it: a multiple of 8, up to 65,528.
+    pub offset: u32,
+    /// Time to live.
+    pub ttl: u8,
+    /// The protocol carried.
+    pub proto: u8,
+    /// The source address.
+    pub src: u32,
+    /// The destination address.
+    pub dst: u32,
+}
+
+/// The field of flags and offset.
+#[inline]
+fn flags_of(head: &IpHead) -> u16
+    requires { head.now.offset ≤ MAX_OFFSET }
+    ensures { result ≡ flags_of head.now }
+{
+    let more = if head.more { MORE_FRAGMENTS } else { 0 };
+    let dont = if head.dont { DONT_FRAGMENT } else { 0 };
+    dont + (more + (head.offset / FRAGMENT_UNIT) as u16)
+}
+
+/// Writes a number of 8 bits over the byte at a place.
+#[inline(always)]
+fn put_u8(bytes: &mut [u8], at: usize, n: u8)
+    requires { at + 1 ≤ length bytes.old }
+    ensures { bytes.new ≡ written bytes.old at (n ∷ []) }
+{
+    bytes[at] = n;
+}
+
+/// Writes a number of 16 bits over the bytes from a place on.
+#[inline(always)]
+fn put_u16(bytes: &mut [u8], at: usize, n: u16)
+    requires { at + 2 ≤ length bytes.old }
+    ensures { bytes.new ≡ written bytes.old at (two_bytes n) }
+{
+    BigEndian::write_u16(&mut bytes[at..at + 2], n);
+}
+
+/// Writes a number of 32 bits over the bytes from a place on.
+#[inline(always)]
+fn put_u32(bytes: &mut [u8], at: usize, n: u32)
+    requires { at + 4 ≤ length bytes.old }
+    ensures { bytes.new ≡ written bytes.old at (four_bytes n) }
+{
+    BigEndian::write_u32(&mut bytes[at..at + 4], n);
+}
+
+/// Writes a header with 0 in place of its checksum.
+#[inline(always)]
+fn write_blank(bytes: &mut [u8], head: &IpHead)
+    requires len { length bytes.old ≡ IP_HEADER }
+    requires offset { head.now.offset ≤ MAX_OFFSET }
+    ensures { bytes.new ≡ blank_bytes head.now }
+{
+    put_u8(bytes, 0, VERSION_AND_LENGTH);
+    put_u8(bytes, 1, head.tos);
+    put_u16(bytes, 2, head.total);
+    put_u16(bytes, 4, head.id);
+    put_u16(bytes, 6, flags_of(head));
+    put_u8(bytes, 8, head.ttl);
+    put_u8(bytes, 9, head.proto);
+    put_u16(bytes, 10, 0);
+    put_u32(bytes, 12, head.src);
+    put_u32(bytes, 16, head.dst);
+}
+
+/// Writes a header of 20 bytes, its checksum among them. Conditions: there are 20 bytes; the offset is a multiple
+/// of 8, up to 65,528 (RFC 791, section 3.1).
+pub fn write_head(bytes: &mut [u8], head: IpHead)
+    requires len { length bytes.old ≡ IP_HEADER }
+    requires offset { head.offset ≤ MAX_OFFSET }
+    requires unit { head.offset % FRAGMENT_UNIT ≡ 0 }
+    ensures { bytes.new ≡ head_bytes head }
+{
+    write_blank(bytes, &head);
+    let sum = !sum_slice(bytes);
+    put_u16(bytes, 10, sum);
+}
+
+/// The number of 16 bits in the bytes from a place on.
+#[inline(always)]
+fn u16_at(bytes: &[u8], at: usize) -> u16
+    requires { at + 2 ≤ length bytes.now }
+    ensures { result ≡ u16_at at bytes.now }
+{
+    BigEndian::read_u16(&bytes[at..])
+}
+
+/// The number of 32 bits in the bytes from a place on.
+#[inline(always)]
+fn u32_at(bytes: &[u8], at: usize) -> u32
+    requires { at + 4 ≤ length bytes.now }
+    ensures { result ≡ u32_at at bytes.now }
+{
+    BigEndian::read_u32(&bytes[at..])
+}
+
+/// What the first 20 bytes of a packet say.
+fn head_in(bytes: &[u8]) -> IpHead
+    requires { length bytes.now ≡ IP_HEADER }
+    ensures { result ≡ head_in bytes.now }
+{
+    let flags = u16_at(bytes, 6);
+    IpHead {
+        tos: bytes[1],
+        total: u16_at(bytes, 2),
+        id: u16_at(bytes, 4),
+        dont: flags / DONT_FRAGMENT % 2 > 0,
+        more: flags / MORE_FRAGMENTS % 2 > 0,
+        offset: u32::from(flags % MORE_FRAGMENTS) * FRAGMENT_UNIT,
+        ttl: bytes[8],
+        proto: bytes[9],
+        src: u32_at(bytes, 12),
+        dst: u32_at(bytes, 16),
+    }
+}
+
+/// The first test that a packet of `len` bytes fails, of which these are the first 20.
+fn fault_in(bytes: &[u8], len: u32) -> Option<Why>
+    requires front { length bytes.now ≡ IP_HEADER }
+    requires few { IP_HEADER ≤ len }
+    ensures { (packet : List ℕ) → length packet ≡ len → bytes.now ≡ take IP_HEADER packet
+        → result ≡ head_fault packet }
+{
+    if bytes[0] / 16 != VERSION {
+        return Some(Why::BadVersion);
+    }
+    let words = bytes[0] % 16;
+    if words < HEADER_WORDS {
+        return Some(Why::BadHeaderLength);
+    }
+    if words > HEADER_WORDS {
+        return Some(Why::Options);
+    }
+    if sum_slice(bytes) != u16::MAX {
+        return Some(Why::BadSum);
+    }
+    let total = u32::from(u16_at(bytes, 2));
+    if total < IP_HEADER {
+        return Some(Why::BadLength);
+    }
+    if len < total {
+        return Some(Why::TooShort);
+    }
+    None
+}
+
+/// What the header of a packet says. The packet is a chain whatever its cut; it isn't changed.
+///
+/// Refused is the first test that fails, in this order: fewer than 20 bytes, `TooSmall`; a version other than 4,
+/// `BadVersion`; fewer than 5 words of header, `BadHeaderLength`; more, `Options`, since none are taken; a header
+/// whose folded sum isn't 65,535, `BadSum`; a total length below 20, `BadLength`, or above that of the chain,
+/// `TooShort`. A chain may be longer than the total length (`ipintr` of TCP/IP Illustrated volume 2, chapter 8;
+/// RFC 791, section 3.1; that options are refused is this project's own).
+pub fn read_head(pool: &Pool, chain: &Chain) -> Result<IpHead, Why>
+    requires { IsLive pool.now chain.now }
+    ensures ok { IfOk result (λ head. (head_fault (string (chain_of pool.now chain.now)) ≡ None)
+        × (head ≡ head_in (string (chain_of pool.now chain.now)))) }
+    ensures err { IfErr result (λ why. head_fault (string (chain_of pool.now chain.now)) ≡ Some why) }
+{
+    let len = pool.len(chain);
+    if len < IP_HEADER {
+        return Err(Why::TooSmall);
+    }
+    let mut bytes = [0; IP_HEADER as usize];
+    m_copydata(pool, chain, 0, &mut bytes);
+    match fault_in(&bytes, len) {
+        Some(why) => Err(why),
+        None => Ok(head_in(&bytes)),
+    }
+}

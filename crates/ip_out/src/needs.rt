@@ -1,0 +1,110 @@
+//! How many free buffers a send takes.
+ghost use Rattle.std.specs.Prelude.{◌≡◌, ◌+◌, ◌-◌, ◌*◌, ◌/◌, ◌<◌, ◌≤◌};
+ghost use Rattle.flat_model.specs.Layout.{need, need_bcast};
+ghost use Rattle.ip_out.specs.Inside.{Counts};
+
+use flat_model::Need;
+use params::{
+    CLUSTER_LEADING_SPACE, FRAGMENT_UNIT, IP_HEADER, IP_UDP_HEADERS, MCLBYTES, MHLEN, MIN_MTU,
+    MINCLSIZE, MLEN, UDP_HEADER, UDP_MAX_DATA,
+};
+
+/// The longest datagram that shares its mbuf with its headers.
+const MAX_SHARED: u32 = MHLEN - IP_UDP_HEADERS;
+
+/// More bytes than any packet has: what a packet carries that isn't cut.
+const UNCUT: u32 = 131_072;
+
+/// How many fragments behind the first, which begin at 20 + `chunk`, 20 + 2 `chunk` and so on, share a byte with
+/// the bytes of the packet from `at` up to `end`.
+fn later_met(chunk: u32, at: u32, end: u32) -> u32
+    requires chunk { 48 ≤ chunk }
+    requires end { end ≤ UNCUT }
+    ensures value { result ≡ (end - 21) / chunk - ((at - 20) / chunk - 1) }
+    ensures most { result ≤ 2731 }
+{
+    let last = end.saturating_sub(IP_HEADER + 1) / chunk;
+    let before = (at.saturating_sub(IP_HEADER) / chunk).saturating_sub(1);
+    last.saturating_sub(before)
+}
+
+/// How many bytes each fragment but the last carries of a send of `n` bytes, and how many fragments there are behind
+/// the first.
+fn cut_of(n: u32, mtu: u32) -> (u32, u32)
+    requires short { n ≤ UDP_MAX_DATA }
+    requires least { MIN_MTU ≤ mtu }
+    ensures counts { Counts n mtu result.0 result.1 }
+    ensures chunk { 48 ≤ result.0 }
+    ensures most { result.1 ≤ 65536 }
+{
+    if n + IP_UDP_HEADERS <= mtu {
+        return (UNCUT, 0);
+    }
+    let chunk = (mtu - IP_HEADER) / FRAGMENT_UNIT * FRAGMENT_UNIT;
+    (chunk, (n + UDP_HEADER + (chunk - 1)) / chunk - 1)
+}
+
+/// See `need`. It takes one step for each mbuf of the datagram.
+fn count(n: u32, mtu: u32) -> Need
+    requires short { n ≤ UDP_MAX_DATA }
+    requires least { MIN_MTU ≤ mtu }
+    ensures need { result ≡ need n mtu }
+    ensures most { result.mbufs ≤ 200000000 }
+{
+    let (chunk, later) = cut_of(n, mtu);
+    if n <= MAX_SHARED {
+        return Need {
+            mbufs: 1 + later + later_met(chunk, 0, IP_UDP_HEADERS + n),
+            clusters: 0,
+        };
+    }
+    let mut mbufs = 1 + later + later_met(chunk, 0, IP_UDP_HEADERS);
+    let mut clusters = 0;
+    let mut left = n;
+    let mut large = MCLBYTES - CLUSTER_LEADING_SPACE;
+    let mut small = MHLEN;
+    'rooms: while left > 0 {
+        let at = IP_UDP_HEADERS + (n - left);
+        let size = if left >= MINCLSIZE {
+            clusters += 1;
+            left.min(large)
+        } else {
+            left.min(small)
+        };
+        mbufs += 1 + later_met(chunk, at, at + size);
+        left -= size;
+        large = MCLBYTES;
+        small = MLEN;
+    }
+    Need { mbufs, clusters }
+}
+
+/// How many free mbufs and clusters a send of `n` bytes takes where the longest packet has `mtu` bytes: those of the
+/// datagram, and for each fragment behind the first an mbuf for its header and one for each mbuf in which its bytes
+/// lie. Clusters are shared. At most 65,507 bytes; `mtu` at least 68.
+///
+/// It takes one step for each mbuf of the datagram, however many fragments there are (`sosend`, `ip_output` of
+/// TCP/IP Illustrated volume 2, chapters 16 and 8).
+pub fn need(n: u32, mtu: u16) -> Need
+    requires short { n ≤ UDP_MAX_DATA }
+    requires least { MIN_MTU ≤ mtu }
+    ensures { result ≡ need n mtu }
+{
+    count(n, mtu as u32)
+}
+
+/// How many free mbufs and clusters a send of `n` bytes to the broadcast address takes, which isn't cut: those of the
+/// datagram, and as many mbufs for the copy that comes back. Clusters are shared. At most 65,507 bytes.
+///
+/// It takes one step for each mbuf of the datagram (`ether_output` and `looutput` of TCP/IP Illustrated volume 2,
+/// chapters 4 and 5).
+pub fn need_bcast(n: u32) -> Need
+    requires { n ≤ UDP_MAX_DATA }
+    ensures { result ≡ need_bcast n }
+{
+    let need = count(n, u16::MAX as u32);
+    Need {
+        mbufs: 2 * need.mbufs,
+        ..need
+    }
+}
