@@ -6,4 +6,5 @@ mod Stored
 mod Sent
 mod Trims
 mod Two
+mod Writes
 pub mod Laws

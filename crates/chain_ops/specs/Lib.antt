@@ -9,4 +9,5 @@ pub mod Pulls
 pub mod Prepends
 pub mod Splits
 pub mod Stored
+pub mod Writes
 pub mod Weights

@@ -5,6 +5,7 @@
 
 mod adj;
 mod cat;
+mod copyback;
 mod copydata;
 mod copym;
 mod cursor;
@@ -17,6 +18,7 @@ pub mod theorems;
 
 pub use adj::{m_adj, trim_back, trim_front};
 pub use cat::{cat_behind, m_cat};
+pub use copyback::{is_writable, m_copyback};
 pub use copydata::m_copydata;
 pub use copym::{Extent, m_copym};
 pub use cursor::{Cursor, advance, copy_at, cursor_at};

@@ -1,0 +1,193 @@
+//! Bytes written over a chain's.
+ghost use Rattle.std.specs.Prelude.{◌≡◌, ℕ, ◌+◌, ◌-◌, ◌<◌, ◌≤◌, ◌++◌, Some, None, true, false, length, take, drop, replicate, IfOk, OnOk, OnErr};
+ghost use Rattle.mbuf_chain.specs.Chain.{IsLive, IsPlace, chain_of, entry_in, string, references, without, with_chain, held_mbufs, alone, Adds};
+ghost use Rattle.mbuf_chain.specs.Steps.{one_mbuf, with_entry_in, overwritten};
+ghost use Rattle.chain_ops.specs.Makes.{Makes, HasMbufs, LacksMbufs};
+ghost use Rattle.chain_ops.specs.Writes.{is_shared, is_writable, overlaid, in_plain, tail_of, copied_back, copyback_need, written_bytes};
+
+use mbuf_chain::{Chain, Place, Pool};
+use mbuf_pool::NoBufs;
+use params::{IP_MAX_PACKET, MBUF_HEADER, MLEN, MSIZE};
+
+/// Whether a cluster, if there is one, is counted above 1.
+fn is_shared(pool: &Pool, cluster: Option<u32>) -> bool
+    requires { (c : ℕ) → cluster ≡ Some c → c < pool.now.clusters }
+    ensures { result ≡ is_shared (references pool.now) cluster }
+{
+    match cluster {
+        Some(number) => pool.count(number) > 1,
+        None => false,
+    }
+}
+
+/// Whether `len` bytes of a chain from `off` on may be written to: no byte of the range, as far as it lies in the
+/// chain, lies in a cluster to which more than one mbuf refers. It takes one step for each mbuf up to the end of the
+/// range (this project's own).
+pub fn is_writable(pool: &Pool, chain: &Chain, off: u32, len: u32) -> bool
+    requires { IsLive pool.now chain.now }
+    ensures { result ≡
+        is_writable (references pool.now) (chain_of pool.now chain.now).entries off len }
+{
+    let mut at = pool.first(chain);
+    let mut skip = off;
+    let mut left = len;
+    'mbufs: while left > 0 {
+        let segment = pool.segment(chain, at);
+        if skip < segment.len && is_shared(pool, segment.cluster) {
+            return false;
+        }
+        left = left.saturating_sub(segment.len.saturating_sub(skip));
+        skip = skip.saturating_sub(segment.len);
+        let Some(place) = pool.next(chain, at) else {
+            return true;
+        };
+        at = place;
+    }
+    true
+}
+
+/// The bytes behind the first `count`, or none where there are fewer.
+fn behind(bytes: &[u8], count: u32) -> &[u8]
+    ensures { result.now ≡ drop count bytes.now }
+{
+    &bytes[bytes.len().min(count as usize)..]
+}
+
+/// Writes over the bytes of an mbuf from `skip` on, as far as they reach.
+fn overlay_mbuf(pool: &mut Pool, chain: &Chain, at: Place, skip: u32, bytes: &[u8])
+    requires live { IsLive pool.old chain.now }
+    requires place { IsPlace (chain_of pool.old chain.now) at }
+    requires some { 0 < length bytes.now }
+    requires unshared { skip < length (entry_in pool.old chain.now at).bytes →
+        is_shared (references pool.old) (entry_in pool.old chain.now at).cluster ≡ false }
+    ensures { pool.new ≡ with_entry_in pool.old chain.now at
+        (overwritten (entry_in pool.old chain.now at) skip
+        (take (length (entry_in pool.old chain.now at).bytes - skip) bytes.now)) }
+{
+    let len = pool.segment(chain, at).len;
+    if skip < len {
+        let piece = &bytes[..bytes.len().min((len - skip) as usize)];
+        pool.overwrite(chain, at, skip, piece);
+    }
+}
+
+/// Writes over the bytes of a chain from `off` on, as far as the chain reaches.
+fn overlay(pool: &mut Pool, chain: &Chain, off: u32, bytes: &[u8])
+    requires live { IsLive pool.old chain.now }
+    requires writable { is_writable (references pool.old) (chain_of pool.old chain.now).entries off
+        (length bytes.now) ≡ true }
+    ensures { pool.new ≡ with_chain pool.old chain.now (record (chain_of pool.old chain.now) {
+      entries = overlaid (chain_of pool.old chain.now).entries off bytes.now;
+    }) }
+{
+    let mut at = pool.first(chain);
+    let mut skip = off;
+    let mut rest = bytes;
+    'mbufs: while !rest.is_empty() {
+        let len = pool.segment(chain, at).len;
+        overlay_mbuf(pool, chain, at, skip, rest);
+        rest = behind(rest, len.saturating_sub(skip));
+        skip = skip.saturating_sub(len);
+        let Some(place) = pool.next(chain, at) else {
+            return;
+        };
+        at = place;
+    }
+}
+
+/// So many zeros, at most 108.
+fn zeros(count: usize) -> &'static [u8]
+    requires { count ≤ MLEN }
+    ensures { result.now ≡ replicate count 0 }
+{
+    const ZEROS: [u8; MLEN as usize] = [0; MLEN as usize];
+    &ZEROS[..count]
+}
+
+/// A chain of one plain mbuf without packet header that is filled with zeros and then with bytes, as many of
+/// them as fit.
+fn new_piece(pool: &mut Pool, gap: u32, bytes: &[u8]) -> Result<Chain, NoBufs>
+    ensures ok { IfOk result (λ d. Adds pool.old pool.new d (one_mbuf false (record {
+      bytes = take MLEN (replicate gap 0 ++ bytes.now);
+      start = MBUF_HEADER;
+      cluster = None;
+    }) d)) }
+    ensures err { OnErr result (held_mbufs pool.old ≡ pool.old.mbufs) }
+    ensures same { OnErr result (pool.new ≡ pool.old) }
+{
+    let chain = pool.new_plain(false, MBUF_HEADER)?;
+    let at = pool.first(&chain);
+    let blank = gap.min(MLEN) as usize;
+    let count = bytes.len().min(MLEN as usize - blank);
+    pool.put_back(&chain, at, zeros(blank));
+    pool.put_back(&chain, at, &bytes[..count]);
+    Ok(chain)
+}
+
+/// A chain without packet header of zeros and then bytes, 1 byte or more in all, in plain mbufs that are filled at
+/// the front.
+fn new_tail(pool: &mut Pool, gap: u32, bytes: &[u8]) -> Result<Chain, NoBufs>
+    requires some { 0 < gap + length bytes.now }
+    requires most { gap + length bytes.now ≤ IP_MAX_PACKET }
+    ensures ok { IfOk result (λ d. Makes pool.old pool.new d (alone false)
+        (in_plain (replicate gap 0 ++ bytes.now))) }
+    ensures enough { OnOk result (HasMbufs pool.old
+        (length (in_plain (replicate gap 0 ++ bytes.now)))) }
+    ensures err { OnErr result (LacksMbufs pool.old
+        (length (in_plain (replicate gap 0 ++ bytes.now)))) }
+    ensures same { OnErr result (pool.new ≡ pool.old) }
+{
+    let chain = new_piece(pool, gap, bytes)?;
+    let mut last = pool.first(&chain);
+    let mut rest = behind(bytes, MLEN.saturating_sub(gap));
+    let mut blank = gap.saturating_sub(MLEN);
+    'mbufs: while blank as usize + rest.len() > 0 {
+        let len = (blank + rest.len() as u32).min(MLEN);
+        let Ok(back) = new_piece(pool, blank, rest) else {
+            pool.free_chain(chain);
+            return Err(NoBufs);
+        };
+        last = pool.link_counted(&chain, last, back, len);
+        rest = behind(rest, MLEN.saturating_sub(blank));
+        blank = blank.saturating_sub(MLEN);
+    }
+    pool.laws();
+    Ok(chain)
+}
+
+/// Writes bytes over those of a chain from `off` on, and lengthens it where it ends before them: bytes between its old
+/// end and `off` become 0, and what lies behind the old end goes into new plain mbufs; the room behind the old last
+/// bytes isn't used. `off` and the bytes are at most 65,535 together, and the range must be writable (`is_writable`).
+/// `NoBufs` comes exactly where fewer mbufs are free than the new bytes need, and changes nothing (TCP/IP Illustrated,
+/// volume 2, chapter 2).
+pub fn m_copyback(pool: &mut Pool, chain: &Chain, off: u32, bytes: &[u8]) -> Result<(), NoBufs>
+    requires live { IsLive pool.old chain.now }
+    requires most { off + length bytes.now ≤ IP_MAX_PACKET }
+    requires writable { is_writable (references pool.old) (chain_of pool.old chain.now).entries off
+        (length bytes.now) ≡ true }
+    ensures ok { OnOk result (Makes (without pool.old chain.now) pool.new chain.now
+        (chain_of pool.old chain.now).front
+        (copied_back (chain_of pool.old chain.now).entries off bytes.now)) }
+    ensures string { OnOk result (string (chain_of pool.new chain.now)
+        ≡ written_bytes (string (chain_of pool.old chain.now)) off bytes.now) }
+    ensures enough { OnOk result (HasMbufs pool.old
+        (copyback_need (chain_of pool.old chain.now).entries off bytes.now)) }
+    ensures err { OnErr result (LacksMbufs pool.old
+        (copyback_need (chain_of pool.old chain.now).entries off bytes.now)) }
+    ensures same { OnErr result (pool.new ≡ pool.old) }
+{
+    let len = pool.len(chain);
+    let end = off + bytes.len() as u32;
+    pool.laws();
+    if end <= len {
+        overlay(pool, chain, off, bytes);
+        return Ok(());
+    }
+    let rest = behind(bytes, len.saturating_sub(off));
+    let tail = new_tail(pool, off.saturating_sub(len), rest)?;
+    pool.laws();
+    overlay(pool, chain, off, bytes);
+    let last = pool.last(chain);
+    pool.link_counted(chain, last, tail, end - len);
+    Ok(())
+}
