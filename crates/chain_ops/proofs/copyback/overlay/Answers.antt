@@ -50,7 +50,7 @@ overlay_mbuf-requires-clause-unshared c =
     let inv = c.mbufs.invariant in
     let e : Entry = entry_of v at.index in
     let parts = writable_parts (references c.args.pool.now) e (drop (at.index + 1) v.entries) c.mbufs.skip (length xs) (some_bytes xs _ c.is_empty.ensures c.mbufs-test.true)
-          (ap (λ (es : List Entry). is_writable (references c.args.pool.now) es c.mbufs.skip (length xs)) (sym (at_entry v at inv.place)) ∙ inv.writable) in
+    (ap (λ (es : List Entry). is_writable (references c.args.pool.now) es c.mbufs.skip (length xs)) (sym (at_entry v at inv.place)) ∙ inv.writable) in
     λ l. (λ j. is_shared (λ k. inv.counts k j) e.cluster) ∙ parts.0 l
 
 pub mbufs-preserved : goal.mbufs-preserved
@@ -67,11 +67,11 @@ mbufs-preserved c =
     let len = ap (λ (x : Segment). x.len) c.segment-len.ensures.value in
     let rest : later ≡ drop (c.segment-len.result.len - c.mbufs.skip) xs = c.behind-rest.ensures ∙ ap (λ (n : ℕ). drop n xs) c.saturating_sub.ensures in
     let parts = writable_parts (references c.args.pool.now) e (drop (at.index + 1) v.entries) c.mbufs.skip (length xs) (some_bytes xs _ c.is_empty.ensures c.mbufs-test.true)
-          (ap (λ (es : List Entry). is_writable (references c.args.pool.now) es c.mbufs.skip (length xs)) (sym (at_entry v at inv.place)) ∙ inv.writable) in
+    (ap (λ (es : List Entry). is_writable (references c.args.pool.now) es c.mbufs.skip (length xs)) (sym (at_entry v at inv.place)) ∙ inv.writable) in
     let skip : c.saturating_sub-skip.result ≡ c.mbufs.skip - length e.bytes = c.saturating_sub-skip.ensures ∙ ap (λ (n : ℕ). c.mbufs.skip - n) len in
     let size : length later ≡ length xs - (length e.bytes - c.mbufs.skip) = omega (arith, ap (λ (ys : List ℕ). length ys) rest, length-drop (c.segment-len.result.len - c.mbufs.skip) xs, len) in
     let behind : drop c.in-Some.place.index (chain_of r k).entries ≡ drop (at.index + 1) v.entries =
-          (λ j. drop (c.in-Some.ensures.1 j) (entries_now q r k at.index _ c.overlay_mbuf.ensures j)) ∙ drop-set-lt (at.index + 1) v.entries at.index _ (omega arith) in
+    (λ j. drop (c.in-Some.ensures.1 j) (entries_now q r k at.index _ c.overlay_mbuf.ensures j)) ∙ drop-set-lt (at.index + 1) v.entries at.index _ (omega arith) in
     record {
       step = changed_step _ _ _ _ _ _ inv.step c.overlay_mbuf.ensures;
       all = ap (λ (n : ℕ). take c.in-Some.place.index (chain_of r k).entries ++ overlaid (drop c.in-Some.place.index (chain_of r k).entries) n later) c.saturating_sub-skip.ensures
