@@ -11,7 +11,7 @@ use Rattle.flat_model.specs.Ledger.{weight_of_state, has_enough}
 use Rattle.flat_model.specs.declared.config.Config.{Config}
 use Rattle.mbuf_chain.specs.Chain.{PoolView, held_mbufs, free_clusters}
 use Rattle.mbuf_chain.specs.Owners.{IsAll}
-use Rattle.mbuf_chain.proofs.Ledger.{held_by_owners, references_by_owners}
+use Rattle.mbuf_chain.proofs.Laws.Accounts.{held_by_owners, references_by_owners}
 use Rattle.ledger.specs.Accounts.{weight_owned, IsAccounted}
 use Rattle.ledger.specs.Reserve.{are_free}
 use Rattle.ledger.proofs.Weights.{owned_mbufs, owned_bag}

@@ -8,9 +8,9 @@ use Rattle.flat_model.specs.State.{State}
 use Rattle.flat_model.specs.declared.config.Config.{Config}
 use Rattle.mbuf_chain.specs.Chain.{ChainView, PoolView, IsLive, chain_of, without, mbufs_of, references_of, held_mbufs, references}
 use Rattle.mbuf_chain.specs.Owners.{times, live_at, IsOwned, Moves}
-use Rattle.mbuf_chain.proofs.Moves.{times_same, times_other, live_same, live_from, live_first, live_at_most, none_from, apart_first, chain_left}
-use Rattle.mbuf_chain.proofs.Maps.{same, get_gone, get_left}
-use Rattle.mbuf_chain.proofs.Ledger.{held-without, references-without}
+use Rattle.mbuf_chain.proofs.Laws.Owners.{times_same, times_other, live_same, live_from, live_first, live_at_most, none_from, apart_first, chain_left}
+use Rattle.mbuf_chain.proofs.Laws.Maps.{same, get_gone, get_left}
+use Rattle.mbuf_chain.proofs.Laws.Accounts.{held-without, references-without}
 use Rattle.ledger.specs.Accounts.{weight_owned, IsAccounted, Shifts}
 use Rattle.ledger.proofs.Weights.{owned_mbufs, owned_bag}
 

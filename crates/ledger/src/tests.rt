@@ -23,7 +23,7 @@ fn booted(alloc: Global, mbufs: u32, clusters: u32) -> Result<Pool, BootFault>
 }
 
 /// A chain of one mbuf on a cluster of its own.
-#[tactic(auto, using(mbuf_chain::proofs::Maps::map_steps))]
+#[tactic(auto, using(mbuf_chain::proofs::Laws::Maps::map_steps))]
 fn on_cluster(rt: &impl Abort, pool: &mut Pool) -> Chain
     ensures made { IsLive pool.new result }
     ensures live { (k : ℕ) → IsLive pool.old k → IsLive pool.new k }
@@ -98,7 +98,7 @@ const NO_COUNTS: Counters = Counters {
 };
 
 #[test]
-#[tactic(auto, using(mbuf_chain::proofs::Maps::map_steps))]
+#[tactic(auto, using(mbuf_chain::proofs::Laws::Maps::map_steps))]
 fn shows_what_is_in_use(rt: HostRuntime) -> Result<(), Fail> {
     let mut pool = booted(rt.alloc(), 8, 4)?;
     let config = config(8, 4);

@@ -1,4 +1,4 @@
-use Rattle.mbuf_chain.proofs.AfterStep.{made, live_shown, live_beside}
+use Rattle.mbuf_chain.proofs.Laws.Steps.{made, live_shown, live_beside}
 use Rattle.ledger.proofs.tests.shared.Goals as goal
 
 pub returns-clause-made : goal.returns-clause-made

@@ -1,0 +1,76 @@
+-- A queue under steps of others, and what its chains weigh.
+use Rattle.std.proofs.Common.{◌≡◌, Err, ℕ, suc, ◌+◌, List, [], ◌∷◌, length, map, refl, sym, ap, ◌∙◌, subst, arith}
+use Rattle.std.specs.List.{AllByRecursion as Each}
+use Rattle.flat_model.specs.Weight.{all_of, ◌⊕◌}
+use Rattle.flat_model.specs.State.{Datagram}
+use Rattle.flat_model.specs.Fits.{bytes_queued, memory_queued}
+use Rattle.mbuf_chain.specs.Chain.{Entry, PoolView, chain_of, without}
+use Rattle.mbuf_chain.specs.Frames.{SameAt}
+use Rattle.mbuf_chain.specs.Owners.{times, IsOwned, Moves}
+use Rattle.mbuf_chain.specs.Train.{Car, car_of}
+use Rattle.mbuf_chain.proofs.Laws.Owners.{times_same, live_at_most, same_beside, same_without}
+use Rattle.mbuf_chain.proofs.Laws.Trains.{numbers_same, cars_same, held_same, held_none}
+use Rattle.ledger.specs.Accounts.{weight_of, weight_owned}
+use Rattle.sockbuf.specs.SockBuf.{SockBufView, IsSockBuf, IsDatagram, datagram_of, datagrams_of, datagrams, chains_of, no_datagrams, AppendsAddr, IsRefused}
+use Rattle.sockbuf.specs.declared.buffer.Refusal.{Refusal}
+use Rattle.sockbuf.specs.declared.buffer.Refusal.TheVariants.{Full, NoBufs}
+use Rattle.flat_model.specs.declared.address.Addr.{Addr}
+use Rattle.sockbuf.proofs.Queues.{Shape, shape}
+
+-- ---- a new queue fits every pool
+pub new_ready : (p : PoolView) → IsSockBuf p no_datagrams
+new_ready p = record { held = held_none p _ refl; each = tt; cc = refl; mbcnt = refl }
+
+-- ---- a step of somebody else leaves a queue as it was
+pub chains_same : (p q : PoolView) (b : SockBufView) → SameAt p q (chains_of p b) → chains_of q b ≡ chains_of p b
+chains_same p q b s = numbers_same p q b.train s
+
+pub datagrams_same : (p q : PoolView) (b : SockBufView) → SameAt p q (chains_of p b) → datagrams q b ≡ datagrams p b
+datagrams_same p q b s = ap datagrams_of (cars_same p q b.train s)
+
+pub ready_same : (p q : PoolView) (b : SockBufView) → SameAt p q (chains_of p b) → IsSockBuf p b → IsSockBuf q b
+ready_same p q b s h = record {
+  held = held_same p q b.train s h.held;
+  each = subst (λ (cs : List Car). Each (λ (car : Car). IsDatagram car.entries) cs) (sym (cars_same p q b.train s)) h.each;
+  cc = h.cc ∙ ap bytes_queued (sym (datagrams_same p q b s));
+  mbcnt = h.mbcnt ∙ ap memory_queued (sym (datagrams_same p q b s));
+}
+
+-- ---- its chains weigh what its datagrams do
+weight_is : (es : List Entry) → Shape es → weight_of es ≡ (datagram_of es).item.weight
+weight_is es s =
+    ap weight_of s.is
+    ∙ ap (λ (e : Entry). weight_of (e ∷ s.rest)) s.address
+    ∙ (λ i. record { mbufs = one i; bag = (weight_of s.rest).bag })
+    ∙ ap (λ (l : List Entry). (datagram_of l).item.weight) (sym s.is)
+  where
+    one : suc (length s.rest) ≡ 1 + length s.rest
+    one = omega arith
+
+pub weight_of_chains : (p : PoolView) (b : SockBufView) → IsSockBuf p b → weight_owned p (chains_of p b) ≡ all_of (λ (d : Datagram). d.item.weight) (datagrams p b)
+weight_of_chains p b h = go (chains_of p b) h.each
+  where
+    go : (xs : List ℕ) → Each (λ (car : Car). IsDatagram car.entries) (map (car_of p) xs) → weight_owned p xs ≡ all_of (λ (d : Datagram). d.item.weight) (datagrams_of (map (car_of p) xs))
+    go [] each = refl
+    go (x ∷ xs) each = (λ i. weight_is (chain_of p x).entries (shape (chain_of p x).entries each.0) i ⊕ go xs each.1 i)
+
+-- ---- a chain that is made, and one that is freed
+pub apart_made : {p q : PoolView} {c : ℕ} (xs : List ℕ) → Moves p [] q (c ∷ []) → IsOwned p xs → times c xs ≡ 0
+apart_made {p} {q} {c} xs m o = omega (arith, m.owned c, times_same c [], live_at_most q c, o c)
+
+pub made_beside : {p q : PoolView} {c : ℕ} (b : SockBufView) → Moves p [] q (c ∷ []) → IsSockBuf p b → SameAt p q (chains_of p b)
+made_beside {p} b m h = same_beside (chains_of p b) m h.held.owned (λ k some. refl)
+
+pub ready_made : {p q : PoolView} {c : ℕ} (b : SockBufView) → Moves p [] q (c ∷ []) → IsSockBuf p b → IsSockBuf q b
+ready_made {p} {q} b m h = ready_same p q b (made_beside b m h) h
+
+pub apart_ready : {p q : PoolView} {c : ℕ} (b : SockBufView) → Moves p [] q (c ∷ []) → IsSockBuf p b → times c (chains_of q b) ≡ 0
+apart_ready {p} {q} {c} b m h = ap (times c) (chains_same p q b (made_beside b m h)) ∙ apart_made (chains_of p b) m h.held.owned
+
+pub ready_freed : {p q : PoolView} (c : ℕ) (b : SockBufView) → IsSockBuf p b → times c (chains_of p b) ≡ 0 → q ≡ without p c → IsSockBuf q b
+ready_freed {p} {q} c b h apart e = ready_same p q b (same_without p q c (chains_of p b) apart e) h
+
+-- ---- a datagram that was refused
+pub refused : {p q : PoolView} {b d : SockBufView} {c back : ℕ} (sender : Addr) (r : Refusal) → AppendsAddr p b sender c (Err (back, r)) q d → IsRefused p b c back q d
+refused sender Full h = h.1
+refused sender NoBufs h = h.2

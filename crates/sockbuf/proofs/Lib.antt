@@ -1,0 +1,5 @@
+pub mod Laws
+mod Measures
+mod Fronts
+mod Queues
+mod Beside

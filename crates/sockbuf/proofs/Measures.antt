@@ -1,0 +1,39 @@
+-- Sums over a chain's mbufs.
+use Rattle.std.proofs.Common.{◌≡◌, ℕ, suc, ◌+◌, ◌≤◌, cond, List, [], ◌∷◌, length, filter_map, Option, None, Some, is_some, refl, arith}
+use Rattle.std.specs.Prelude.{slice_index_or}
+use Rattle.std.proofs.lemmas.List.Sums.{sum_by-cons}
+use Rattle.mbuf_chain.specs.Chain.{Entry, ChainView, entry_of, no_entry, PoolView, IsLive, chain_of, layout_of, mbufs_of}
+use Rattle.mbuf_chain.specs.Frames.{IsBounded}
+use Rattle.mbuf_chain.specs.Owners.{IsOwned}
+use Rattle.mbuf_chain.proofs.Laws.Owners.{owned_more}
+use Rattle.mbuf_chain.proofs.Laws.Accounts.{owned_held}
+use Rattle.ledger.specs.Accounts.{weight_of}
+
+-- how many of them refer to a cluster
+abbrev pub references_in : List (ℕ × Option ℕ) → ℕ
+references_in [] = 0
+references_in (x ∷ xs) = cond (is_some x.1) 1 0 + references_in xs
+
+pub references_are : (es : List Entry) → references_in (layout_of es) ≡ length (weight_of es).bag
+references_are [] = refl
+references_are (e ∷ es) = go e.cluster (references_are es)
+  where
+    go : (o : Option ℕ) → references_in (layout_of es) ≡ length (weight_of es).bag → cond {A = ℕ} (is_some o) 1 0 + references_in (layout_of es) ≡ length (filter_map (λ (e : Entry). e.cluster) (record { bytes = e.bytes; start = e.start; cluster = o } ∷ es))
+    go None h = omega (arith, h)
+    go (Some k) h = omega (arith, h)
+
+pub bag_few : (es : List Entry) → length (weight_of es).bag ≤ length es
+bag_few [] = omega arith
+bag_few (e ∷ es) = go e.cluster (bag_few es)
+  where
+    go : (o : Option ℕ) → length (weight_of es).bag ≤ length es → length (filter_map (λ (e : Entry). e.cluster) (record { bytes = e.bytes; start = e.start; cluster = o } ∷ es)) ≤ suc (length es)
+    go None h = omega (arith, h)
+    go (Some k) h = omega (arith, h)
+
+pub chain_few : (p : PoolView) (c : ℕ) → IsLive p c → IsBounded p → length (chain_of p c).entries ≤ 65535
+chain_few p c live b =
+    let owned : IsOwned p (c ∷ []) = owned_more p c [] (λ k. omega arith) live refl in
+    omega (arith, owned_held p (c ∷ []) owned, sum_by-cons (λ k. mbufs_of (chain_of p k)) c [], b.few, b.small)
+
+pub first_entry : (v : ChainView) (i : ℕ) (front : Entry) (rest : List Entry) → v.entries ≡ front ∷ rest → i ≡ 0 → entry_of v i ≡ front
+first_entry v i front rest e z = λ j. slice_index_or (e j) (z j) no_entry

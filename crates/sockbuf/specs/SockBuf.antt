@@ -1,0 +1,106 @@
+-- The receive queue of a socket: datagrams with their senders (`sockbuf` and `sbappendaddr` of TCP/IP Illustrated,
+-- volume 2, chapter 16).
+use Rattle.std.specs.Prelude.{◌≡◌, ℕ, ◌+◌, ◌*◌, ◌<◌, true, false, List, [], ◌∷◌, ◌++◌, length, map, None, Result, Ok, Err}
+use Rattle.std.specs.List.{AllByRecursion as Each}
+use Rattle.flat_model.specs.Weight.{Weight, nothing, mbuf, ◌⊕◌}
+use Rattle.flat_model.specs.Header.{u16_at, u32_at, two_bytes, four_bytes}
+use Rattle.flat_model.specs.State.{Datagram}
+use Rattle.flat_model.specs.Fits.{bytes_queued, memory_queued, fits}
+use Rattle.flat_model.specs.declared.address.Addr.{Addr}
+use Rattle.mbuf_chain.specs.Chain.{Entry, PoolView, chain_of, flat_bytes, held_mbufs, string}
+use Rattle.mbuf_chain.specs.Owners.{Moves}
+use Rattle.mbuf_chain.specs.Train.{TrainView, Car, cars, numbers, IsHeld}
+use Rattle.ledger.specs.Accounts.{weight_of, weight_at}
+use Rattle.sockbuf.specs.declared.buffer.Refusal.{Refusal}
+use Rattle.sockbuf.specs.declared.buffer.Refusal.TheVariants.{Full, NoBufs}
+
+-- what a contract sees of a queue: its train, and the two sums that it keeps
+pub record SockBufView : Type 0 where
+  pub train : TrainView
+  pub cc : ℕ
+  pub mbcnt : ℕ
+
+-- nothing was received
+abbrev pub no_datagrams : SockBufView
+no_datagrams = record { train = record { first = None; last = None; len = 0 }; cc = 0; mbcnt = 0 }
+
+-- ---- a sender's address in an mbuf
+
+-- Sixteen bytes (`sockaddr_in` of volume 2, chapter 6): how many there are, 2 for the Internet's family, the port, the
+-- address, and eight zeros.
+abbrev pub sockaddr_bytes : Addr → List ℕ
+sockaddr_bytes a = 16 ∷ 2 ∷ two_bytes a.port ++ four_bytes a.ip ++ 0 ∷ 0 ∷ 0 ∷ 0 ∷ 0 ∷ 0 ∷ 0 ∷ 0 ∷ []
+
+-- what sixteen such bytes say
+abbrev pub sockaddr_in : List ℕ → Addr
+sockaddr_in bytes = record { ip = u32_at 4 bytes; port = u16_at 2 bytes }
+
+-- the mbuf in front of a datagram
+abbrev pub address_entry : Addr → Entry
+address_entry a = record { bytes = sockaddr_bytes a; start = 28; cluster = None }
+
+-- ---- the datagrams of a queue
+
+-- the datagram that the mbufs of a queued chain mean: the first has the sender's address
+abbrev pub datagram_of : List Entry → Datagram
+datagram_of [] = record { sender = record { ip = 0; port = 0 }; item = record { bytes = []; weight = nothing } }
+datagram_of (front ∷ es) = record { sender = sockaddr_in front.bytes; item = record { bytes = flat_bytes es; weight = mbuf ⊕ weight_of es } }
+
+-- the first mbuf has an address, and one at least follows
+abbrev pub IsDatagram : List Entry → Type 0
+IsDatagram [] = ⊥
+IsDatagram (front ∷ es) = (front ≡ address_entry (sockaddr_in front.bytes)) × (0 < length es)
+
+abbrev pub datagrams_of : List Car → List Datagram
+datagrams_of cs = map (λ (car : Car). datagram_of car.entries) cs
+
+-- the datagrams of a queue, the oldest first
+abbrev pub datagrams : PoolView → SockBufView → List Datagram
+datagrams p b = datagrams_of (cars p b.train)
+
+-- the numbers of its chains
+abbrev pub chains_of : PoolView → SockBufView → List ℕ
+chains_of p b = numbers p b.train
+
+-- what its datagrams weigh, as `memory_queued` counts it: 128 bytes for each mbuf, 2048 for each reference to a cluster
+abbrev pub memory_of : Weight → ℕ
+memory_of w = 128 * w.mbufs + 2048 * length w.bag
+
+-- the queue and the pool fit together
+pub record IsSockBuf (p : PoolView) (b : SockBufView) : Type 0 where
+  pub held : IsHeld p b.train
+  pub each : Each (λ (car : Car). IsDatagram car.entries) (cars p b.train)
+  pub cc : b.cc ≡ bytes_queued (datagrams p b)
+  pub mbcnt : b.mbcnt ≡ memory_queued (datagrams p b)
+
+-- ---- what the calls make of it
+
+-- the datagram that chain c is once it's queued: its weight has the mbuf of the address too
+abbrev pub datagram_from : Addr → PoolView → ℕ → Datagram
+datagram_from sender p c = record { sender = sender; item = record { bytes = string (chain_of p c); weight = mbuf ⊕ weight_at p c } }
+
+-- nothing came of it: chain c is handed back
+pub record IsRefused (p : PoolView) (b : SockBufView) (c back : ℕ) (q : PoolView) (d : SockBufView) : Type 0 where
+  pub chain : back ≡ c
+  pub pool : q ≡ p
+  pub queue : d ≡ b
+
+-- Chain c, sent by `sender`, is the newest datagram of the queue; or it doesn't fit; or no mbuf is free for the address.
+abbrev pub AppendsAddr : PoolView → SockBufView → Addr → ℕ → Result Unit (ℕ × Refusal) → PoolView → SockBufView → Type 0
+AppendsAddr p b sender c (Ok done) q d =
+    (fits (datagrams p b) (length (string (chain_of p c))) ≡ true) × (held_mbufs p < p.mbufs)
+    × (datagrams q d ≡ datagrams p b ++ datagram_from sender p c ∷ []) × Moves p (c ∷ chains_of p b) q (chains_of q d)
+AppendsAddr p b sender c (Err (back, Full)) q d = (fits (datagrams p b) (length (string (chain_of p c))) ≡ false) × IsRefused p b c back q d
+AppendsAddr p b sender c (Err (back, NoBufs)) q d =
+    (fits (datagrams p b) (length (string (chain_of p c))) ≡ true) × (held_mbufs p ≡ p.mbufs) × IsRefused p b c back q d
+
+-- the oldest datagram, of this sender and with the entries of chain c, was taken out, and its mbuf for the address freed
+pub record TakesOldest (p : PoolView) (b : SockBufView) (sender : Addr) (c : ℕ) (q : PoolView) (d : SockBufView) : Type 0 where
+  pub datagrams : datagrams p b ≡ datagram_from sender q c ∷ datagrams q d
+  pub moves : Moves p (chains_of p b) q (c ∷ chains_of q d)
+
+-- there was none
+pub record IsEmpty (p : PoolView) (b : SockBufView) (q : PoolView) (d : SockBufView) : Type 0 where
+  pub none : datagrams p b ≡ []
+  pub pool : q ≡ p
+  pub queue : d ≡ b

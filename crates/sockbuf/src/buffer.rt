@@ -1,0 +1,172 @@
+//! The queue and its calls.
+
+ghost use Rattle.std.specs.Prelude.{◌≡◌, ◌==◌, [], length, MatchOption, ℕ};
+ghost use Rattle.flat_model.specs.Fits as flat;
+ghost use Rattle.mbuf_chain.specs.Chain.{IsLive, PoolView};
+ghost use Rattle.mbuf_chain.specs.Owners.{times, Moves};
+ghost use Rattle.sockbuf.specs.SockBuf.{AppendsAddr, IsEmpty, IsSockBuf, TakesOldest, chains_of, datagrams, no_datagrams};
+
+use crate::address::{sockaddr_in, with_address, without_address};
+use crate::measure::memory_of;
+use flat_model::Addr;
+use mbuf_chain::{Chain, Pool, Reclaim, Train};
+use params::{MSIZE, SOCKADDR_BYTES, UDP_RECEIVE_MEMORY, UDP_RECEIVE_SPACE};
+use std::marker::Model;
+
+/// Why a datagram wasn't queued.
+#[derive(Clone, Copy, Debug, PartialEq, Eq)]
+pub enum Refusal {
+    /// It doesn't fit beside what waits.
+    Full,
+    /// No mbuf is free for the sender's address.
+    NoBufs,
+}
+
+/// The datagrams that a socket has received and nobody has read, the oldest first. It must be spent, by `end`.
+///
+/// It takes at most 41,600 bytes, 16 for each sender's address among them, and 83,200 bytes of memory behind them: 128
+/// for each mbuf and 2048 for each reference to a cluster. A datagram's own mbufs don't count in its own test, as in
+/// `sbappendaddr` of volume 2, chapter 16.
+pub struct SockBuf {
+    train: Train,
+    cc: u32,
+    mbcnt: u32,
+}
+
+impl Model for SockBuf {
+    ghost use Rattle.sockbuf.specs.SockBuf.{SockBufView};
+
+    ghost Value = { SockBufView };
+
+    ghost view = { λ b. record { train = b.train; cc = b.cc; mbcnt = b.mbcnt } };
+}
+
+impl SockBuf {
+    /// An empty queue. It fits every pool.
+    pub const fn new() -> SockBuf
+        ensures { result ≡ no_datagrams }
+    {
+        SockBuf {
+            train: Train::new(),
+            cc: 0,
+            mbcnt: 0,
+        }
+    }
+
+    /// How many datagrams wait.
+    pub const fn len(&self) -> u32
+        ensures { (p : PoolView) → IsSockBuf p self.now → result ≡ length (datagrams p self.now) }
+    {
+        self.train.len()
+    }
+
+    /// Whether none waits.
+    pub const fn is_empty(&self) -> bool
+        ensures { (p : PoolView) → IsSockBuf p self.now → result ≡ (length (datagrams p self.now) == 0) }
+    {
+        self.train.is_empty()
+    }
+
+    /// How many bytes wait, with 16 for each sender's address: `sb_cc`.
+    pub fn cc(&self) -> u32
+        ensures { (p : PoolView) → IsSockBuf p self.now → result ≡ flat.bytes_queued (datagrams p self.now) }
+    {
+        self.cc
+    }
+
+    /// How much memory is behind them, in bytes: `sb_mbcnt`.
+    pub fn mbcnt(&self) -> u32
+        ensures { (p : PoolView) → IsSockBuf p self.now → result ≡ flat.memory_queued (datagrams p self.now) }
+    {
+        self.mbcnt
+    }
+
+    /// Whether a datagram of `len` bytes fits.
+    pub fn fits(&self, len: u32) -> bool
+        ensures { (p : PoolView) → IsSockBuf p self.now → result ≡ flat.fits (datagrams p self.now) len }
+    {
+        let with_address = u64::from(SOCKADDR_BYTES) + u64::from(len);
+        with_address + u64::from(self.cc) <= u64::from(UDP_RECEIVE_SPACE)
+            && with_address + u64::from(self.mbcnt) <= u64::from(UDP_RECEIVE_MEMORY)
+    }
+
+    /// Puts a datagram at the end, with its sender's address in an mbuf in front (`sbappendaddr`). It takes one mbuf, and
+    /// a number of steps that doesn't depend on the queue. Refused, and then nothing changes and the chain is handed
+    /// back: `Full` exactly where it doesn't fit, `NoBufs` exactly where it fits and no mbuf is free.
+    pub fn append_addr(
+        &mut self,
+        pool: &mut Pool,
+        sender: Addr,
+        chain: Chain,
+    ) -> Result<(), (Chain, Refusal)>
+        requires ready { IsSockBuf pool.old self.old }
+        requires live { IsLive pool.old chain }
+        requires apart { times chain (chains_of pool.old self.old) ≡ 0 }
+        ensures appends { AppendsAddr pool.old self.old sender chain result pool.new self.new }
+        ensures ready { IsSockBuf pool.new self.new }
+    {
+        let len = pool.len(&chain);
+        if !self.fits(len) {
+            return Err((chain, Refusal::Full));
+        }
+        pool.laws();
+        let memory = memory_of(pool, &chain);
+        let whole = match with_address(pool, sender, chain, len) {
+            Ok(whole) => whole,
+            Err(chain) => return Err((chain, Refusal::NoBufs)),
+        };
+        let end = self.train.len();
+        self.train.insert(pool, end, whole, 0);
+        self.cc += SOCKADDR_BYTES + len;
+        self.mbcnt += MSIZE + memory;
+        Ok(())
+    }
+
+    /// Takes the oldest datagram and answers its sender and its chain, whose mbufs are those that were queued; only its
+    /// packet header is gone. The mbuf with the address is freed. `None` where none waits.
+    pub fn take(&mut self, pool: &mut Pool) -> Option<(Addr, Chain)>
+        requires ready { IsSockBuf pool.old self.old }
+        ensures takes { MatchOption result (IsEmpty pool.old self.old pool.new self.new)
+            (λ found. TakesOldest pool.old self.old found.0 found.1 pool.new self.new) }
+        ensures ready { IsSockBuf pool.new self.new }
+    {
+        if self.train.is_empty() {
+            return None;
+        }
+        let (whole, _) = self.train.take(pool, 0);
+        let len = pool.len(&whole);
+        let memory = memory_of(pool, &whole);
+        let first = pool.first(&whole);
+        let sender = sockaddr_in(pool.bytes(&whole, first));
+        let chain = without_address(pool, whole);
+        // the sixteen bytes of the address stand in the chain
+        self.cc -= len;
+        self.mbcnt -= memory;
+        Some((sender, chain))
+    }
+
+    /// Frees all datagrams (`sbflush`).
+    pub fn flush(&mut self, pool: &mut Pool)
+        requires ready { IsSockBuf pool.old self.old }
+        ensures empty { datagrams pool.new self.new ≡ [] }
+        ensures ready { IsSockBuf pool.new self.new }
+        ensures moves { Moves pool.old (chains_of pool.old self.old) pool.new [] }
+    {
+        let _freed = self.train.reclaim(pool);
+        self.cc = 0;
+        self.mbcnt = 0;
+    }
+
+    /// Frees all datagrams, and ends the queue.
+    pub fn end(self, pool: &mut Pool)
+        requires { IsSockBuf pool.old self }
+        ensures { Moves pool.old (chains_of pool.old self) pool.new [] }
+    {
+        let SockBuf {
+            train,
+            cc: _,
+            mbcnt: _,
+        } = self;
+        train.free(pool);
+    }
+}
