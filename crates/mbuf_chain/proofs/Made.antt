@@ -1,5 +1,5 @@
 -- A chain of one new mbuf.
-use Rattle.std.proofs.Common.{◌≡◌, ◌≢◌, ℕ, suc, ◌+◌, ◌<◌, ◌≤◌, Bool, true, false, not, cond, ◌&&◌, nat_eq, List, [], ◌∷◌, length, Option, None, Some, unwrap_or, count_by, refl, sym, ap, ◌∙◌, subst, arith, inl, inr, slice_index_or, take, drop}
+use Rattle.std.proofs.Common.{◌≡◌, ◌≢◌, ℕ, zero, suc, ◌+◌, ◌<◌, ◌≤◌, Bool, true, false, not, cond, ◌&&◌, nat_eq, List, [], ◌∷◌, length, map, Option, None, Some, unwrap_or, count_by, refl, sym, ap, ◌∙◌, subst, arith, inl, inr, slice_get, slice_index_or, take, drop}
 use Rattle.std.specs.FinMap as finmap
 use Rattle.std.specs.FinMap.{FinMap}
 use Rattle.std.specs.Ordering.{nat_cmp}
@@ -12,7 +12,7 @@ use Rattle.std.proofs.lemmas.List.{length-set}
 use Rattle.raw_cells.specs.declared.head.Head.{Head}
 use Rattle.raw_cells.specs.declared.head.PacketHeader.{PacketHeader}
 use Rattle.mbuf_pool.specs.Store.{StoreView, MbufView, ClusterView, no_mbuf, free_cluster, TakesCluster, with_cluster, held, is_out, mbuf_of, head_of, cluster_of, count_of, mbufs_out, with_mbuf, IsStore}
-use Rattle.mbuf_chain.specs.Chain.{Entry, Front, ChainView, alone, Adds, held_mbufs, references, free_clusters, chain_of, entry_of}
+use Rattle.mbuf_chain.specs.Chain.{Entry, Front, ChainView, alone, Adds, held_mbufs, references, counts, free_clusters, chain_of, entry_of}
 use Rattle.mbuf_chain.specs.declared.place.Place.{Place}
 use Rattle.mbuf_chain.specs.Chain.{IsLive, IsPlace}
 use Rattle.mbuf_chain.specs.Steps.{one_mbuf, empty_entry, narrowed}
@@ -121,6 +121,15 @@ plain_made s t i header start pool got store low high =
 -- no mbuf is free where all are held
 pub none_free : (s : StoreView) → IsPool s → mbufs_out s ≡ length s.mbufs → held_mbufs (pool_of s) ≡ length s.mbufs
 none_free s (lists, ok, totals) all = held_is s lists ok ∙ all
+
+pub some_free : (s : StoreView) → IsPool s → mbufs_out s < length s.mbufs → held_mbufs (pool_of s) < length s.mbufs
+some_free s (lists, ok, totals) less = omega (arith, held_is s lists ok)
+
+-- an mbuf that is taken was free
+pub one_free : (s t : StoreView) (i : ℕ) (h : Head) → IsPool s → Taken s t i h → held_mbufs (pool_of s) < length s.mbufs
+one_free s t i h (lists, ok, totals) got =
+    let m : MbufView = record { head = h; bytes = got.bytes } in
+    omega (arith, held_is s lists ok, outs_total s i (Some m) got.below, off (is_out s i) got.fresh, Rattle.mbuf_chain.proofs.Lists.few_out (with_mbuf s i (Some m)), length-set s.mbufs i (Some m))
 
 -- ---- an mbuf that shares a cluster
 -- no cluster is held by more mbufs than are out
@@ -262,6 +271,18 @@ free_are s pool = count_range (λ (v : ClusterView). nat_eq v.count 0) (λ c. na
 
 pub was_unreferenced : (s t : StoreView) (d : ℕ) → IsPool s → TakesCluster s t d → references (pool_of s) d ≡ 0
 was_unreferenced s t d pool got = unreferenced s pool d ∙ ap (λ (w : ClusterView). w.count) (get_or_from_slice_get s.clusters d free_cluster free_cluster got.was_free)
+
+-- and it was free
+some_zero : {X : Type 0} (f : X → Bool) (xs : List X) (c : ℕ) (x : X) → slice_get xs c ≡ Some x → f x ≡ true → 0 < count_by f xs
+some_zero f [] c x e is = absurd (none-some x e)
+some_zero f (y ∷ ys) zero x e is = omega (arith, sum_by-cons (λ z. cond {A = ℕ} (f z) 1 0) y ys, ap (λ z. cond {A = ℕ} (f z) 1 0) (same_Some y x e), ap {B = ℕ} (λ b. cond b 1 0) is)
+some_zero f (y ∷ ys) (suc c) x e is = omega (arith, sum_by-cons (λ z. cond {A = ℕ} (f z) 1 0) y ys, some_zero f ys c x e is)
+
+pub cluster_free : (s t : StoreView) (d : ℕ) → IsPool s → TakesCluster s t d → 0 < free_clusters (pool_of s)
+cluster_free s t d pool got = omega (arith, free_are s pool, some_zero (λ (v : ClusterView). nat_eq v.count 0) s.clusters d free_cluster got.was_free refl)
+
+pub counts_are : (s : StoreView) → IsPool s → counts (pool_of s) ≡ Rattle.mbuf_pool.specs.Store.counts_of s
+counts_are s pool = λ i. map (λ c. unreferenced s pool c i) (range_with_len 0 (length s.clusters))
 
 -- the cluster of a live chain's entry is counted
 pub counted_at : (s : StoreView) (c d : ℕ) (at : Place) → IsPool s → IsLive (pool_of s) c → IsPlace (chain_of (pool_of s) c) at → (head_of s at.cell).cluster ≡ Some d → 0 < count_of s d

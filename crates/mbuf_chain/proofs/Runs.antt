@@ -74,6 +74,12 @@ last_is (x ∷ []) (suc n) e = absurd (omega arith)
 last_is (x ∷ y ∷ ys) zero e = absurd (omega arith)
 last_is (x ∷ y ∷ ys) (suc n) e = last_is (y ∷ ys) n (omega arith)
 
+-- what stands in front of a place doesn't tell what stands behind it
+pub get_front : (ys zs ws : List ℕ) (k : ℕ) → k < length ys → slice_get (ys ++ zs) k ≡ slice_get (ys ++ ws) k
+get_front [] zs ws k h = absurd (omega arith)
+get_front (y ∷ ys) zs ws zero h = refl
+get_front (y ∷ ys) zs ws (suc k) h = get_front ys zs ws k (omega arith)
+
 pub times_get : (xs : List ℕ) (i c : ℕ) → slice_get xs i ≡ Some c → 0 < times c xs
 times_get [] i c e = absurd (none-some c e)
 times_get (x ∷ xs) zero c e = subst (λ (j : ℕ). 0 < times c (j ∷ xs)) (sym (same_Some x c e)) (omega (arith, times_same c xs))

@@ -15,7 +15,7 @@ pub use Rattle.mbuf_chain.specs.Kept.{numbers_same, cars_same, held_same, none_l
 use Rattle.mbuf_chain.specs.Kept.{cars_of_same}
 use Rattle.mbuf_chain.proofs.Laws.Owners.{times_same, times_other, times-append, owned_more, owned_after, live_owned, live_first, apart_first, same_without, same_with, same_adds, same_behind, apart_new, moves_none, then_adds, then_without, shown_with, kept_with, live_with, moves_within, moves_trans, moves_reordered, live_at_most}
 use Rattle.mbuf_chain.proofs.Laws.Accounts.{owned_at_most}
-use Rattle.mbuf_chain.proofs.Runs.{IsRun, Split, split_at, times_get, times_twice, passing, run_follow, run_ends, run_of, run_same, run_with, run_without, run_next, last-append, insert-append, remove-append}
+use Rattle.mbuf_chain.proofs.Runs.{IsRun, Split, split_at, get_front, times_get, times_twice, passing, run_follow, run_ends, run_of, run_same, run_with, run_without, run_next, last-append, insert-append, remove-append}
 
 -- ---- a train by the list of its numbers
 record Linked (p : PoolView) (t : TrainView) (xs : List ℕ) : Type 0 where
@@ -222,6 +222,8 @@ put_in p t ys zs c tag q u l live apart s =
       held = held_of q u (ys ++ c ∷ zs) linked;
       len = s.len;
       moves = moves_reordered (c ∷ numbers p t) (numbers q u) s.moves (λ k. ap (λ (xs : List ℕ). times k (c ∷ xs)) was) (λ k. ap (times k) is ∙ times_in k c ys zs);
+      stands = ap (λ (xs : List ℕ). slice_get xs (length ys)) is ∙ get_seam ys c zs;
+      front = λ k h. ap (λ (xs : List ℕ). slice_get xs k) is ∙ get_front ys (c ∷ zs) zs k h ∙ ap (λ (xs : List ℕ). slice_get xs k) (sym was);
     }
 
 -- ---- a chain taken out
@@ -264,6 +266,7 @@ take_out p t ys zs c q u l s =
       held = held_of q u (ys ++ zs) linked;
       len = s.len;
       moves = moves_reordered (numbers p t) (c ∷ numbers q u) s.moves (λ k. ap (times k) was) (λ k. ap (λ (xs : List ℕ). times k (c ∷ xs)) is ∙ sym (times_in k c ys zs));
+      front = λ k h. ap (λ (xs : List ℕ). slice_get xs k) is ∙ get_front ys zs (c ∷ zs) k h ∙ ap (λ (xs : List ℕ). slice_get xs k) (sym was);
     }
 
 -- ---- the train's own steps

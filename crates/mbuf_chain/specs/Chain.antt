@@ -120,6 +120,10 @@ held_mbufs p = sum_by mbufs_of (finmap.values p.chains)
 abbrev pub references : PoolView → ℕ → ℕ
 references p c = sum_by (references_of c) (finmap.values p.chains)
 
+-- the references of each cluster, in order
+abbrev pub counts : PoolView → List ℕ
+counts p = map (references p) (range_with_len 0 p.clusters)
+
 -- how many clusters no mbuf refers to
 abbrev pub free_clusters : PoolView → ℕ
 free_clusters p = count_by (λ c. references p c == 0) (range_with_len 0 p.clusters)

@@ -65,6 +65,8 @@ pub record Inserts (p : PoolView) (t : TrainView) (i c tag : ℕ) (q : PoolView)
   pub held : IsHeld q u
   pub len : u.len ≡ t.len + 1
   pub moves : Moves p (c ∷ numbers p t) q (numbers q u)
+  pub stands : slice_get (numbers q u) i ≡ Some c
+  pub front : (k : ℕ) → k < i → slice_get (numbers q u) k ≡ slice_get (numbers p t) k
 
 -- from p and t to q and u, the chain at place i, of number c and with that tag, was taken out
 pub record Takes (p : PoolView) (t : TrainView) (i c tag : ℕ) (q : PoolView) (u : TrainView) : Type 0 where
@@ -74,3 +76,4 @@ pub record Takes (p : PoolView) (t : TrainView) (i c tag : ℕ) (q : PoolView) (
   pub held : IsHeld q u
   pub len : u.len + 1 ≡ t.len
   pub moves : Moves p (numbers p t) q (c ∷ numbers q u)
+  pub front : (k : ℕ) → k < i → slice_get (numbers q u) k ≡ slice_get (numbers p t) k

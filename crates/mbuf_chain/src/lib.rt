@@ -15,11 +15,13 @@ mod reclaim;
 #[cfg(test)]
 mod tests;
 mod train;
+mod usage;
 
 pub use car::CarPlace;
 pub use chain::Chain;
 pub use pieces::{Entries, Pieces};
-pub use place::{Segment, Place};
+pub use place::{Place, Segment};
 pub use pool::Pool;
 pub use reclaim::Reclaim;
 pub use train::Train;
+pub use usage::Usage;

@@ -1,5 +1,5 @@
 //! New chains of one mbuf.
-ghost use Rattle.std.specs.Prelude.{◌≡◌, ◌≢◌, ℕ, ◌+◌, ◌<◌, ◌≤◌, ◌⊎◌, true, Bool, Some, None, length, IfOk, OnErr, IsSome};
+ghost use Rattle.std.specs.Prelude.{◌≡◌, ◌≢◌, ℕ, ◌+◌, ◌<◌, ◌≤◌, ◌⊎◌, true, Bool, Some, None, length, IfOk, OnOk, OnErr, IsSome};
 ghost use Rattle.mbuf_pool.specs.Store.{IsStore, mbufs_out};
 ghost use Rattle.raw_cells.specs.Cells.{IsHead};
 ghost use Rattle.mbuf_chain.specs.Chain.{IsLive, IsPlace, chain_of, entry_of, Adds, held_mbufs, references, free_clusters, entry_in};
@@ -59,6 +59,7 @@ pub(crate) fn plain(store: &mut Store, header: bool, start: u32) -> Result<u32, 
     ensures pool { IsPool store.new }
     ensures ok { IfOk result (λ c. Adds (pool_of store.old) (pool_of store.new) c
         (one_mbuf header (empty_entry start None) c)) }
+    ensures free { OnOk result (held_mbufs (pool_of store.old) < length store.old.mbufs) }
     ensures err { OnErr result (held_mbufs (pool_of store.old) ≡ length store.old.mbufs) }
     ensures same { OnErr result (store.new ≡ store.old) }
 {
@@ -86,6 +87,7 @@ pub(crate) fn shared(
     ensures pool { IsPool store.new }
     ensures ok { IfOk result (λ c. Adds (pool_of store.old) (pool_of store.new) c
         (one_mbuf header (narrowed (entry_in (pool_of store.old) first at) skip keep) c)) }
+    ensures free { OnOk result (held_mbufs (pool_of store.old) < length store.old.mbufs) }
     ensures err { OnErr result (held_mbufs (pool_of store.old) ≡ length store.old.mbufs) }
     ensures same { OnErr result (store.new ≡ store.old) }
 {
@@ -112,6 +114,8 @@ pub(crate) fn clustered(store: &mut Store, header: bool, start: u32) -> Result<u
         × (references (pool_of store.old) d ≡ 0)
         × Adds (pool_of store.old) (pool_of store.new) c
         (one_mbuf header (empty_entry start (Some d)) c)) }
+    ensures free { OnOk result (held_mbufs (pool_of store.old) < length store.old.mbufs) }
+    ensures cluster { OnOk result (0 < free_clusters (pool_of store.old)) }
     ensures err { OnErr result ((held_mbufs (pool_of store.old) ≡ length store.old.mbufs) ⊎
         (free_clusters (pool_of store.old) ≡ 0)) }
     ensures same { OnErr result (store.new ≡ store.old) }

@@ -1,8 +1,8 @@
 //! The pool.
-ghost use Rattle.std.specs.Prelude.{◌≡◌, ◌≢◌, ℕ, ◌+◌, ◌-◌, ◌<◌, ◌≤◌, ◌⊎◌, true, None, Some, Bool, length, IfOk, OnErr, IsSome, IfSome, MatchOption, if◌then◌else◌, take, drop};
+ghost use Rattle.std.specs.Prelude.{◌≡◌, ◌≢◌, ℕ, ◌+◌, ◌-◌, ◌<◌, ◌≤◌, ◌⊎◌, true, None, Some, Bool, length, sum, fold, max, IfOk, OnOk, OnErr, IsSome, IfSome, MatchOption, if◌then◌else◌, take, drop};
 ghost use Rattle.std.specs.FinMap as finmap;
 ghost use Rattle.mbuf_pool.specs.Store.{mbufs_out, count_of};
-ghost use Rattle.mbuf_chain.specs.Chain.{IsLive, IsPlace, chain_of, with_chain, without, held_mbufs, references, free_clusters, string, layout, entry_of, Adds, IsUnshared, room_start, room_end, front_room, back_room, entry_in, HasFrontRoom, HasBackRoom};
+ghost use Rattle.mbuf_chain.specs.Chain.{IsLive, IsPlace, chain_of, with_chain, without, held_mbufs, references, counts, free_clusters, string, layout, entry_of, Adds, IsUnshared, room_start, room_end, front_room, back_room, entry_in, HasFrontRoom, HasBackRoom};
 ghost use Rattle.mbuf_chain.specs.Pieces.{pieces};
 ghost use Rattle.mbuf_chain.specs.Steps.{one_mbuf, empty_entry, narrowed, with_entry, with_front, with_back, overwritten, headless, joined, placed, first_part, second_part, with_entry_in};
 ghost use Rattle.mbuf_chain.specs.Frames.{IsBounded};
@@ -10,7 +10,8 @@ ghost use Rattle.mbuf_chain.specs.Frames.{IsBounded};
 use crate::chain::Chain;
 use crate::links::PACKET_START;
 use crate::pieces::{Entries, Pieces};
-use crate::place::{Segment, Place};
+use crate::place::{Place, Segment};
+use crate::usage::Usage;
 use crate::{data, edit, links, make, pieces};
 use mbuf_pool::{NoBufs, Store};
 use std::marker::Model;
@@ -82,11 +83,32 @@ impl Pool {
         self.store.count(cluster)
     }
 
+    /// How much is free, and how often the clusters are referred to. It takes one step for each cluster.
+    pub fn usage(&self) -> Usage
+        ensures mbufs { result.mbufs ≡ self.now.mbufs }
+        ensures free_mbufs { result.free_mbufs + held_mbufs self.now ≡ self.now.mbufs }
+        ensures clusters { result.clusters ≡ self.now.clusters }
+        ensures free_clusters { result.free_clusters ≡ free_clusters self.now }
+        ensures references { result.references ≡ sum (counts self.now) }
+        ensures greatest { result.greatest_count ≡ fold max 0 (counts self.now) }
+    {
+        let counts = self.store.counts();
+        Usage {
+            free_mbufs: self.free_mbufs(),
+            mbufs: self.store.mbufs(),
+            free_clusters: self.free_clusters(),
+            clusters: self.store.clusters(),
+            references: counts.sum,
+            greatest_count: counts.greatest,
+        }
+    }
+
     /// A chain of one empty mbuf with packet header. `NoBufs` comes exactly where no mbuf is free, and
     /// changes nothing.
     pub fn new_chain(&mut self) -> Result<Chain, NoBufs>
         ensures ok { IfOk result (λ c. Adds self.old self.new c
             (one_mbuf true (empty_entry 28 None) c)) }
+        ensures free { OnOk result (held_mbufs self.old < self.old.mbufs) }
         ensures err { OnErr result (held_mbufs self.old ≡ self.old.mbufs) }
         ensures same { OnErr result (self.new ≡ self.old) }
     {
@@ -101,6 +123,7 @@ impl Pool {
         requires high { start ≤ 128 }
         ensures ok { IfOk result (λ c. Adds self.old self.new c
             (one_mbuf header (empty_entry start None) c)) }
+        ensures free { OnOk result (held_mbufs self.old < self.old.mbufs) }
         ensures err { OnErr result (held_mbufs self.old ≡ self.old.mbufs) }
         ensures same { OnErr result (self.new ≡ self.old) }
     {
@@ -343,6 +366,7 @@ impl Pool {
         requires within { skip + keep ≤ length (entry_in self.old chain.now at).bytes }
         ensures ok { IfOk result (λ c. Adds self.old self.new c
             (one_mbuf header (narrowed (entry_in self.old chain.now at) skip keep) c)) }
+        ensures free { OnOk result (held_mbufs self.old < self.old.mbufs) }
         ensures err { OnErr result (held_mbufs self.old ≡ self.old.mbufs) }
         ensures same { OnErr result (self.new ≡ self.old) }
     {
@@ -359,6 +383,8 @@ impl Pool {
         ensures ok { IfOk result (λ c. (d : ℕ) × (d < self.old.clusters)
             × (references self.old d ≡ 0)
             × Adds self.old self.new c (one_mbuf header (empty_entry start (Some d)) c)) }
+        ensures free { OnOk result (held_mbufs self.old < self.old.mbufs) }
+        ensures cluster { OnOk result (0 < free_clusters self.old) }
         ensures err { OnErr result ((held_mbufs self.old ≡ self.old.mbufs) ⊎
             (free_clusters self.old ≡ 0)) }
         ensures same { OnErr result (self.new ≡ self.old) }

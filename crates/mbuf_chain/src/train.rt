@@ -78,8 +78,41 @@ impl Train {
         if i == 0 {
             self.insert_first(pool, number, tag);
         } else {
-            self.insert_behind(pool, i, number, tag);
+            let before = CarPlace {
+                index: i - 1,
+                number: self.number_at(pool, i - 1),
+            };
+            let _ = self.insert_behind(pool, before, number, tag);
         }
+    }
+
+    /// Puts a chain in behind the one at a place of a walk, with a tag, and answers its place. This takes a number
+    /// of steps that doesn't depend on the train. The place that was given stays one.
+    pub fn insert_after(
+        &mut self,
+        pool: &mut Pool,
+        at: CarPlace,
+        chain: Chain,
+        tag: u32,
+    ) -> CarPlace
+        requires place { IsCar pool.old self.old at }
+        requires live { IsLive pool.old chain }
+        requires headed { (chain_of pool.old chain).front.header ≡ true }
+        requires held { IsHeld pool.old self.old }
+        requires apart { times chain (numbers pool.old self.old) ≡ 0 }
+        ensures cars { cars pool.new self.new ≡
+            insert (cars pool.old self.old) (at.index + 1)
+            (record { number = chain; entries = (chain_of pool.old chain).entries; tag = tag }) }
+        ensures place { result ≡ record { index = at.index + 1; number = chain } }
+        ensures stands { IsCar pool.new self.new result }
+        ensures kept { IsCar pool.new self.new at }
+        ensures held { IsHeld pool.new self.new }
+        ensures len { self.new.len ≡ self.old.len + 1 }
+        ensures moves { Moves pool.old (chain ∷ numbers pool.old self.old) pool.new
+            (numbers pool.new self.new) }
+    {
+        let number = chain.into_number();
+        self.insert_behind(pool, at, number, tag)
     }
 
     /// Takes the chain at a place out, with its tag. At the front this takes a number of steps that doesn't
@@ -103,8 +136,36 @@ impl Train {
         let (number, tag) = if i == 0 {
             self.take_first(pool)
         } else {
-            self.take_behind(pool, i)
+            let before = CarPlace {
+                index: i - 1,
+                number: self.number_at(pool, i - 1),
+            };
+            self.take_behind(pool, before)
         };
+        (Chain::from_number(number), tag)
+    }
+
+    /// Takes the chain out that stands behind the one at a place of a walk, with its tag. There must be one. This
+    /// takes a number of steps that doesn't depend on the train. The place that was given stays one.
+    pub fn take_after(&mut self, pool: &mut Pool, at: CarPlace) -> (Chain, u32)
+        requires place { IsCar pool.old self.old at }
+        requires more { at.index + 1 < self.old.len }
+        requires held { IsHeld pool.old self.old }
+        ensures cars { cars pool.new self.new ≡ remove (cars pool.old self.old) (at.index + 1) }
+        ensures taken { car_at pool.old self.old (at.index + 1) ≡
+            record {
+              number = result.0;
+              entries = (chain_of pool.new result.0).entries;
+              tag = result.1;
+            } }
+        ensures alone { (chain_of pool.new result.0).front ≡ alone true }
+        ensures kept { IsCar pool.new self.new at }
+        ensures held { IsHeld pool.new self.new }
+        ensures len { self.new.len + 1 ≡ self.old.len }
+        ensures moves { Moves pool.old (numbers pool.old self.old) pool.new
+            (result.0 ∷ numbers pool.new self.new) }
+    {
+        let (number, tag) = self.take_behind(pool, at);
         (Chain::from_number(number), tag)
     }
 
@@ -222,25 +283,34 @@ impl Train {
         self.len += 1;
     }
 
-    /// Puts a chain in behind another.
-    fn insert_behind(&mut self, pool: &mut Pool, i: u32, number: u32, tag: u32)
-        requires some { 0 < i }
-        requires place { i ≤ self.old.len }
+    /// Puts a chain in behind another, and answers its place.
+    fn insert_behind(
+        &mut self,
+        pool: &mut Pool,
+        before: CarPlace,
+        number: u32,
+        tag: u32,
+    ) -> CarPlace
+        requires before { IsCar pool.old self.old before }
         requires live { IsLive pool.old number }
         requires headed { (chain_of pool.old number).front.header ≡ true }
         requires held { IsHeld pool.old self.old }
         requires apart { times number (numbers pool.old self.old) ≡ 0 }
-        ensures { Inserts pool.old self.old i number tag pool.new self.new }
+        ensures change { Inserts pool.old self.old (before.index + 1) number tag pool.new self.new }
+        ensures place { result ≡ record { index = before.index + 1; number = number } }
     {
-        let before = self.number_at(pool, i - 1);
-        let behind = behind(pool, before);
+        let behind = behind(pool, before.number);
         place(pool, number, behind, tag);
-        let kept = tag_of(pool, before);
-        place(pool, before, Some(number), kept);
-        if i == self.len {
+        let kept = tag_of(pool, before.number);
+        place(pool, before.number, Some(number), kept);
+        if self.len == before.index + 1 {
             self.last = Some(number);
         }
         self.len += 1;
+        CarPlace {
+            index: before.index + 1,
+            number,
+        }
     }
 
     /// Takes the first chain out: its number, and its tag.
@@ -264,23 +334,22 @@ impl Train {
     }
 
     /// Takes a chain out behind another: its number, and its tag.
-    fn take_behind(&mut self, pool: &mut Pool, i: u32) -> (u32, u32)
-        requires some { 0 < i }
-        requires place { i < self.old.len }
+    fn take_behind(&mut self, pool: &mut Pool, before: CarPlace) -> (u32, u32)
+        requires before { IsCar pool.old self.old before }
+        requires more { before.index + 1 < self.old.len }
         requires held { IsHeld pool.old self.old }
-        ensures { Takes pool.old self.old i result.0 result.1 pool.new self.new }
+        ensures { Takes pool.old self.old (before.index + 1) result.0 result.1 pool.new self.new }
     {
-        let before = self.number_at(pool, i - 1);
-        let Some(number) = behind(pool, before) else {
+        let Some(number) = behind(pool, before.number) else {
             unreachable!()
         };
         let rest = behind(pool, number);
         let tag = tag_of(pool, number);
-        let kept = tag_of(pool, before);
-        place(pool, before, rest, kept);
+        let kept = tag_of(pool, before.number);
+        place(pool, before.number, rest, kept);
         place(pool, number, None, 0);
-        if self.len == i + 1 {
-            self.last = Some(before);
+        if self.len == before.index + 2 {
+            self.last = Some(before.number);
         }
         self.len -= 1;
         (number, tag)

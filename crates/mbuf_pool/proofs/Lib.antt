@@ -9,3 +9,4 @@ pub mod Links
 pub mod Effects
 pub mod Booting
 pub mod Laws
+pub mod Sums

@@ -1,5 +1,6 @@
 -- What a contract sees of a store: the mbufs and clusters that are in use (this project's own; mbufs, clusters and their counts are those of TCP/IP Illustrated, volume 2, chapter 2).
-use Rattle.std.specs.Prelude.{◌≡◌, ℕ, ◌+◌, ◌-◌, ◌<◌, ◌≤◌, ◌==◌, ◌⊎◌, if◌then◌else◌, Bool, IsTrue, is_some, is_none, unwrap_or, Some, None, Option, List, [], length, take, drop, replicate, count_by, slice_index_or, slice_set, slice_get}
+use Rattle.std.specs.Prelude.{◌≡◌, ℕ, ◌+◌, ◌-◌, ◌<◌, ◌≤◌, ◌==◌, ◌⊎◌, if◌then◌else◌, Bool, IsTrue, is_some, is_none, unwrap_or, Some, None, Option, List, [], length, map, take, drop, replicate, count_by, slice_index_or, slice_set, slice_get}
+use Rattle.std.specs.List.{range_with_len}
 use Rattle.raw_cells.specs.Over.{over}
 use Rattle.raw_cells.specs.Cells.{head_size}
 use Rattle.raw_cells.specs.declared.head.Head.{Head}
@@ -50,6 +51,10 @@ cluster_of s c = slice_index_or s.clusters c free_cluster
 -- how many hold the cluster c
 abbrev pub count_of : StoreView → ℕ → ℕ
 count_of s c = (cluster_of s c).count
+
+-- the count of each cluster, in order
+abbrev pub counts_of : StoreView → List ℕ
+counts_of s = map (count_of s) (range_with_len 0 (length s.clusters))
 
 -- ---- how many are free
 abbrev pub free_mbufs : StoreView → ℕ

@@ -6,6 +6,7 @@
 //! asked for.
 #![tactic(auto)]
 
+mod counts;
 mod fault;
 mod link;
 mod sizes;
@@ -13,6 +14,7 @@ mod store;
 #[cfg(test)]
 mod tests;
 
+pub use counts::Counts;
 pub use fault::{BootFault, NoBufs};
 pub use sizes::Sizes;
 pub use store::Store;

@@ -1,10 +1,11 @@
 //! The store.
-ghost use Rattle.std.specs.Prelude.{◌≡◌, ◌+◌, ◌<◌, ◌≤◌, ◌↔◌, IsTrue, length, IfOk, OnErr, Err};
+ghost use Rattle.std.specs.Prelude.{◌≡◌, ◌+◌, ◌<◌, ◌≤◌, ◌↔◌, IsTrue, length, sum, fold, max, IfOk, OnErr, Err};
 ghost use Rattle.std.specs.Borrow.{sem};
 ghost use Rattle.raw_cells.specs.Cells.{IsHead};
-ghost use Rattle.mbuf_pool.specs.Store.{is_out, head_of, count_of, cluster_of, free_mbufs, mbufs_out, free_clusters, with_mbuf, with_cluster, held, released, free_store, TakesMbuf, TakesCluster, SetsHead, IsPart, read, write, IsStore, IsBad};
+ghost use Rattle.mbuf_pool.specs.Store.{is_out, head_of, count_of, counts_of, cluster_of, free_mbufs, mbufs_out, free_clusters, with_mbuf, with_cluster, held, released, free_store, TakesMbuf, TakesCluster, SetsHead, IsPart, read, write, IsStore, IsBad};
 ghost use Rattle.mbuf_pool.specs.AllOut.{IsAllOut};
 
+use crate::counts::Counts;
 use crate::fault::{BootFault, NoBufs};
 use crate::link::{next_cluster, set_next_cluster};
 use crate::sizes::Sizes;
@@ -221,9 +222,27 @@ impl Store {
     /// How many hold a cluster, 0 to 65,535; 0 exactly where it is free. There must be such a cluster.
     pub fn count(&self, cluster: u32) -> u32
         requires { cluster < length self.now.clusters }
-        ensures { result ≡ count_of self.now cluster }
+        ensures value { result ≡ count_of self.now cluster }
+        ensures few { result ≤ 65535 }
     {
         u32::from(self.counts[cluster as usize])
+    }
+
+    /// The counts of all clusters. It takes one step for each.
+    pub fn counts(&self) -> Counts
+        ensures sum { result.sum ≡ sum (counts_of self.now) }
+        ensures greatest { result.greatest ≡ fold max 0 (counts_of self.now) }
+    {
+        let mut sum = 0;
+        let mut greatest = 0;
+        'clusters: for cluster in 0..self.clusters() {
+            let count = self.count(cluster);
+            sum += count;
+            if greatest < count {
+                greatest = count;
+            }
+        }
+        Counts { sum, greatest }
     }
 
     /// The head of an mbuf. It must be handed out.

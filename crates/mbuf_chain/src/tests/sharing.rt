@@ -1,5 +1,6 @@
 //! Two chains that share a cluster, after the worked picture of docs/chains.md.
 use super::steps::{booted, count, narrow, overwrite, put_back, share, text};
+use crate::Usage;
 use std::test::Fail;
 
 /// What the cluster holds.
@@ -19,7 +20,15 @@ fn two_chains_share_a_cluster(rt: HostRuntime) -> Result<(), Fail> {
     let other = pool.first(&b);
     assert_eq!(rt; pool.segment(&b, other), segment);
     assert_eq!(rt; count(&rt, &pool, &a, at), 2);
-    assert_eq!(rt; (pool.free_mbufs(), pool.free_clusters()), (6, 1));
+    let usage = Usage {
+        free_mbufs: 6,
+        mbufs: 8,
+        free_clusters: 1,
+        clusters: 2,
+        references: 2,
+        greatest_count: 2,
+    };
+    assert_eq!(rt; pool.usage(), usage);
     narrow(&rt, &mut pool, &b, other, 2, 296);
     let shorter = pool.segment(&b, other);
     assert_eq!(rt; (shorter.start, shorter.len), (58, 296));

@@ -1,11 +1,11 @@
 //! Trains at work: the order of their chains, and two callers that use them as the layers above do.
 
-ghost use Rattle.std.specs.Prelude.{◌≡◌, ◌+◌, ◌<◌, ◌≤◌, [], OnOk, OnErr, IsOkAnd, remove};
+ghost use Rattle.std.specs.Prelude.{◌≡◌, ◌+◌, ◌<◌, ◌≤◌, [], OnOk, OnErr, IfOk, IsOkAnd, remove};
 ghost use Rattle.mbuf_chain.specs.Chain.{held_mbufs};
 ghost use Rattle.mbuf_chain.specs.Owners.{Moves};
-ghost use Rattle.mbuf_chain.specs.Train.{cars, car_at, numbers, IsHeld};
+ghost use Rattle.mbuf_chain.specs.Train.{cars, car_at, numbers, IsCar, IsHeld};
 
-use crate::{Pool, Train};
+use crate::{CarPlace, Pool, Train};
 use mbuf_pool::{NoBufs, Sizes, Store};
 use std::test::Fail;
 
@@ -35,6 +35,36 @@ fn drop_at(pool: &mut Pool, train: &mut Train, i: u32) -> u32
     ensures moves { Moves pool.old (numbers pool.old train.old) pool.new (numbers pool.new train.new) }
 {
     let (chain, tag) = train.take(pool, i);
+    pool.free_chain(chain);
+    tag
+}
+
+/// Puts a new packet without bytes in behind a place, and answers its own place.
+fn put_after(
+    pool: &mut Pool,
+    train: &mut Train,
+    at: CarPlace,
+    tag: u32,
+) -> Result<CarPlace, NoBufs>
+    requires place { IsCar pool.old train.old at }
+    requires held { IsHeld pool.old train.old }
+    ensures ok { IfOk result (λ to. IsCar pool.new train.new to) }
+    ensures kept { IsCar pool.new train.new at }
+    ensures held { IsHeld pool.new train.new }
+{
+    let chain = pool.new_chain()?;
+    Ok(train.insert_after(pool, at, chain, tag))
+}
+
+/// Frees the packet behind a place, and answers its tag.
+fn drop_after(pool: &mut Pool, train: &mut Train, at: CarPlace) -> u32
+    requires place { IsCar pool.old train.old at }
+    requires more { at.index + 1 < train.old.len }
+    requires held { IsHeld pool.old train.old }
+    ensures held { IsHeld pool.new train.new }
+    ensures len { train.new.len + 1 ≡ train.old.len }
+{
+    let (chain, tag) = train.take_after(pool, at);
     pool.free_chain(chain);
     tag
 }
@@ -80,6 +110,29 @@ fn keeps_its_order(rt: HostRuntime) -> Result<(), Fail> {
     assert_eq!(rt; train.chain_len(&pool, 1), 0);
     train.free(&mut pool);
     assert_eq!(rt; pool.free_mbufs(), 5);
+    Ok(())
+}
+
+#[test]
+fn goes_on_at_a_place(rt: HostRuntime) -> Result<(), Fail> {
+    let mut pool = pool_of(&rt, 3)?;
+    let mut train = Train::new();
+    assert_eq!(rt; put_new(&mut pool, &mut train, 0, 10), Ok(()));
+    let Some(at) = train.first(&pool) else {
+        panic!(rt; "the train has no chain");
+    };
+    let Ok(to) = put_after(&mut pool, &mut train, at, 30) else {
+        panic!(rt; "an mbuf is free");
+    };
+    assert_eq!(rt; train.tag_at(&pool, to), 30);
+    assert!(rt; put_after(&mut pool, &mut train, at, 20).is_ok());
+    assert_eq!(rt; put_after(&mut pool, &mut train, at, 25), Err(NoBufs));
+    assert!(rt; at.index + 1 < train.len());
+    assert_eq!(rt; drop_after(&mut pool, &mut train, at), 20);
+    assert!(rt; train.len() == 2);
+    assert_eq!(rt; train.tag(&pool, 1), 30);
+    train.free(&mut pool);
+    assert_eq!(rt; pool.free_mbufs(), 3);
     Ok(())
 }
 

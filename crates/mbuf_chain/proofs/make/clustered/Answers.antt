@@ -2,7 +2,7 @@ use Rattle.std.proofs.Common.{arith, inl, inr, subst, ◌∙◌}
 use Rattle.raw_cells.specs.declared.head.Head.{Head}
 use Rattle.std.proofs.lemmas.Option.{slice_get_within}
 use Rattle.mbuf_chain.specs.Cells.{Taken}
-use Rattle.mbuf_chain.proofs.Made.{clustered_made, none_free, free_are, was_unreferenced}
+use Rattle.mbuf_chain.proofs.Made.{clustered_made, none_free, some_free, cluster_free, free_are, was_unreferenced}
 use Rattle.mbuf_chain.proofs.make.clustered.Goals as goal
 
 pub returns-then-free_mbufs-eq0-clause-err : goal.returns-then-free_mbufs-eq0-clause-err
@@ -22,3 +22,9 @@ returns-in-Ok-take-clause-ok c = (
 
 pub returns-in-Err-clause-err : goal.returns-in-Err-clause-err
 returns-in-Err-clause-err c = inr (free_are _ c.requires.pool ∙ c.in-Err.ensures.err)
+
+pub returns-in-Ok-take-clause-free : goal.returns-in-Ok-take-clause-free
+returns-in-Ok-take-clause-free c = some_free _ c.requires.pool (omega (arith, c.free_mbufs.ensures.rest, c.if-free_mbufs-eq0.false))
+
+pub returns-in-Ok-take-clause-cluster : goal.returns-in-Ok-take-clause-cluster
+returns-in-Ok-take-clause-cluster c = cluster_free _ _ _ c.requires.pool c.in-Ok.ensures.ok

@@ -1,7 +1,7 @@
 use Rattle.std.proofs.Common.{subst}
 use Rattle.raw_cells.specs.declared.head.Head.{Head}
 use Rattle.mbuf_chain.specs.Cells.{Taken}
-use Rattle.mbuf_chain.proofs.Made.{plain_made, none_free}
+use Rattle.mbuf_chain.proofs.Made.{plain_made, none_free, one_free}
 use Rattle.mbuf_chain.proofs.make.plain.Goals as goal
 
 pub returns-in-Ok-clause-pool : goal.returns-in-Ok-clause-pool
@@ -14,3 +14,6 @@ returns-in-Ok-clause-ok c =
 
 pub returns-in-Err-clause-err : goal.returns-in-Err-clause-err
 returns-in-Err-clause-err c = none_free _ c.requires.pool c.in-Err.ensures.err
+
+pub returns-in-Ok-clause-free : goal.returns-in-Ok-clause-free
+returns-in-Ok-clause-free c = one_free _ _ _ _ c.requires.pool c.in-Ok.ensures.ok

@@ -4,7 +4,7 @@ use Rattle.std.specs.Option.{IsSome}
 use Rattle.mbuf_chain.specs.Chain.{Entry}
 use Rattle.mbuf_chain.specs.Cells.{Taken}
 use Rattle.mbuf_chain.proofs.Heads.{shown_at}
-use Rattle.mbuf_chain.proofs.Made.{shared_made, none_free, can_hold, counted_at}
+use Rattle.mbuf_chain.proofs.Made.{shared_made, none_free, one_free, can_hold, counted_at}
 use Rattle.mbuf_chain.proofs.make.shared.Goals as goal
 
 pub head-head-requires : goal.head-head-requires
@@ -40,3 +40,6 @@ returns-in-Ok-clause-ok c =
 
 pub returns-in-Err-clause-err : goal.returns-in-Err-clause-err
 returns-in-Err-clause-err c = none_free _ c.requires.pool c.in-Err.ensures.err
+
+pub returns-in-Ok-clause-free : goal.returns-in-Ok-clause-free
+returns-in-Ok-clause-free c = one_free _ _ _ _ c.requires.pool c.in-Ok.ensures.ok

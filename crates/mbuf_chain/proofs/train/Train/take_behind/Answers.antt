@@ -1,4 +1,4 @@
-use Rattle.std.proofs.Common.{◌-◌, suc, ◌∙◌, sym, ap, arith, subst}
+use Rattle.std.proofs.Common.{◌+◌, suc, ◌∙◌, sym, ap, arith, subst}
 use Rattle.std.specs.Option.{IfSome}
 use Rattle.mbuf_chain.specs.Chain.{ChainView, IsLive, chain_of}
 use Rattle.mbuf_chain.specs.Steps.{placed}
@@ -7,60 +7,60 @@ use Rattle.mbuf_chain.specs.declared.train.Train.TheInside.{Inside}
 use Rattle.mbuf_chain.proofs.Laws.Owners.{live_with, kept_with}
 use Rattle.mbuf_chain.proofs.Trains.{taken_behind, live_car, headed_car, behind_car, next_car, next_apart, live_behind}
 use Rattle.mbuf_chain.proofs.train.Train.take_behind.Goals as goal
-use Rattle.mbuf_chain.proofs.train.Train.take_behind.Goals.{then-self-i, else-self-i}
+use Rattle.mbuf_chain.proofs.train.Train.take_behind.Goals.{then-self-before, else-self-before}
 
 pub behind-requires : goal.behind-requires
-behind-requires c = live_car c.args.pool.now c.args.self.now (c.args.i - 1) c.number_at-before.result c.requires.held c.number_at-before.ensures
+behind-requires c = live_car c.args.pool.now c.args.self.now c.args.before.index c.args.before.number c.requires.held c.requires.before.number
 
 pub unreachable-requires : goal.unreachable-requires
 unreachable-requires c =
-    let next = behind_car c.args.pool.now c.args.self.now (c.args.i - 1) c.number_at-before.result c.requires.held c.number_at-before.ensures (omega arith) in
+    let next = behind_car c.args.pool.now c.args.self.now c.args.before.index c.args.before.number c.requires.held c.requires.before.number (omega arith) in
     c.in_default.not-Some next.0 (c.behind.ensures ∙ next.1)
 
 pub behind-rest-requires : goal.behind-rest-requires
 behind-rest-requires c =
-    live_car c.args.pool.now c.args.self.now (suc (c.args.i - 1)) c.in-Some.number c.requires.held (next_car c.args.pool.now c.args.self.now (c.args.i - 1) c.number_at-before.result c.in-Some.number c.requires.held c.number_at-before.ensures (omega arith) (sym c.behind.ensures ∙ c.in-Some.is))
+    live_car c.args.pool.now c.args.self.now (suc c.args.before.index) c.in-Some.number c.requires.held (next_car c.args.pool.now c.args.self.now c.args.before.index c.args.before.number c.in-Some.number c.requires.held c.requires.before.number (omega arith) (sym c.behind.ensures ∙ c.in-Some.is))
 
 pub tag_of-tag-requires : goal.tag_of-tag-requires
 tag_of-tag-requires c =
-    live_car c.args.pool.now c.args.self.now (suc (c.args.i - 1)) c.in-Some.number c.requires.held (next_car c.args.pool.now c.args.self.now (c.args.i - 1) c.number_at-before.result c.in-Some.number c.requires.held c.number_at-before.ensures (omega arith) (sym c.behind.ensures ∙ c.in-Some.is))
+    live_car c.args.pool.now c.args.self.now (suc c.args.before.index) c.in-Some.number c.requires.held (next_car c.args.pool.now c.args.self.now c.args.before.index c.args.before.number c.in-Some.number c.requires.held c.requires.before.number (omega arith) (sym c.behind.ensures ∙ c.in-Some.is))
 
 pub place-requires-clause-headed : goal.place-requires-clause-headed
-place-requires-clause-headed c = headed_car c.args.pool.now c.args.self.now (c.args.i - 1) c.number_at-before.result c.requires.held c.number_at-before.ensures
+place-requires-clause-headed c = headed_car c.args.pool.now c.args.self.now c.args.before.index c.args.before.number c.requires.held c.requires.before.number
 
 pub place-requires-2-clause-live : goal.place-requires-2-clause-live
 place-requires-2-clause-live c =
-    live_with c.args.pool.now c.place.new.pool c.number_at-before.result (placed (chain_of c.args.pool.now c.number_at-before.result) c.behind-rest.result c.tag_of-kept.result) c.in-Some.number c.place.ensures.placed
-    (live_car c.args.pool.now c.args.self.now (suc (c.args.i - 1)) c.in-Some.number c.requires.held (next_car c.args.pool.now c.args.self.now (c.args.i - 1) c.number_at-before.result c.in-Some.number c.requires.held c.number_at-before.ensures (omega arith) (sym c.behind.ensures ∙ c.in-Some.is)))
+    live_with c.args.pool.now c.place.new.pool c.args.before.number (placed (chain_of c.args.pool.now c.args.before.number) c.behind-rest.result c.tag_of-kept.result) c.in-Some.number c.place.ensures.placed
+    (live_car c.args.pool.now c.args.self.now (suc c.args.before.index) c.in-Some.number c.requires.held (next_car c.args.pool.now c.args.self.now c.args.before.index c.args.before.number c.in-Some.number c.requires.held c.requires.before.number (omega arith) (sym c.behind.ensures ∙ c.in-Some.is)))
 
 pub place-requires-2-clause-headed : goal.place-requires-2-clause-headed
 place-requires-2-clause-headed c =
     ap (λ (v : ChainView). v.front.header)
-    (kept_with c.args.pool.now c.place.new.pool c.number_at-before.result (placed (chain_of c.args.pool.now c.number_at-before.result) c.behind-rest.result c.tag_of-kept.result) c.in-Some.number c.place.ensures.placed
-    (next_apart c.args.pool.now c.args.self.now (c.args.i - 1) c.number_at-before.result c.in-Some.number c.requires.held c.number_at-before.ensures (omega arith) (sym c.behind.ensures ∙ c.in-Some.is)))
-    ∙ headed_car c.args.pool.now c.args.self.now (suc (c.args.i - 1)) c.in-Some.number c.requires.held (next_car c.args.pool.now c.args.self.now (c.args.i - 1) c.number_at-before.result c.in-Some.number c.requires.held c.number_at-before.ensures (omega arith) (sym c.behind.ensures ∙ c.in-Some.is))
+    (kept_with c.args.pool.now c.place.new.pool c.args.before.number (placed (chain_of c.args.pool.now c.args.before.number) c.behind-rest.result c.tag_of-kept.result) c.in-Some.number c.place.ensures.placed
+    (next_apart c.args.pool.now c.args.self.now c.args.before.index c.args.before.number c.in-Some.number c.requires.held c.requires.before.number (omega arith) (sym c.behind.ensures ∙ c.in-Some.is)))
+    ∙ headed_car c.args.pool.now c.args.self.now (suc c.args.before.index) c.in-Some.number c.requires.held (next_car c.args.pool.now c.args.self.now c.args.before.index c.args.before.number c.in-Some.number c.requires.held c.requires.before.number (omega arith) (sym c.behind.ensures ∙ c.in-Some.is))
 
-pub overflow_add-i : goal.overflow_add-i
-overflow_add-i c = omega (arith, c.requires.place, ap (λ (t : TrainView). t.len) c.self.view_is)
+pub overflow_add-before : goal.overflow_add-before
+overflow_add-before c = omega (arith, c.requires.more, ap (λ (t : TrainView). t.len) c.self.view_is)
 
 pub returns : goal.returns
 returns c =
     let len = ap (λ (t : TrainView). t.len) c.self.view_is in
     let first = ap (λ (t : TrainView). t.first) c.self.view_is in
-    elim c.if-self-i.branch [
-      | then-self-i w ↦
-          taken_behind c.args.pool.now c.args.self.now c.number_at-before.result (c.args.i - 1) c.args.i c.in-Some.number c.tag_of-tag.result c.tag_of-kept.result c.behind-rest.result c.place.new.pool c.place-2.new.pool _ c.requires.held
-          c.number_at-before.ensures (omega arith) c.requires.place (sym c.behind.ensures ∙ c.in-Some.is) c.behind-rest.ensures c.tag_of-tag.ensures c.tag_of-kept.ensures c.place.ensures.placed c.place-2.ensures.placed
-          (ap (λ (s : Inside). s.first) w.self-inside-is ∙ first) (omega (arith, ap (λ (s : Inside). s.len) w.self-inside-is, len, c.requires.place)) (λ _. ap (λ (s : Inside). s.last) w.self-inside-is)
-          (λ h. absurd (omega (arith, h, len, w.if-self-i.true)))
-      | else-self-i w ↦
-          taken_behind c.args.pool.now c.args.self.now c.number_at-before.result (c.args.i - 1) c.args.i c.in-Some.number c.tag_of-tag.result c.tag_of-kept.result c.behind-rest.result c.place.new.pool c.place-2.new.pool _ c.requires.held
-          c.number_at-before.ensures (omega arith) c.requires.place (sym c.behind.ensures ∙ c.in-Some.is) c.behind-rest.ensures c.tag_of-tag.ensures c.tag_of-kept.ensures c.place.ensures.placed c.place-2.ensures.placed
-          (ap (λ (s : Inside). s.first) w.self-inside-is ∙ first) (omega (arith, ap (λ (s : Inside). s.len) w.self-inside-is, len, c.requires.place)) (λ h. absurd (omega (arith, h, len, w.if-self-i.false)))
+    elim c.if-self-before.branch [
+      | then-self-before w ↦
+          taken_behind c.args.pool.now c.args.self.now c.args.before.number c.args.before.index (c.args.before.index + 1) c.in-Some.number c.tag_of-tag.result c.tag_of-kept.result c.behind-rest.result c.place.new.pool c.place-2.new.pool _ c.requires.held
+          c.requires.before.number (omega arith) c.requires.more (sym c.behind.ensures ∙ c.in-Some.is) c.behind-rest.ensures c.tag_of-tag.ensures c.tag_of-kept.ensures c.place.ensures.placed c.place-2.ensures.placed
+          (ap (λ (s : Inside). s.first) w.self-inside-is ∙ first) (omega (arith, ap (λ (s : Inside). s.len) w.self-inside-is, len, c.requires.more)) (λ _. ap (λ (s : Inside). s.last) w.self-inside-is)
+          (λ h. absurd (omega (arith, h, len, w.if-self-before.true)))
+      | else-self-before w ↦
+          taken_behind c.args.pool.now c.args.self.now c.args.before.number c.args.before.index (c.args.before.index + 1) c.in-Some.number c.tag_of-tag.result c.tag_of-kept.result c.behind-rest.result c.place.new.pool c.place-2.new.pool _ c.requires.held
+          c.requires.before.number (omega arith) c.requires.more (sym c.behind.ensures ∙ c.in-Some.is) c.behind-rest.ensures c.tag_of-tag.ensures c.tag_of-kept.ensures c.place.ensures.placed c.place-2.ensures.placed
+          (ap (λ (s : Inside). s.first) w.self-inside-is ∙ first) (omega (arith, ap (λ (s : Inside). s.len) w.self-inside-is, len, c.requires.more)) (λ h. absurd (omega (arith, h, len, w.if-self-before.false)))
           (λ _. ap (λ (s : Inside). s.last) w.self-inside-is ∙ ap (λ (t : TrainView). t.last) c.self.view_is)
     ]
 
 pub place-requires-clause-link : goal.place-requires-clause-link
 place-requires-clause-link c =
     subst (λ o. IfSome o (IsLive c.args.pool.now)) (sym c.behind-rest.ensures)
-    (live_behind c.args.pool.now c.args.self.now (suc (c.args.i - 1)) c.in-Some.number c.requires.held (next_car c.args.pool.now c.args.self.now (c.args.i - 1) c.number_at-before.result c.in-Some.number c.requires.held c.number_at-before.ensures (omega arith) (sym c.behind.ensures ∙ c.in-Some.is)))
+    (live_behind c.args.pool.now c.args.self.now (suc c.args.before.index) c.in-Some.number c.requires.held (next_car c.args.pool.now c.args.self.now c.args.before.index c.args.before.number c.in-Some.number c.requires.held c.requires.before.number (omega arith) (sym c.behind.ensures ∙ c.in-Some.is)))

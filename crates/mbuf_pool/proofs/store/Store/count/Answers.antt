@@ -6,8 +6,8 @@ use Rattle.mbuf_pool.proofs.store.Store.count.Goals as goal
 pub index-requires : goal.index-requires
 index-requires c = omega (arith, counts_are c.self.inside c.args.self.now c.self.invariant c.self.view_is)
 
-pub returns : goal.returns
-returns c =
+pub returns-clause-value : goal.returns-clause-value
+returns-clause-value c =
     let s = c.self.inside in
     c.from.ensures
     ∙ c.index.ensures
