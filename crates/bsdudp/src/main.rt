@@ -2,21 +2,17 @@
 #![tactic(auto)]
 
 use link_script::{Untold, program};
-use std::env;
 use std::process::ExitCode;
+use std::{env, io};
 
-/// The status where the words can't be read for want of memory, as `link_script` has it.
-const NO_MEMORY: u8 = 3;
+/// The words that the program was called with, its name first. An error is `OutOfMemory` for want of memory, and
+/// another one where a word isn't UTF-8.
+fn words(rt: &HostRuntime) -> io::Result<Vec<String>> {
+    Ok(env::args(rt)?.collect(rt.alloc())?)
+}
 
 fn main(rt: HostRuntime) -> ExitCode {
-    let Ok(words) = env::args(&rt) else {
-        let _ = eprintln!(rt; "bsdudp: no memory");
-        return ExitCode::from(NO_MEMORY);
-    };
-    let Ok(words) = words.collect(rt.alloc()) else {
-        let _ = eprintln!(rt; "bsdudp: no memory");
-        return ExitCode::from(NO_MEMORY);
-    };
+    let words = words(&rt);
     let (mut reader, mut writer) = (Untold(rt.stdin()), Untold(rt.stdout()));
     ExitCode::from(program(
         rt.alloc(),

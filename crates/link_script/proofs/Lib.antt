@@ -1,11 +1,6 @@
-pub mod WordLemmas
 pub mod FormLemmas
-pub mod StreamLemmas
 pub mod AddressLemmas
-pub mod LineLemmas
 pub mod RunLemmas
-pub mod ChunkLemmas
-pub mod ServeLemmas
 pub mod RoomLemmas
 pub mod SumLemmas
 pub mod QueueLemmas
@@ -15,4 +10,5 @@ pub mod ArrivalLemmas
 pub mod CountLemmas
 pub mod WireLemmas
 pub mod BindLemmas
+pub mod ProgramLemmas
 pub mod EventLemmas

@@ -5,7 +5,6 @@ use Rattle.std.specs.Option.{option_or}
 use Rattle.flat_model.specs.declared.address.Addr.{Addr}
 use Rattle.flat_model.specs.Lookup.{Sought, matches, wildcards, youngest, best, receivers, up_to_first}
 use Rattle.flat_model.specs.State.{Socket, Datagram}
-use Rattle.flat_model.specs.Ledger.{loose_ledger}
 use Rattle.flat_model.specs.Arrival.{hearers, is_broadcast}
 use Rattle.flat_model.specs.declared.config.Config.{Config}
 use Rattle.flat_model.specs.declared.counters.Counters.{Counters}

@@ -3,7 +3,6 @@ use Rattle.std.specs.Prelude.{ℕ, Bool, false, ◌==◌, ◌&&◌, ◌||◌, no
 use Rattle.flat_model.specs.Lookup.{Sought, are_same, agree}
 use Rattle.flat_model.specs.declared.address.Addr.{Addr}
 use Rattle.flat_model.specs.State.{State, Socket, Datagram, ends}
-use Rattle.flat_model.specs.Ledger.{loose_ledger}
 use Rattle.flat_model.specs.Arrival.{is_bad_fragment, counts_fragment}
 use Rattle.flat_model.specs.Header.{first_fault}
 use Rattle.flat_model.specs.Calls.{is_ours}

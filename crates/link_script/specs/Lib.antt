@@ -1,10 +1,9 @@
 pub mod FirstPath
 pub mod Requests
 pub mod Parts
-pub mod Replies
-pub mod Streams
-pub mod Serves
-pub mod Chunks
+pub mod Says
+pub mod Boots
+pub mod Program
 pub mod Datagrams
 pub mod Hosts
 pub mod Ports

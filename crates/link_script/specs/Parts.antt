@@ -1,16 +1,10 @@
--- The words of a line, one after another, and what they ask for.
-use Rattle.std.specs.Prelude.{◌≡◌, ℕ, List, [], Option, Some, None, IsTrue}
-use Rattle.std.specs.Borrow.{Bor}
+-- What the words behind a keyword ask for.
+use Rattle.std.specs.Prelude.{◌≡◌, ℕ, List, Option, Some, None, IsTrue}
 use Rattle.flat_model.specs.Event.{Event}
-use Rattle.flat_model.specs.Grammar.{words, keyword, HasArguments}
+use Rattle.flat_model.specs.Grammar.{keyword, HasArguments}
 use Rattle.link_script.specs.FirstPath.{is_served}
 use Rattle.link_script.specs.declared.request.Request.{Request}
 use Rattle.link_script.specs.Requests.{event_of}
-
--- the words of what is left of a line
-abbrev pub left : Option (Bor (List ℕ)) → List (List ℕ)
-left None = []
-left (Some text) = words text.now
 
 -- the words behind the keyword ask for the event
 abbrev pub IsForm : List ℕ → List (List ℕ) → Event → Type 0

@@ -1,7 +1,7 @@
 ghost use Rattle.std.specs.Prelude.{◌≡◌, ◌<◌, ◌^◌, length};
 ghost use Rattle.flat_model.specs.Event.{Event, Reply, Open, Bind, Receive, Comes, Done};
 ghost use Rattle.flat_model.specs.State.{State};
-ghost use Rattle.link_script.specs.Replies.{opened_reply, done_reply, received_reply, FitsRoom};
+ghost use Rattle.flat_model.specs.Replies.{opened_reply, done_reply, received_reply, FitsRoom};
 
 use flat_model::{Addr, Errno};
 

@@ -2,14 +2,16 @@
 ghost use Rattle.std.specs.Prelude.{◌≡◌, ◌≤◌, ℕ, List, [], ◌∷◌, length, take, codes, MatchOption, IfSome};
 ghost use Rattle.flat_model.specs.declared.address.Addr.{Addr};
 ghost use Rattle.flat_model.specs.Event.{Event};
-ghost use Rattle.flat_model.specs.Grammar.{IsHex, IsEnd};
+ghost use Rattle.flat_model.specs.Grammar.{IsEnd};
 ghost use Rattle.flat_model.specs.Script.{Asks};
 ghost use Rattle.link_script.specs.FirstPath.{is_served};
 ghost use Rattle.link_script.specs.Requests.{event_of, room_of};
-ghost use Rattle.link_script.specs.Parts.{left, ReadsForm};
+ghost use Rattle.script_loop.specs.Left.{left};
+ghost use Rattle.link_script.specs.Parts.{ReadsForm};
 
-use crate::words::{address, first_word, number, one, three, two};
+use crate::address::address;
 use flat_model::Addr;
+use script_loop::{bytes, first_word, is_end, number, one, three, two};
 
 /// The most bytes that a line may have to ask for something.
 const LONGEST_REQUEST: usize = 131_200;
@@ -22,26 +24,6 @@ pub enum Request {
     Receive(u32, usize),
     /// A packet of so many bytes arrives.
     Packet(usize),
-}
-
-/// Puts the bytes that a word writes into the room, and answers how many they are.
-fn bytes_of(word: &[u8], room: &mut [u8]) -> Option<usize>
-    requires { length room.old ≡ 65535 }
-    ensures bytes { MatchOption result ((bytes : List ℕ) → IsHex word.now bytes → ⊥)
-        (λ n. IsHex word.now (take n room.new)) }
-    ensures fits { IfSome result (λ n. n ≤ 65535) }
-{
-    if word == b"-".as_slice() {
-        return Some(0);
-    }
-    let len = word.len() / 2;
-    if len == 0 || len > room.len() {
-        return None;
-    }
-    match hex::decode_to_slice(word, &mut room[..len]) {
-        Ok(()) => Some(len),
-        Err(_) => None,
-    }
 }
 
 /// The address and the port that two words write.
@@ -61,9 +43,10 @@ fn socket_of(rest: Option<&[u8]>) -> Option<Request>
     ensures form { (room : List ℕ) → ReadsForm (codes "socket") (left rest.entry) room result }
     ensures fits { IfSome result (λ request. room_of request ≤ 65535) }
 {
-    match rest {
-        None => Some(Request::Socket),
-        Some(_) => None,
+    if is_end(rest) {
+        Some(Request::Socket)
+    } else {
+        None
     }
 }
 
@@ -96,7 +79,7 @@ fn packet_of(rest: Option<&[u8]>, room: &mut [u8]) -> Option<Request>
     ensures fits { IfSome result (λ request. room_of request ≤ 65535) }
 {
     let word = one(rest)?;
-    let len = bytes_of(word, room)?;
+    let len = bytes(word, room)?;
     Some(Request::Packet(len))
 }
 

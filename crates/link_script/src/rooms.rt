@@ -1,7 +1,5 @@
 ghost use Rattle.std.specs.Prelude.{◌≡◌, vec_len, IfOk};
 
-use crate::buffer::Buffer;
-use crate::reply::TEXT;
 use std::alloc::{AllocError, Global};
 
 /// The most bytes that a line names.
@@ -10,8 +8,6 @@ const MOST_BYTES: usize = 65_535;
 /// Memory for the work on one line, which is taken once for all lines.
 #[derive(Drop)]
 pub struct Rooms {
-    /// The reply.
-    pub text: Buffer<TEXT>,
     /// The bytes of a packet that arrives, or of a datagram that is received.
     pub bytes: Vec<u8>,
     /// Their digits.
@@ -30,7 +26,6 @@ pub fn room(alloc: Global, len: usize) -> Result<Vec<u8>, AllocError>
 impl Rooms {
     pub fn new(alloc: Global) -> Result<Rooms, AllocError> {
         Ok(Rooms {
-            text: Buffer::new(alloc)?,
             bytes: room(alloc, MOST_BYTES)?,
             digits: room(alloc, 2 * MOST_BYTES)?,
         })

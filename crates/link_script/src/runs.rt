@@ -1,42 +1,26 @@
 //! The runs that callers ask for.
-ghost use Rattle.std.specs.Prelude.{◌≡◌, IsTrue, ◌↔◌};
-ghost use Rattle.flat_model.specs.State.{State, IsHost, IsConfig, boot};
+ghost use Rattle.std.specs.Prelude.{◌≡◌};
+ghost use Rattle.flat_model.specs.State.{State, boot};
 ghost use Rattle.link_script.specs.FirstPath.{OneSocket, is_served};
-ghost use Rattle.link_script.specs.Streams.{MoreBy, reader_failures, writer_failures};
-ghost use Rattle.link_script.specs.Serves.{HasSizes, Boots, Serves};
+ghost use Rattle.script_loop.specs.Streams.{MoreBy, reader_failures, writer_failures};
+ghost use Rattle.link_script.specs.Says.{Says};
+ghost use Rattle.link_script.specs.Boots.{Boots, refused_as};
+ghost use Rattle.script_loop.specs.Serves.{Serves};
 
-use crate::fault::RunFault;
+use crate::caller::Caller;
 use crate::host::Host;
-use crate::serve::serve_script;
-use crate::streams::{Sink, Source};
-use flat_model::Config;
+use flat_model::{Config, ConfigFault};
+use script_loop::{RunFault, Sink, Source, serve_script};
 use std::alloc::Global;
 
-/// Whether a pool can have these numbers of mbufs and clusters.
-fn has_sizes(config: Config) -> bool
-    ensures { IsTrue result ↔ HasSizes config }
+/// What a bad configuration ends with.
+fn refusal_of(fault: ConfigFault) -> RunFault
+    ensures { result ≡ refused_as fault }
 {
-    1 <= config.mbufs && config.mbufs <= 65_535 && config.clusters <= 4096
-}
-
-/// Whether a machine can have the address: it lies in 1.0.0.0 to 223.255.255.255 and not in 127/8.
-fn is_host(address: u32) -> bool
-    ensures { IsTrue result ↔ IsHost address }
-{
-    let network = address >> 24;
-    1 <= network && network < 224 && network != 127
-}
-
-/// Whether a machine can be booted so, where the sizes are right.
-fn is_config(config: Config) -> bool
-    requires { HasSizes config }
-    ensures { IsTrue result ↔ IsConfig config }
-{
-    68 <= config.mtu
-        && config.mtu <= 4352
-        && is_host(config.addr)
-        && is_host(config.bcast)
-        && config.addr != config.bcast
+    match fault {
+        ConfigFault::BadSizes => RunFault::BadSizes,
+        ConfigFault::BadConfig => RunFault::BadConfig,
+    }
 }
 
 /// Serves a script on a new machine with one socket: the lines `socket`, `bind FD ADDR PORT`, `rx HEX` and
@@ -66,17 +50,17 @@ pub fn run<R: Source, W: Sink>(
     ensures read { MoreBy (reader_failures result) (R.failures reader.old) (R.failures reader.new) }
     ensures wrote { MoreBy (writer_failures result) (W.failures writer.old) (W.failures writer.new) }
     // What is written is printed on the way of such a machine from boot, over the lines of what is read, and nothing else.
-    ensures served { (new : State) × Serves is_served OneSocket (boot config) new
+    ensures served { (new : State) × Serves (Says is_served OneSocket) (boot config) new
         (R.remaining reader.old) (R.remaining reader.new) (W.contents writer.old) (W.contents writer.new) result }
 {
-    if !has_sizes(config) {
-        return Err(RunFault::BadSizes);
+    if let Err(fault) = config.check() {
+        return Err(refusal_of(fault));
     }
-    if !is_config(config) {
-        return Err(RunFault::BadConfig);
-    }
-    match Host::new(alloc, config) {
-        Ok(mut host) => serve_script(alloc, &mut host, reader, writer),
+    let Ok(host) = Host::new(alloc, config) else {
+        return Err(RunFault::Memory);
+    };
+    match Caller::new(alloc, host) {
+        Ok(mut caller) => serve_script(alloc, &mut caller, reader, writer),
         Err(_) => Err(RunFault::Memory),
     }
 }

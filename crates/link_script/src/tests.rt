@@ -270,7 +270,7 @@ fn expect_program<R: Source, W: Sink>(
         words.push(String::from_str(alloc, word)?)?;
     }
     let mut errors = Vec::new(alloc);
-    let status = program(alloc, words, reader, writer, &mut errors);
+    let status = program(alloc, Ok(words), reader, writer, &mut errors);
     assert_eq!(rt; status, want.0, "at {line}");
     assert_eq!(rt; errors.as_slice(), want.1.as_bytes(), "at {line}");
     Ok(())
@@ -294,6 +294,25 @@ fn reads_its_words(rt: HostRuntime) -> Result<(), Fail> {
         let mut written = Vec::new(rt.alloc());
         let mut reader = b"".as_slice();
         expect_program(&rt, rt.alloc(), line, &mut reader, &mut written, want)?;
+        assert!(rt; written.is_empty());
+    }
+    Ok(())
+}
+
+/// Words that couldn't be had.
+#[test]
+fn tells_why_there_are_no_words(rt: HostRuntime) -> Result<(), Fail> {
+    for (kind, want) in [
+        (io::ErrorKind::InvalidData, (2, "bsdudp: usage\n")),
+        (io::ErrorKind::OutOfMemory, (3, "bsdudp: no memory\n")),
+    ] {
+        let mut written = Vec::new(rt.alloc());
+        let mut errors = Vec::new(rt.alloc());
+        let words = Err(io::Error::from(kind));
+        let mut reader = b"socket\n".as_slice();
+        let status = program(rt.alloc(), words, &mut reader, &mut written, &mut errors);
+        assert_eq!(rt; status, want.0);
+        assert_eq!(rt; errors.as_slice(), want.1.as_bytes());
         assert!(rt; written.is_empty());
     }
     Ok(())

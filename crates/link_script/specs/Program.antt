@@ -1,0 +1,42 @@
+-- What the program does, by its status (this project's own).
+use Rattle.std.specs.Prelude.{◌≡◌, ℕ, List, [], Option, Result, Ok, Err}
+use Rattle.flat_model.specs.State.{State, boot}
+use Rattle.flat_model.specs.declared.config.Config.{Config}
+use Rattle.script_loop.specs.Serves.{Serves, Moves}
+use Rattle.script_loop.specs.declared.fault.RunFault.{RunFault}
+use Rattle.script_loop.specs.declared.fault.RunFault.TheVariants.{Read, Write, Memory, TooManyLines, BadSizes, BadConfig}
+use Rattle.link_script.specs.FirstPath.{OneSocket, is_served}
+use Rattle.link_script.specs.Says.{Says}
+use Rattle.link_script.specs.Boots.{Boots}
+use Rattle.link_script.specs.declared.command_line.Failure.{Failure}
+use Rattle.link_script.specs.declared.command_line.Failure.TheVariants.{Usage, Run}
+
+-- 10.0.0.1, 10.0.0.255, an MTU of 1500, 512 mbufs, 64 clusters and the first identification 1
+abbrev pub defaults : Config
+defaults = record { addr = 167772161; bcast = 167772415; mtu = 1500; mbufs = 512; clusters = 64; first_id = 1 }
+
+abbrev pub fault_status : RunFault → ℕ
+fault_status Memory = 3
+fault_status BadSizes = 3
+fault_status BadConfig = 3
+fault_status Read = 4
+fault_status Write = 4
+fault_status TooManyLines = 4
+
+abbrev pub status_of : Result Unit Failure → ℕ
+status_of (Ok done) = 0
+status_of (Err Usage) = 2
+status_of (Err (Run fault)) = fault_status fault
+
+-- there are no words, or they are no command
+abbrev pub IsWordsFault : Failure → Type 0
+IsWordsFault Usage = Unit {0}
+IsWordsFault (Run fault) = fault ≡ Memory
+
+-- The words asked for nothing, and nothing was read or written; or the machine that they ask for was run.
+abbrev pub Ran : Config → Option (List ℕ) → Option (List ℕ) → Option (List ℕ) → Option (List ℕ) → Result Unit Failure → Type 0
+Ran config unread rest before after (Err Usage) = Moves unread rest [] before after []
+Ran config unread rest before after (Err (Run fault)) =
+    Boots config (Err fault) × (new : State) × Serves (Says is_served OneSocket) (boot config) new unread rest before after (Err fault)
+Ran config unread rest before after (Ok done) =
+    Boots config (Ok done) × (new : State) × Serves (Says is_served OneSocket) (boot config) new unread rest before after (Ok done)

@@ -1,0 +1,105 @@
+//! A machine whose calls are made by lines.
+ghost use Rattle.std.specs.Prelude.{◌≡◌, ◌≤◌, ◌++◌, List, ℕ, length, Some, Option, IfOk};
+ghost use Rattle.flat_model.specs.Event.{Reply, Receive};
+ghost use Rattle.flat_model.specs.State.{State};
+ghost use Rattle.flat_model.specs.Texts.{answer_text};
+ghost use Rattle.link_script.specs.FirstPath.{is_served};
+ghost use Rattle.link_script.specs.Says.{Says};
+ghost use Rattle.link_script.specs.Requests.{event_of, room_of};
+
+use crate::machine::Machine;
+use crate::reply::{TEXT, put_done, put_opened, put_received};
+use crate::request::{Request, request_of};
+use crate::rooms::Rooms;
+use script_loop::{Answers, Buffer};
+use std::alloc::{AllocError, Global};
+
+/// Receives at most `most` bytes, and puts the reply behind the text.
+fn receive<M: Machine>(
+    machine: &mut M,
+    text: &mut Buffer<TEXT>,
+    bytes: &mut [u8],
+    digits: &mut [u8],
+    fd: u32,
+    most: usize,
+)
+    requires text { length text.old ≤ 65536 }
+    requires most { most ≤ 65535 }
+    requires bytes { length bytes.old ≡ 65535 }
+    requires digits { length digits.old ≡ 131070 }
+    ensures { (reply : Reply)
+        × M.may_step (M.state machine.old) (Receive fd most) reply (M.state machine.new)
+        × (text.new ≡ text.old ++ answer_text (Some reply)) }
+{
+    let taken = &mut bytes[..most];
+    let outcome = machine.recvfrom(fd, taken);
+    put_received(text, digits, taken, outcome);
+}
+
+/// Makes the call that a request asks for, and puts its reply behind the text.
+fn call<M: Machine>(machine: &mut M, rooms: &mut Rooms, request: Request, text: &mut Buffer<TEXT>)
+    requires text { length text.old ≤ 65536 }
+    requires fits { room_of request ≤ 65535 }
+    ensures { (reply : Reply)
+        × M.may_step (M.state machine.old) (event_of request rooms.old.bytes.items) reply (M.state machine.new)
+        × (text.new ≡ text.old ++ answer_text (Some reply)) }
+{
+    match request {
+        Request::Socket => put_opened(text, machine.socket()),
+        Request::Bind(fd, local) => put_done(text, machine.bind(fd, local)),
+        Request::Receive(fd, most) => receive(
+            machine,
+            text,
+            rooms.bytes.as_mut_slice(),
+            rooms.digits.as_mut_slice(),
+            fd,
+            most,
+        ),
+        Request::Packet(len) => {
+            machine.rx(&rooms.bytes[..len]);
+            put_done(text, Ok(()));
+        }
+    }
+}
+
+/// Puts the machine's answer to a line behind the text.
+fn put_answer<M: Machine>(machine: &mut M, rooms: &mut Rooms, line: &[u8], text: &mut Buffer<TEXT>)
+    requires { length text.old ≤ 65536 }
+    ensures { (reply : List ℕ)
+        × Says is_served M.may_step (M.state machine.old) line.now reply (M.state machine.new)
+        × (text.new ≡ text.old ++ reply) }
+{
+    match request_of(line, rooms.bytes.as_mut_slice()) {
+        Some(request) => call(machine, rooms, request, text),
+        None => text.append(b"? line\n"),
+    }
+}
+
+/// A machine, and the memory for the work on one line.
+#[derive(Drop)]
+pub struct Caller<M> {
+    machine: M,
+    rooms: Rooms,
+}
+
+impl<M: Machine + Drop> Caller<M> {
+    /// The machine as it is. This takes all the memory for the work on lines.
+    pub fn new(alloc: Global, machine: M) -> Result<Caller<M>, AllocError>
+        ensures { IfOk result (λ c. M.state c.machine ≡ M.state machine) }
+    {
+        let rooms = Rooms::new(alloc)?;
+        Ok(Caller { machine, rooms })
+    }
+}
+
+impl<M: Machine> Answers<TEXT> for Caller<M> {
+    ghost State = { State };
+
+    ghost state = { λ c. M.state c.machine };
+
+    ghost may_answer = { Says is_served M.may_step };
+
+    fn answer(&mut self, line: &[u8], text: &mut Buffer<TEXT>) {
+        put_answer(&mut self.machine, &mut self.rooms, line, text);
+    }
+}

@@ -1,0 +1,7 @@
+pub mod Laws
+mod WordLemmas
+mod StreamLemmas
+mod LineLemmas
+mod PrintLemmas
+mod ChunkLemmas
+mod ServeLemmas

@@ -1,0 +1,5 @@
+pub mod Left
+pub mod Printed
+pub mod Streams
+pub mod Serves
+pub mod Chunks

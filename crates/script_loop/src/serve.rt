@@ -1,0 +1,219 @@
+//! The loop that reads a script and answers it.
+ghost use Rattle.std.specs.Prelude.{◌≡◌, ◌≤◌, ◌<◌, ◌+◌, ◌∷◌, [], ℕ, List, length, Option, Some, IfOk, IfSome, ◌++◌};
+ghost use Rattle.script_loop.specs.Streams.{MoreBy, Sends, reader_failures, writer_failures};
+ghost use Rattle.script_loop.specs.Serves.{Serves, IsServed};
+ghost use Rattle.script_loop.specs.Chunks.{Answered, TakesByte, TakesChunk, Flushes, budget};
+
+use crate::answers::Answers;
+use crate::buffer::Buffer;
+use crate::fault::RunFault;
+use crate::streams::{Sink, Source, send};
+use std::alloc::Global;
+
+/// The most lines that are served.
+pub const MOST_LINES: u32 = 10_000_000;
+
+/// The most bytes that a line may have before its end.
+pub const LONGEST: usize = 1_048_576;
+
+/// The most bytes of answers that are held while another one comes.
+pub const HELD: usize = 65_536;
+
+/// How many bytes are read at a time.
+const CHUNK: usize = 8192;
+
+/// Answers a line.
+fn answer_line<const N: usize, A: Answers<N>, W: Sink>(
+    machine: &mut A,
+    text: &mut Buffer<N>,
+    line: &[u8],
+    writer: &mut W,
+) -> Result<(), RunFault>
+    ensures sent { (reply : List ℕ)
+        × A.may_answer (A.state machine.old) line.now reply (A.state machine.new)
+        × Sends (W.contents writer.old) (W.contents writer.new) reply result }
+    ensures told { MoreBy (writer_failures result) (W.failures writer.old) (W.failures writer.new) }
+{
+    text.clear();
+    machine.answer(line, text);
+    send(writer, text.as_slice())
+}
+
+/// Writes the text, which is empty then.
+fn flush<const N: usize, W: Sink>(writer: &mut W, text: &mut Buffer<N>) -> Result<(), RunFault>
+    ensures sent { Sends (W.contents writer.old) (W.contents writer.new) text.old result }
+    ensures told { MoreBy (writer_failures result) (W.failures writer.old) (W.failures writer.new) }
+    ensures empty { text.new ≡ [] }
+{
+    let outcome = send(writer, text.as_slice());
+    text.clear();
+    outcome
+}
+
+/// Leaves room for one more answer in the text.
+fn make_room<const N: usize, W: Sink>(writer: &mut W, text: &mut Buffer<N>) -> Result<(), RunFault>
+    ensures flushed { Flushes (W.contents writer.old) (W.contents writer.new) text.old text.new result }
+    ensures told { MoreBy (writer_failures result) (W.failures writer.old) (W.failures writer.new) }
+    ensures room { IfOk result (λ _. length text.new ≤ 65536) }
+{
+    if text.len() <= HELD {
+        return Ok(());
+    }
+    flush(writer, text)
+}
+
+/// Takes one byte, and puts the answer to the line that it ends behind the text. `count` lines were answered, and the
+/// result is how many are now, or nothing where the byte goes too far.
+fn take_byte<const N: usize, A: Answers<N>>(
+    machine: &mut A,
+    text: &mut Buffer<N>,
+    line: &mut Buffer<LONGEST>,
+    count: u32,
+    byte: u8,
+) -> Option<u32>
+    requires count { count ≤ 10000000 }
+    requires short { length line.old ≤ 1048576 }
+    requires text { length text.old ≤ 65536 }
+    ensures taken { (begin : A.State) (seen printed : List ℕ)
+        → Answered A.may_answer begin (A.state machine.old) seen line.old count printed
+        → TakesByte A.may_answer begin (A.state machine.new) seen byte printed text.old text.new line.new result }
+    ensures within { IfSome result (λ now. (now ≤ 10000000) × (length line.new ≤ 1048576)) }
+    ensures fewer { IfSome result (λ now. budget now line.new < budget count line.old) }
+{
+    if count == MOST_LINES {
+        return None;
+    }
+    if byte == b'\n' {
+        machine.answer(line.as_slice(), text);
+        line.clear();
+        return Some(count + 1);
+    }
+    if line.len() == LONGEST {
+        return None;
+    }
+    line.push(byte);
+    Some(count)
+}
+
+/// Takes one byte, and writes the text where it is full or the byte goes too far.
+fn take_one<const N: usize, A: Answers<N>, W: Sink>(
+    machine: &mut A,
+    text: &mut Buffer<N>,
+    line: &mut Buffer<LONGEST>,
+    count: u32,
+    byte: u8,
+    writer: &mut W,
+) -> Result<u32, RunFault>
+    requires count { count ≤ 10000000 }
+    requires short { length line.old ≤ 1048576 }
+    requires text { length text.old ≤ 65536 }
+    ensures taken { (begin : A.State) (seen written : List ℕ)
+        → Answered A.may_answer begin (A.state machine.old) seen line.old count (written ++ text.old)
+        → TakesChunk A.may_answer begin (A.state machine.new) seen (byte ∷ []) written
+        (W.contents writer.old) (W.contents writer.new) text.new line.new result }
+    ensures told { MoreBy (writer_failures result) (W.failures writer.old) (W.failures writer.new) }
+    ensures within { IfOk result (λ now. (now ≤ 10000000) × (length line.new ≤ 1048576)) }
+    ensures room { IfOk result (λ _. length text.new ≤ 65536) }
+    ensures fewer { IfOk result (λ now. budget now line.new < budget count line.old) }
+{
+    match take_byte(machine, text, line, count, byte) {
+        Some(now) => {
+            make_room(writer, text)?;
+            Ok(now)
+        }
+        None => {
+            flush(writer, text)?;
+            Err(RunFault::TooManyLines)
+        }
+    }
+}
+
+/// Takes the bytes of a chunk, and answers each line that ends in it. All answers are written then.
+fn take_chunk<const N: usize, A: Answers<N>, W: Sink>(
+    machine: &mut A,
+    text: &mut Buffer<N>,
+    line: &mut Buffer<LONGEST>,
+    count: u32,
+    chunk: &[u8],
+    writer: &mut W,
+) -> Result<u32, RunFault>
+    requires count { count ≤ 10000000 }
+    requires short { length line.old ≤ 1048576 }
+    requires text { text.old ≡ [] }
+    ensures taken { (begin : A.State) (seen written : List ℕ)
+        → Answered A.may_answer begin (A.state machine.old) seen line.old count written
+        → TakesChunk A.may_answer begin (A.state machine.new) seen chunk.now written
+        (W.contents writer.old) (W.contents writer.new) [] line.new result }
+    ensures told { MoreBy (writer_failures result) (W.failures writer.old) (W.failures writer.new) }
+    ensures empty { IfOk result (λ _. text.new ≡ []) }
+    ensures within { IfOk result (λ now. (now ≤ 10000000) × (length line.new ≤ 1048576)) }
+    ensures fewer { IfOk result (λ now. budget now line.new + length chunk.now ≤ budget count line.old) }
+{
+    let mut now = count;
+    for byte in chunk {
+        now = take_one(machine, text, line, now, *byte, writer)?;
+    }
+    flush(writer, text)?;
+    Ok(now)
+}
+
+/// Serves a script, and answers each line when its end was read. Memory is taken before the first read alone.
+pub fn serve_script<const N: usize, A: Answers<N>, R: Source, W: Sink>(
+    alloc: Global,
+    machine: &mut A,
+    reader: &mut R,
+    writer: &mut W,
+) -> Result<(), RunFault>
+    ensures read { MoreBy (reader_failures result) (R.failures reader.old) (R.failures reader.new) }
+    ensures wrote { MoreBy (writer_failures result) (W.failures writer.old) (W.failures writer.new) }
+    ensures served { Serves A.may_answer (A.state machine.old) (A.state machine.new)
+        (R.remaining reader.old) (R.remaining reader.new) (W.contents writer.old) (W.contents writer.new) result }
+    ensures started { IsServed result }
+{
+    let (Ok(mut text), Ok(mut line), Ok(mut chunk)) = (
+        Buffer::new(alloc),
+        Buffer::new(alloc),
+        vec![in alloc; 0; CHUNK],
+    ) else {
+        return Err(RunFault::Memory);
+    };
+    serve_within(
+        machine,
+        &mut text,
+        &mut line,
+        chunk.as_mut_slice(),
+        reader,
+        writer,
+    )
+}
+
+fn serve_within<const N: usize, A: Answers<N>, R: Source, W: Sink>(
+    machine: &mut A,
+    text: &mut Buffer<N>,
+    line: &mut Buffer<LONGEST>,
+    chunk: &mut [u8],
+    reader: &mut R,
+    writer: &mut W,
+) -> Result<(), RunFault>
+    requires chunk { 0 < length chunk.old }
+    requires line { line.old ≡ [] }
+    requires text { text.old ≡ [] }
+    ensures read { MoreBy (reader_failures result) (R.failures reader.old) (R.failures reader.new) }
+    ensures wrote { MoreBy (writer_failures result) (W.failures writer.old) (W.failures writer.new) }
+    ensures served { Serves A.may_answer (A.state machine.old) (A.state machine.new)
+        (R.remaining reader.old) (R.remaining reader.new) (W.contents writer.old) (W.contents writer.new) result }
+    ensures started { IsServed result }
+{
+    let mut count = 0;
+    'chunks: loop {
+        match reader.read_some(chunk) {
+            Err(_) => return Err(RunFault::Read),
+            Ok(0) => break 'chunks,
+            Ok(n) => count = take_chunk(machine, text, line, count, &chunk[..n], writer)?,
+        }
+    }
+    if line.is_empty() {
+        return Ok(());
+    }
+    answer_line(machine, text, line.as_slice(), writer)
+}

@@ -1,0 +1,118 @@
+use crate::{
+    Answers, Buffer, RunFault, bytes, first_word, is_end, number, one, put_hex, serve_script,
+    three, two,
+};
+use std::alloc::Global;
+use std::test::Fail;
+
+/// Answers each line by itself in brackets.
+#[derive(Drop)]
+struct Echo;
+
+impl Answers<131_072> for Echo {
+    ghost use Rattle.std.specs.Prelude.{List, ℕ};
+
+    ghost State = { Unit {0} };
+
+    ghost state = { λ e. tt };
+
+    ghost may_answer = { λ old line text new. Unit {0} };
+
+    fn answer(&mut self, line: &[u8], text: &mut Buffer<131_072>) {
+        text.append(b"[");
+        if line.len() < 100 {
+            text.append(line);
+        }
+        text.append(b"]\n");
+    }
+}
+
+fn echoes(alloc: Global, script: &[u8]) -> Result<Vec<u8>, Fail> {
+    let mut written = Vec::new(alloc);
+    let mut reader = script;
+    let outcome: Result<(), RunFault> = serve_script(alloc, &mut Echo, &mut reader, &mut written);
+    outcome?;
+    Ok(written)
+}
+
+#[test]
+fn cuts_lines(rt: HostRuntime) -> Result<(), Fail> {
+    for (script, want) in [
+        ("", ""),
+        ("\n", "[]\n"),
+        ("a\nb", "[a]\n[b]\n"),
+        ("a\r\n\nb c\n", "[a\r]\n[]\n[b c]\n"),
+    ] {
+        let written = echoes(rt.alloc(), script.as_bytes())?;
+        assert_eq!(rt; written.as_slice(), want.as_bytes(), "at {script}");
+    }
+    Ok(())
+}
+
+#[test]
+fn reads_numbers(rt: HostRuntime) -> Result<(), Fail> {
+    for (word, want) in [
+        ("0", Some(0)),
+        ("7", Some(7)),
+        ("65535", Some(65_535)),
+        ("65536", None),
+        ("4294967296", None),
+        ("", None),
+        ("00", None),
+        ("07", None),
+        ("-0", None),
+        ("+1", None),
+        (" 1", None),
+        ("1a", None),
+    ] {
+        assert_eq!(rt; number(word.as_bytes(), 65_535), want, "at {word}");
+    }
+    Ok(())
+}
+
+#[test]
+fn reads_words(rt: HostRuntime) -> Result<(), Fail> {
+    let (word, rest) = first_word(b"cat 1 2");
+    assert_eq!(rt; word, b"cat".as_slice());
+    assert!(rt; two(rest).is_some());
+    assert!(rt; one(rest).is_none());
+    assert!(rt; three(rest).is_none());
+    assert!(rt; !is_end(rest));
+    let (word, rest) = first_word(b"mbstat");
+    assert_eq!(rt; word, b"mbstat".as_slice());
+    assert!(rt; is_end(rest));
+    let (_, rest) = first_word(b"mbstat ");
+    assert!(rt; one(rest).is_some());
+    Ok(())
+}
+
+/// The bytes of a word, written again.
+fn written_again(alloc: Global, word: &str) -> Result<Option<Buffer<64>>, Fail> {
+    let mut room = vec![in alloc; 0; 65_535]?;
+    let mut digits = vec![in alloc; 0; 16]?;
+    let mut text = Buffer::new(alloc)?;
+    let Some(len) = bytes(word.as_bytes(), room.as_mut_slice()) else {
+        return Ok(None);
+    };
+    let len = len.min(8);
+    put_hex(&mut text, digits.as_mut_slice(), &room.as_slice()[..len]);
+    Ok(Some(text))
+}
+
+#[test]
+fn reads_and_writes_digits(rt: HostRuntime) -> Result<(), Fail> {
+    for (word, want) in [
+        ("-", Some("-")),
+        ("00", Some("00")),
+        ("fF0a", Some("ff0a")),
+        ("", None),
+        ("f", None),
+        ("0g", None),
+        ("--", None),
+    ] {
+        let text = written_again(rt.alloc(), word)?;
+        let text = text.as_ref().map(|text| text.as_slice());
+        assert_eq!(rt; text, want.map(|want| want.as_bytes()), "at {word}");
+    }
+    Ok(())
+}
