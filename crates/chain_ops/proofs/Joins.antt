@@ -4,14 +4,14 @@ use Rattle.std.specs.Prelude.{slice_set, nat_lt, nat_le, not}
 use Rattle.std.proofs.lemmas.Bool.{cond-true, cond-false, lt-ltb, le-ltb, le-leb, lt-leb, eq-eqb, ne_eqb, leb-true, not-true, and_parts}
 use Rattle.std.proofs.lemmas.List.{take_all, take-set-le, take_more, get_or-set_same, length-set, length-append, length-take}
 use Rattle.mbuf_chain.specs.declared.place.Place.{Place}
-use Rattle.mbuf_chain.specs.Chain.{Entry, Front, ChainView, PoolView, alone, entry_of, no_entry, chain_of, back_room, front_room, room_end, HasBackRoom, IsLive, IsPlace, with_chain, without, Adds}
+use Rattle.mbuf_chain.specs.Chain.{Entry, Front, ChainView, PoolView, alone, entry_of, no_entry, chain_of, back_room, front_room, room_end, HasBackRoom, IsLive, IsPlace, with_chain, without, Adds, flat_bytes}
 use Rattle.mbuf_chain.specs.Steps.{first_part, narrowed, with_front, with_back, with_entry, one_mbuf, empty_entry, joined}
 use Rattle.chain_ops.specs.Joins.{filled_up, cat}
 use Rattle.chain_ops.specs.Pulls.{has_room, moved}
 use Rattle.chain_ops.specs.Prepends.{prepended, prepended_front, prepend_need}
 use Rattle.chain_ops.specs.Rooms.{room_low, at_end}
 use Rattle.chain_ops.specs.Makes.{Makes}
-use Rattle.mbuf_chain.proofs.Moves.{shown_with}
+use Rattle.mbuf_chain.proofs.Laws.Owners.{shown_with}
 use Rattle.chain_ops.proofs.Lists.{at_entry}
 use Rattle.chain_ops.proofs.Laws.Steps.{none_of}
 use Rattle.chain_ops.proofs.Laws.Makes.{makes_new, makes_in_place, linked_front}
@@ -75,6 +75,9 @@ at_end_fits low n h = omega arith
 pub first_split : (v : ChainView) (at : Place) → IsPlace v at → at.index ≡ 0 → v.entries ≡ entry_of v at.index ∷ drop 1 v.entries
 first_split v at place first =
     ap (λ (i : ℕ). drop i v.entries) (sym first) ∙ at_entry v at place ∙ ap (λ (i : ℕ). entry_of v at.index ∷ drop (i + 1) v.entries) first
+
+pub first_bytes : (v : ChainView) (at : Place) → IsPlace v at → at.index ≡ 0 → length (flat_bytes v.entries) ≡ length (entry_of v at.index).bytes + length (flat_bytes (drop 1 v.entries))
+first_bytes v at place first = ap (λ (es : List Entry). length (flat_bytes es)) (first_split v at place first) ∙ length-append (entry_of v at.index).bytes (flat_bytes (drop 1 v.entries))
 
 -- the first entry of a chain was moved behind the last one of another
 pub cat_moved : (p q : PoolView) (c d : ℕ) (last from : Place) (len : ℕ)

@@ -8,8 +8,8 @@ use Rattle.std.proofs.lemmas.List.Sums.{sum_by-cons}
 use Rattle.mbuf_chain.specs.Chain.{Entry, flat_bytes, ChainView, PoolView, IsLive, chain_of, with_chain, references, references_of, refers, free_clusters}
 use Rattle.mbuf_chain.specs.Steps.{one_mbuf, joined}
 use Rattle.mbuf_chain.specs.Owners.{times}
-use Rattle.mbuf_chain.proofs.Moves.{times-append}
-use Rattle.mbuf_chain.proofs.Ledger.{references-with, free-same, free-taken}
+use Rattle.mbuf_chain.proofs.Laws.Owners.{times-append}
+use Rattle.mbuf_chain.proofs.Laws.Accounts.{references-with, free-same, free-taken}
 use Rattle.flat_model.specs.Layout as flat
 use Rattle.flat_model.specs.Layout.{Room, Plain, Cluster, filled, or_empty, is_cluster, next_room, size_of, laid_on, user, wire}
 use Rattle.chain_ops.specs.Weights.{laid}
@@ -88,8 +88,8 @@ ledger_step p r true None e h t = absurd t
 ledger_step p r true (Some c) e h t =
     omega (
       arith,
-      free-taken p r c e t.0 t.1 (omega (arith, h c, Rattle.mbuf_chain.proofs.Moves.times_same c []))
-          (λ k ne. omega (arith, h k, Rattle.mbuf_chain.proofs.Moves.times_other k c [] ne)),
+      free-taken p r c e t.0 t.1 (omega (arith, h c, Rattle.mbuf_chain.proofs.Laws.Owners.times_same c []))
+          (λ k ne. omega (arith, h k, Rattle.mbuf_chain.proofs.Laws.Owners.times_other k c [] ne)),
     )
 ledger_step p r false None e h t = omega (arith, free-same p r e (λ k. omega (arith, h k)))
 ledger_step p r false (Some c) e h t = absurd t
@@ -110,8 +110,8 @@ free_more p cs b (Some c) h t =
       exist = all-append (λ k. k < p.clusters) cs (c ∷ []) h.exist (new.0, tt);
       free = all-append (λ k. references p k ≡ 0) cs (c ∷ []) h.free (new.1, tt);
       once = λ k. elim (cases_eq k c) [
-        | inl e ↦ subst (λ (j : ℕ). times j (cs ++ c ∷ []) ≤ 1) (sym e) (omega (arith, new.2, times-append c cs (c ∷ []), Rattle.mbuf_chain.proofs.Moves.times_same c []))
-        | inr ne ↦ omega (arith, h.once k, times-append k cs (c ∷ []), Rattle.mbuf_chain.proofs.Moves.times_other k c [] ne)
+        | inl e ↦ subst (λ (j : ℕ). times j (cs ++ c ∷ []) ≤ 1) (sym e) (omega (arith, new.2, times-append c cs (c ∷ []), Rattle.mbuf_chain.proofs.Laws.Owners.times_same c []))
+        | inr ne ↦ omega (arith, h.once k, times-append k cs (c ∷ []), Rattle.mbuf_chain.proofs.Laws.Owners.times_other k c [] ne)
       ];
     }
 

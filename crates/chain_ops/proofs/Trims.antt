@@ -5,8 +5,8 @@ use Rattle.std.proofs.lemmas.List.{take_all, length-set}
 use Rattle.mbuf_chain.specs.declared.place.Place.{Place}
 use Rattle.mbuf_chain.specs.Chain.{Entry, ChainView, PoolView, chain_of, entry_of, IsLive, IsPlace, with_chain}
 use Rattle.mbuf_chain.specs.Steps.{with_entry, narrowed}
-use Rattle.mbuf_chain.proofs.Maps.{insert-insert, insert_same}
-use Rattle.mbuf_chain.proofs.Moves.{shown_with}
+use Rattle.mbuf_chain.proofs.Laws.Maps.{insert-insert, insert_same}
+use Rattle.mbuf_chain.proofs.Laws.Owners.{shown_with}
 use Rattle.chain_ops.specs.Trims.{without_first, only_first}
 use Rattle.chain_ops.proofs.Lists.{at_entry, walk_set, none_behind}
 

@@ -3,9 +3,9 @@ use Rattle.std.proofs.Common.{◌≡◌, ◌≢◌, ℕ, List, None, refl, sym, 
 use Rattle.std.specs.FinMap as finmap
 use Rattle.std.proofs.lemmas.Bool.{cases_eq}
 use Rattle.mbuf_chain.specs.Chain.{Entry, Front, ChainView, PoolView, IsLive, chain_of, with_chain, without, Adds}
-use Rattle.mbuf_chain.proofs.Maps.{same, get_gone, get_here, get_there, get_left}
-use Rattle.mbuf_chain.proofs.Moves.{live_with, kept_with, chain_left}
-use Rattle.mbuf_chain.proofs.AfterStep.{live_without, live_beside, live_shown, apart}
+use Rattle.mbuf_chain.proofs.Laws.Maps.{same, get_gone, get_here, get_there, get_left}
+use Rattle.mbuf_chain.proofs.Laws.Owners.{live_with, kept_with, chain_left}
+use Rattle.mbuf_chain.proofs.Laws.Steps.{live_without, live_beside, live_shown, apart}
 use Rattle.chain_ops.specs.Makes.{Makes}
 
 pub record HasTwo (b p : PoolView) (c d : ℕ) : Type 0 where

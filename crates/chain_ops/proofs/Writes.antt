@@ -9,7 +9,7 @@ use Rattle.std.proofs.lemmas.List.Sums.{sum_by-cons}
 use Rattle.mbuf_chain.specs.declared.place.Place.{Place}
 use Rattle.mbuf_chain.specs.Chain.{Entry, ChainView, PoolView, IsLive, IsPlace, IsUnshared, Adds, chain_of, entry_of, no_entry, flat_bytes, references, references_of, refers, with_chain, without}
 use Rattle.mbuf_chain.specs.Steps.{overwritten, with_entry}
-use Rattle.mbuf_chain.proofs.Ledger.{references-with, references-without, references-adds}
+use Rattle.mbuf_chain.proofs.Laws.Accounts.{references-with, references-without, references-adds}
 use Rattle.chain_ops.specs.Makes.{Makes}
 use Rattle.chain_ops.specs.Writes.{is_shared, is_writable, overlaid, plain_pieces, in_plain, tail_of, copied_back, written_bytes}
 use Rattle.chain_ops.proofs.Laws.Lists.{take_over, take_least, drop_over}

@@ -40,6 +40,34 @@ fn last_from(pool: &Pool, chain: &Chain, from: Place) -> Place
     }
 }
 
+/// Joins a chain to another, whose last mbuf is told. The answer is the place of the first mbuf that was linked, or that
+/// of the last mbuf where none was.
+fn join(pool: &mut Pool, chain: &Chain, last: Place, second: Chain) -> Place
+    requires front { IsLive pool.old chain.now }
+    requires back { IsLive pool.old second }
+    requires apart { chain.now ≢ second }
+    requires place { IsPlace (chain_of pool.old chain.now) last }
+    requires last { last.index + 1 ≡ length (chain_of pool.old chain.now).entries }
+    ensures makes { Makes (without (without pool.old second) chain.now) pool.new chain.now
+        (chain_of pool.old chain.now).front
+        (cat (chain_of pool.old chain.now).entries (chain_of pool.old second).entries) }
+    ensures place { IsPlace (chain_of pool.new chain.now) result }
+{
+    let mut back = second;
+    'mbufs: loop {
+        let from = pool.first(&back);
+        let len = pool.segment(&back, from).len;
+        if pool.back_room(chain, last) <= len {
+            return pool.link(chain, last, back);
+        }
+        pool.append(chain, last, &back, from, 0, len);
+        let Some(rest) = drop_first(pool, back) else {
+            return last;
+        };
+        back = rest;
+    }
+}
+
 /// Joins a chain to another, whose last mbuf is told, as `m_cat` does. The answer is the place of the last mbuf
 /// then, so that many chains are joined in one walk over their mbufs.
 pub fn cat_behind(pool: &mut Pool, chain: &Chain, last: Place, second: Chain) -> Place
@@ -56,20 +84,8 @@ pub fn cat_behind(pool: &mut Pool, chain: &Chain, last: Place, second: Chain) ->
     ensures place { IsPlace (chain_of pool.new chain.now) result }
     ensures last { result.index + 1 ≡ length (chain_of pool.new chain.now).entries }
 {
-    let mut back = second;
-    'mbufs: loop {
-        let from = pool.first(&back);
-        let len = pool.segment(&back, from).len;
-        if pool.back_room(chain, last) <= len {
-            let from = pool.link(chain, last, back);
-            return last_from(pool, chain, from);
-        }
-        pool.append(chain, last, &back, from, 0, len);
-        let Some(rest) = drop_first(pool, back) else {
-            return last;
-        };
-        back = rest;
-    }
+    let from = join(pool, chain, last, second);
+    last_from(pool, chain, from)
 }
 
 /// Joins a chain to another: as long as its first mbuf is shorter than the room behind the last bytes of the first
@@ -88,5 +104,5 @@ pub fn m_cat(pool: &mut Pool, chain: &Chain, second: Chain)
         ≡ string (chain_of pool.old chain.now) ++ string (chain_of pool.old second) }
 {
     let last = pool.last(chain);
-    let _ = cat_behind(pool, chain, last, second);
+    let _ = join(pool, chain, last, second);
 }

@@ -6,7 +6,7 @@ use mbuf_chain::{Chain, Pool};
 
 /// Copies bytes of a chain out, from `off` on: as many as `to` has, which must lie in the chain (TCP/IP
 /// Illustrated, volume 2, chapter 2).
-#[tactic(auto, using(mbuf_chain::proofs::Iterators::concat_pieces))]
+#[tactic(auto, using(mbuf_chain::proofs::Laws::Iterators::concat_pieces))]
 pub fn m_copydata(pool: &Pool, chain: &Chain, off: usize, to: &mut [u8])
     requires live { IsLive pool.now chain.now }
     requires within { off + length to.old ≤ length (string (chain_of pool.now chain.now)) }

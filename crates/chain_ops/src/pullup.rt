@@ -1,7 +1,7 @@
 //! The first bytes of a chain brought into one mbuf.
-ghost use Rattle.std.specs.Prelude.{◌≡◌, ◌≢◌, ◌+◌, ◌-◌, ◌≤◌, ◌++◌, None, length, take, drop, OnOk, OnErr, IfErr, IsTrue};
-ghost use Rattle.mbuf_chain.specs.Chain.{IsLive, IsPlace, HasBackRoom, chain_of, entry_in, entry_of, without, string, alone};
-ghost use Rattle.mbuf_chain.specs.Steps.{empty_entry};
+ghost use Rattle.std.specs.Prelude.{◌≡◌, ◌≢◌, ◌+◌, ◌-◌, ◌≤◌, ◌++◌, true, None, min, length, take, drop, OnOk, OnErr, IfErr, IsTrue};
+ghost use Rattle.mbuf_chain.specs.Chain.{IsLive, IsPlace, HasBackRoom, chain_of, entry_in, entry_of, with_chain, without, string, alone};
+ghost use Rattle.mbuf_chain.specs.Steps.{empty_entry, joined};
 ghost use Rattle.chain_ops.specs.Rooms.{room_low};
 ghost use Rattle.chain_ops.specs.Makes.{Makes, HasMbufs, LacksMbufs};
 ghost use Rattle.chain_ops.specs.Pulls.{IsRefused, moved, has_room, pulled_up, pulled_front, pull_need};
@@ -24,9 +24,28 @@ pub enum Refusal {
     NoBufs,
 }
 
+/// Links a chain behind the last mbuf of another. Where that one has a packet header, the number of its bytes is told.
+fn link_rest(pool: &mut Pool, into: &Chain, last: Place, rest: Chain, counted: bool, len: u32)
+    requires front { IsLive pool.old into.now }
+    requires back { IsLive pool.old rest }
+    requires apart { into.now ≢ rest }
+    requires place { IsPlace (chain_of pool.old into.now) last }
+    requires last { last.index + 1 ≡ length (chain_of pool.old into.now).entries }
+    requires len { counted ≡ true → len ≡ length (string (chain_of pool.old rest)) }
+    ensures { pool.new ≡ with_chain (without pool.old rest) into.now
+        (joined (chain_of pool.old into.now) (chain_of pool.old rest)) }
+{
+    if counted {
+        pool.link_counted(into, last, rest, len);
+    } else {
+        pool.link(into, last, rest);
+    }
+}
+
 /// Moves the first `n` bytes of a chain behind those of the last mbuf of another, and links what is left.
-/// An mbuf that is emptied goes, and so does one without bytes that is passed.
-fn pull(pool: &mut Pool, into: &Chain, last: Place, second: Chain, n: u32)
+/// An mbuf that is emptied goes, and so does one without bytes that is passed. Where the number of the chain's bytes is
+/// told, no mbuf behind these is looked at; without a packet header in front it needn't be told.
+fn pull(pool: &mut Pool, into: &Chain, last: Place, second: Chain, n: u32, counted: bool, len: u32)
     requires front { IsLive pool.old into.now }
     requires back { IsLive pool.old second }
     requires apart { into.now ≢ second }
@@ -34,6 +53,7 @@ fn pull(pool: &mut Pool, into: &Chain, last: Place, second: Chain, n: u32)
     requires last { last.index + 1 ≡ length (chain_of pool.old into.now).entries }
     requires plain { (entry_in pool.old into.now last).cluster ≡ None }
     requires room { HasBackRoom (entry_in pool.old into.now last) n }
+    requires len { counted ≡ true → len ≡ length (string (chain_of pool.old second)) }
     ensures { Makes (without (without pool.old second) into.now) pool.new into.now
         (chain_of pool.old into.now).front
         (take last.index (chain_of pool.old into.now).entries
@@ -41,23 +61,25 @@ fn pull(pool: &mut Pool, into: &Chain, last: Place, second: Chain, n: u32)
 {
     let mut back = second;
     let mut left = n;
+    let mut bytes = len;
     'mbufs: while left > 0 {
         let from = pool.first(&back);
-        let len = pool.segment(&back, from).len;
-        if left < len {
+        let size = pool.segment(&back, from).len;
+        if left < size {
             pool.append(into, last, &back, from, 0, left);
-            pool.narrow(&back, from, left, len - left);
-            pool.link(into, last, back);
+            pool.narrow(&back, from, left, size - left);
+            link_rest(pool, into, last, back, counted, bytes.saturating_sub(left));
             return;
         }
-        pool.append(into, last, &back, from, 0, len);
-        left -= len;
+        pool.append(into, last, &back, from, 0, size);
+        left -= size;
+        bytes = bytes.saturating_sub(size);
         let Some(rest) = drop_first(pool, back) else {
             return;
         };
         back = rest;
     }
-    pool.link(into, last, back);
+    link_rest(pool, into, last, back, counted, bytes);
 }
 
 /// Whether `n` bytes have room in the first mbuf.
@@ -69,6 +91,18 @@ fn has_room(pool: &Pool, chain: &Chain, n: u32) -> bool
     let first = pool.first(chain);
     let segment = pool.segment(chain, first);
     segment.cluster.is_none() && segment.start <= MSIZE - n
+}
+
+/// How many bytes a chain has, where it has a packet header, and else 0: so no mbuf is looked at.
+fn counted_len(pool: &Pool, chain: &Chain) -> (bool, u32)
+    requires { IsLive pool.now chain.now }
+    ensures { result.0 ≡ true → result.1 ≡ length (string (chain_of pool.now chain.now)) }
+{
+    if pool.has_header(chain) {
+        (true, pool.len(chain))
+    } else {
+        (false, 0)
+    }
 }
 
 /// Brings the first `n` bytes of a chain into its first mbuf, which has room for them.
@@ -84,9 +118,18 @@ fn pull_in_place(pool: &mut Pool, chain: &Chain, n: u32)
     let first = pool.first(chain);
     let len = pool.segment(chain, first).len;
     if len < n {
+        let (counted, total) = counted_len(pool, chain);
         let rest = pool.cut(chain, 1);
         let at = pool.first(chain);
-        pull(pool, chain, at, rest, n - len);
+        pull(
+            pool,
+            chain,
+            at,
+            rest,
+            n - len,
+            counted,
+            total.saturating_sub(len),
+        );
     }
 }
 
@@ -103,12 +146,37 @@ fn pull_new(pool: &mut Pool, chain: &mut Chain, n: u32) -> Result<(), NoBufs>
     ensures same { OnErr result ((pool.new ≡ pool.old) × (chain.new ≡ chain.old)) }
 {
     let header = pool.has_header(chain);
+    let (counted, len) = counted_len(pool, chain);
     let new = pool.new_plain(header, room_low(header))?;
     pool.laws();
     let at = pool.first(&new);
     let old = mem::replace(chain, new);
-    pull(pool, chain, at, old, n);
+    pull(pool, chain, at, old, n, counted, len);
     Ok(())
+}
+
+/// How many bytes a chain has, or `most` where it has more. It takes one step where the chain has a packet header, else
+/// one for each mbuf up to so many bytes.
+fn len_up_to(pool: &Pool, chain: &Chain, most: u32) -> u32
+    requires live { IsLive pool.now chain.now }
+    requires small { most ≤ MHLEN }
+    ensures { result ≡ min most (length (string (chain_of pool.now chain.now))) }
+{
+    if pool.has_header(chain) {
+        return pool.len(chain).min(most);
+    }
+    let mut at = pool.first(chain);
+    let mut left = most;
+    'mbufs: loop {
+        left -= left.min(pool.segment(chain, at).len);
+        if left == 0 {
+            return most;
+        }
+        let Some(place) = pool.next(chain, at) else {
+            return most - left;
+        };
+        at = place;
+    }
 }
 
 /// Brings the first `n` bytes of a chain into its first mbuf: in place where that is plain and has room for
@@ -131,7 +199,7 @@ pub fn m_pullup(pool: &mut Pool, chain: &mut Chain, n: u32) -> Result<(), Refusa
     if n > MHLEN {
         return Err(Refusal::TooLong);
     }
-    let total = pool.len(chain);
+    let total = len_up_to(pool, chain, MHLEN);
     if n > total {
         return Err(Refusal::TooShort);
     }

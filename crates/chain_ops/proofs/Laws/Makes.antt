@@ -8,10 +8,10 @@ use Rattle.std.specs.FinMap.{FinMap}
 use Rattle.std.specs.Ordering.{nat_cmp}
 use Rattle.std.proofs.lemmas.Bool.{cases_eq}
 use Rattle.std.proofs.lemmas.Option.{none-some}
-use Rattle.mbuf_chain.proofs.Maps.{same, get_gone, get_here, get_there, get_left, insert-insert, remove-insert, remove-insert_any}
-use Rattle.mbuf_chain.proofs.Moves.{shown_adds, kept_with}
-use Rattle.mbuf_chain.proofs.AfterStep.{apart, live_beside, live_shown, live_without}
-use Rattle.mbuf_chain.proofs.Ledger.{held-adds}
+use Rattle.mbuf_chain.proofs.Laws.Maps.{same, get_gone, get_here, get_there, get_left, insert-insert, remove-insert, remove-insert_any}
+use Rattle.mbuf_chain.proofs.Laws.Owners.{shown_adds, kept_with}
+use Rattle.mbuf_chain.proofs.Laws.Steps.{apart, live_beside, live_shown, live_without}
+use Rattle.mbuf_chain.proofs.Laws.Accounts.{held-adds}
 use Rattle.chain_ops.specs.Makes.{Makes}
 
 -- a new chain is what it was made as

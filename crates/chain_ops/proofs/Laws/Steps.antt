@@ -7,9 +7,9 @@ use Rattle.mbuf_chain.specs.declared.place.Place.{Place}
 use Rattle.mbuf_chain.specs.declared.place.Segment.{Segment}
 use Rattle.mbuf_chain.specs.Chain.{Entry, ChainView, PoolView, chain_of, entry_of, string, room_start, room_end, IsLive, IsPlace, IsUnshared, with_chain, Adds}
 use Rattle.mbuf_chain.specs.Steps.{one_mbuf, empty_entry, with_entry, with_back}
-use Rattle.mbuf_chain.proofs.Maps.{insert-insert}
-use Rattle.mbuf_chain.proofs.Moves.{shown_with, shown_adds, kept_with}
-use Rattle.mbuf_chain.proofs.AfterStep.{apart}
+use Rattle.mbuf_chain.proofs.Laws.Maps.{insert-insert}
+use Rattle.mbuf_chain.proofs.Laws.Owners.{shown_with, shown_adds, kept_with}
+use Rattle.mbuf_chain.proofs.Laws.Steps.{apart}
 use Rattle.chain_ops.specs.Rooms.{room_low}
 use Rattle.chain_ops.specs.Copies.{copied_entry}
 

@@ -1,7 +1,7 @@
 use Rattle.std.proofs.Common.{◌≡◌, ap, ◌∙◌, arith, rules}
 use Rattle.std.proofs.lemmas.Grind.{common_steps}
 use Rattle.mbuf_chain.specs.Chain.{ChainView, string, chain_of, with_chain}
-use Rattle.mbuf_chain.proofs.Moves.{shown_with}
+use Rattle.mbuf_chain.proofs.Laws.Owners.{shown_with}
 use Rattle.chain_ops.specs.Trims.{adjusted}
 use Rattle.chain_ops.proofs.Laws.Strings.{adjusted_are}
 use Rattle.chain_ops.proofs.adj.m_adj.Goals as goal

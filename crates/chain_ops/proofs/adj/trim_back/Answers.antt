@@ -1,7 +1,7 @@
 use Rattle.std.proofs.Common.{ℕ, ◌-◌, ◌++◌, List, take, drop, arith, ap, sym, refl, ◌∙◌}
 use Rattle.mbuf_chain.specs.declared.place.Segment.{Segment}
 use Rattle.mbuf_chain.specs.Chain.{Entry, chain_of}
-use Rattle.mbuf_chain.proofs.AfterStep.{live_shown, place_after}
+use Rattle.mbuf_chain.proofs.Laws.Steps.{live_shown, place_after}
 use Rattle.chain_ops.specs.Trims.{only_first}
 use Rattle.chain_ops.proofs.Trims.{changed, changed_none, changed_step, length_now, walk_end, keep_all}
 use Rattle.chain_ops.proofs.adj.trim_back.Goals as goal

@@ -2,7 +2,7 @@ use Rattle.std.proofs.Common.{◌≡◌, ℕ, ◌-◌, ◌++◌, List, take, dro
 use Rattle.std.proofs.lemmas.List.{take-append-drop}
 use Rattle.mbuf_chain.specs.declared.place.Segment.{Segment}
 use Rattle.mbuf_chain.specs.Chain.{Entry, chain_of}
-use Rattle.mbuf_chain.proofs.AfterStep.{live_shown, place_after}
+use Rattle.mbuf_chain.proofs.Laws.Steps.{live_shown, place_after}
 use Rattle.chain_ops.specs.Trims.{without_first}
 use Rattle.chain_ops.proofs.Trims.{changed, changed_none, changed_step, length_now, walk_end, trim_all, trim_nothing}
 use Rattle.chain_ops.proofs.adj.trim_front.Goals as goal

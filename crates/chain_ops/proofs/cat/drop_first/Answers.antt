@@ -1,7 +1,7 @@
 use Rattle.mbuf_chain.specs.Chain.{chain_of}
 use Rattle.mbuf_chain.specs.Steps.{first_part}
-use Rattle.mbuf_chain.proofs.Moves.{live_here}
-use Rattle.mbuf_chain.proofs.AfterStep.{live_beside}
+use Rattle.mbuf_chain.proofs.Laws.Owners.{live_here}
+use Rattle.mbuf_chain.proofs.Laws.Steps.{live_beside}
 use Rattle.chain_ops.proofs.Laws.Makes.{makes_new, cut_freed}
 use Rattle.chain_ops.proofs.cat.drop_first.Goals as goal
 

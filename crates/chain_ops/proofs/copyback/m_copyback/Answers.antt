@@ -1,8 +1,8 @@
 use Rattle.std.proofs.Common.{◌≡◌, ℕ, ◌+◌, ◌-◌, ◌≤◌, ◌++◌, Bool, true, List, [], length, drop, replicate, arith, ap, sym, refl, ◌∙◌, append-nil}
 use Rattle.std.proofs.lemmas.List.{length-append, length-drop, length-replicate, drop_all}
 use Rattle.mbuf_chain.specs.Chain.{Entry, ChainView, PoolView, chain_of, flat_bytes, references}
-use Rattle.mbuf_chain.proofs.Moves.{shown_with, kept_with}
-use Rattle.mbuf_chain.proofs.AfterStep.{live_shown}
+use Rattle.mbuf_chain.proofs.Laws.Owners.{shown_with, kept_with}
+use Rattle.mbuf_chain.proofs.Laws.Steps.{live_shown}
 use Rattle.chain_ops.specs.Writes.{is_writable, overlaid, in_plain, tail_of}
 use Rattle.chain_ops.proofs.Laws.Makes.{makes_in_place, makes_kept, makes_held, makes_mbufs}
 use Rattle.chain_ops.proofs.Two.{two_new, two_first, two_linked}

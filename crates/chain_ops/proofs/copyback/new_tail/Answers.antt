@@ -2,8 +2,8 @@ use Rattle.std.proofs.Common.{◌≡◌, ℕ, ◌+◌, ◌-◌, ◌<◌, ◌≤�
 use Rattle.std.proofs.lemmas.List.{length-append, length-take, length-replicate, length-drop}
 use Rattle.mbuf_chain.specs.Chain.{Entry, ChainView, PoolView, alone, chain_of, without}
 use Rattle.mbuf_chain.specs.Steps.{one_mbuf}
-use Rattle.mbuf_chain.proofs.Moves.{live_adds}
-use Rattle.mbuf_chain.proofs.AfterStep.{live_beside, live_shown, place_beside}
+use Rattle.mbuf_chain.proofs.Laws.Owners.{live_adds}
+use Rattle.mbuf_chain.proofs.Laws.Steps.{live_beside, live_shown, place_beside}
 use Rattle.chain_ops.specs.Makes.{LacksMbufs}
 use Rattle.chain_ops.specs.Writes.{in_plain}
 use Rattle.chain_ops.proofs.Laws.Makes.{makes_new, makes_then, makes_undone, makes_held, makes_mbufs, linked_new}

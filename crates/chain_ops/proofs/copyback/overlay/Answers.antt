@@ -5,7 +5,7 @@ use Rattle.std.proofs.lemmas.List.{take-append-drop, drop-set-lt, length-drop}
 use Rattle.mbuf_chain.specs.declared.place.Segment.{Segment}
 use Rattle.mbuf_chain.specs.Chain.{Entry, ChainView, PoolView, chain_of, entry_of, references}
 use Rattle.mbuf_chain.specs.Steps.{overwritten}
-use Rattle.mbuf_chain.proofs.AfterStep.{live_shown, place_after}
+use Rattle.mbuf_chain.proofs.Laws.Steps.{live_shown, place_after}
 use Rattle.chain_ops.specs.Writes.{is_shared, is_writable, overlaid}
 use Rattle.chain_ops.proofs.Lists.{at_entry}
 use Rattle.chain_ops.proofs.Trims.{changed, changed_none, changed_step, entries_now, length_now, walk_end}

@@ -4,7 +4,7 @@ use Rattle.std.proofs.lemmas.Option.{MatchOption-at_some}
 use Rattle.std.proofs.lemmas.List.{length-append}
 use Rattle.mbuf_chain.specs.declared.place.Segment.{Segment}
 use Rattle.mbuf_chain.specs.Chain.{Entry, ChainView, PoolView, chain_of, entry_of, alone, without}
-use Rattle.mbuf_chain.proofs.Moves.{live_adds}
+use Rattle.mbuf_chain.proofs.Laws.Owners.{live_adds}
 use Rattle.chain_ops.specs.Copies.{copied, copied_entry, copied_from}
 use Rattle.chain_ops.proofs.Laws.Makes.{makes_new, makes_then, makes_undone, makes_live, makes_kept, makes_held, makes_mbufs}
 use Rattle.chain_ops.proofs.Laws.Steps.{place_in}

@@ -1,16 +1,16 @@
 use Rattle.std.proofs.Common.{◌≡◌, ℕ, ◌-◌, ◌++◌, List, [], length, take, drop, arith, ap, sym, refl, ◌∙◌, subst}
 use Rattle.std.specs.Prelude.{slice_set}
-use Rattle.std.proofs.lemmas.List.{length-drop}
+use Rattle.std.proofs.lemmas.List.{length-drop, length-append, length-take}
 use Rattle.mbuf_chain.specs.declared.place.Segment.{Segment}
-use Rattle.mbuf_chain.specs.Chain.{Entry, ChainView, PoolView, HasBackRoom, chain_of, entry_of}
+use Rattle.mbuf_chain.specs.Chain.{Entry, ChainView, PoolView, HasBackRoom, chain_of, entry_of, flat_bytes}
 use Rattle.mbuf_chain.specs.Steps.{narrowed}
-use Rattle.mbuf_chain.proofs.Moves.{shown_with, kept_with, chain_left}
-use Rattle.mbuf_chain.proofs.AfterStep.{place_after}
+use Rattle.mbuf_chain.proofs.Laws.Owners.{shown_with, kept_with, chain_left}
+use Rattle.mbuf_chain.proofs.Laws.Steps.{place_after}
 use Rattle.chain_ops.specs.Pulls.{moved}
 use Rattle.chain_ops.proofs.Laws.Steps.{place_in}
 use Rattle.chain_ops.proofs.Trims.{length_now, entries_now}
 use Rattle.chain_ops.proofs.Two.{two_start, two_first, two_second, two_next, kept_next, two_freed, two_linked}
-use Rattle.chain_ops.proofs.Joins.{last_split, one_entry, first_split, pull_moved, part_step, stop_step, entry_now, room_left}
+use Rattle.chain_ops.proofs.Joins.{last_split, one_entry, first_split, pull_moved, part_step, stop_step, entry_now, room_left, first_bytes, set_first}
 use Rattle.chain_ops.proofs.pullup.pull.Goals as goal
 
 pub mbufs-init : goal.mbufs-init
@@ -21,6 +21,7 @@ mbufs-init c = record {
   place = c.requires.place;
   end = c.requires.last;
   plain = c.requires.plain;
+  bytes = c.requires.len;
   room = c.requires.room;
 }
 
@@ -35,51 +36,72 @@ narrow-requires-clause-place c =
 pub narrow-requires-clause-within : goal.narrow-requires-clause-within
 narrow-requires-clause-within c =
     let kept = kept_with c.mbufs.pool c.append.new.self c.args.into.now _ c.mbufs.back c.append.ensures (λ e. c.mbufs.invariant.two.apart (sym e)) in
-    omega (arith, c.if-left-len.true, ap (λ (x : Segment). x.len) c.segment-len.ensures.value, ap (λ (v : ChainView). length (entry_of v c.first-from.result.index).bytes) kept)
+    omega (arith, c.if-left-size.true, ap (λ (x : Segment). x.len) c.segment-size.ensures.value, ap (λ (v : ChainView). length (entry_of v c.first-from.result.index).bytes) kept)
 
-pub link-requires-clause-front : goal.link-requires-clause-front
-link-requires-clause-front c =
+pub link_rest-requires-clause-front : goal.link_rest-requires-clause-front
+link_rest-requires-clause-front c =
     let two = two_first c.append.new.self _ c.mbufs.invariant.two c.append.ensures in
     let two' = two_second c.narrow.new.self _ two c.narrow.ensures in
     two'.live_first
 
-pub link-requires-clause-back : goal.link-requires-clause-back
-link-requires-clause-back c =
+pub link_rest-requires-clause-back : goal.link_rest-requires-clause-back
+link_rest-requires-clause-back c =
     let two = two_first c.append.new.self _ c.mbufs.invariant.two c.append.ensures in
     let two' = two_second c.narrow.new.self _ two c.narrow.ensures in
     two'.live_second
 
-pub link-requires-clause-place : goal.link-requires-clause-place
-link-requires-clause-place c =
+pub link_rest-requires-clause-place : goal.link_rest-requires-clause-place
+link_rest-requires-clause-place c =
     let kept = kept_with c.append.new.self c.narrow.new.self c.mbufs.back _ c.args.into.now c.narrow.ensures c.mbufs.invariant.two.apart in
     place_in c.append.new.self c.narrow.new.self _ _ kept (place_after _ _ _ _ _ _ c.append.ensures c.mbufs.invariant.place)
 
-pub link-requires-clause-last : goal.link-requires-clause-last
-link-requires-clause-last c =
+pub link_rest-requires-clause-last : goal.link_rest-requires-clause-last
+link_rest-requires-clause-last c =
     let kept = kept_with c.append.new.self c.narrow.new.self c.mbufs.back _ c.args.into.now c.narrow.ensures c.mbufs.invariant.two.apart in
     c.mbufs.invariant.end ∙ sym (ap (λ (v : ChainView). length v.entries) kept ∙ length_now _ _ _ _ _ c.append.ensures)
 
-pub returns-then-left-len : goal.returns-then-left-len
-returns-then-left-len c =
+pub link_rest-requires-clause-len : goal.link_rest-requires-clause-len
+link_rest-requires-clause-len c = λ t.
+    let w : ChainView = chain_of c.mbufs.pool c.mbufs.back in
+    let j : ℕ = c.first-from.result.index in
+    let g : Entry = narrowed (entry_of w j) c.mbufs.left (c.segment-size.result.len - c.mbufs.left) in
+    let kept = kept_with c.mbufs.pool c.append.new.self c.args.into.now _ c.mbufs.back c.append.ensures (λ e. c.mbufs.invariant.two.apart (sym e)) in
+    let back = entries_now _ _ _ _ _ c.narrow.ensures ∙ ap (λ (x : ChainView). slice_set x.entries j (narrowed (entry_of x j) c.mbufs.left (c.segment-size.result.len - c.mbufs.left))) kept
+    ∙ ap (λ (i : ℕ). slice_set w.entries i g) c.first-from.ensures.index ∙ set_first w.entries g (omega (arith, c.first-from.ensures.place.within)) in
+    omega (
+      arith,
+      c.mbufs.invariant.bytes t,
+      ap (λ (es : List Entry). length (flat_bytes es)) back,
+      length-append g.bytes (flat_bytes (drop 1 w.entries)),
+      length-take (c.segment-size.result.len - c.mbufs.left) (drop c.mbufs.left (entry_of w j).bytes),
+      length-drop c.mbufs.left (entry_of w j).bytes,
+      first_bytes w c.first-from.result c.first-from.ensures.place c.first-from.ensures.index,
+      ap (λ (x : Segment). x.len) c.segment-size.ensures.value,
+      c.saturating_sub.ensures,
+      c.if-left-size.true,
+    )
+
+pub returns-then-left-size : goal.returns-then-left-size
+returns-then-left-size c =
     let v : ChainView = chain_of c.mbufs.pool c.args.into.now in
     let w : ChainView = chain_of c.mbufs.pool c.mbufs.back in
     let i : ℕ = c.args.last.index in
     let j : ℕ = c.first-from.result.index in
     let two = two_first c.append.new.self _ c.mbufs.invariant.two c.append.ensures in
     let two' = two_second c.narrow.new.self _ two c.narrow.ensures in
-    let m = two_linked c.link.new.self _ two' c.link.ensures.change in
+    let m = two_linked c.link_rest.new.pool _ two' c.link_rest.ensures in
     let kept = kept_with c.mbufs.pool c.append.new.self c.args.into.now _ c.mbufs.back c.append.ensures (λ e. c.mbufs.invariant.two.apart (sym e)) in
     let kept' = kept_with c.append.new.self c.narrow.new.self c.mbufs.back _ c.args.into.now c.narrow.ensures c.mbufs.invariant.two.apart in
-    let shown = shown_with _ c.link.new.self _ _ c.link.ensures.change in
-    let len = ap (λ (x : Segment). x.len) c.segment-len.ensures.value in
+    let shown = shown_with _ c.link_rest.new.pool _ _ c.link_rest.ensures in
+    let len = ap (λ (x : Segment). x.len) c.segment-size.ensures.value in
     let front = ap (λ (x : ChainView). x.entries) kept' ∙ entries_now _ _ _ _ _ c.append.ensures in
-    let back = entries_now _ _ _ _ _ c.narrow.ensures ∙ ap (λ (x : ChainView). slice_set x.entries j (narrowed (entry_of x j) c.mbufs.left (c.segment-len.result.len - c.mbufs.left))) kept in
+    let back = entries_now _ _ _ _ _ c.narrow.ensures ∙ ap (λ (x : ChainView). slice_set x.entries j (narrowed (entry_of x j) c.mbufs.left (c.segment-size.result.len - c.mbufs.left))) kept in
     record {
       adds = m.adds;
       front = ap (λ (x : ChainView). x.front) (shown) ∙ ap (λ (x : ChainView). x.front) (kept' ∙ shown_with c.mbufs.pool _ _ _ c.append.ensures) ∙ c.mbufs.invariant.front;
       entries = ap (λ (x : ChainView). x.entries) shown ∙ (λ k. front k ++ back k)
-          ∙ part_step v.entries w.entries i j c.mbufs.left c.segment-len.result.len (entry_of w j) (drop 1 w.entries) c.mbufs.invariant.end c.first-from.ensures.index
-          (first_split w c.first-from.result c.first-from.ensures.place c.first-from.ensures.index) len c.mbufs-test.true c.if-left-len.true
+          ∙ part_step v.entries w.entries i j c.mbufs.left c.segment-size.result.len (entry_of w j) (drop 1 w.entries) c.mbufs.invariant.end c.first-from.ensures.index
+          (first_split w c.first-from.result c.first-from.ensures.place c.first-from.ensures.index) len c.mbufs-test.true c.if-left-size.true
           ∙ c.mbufs.invariant.all;
     }
 
@@ -92,20 +114,20 @@ returns-in_default c =
     let i : ℕ = c.args.last.index in
     let two = two_first c.append-in-mbufs.new.self _ c.mbufs.invariant.two c.append-in-mbufs.ensures in
     let m = two_freed c.drop_first.new.pool two c.in_default.ensures.1 in
-    let len = ap (λ (x : Segment). x.len) c.segment-len.ensures.value in
+    let len = ap (λ (x : Segment). x.len) c.segment-size.ensures.value in
     let now : ChainView = chain_of c.append-in-mbufs.new.self c.args.into.now in
     let same : chain_of c.drop_first.new.pool c.args.into.now ≡ now = ap (λ (s : PoolView). chain_of s c.args.into.now) c.in_default.ensures.1 ∙ chain_left c.append-in-mbufs.new.self c.mbufs.back c.args.into.now two.apart in
     let kept = kept_with c.mbufs.pool c.append-in-mbufs.new.self c.args.into.now _ c.mbufs.back c.append-in-mbufs.ensures (λ e. c.mbufs.invariant.two.apart (sym e)) in
     let split = first_split w c.first-from.result c.first-from.ensures.place c.first-from.ensures.index in
     let none : drop 1 w.entries ≡ [] = one_entry w.entries _ (drop 1 w.entries) split (sym (ap (λ (x : ChainView). length x.entries) kept) ∙ c.in_default.ensures.0) in
-    let step = pull_moved c.mbufs.pool c.append-in-mbufs.new.self c.args.into.now c.mbufs.back c.args.last c.first-from.result c.segment-len.result.len c.mbufs.left c.append-in-mbufs.ensures c.mbufs.invariant.place c.first-from.ensures.place c.first-from.ensures.index len c.mbufs-test.true c.if-left-len.false in
+    let step = pull_moved c.mbufs.pool c.append-in-mbufs.new.self c.args.into.now c.mbufs.back c.args.last c.first-from.result c.segment-size.result.len c.mbufs.left c.append-in-mbufs.ensures c.mbufs.invariant.place c.first-from.ensures.place c.first-from.ensures.index len c.mbufs-test.true c.if-left-size.false in
     let end = length_now _ _ _ _ _ c.append-in-mbufs.ensures in
     record {
       adds = m.adds;
       front = ap (λ (x : ChainView). x.front) (same ∙ shown_with c.mbufs.pool _ _ _ c.append-in-mbufs.ensures) ∙ c.mbufs.invariant.front;
       entries = ap (λ (x : ChainView). x.entries) same
           ∙ sym (last_split now.entries i (c.mbufs.invariant.end ∙ sym end))
-          ∙ ap (λ (es : List Entry). take i now.entries ++ moved (c.mbufs.left - c.segment-len.result.len) (entry_of now i) es) (sym none)
+          ∙ ap (λ (es : List Entry). take i now.entries ++ moved (c.mbufs.left - c.segment-size.result.len) (entry_of now i) es) (sym none)
           ∙ step ∙ c.mbufs.invariant.all;
     }
 
@@ -122,12 +144,12 @@ mbufs-preserved c =
     let two = two_first c.append-in-mbufs.new.self _ c.mbufs.invariant.two c.append-in-mbufs.ensures in
     let next = two_next c.drop_first.new.pool c.in-Some.rest two c.in-Some.ensures in
     let same = kept_next c.drop_first.new.pool c.in-Some.rest two c.in-Some.ensures in
-    let len = ap (λ (x : Segment). x.len) c.segment-len.ensures.value in
+    let len = ap (λ (x : Segment). x.len) c.segment-size.ensures.value in
     let kept = kept_with c.mbufs.pool c.append-in-mbufs.new.self c.args.into.now _ c.mbufs.back c.append-in-mbufs.ensures (λ e. c.mbufs.invariant.two.apart (sym e)) in
-    let step = pull_moved c.mbufs.pool c.append-in-mbufs.new.self c.args.into.now c.mbufs.back c.args.last c.first-from.result c.segment-len.result.len c.mbufs.left c.append-in-mbufs.ensures c.mbufs.invariant.place c.first-from.ensures.place c.first-from.ensures.index len c.mbufs-test.true c.if-left-len.false in
+    let step = pull_moved c.mbufs.pool c.append-in-mbufs.new.self c.args.into.now c.mbufs.back c.args.last c.first-from.result c.segment-size.result.len c.mbufs.left c.append-in-mbufs.ensures c.mbufs.invariant.place c.first-from.ensures.place c.first-from.ensures.index len c.mbufs-test.true c.if-left-size.false in
     let rest = c.in-Some.ensures.entries ∙ ap (λ (x : ChainView). drop 1 x.entries) kept in
     let entry = ap (λ (x : ChainView). entry_of x i) same ∙ entry_now _ _ _ _ _ c.mbufs.invariant.place.within c.append-in-mbufs.ensures in
-    let left : ℕ = c.mbufs.left - c.segment-len.result.len in
+    let left : ℕ = c.mbufs.left - c.segment-size.result.len in
     record {
       two = next;
       front = ap (λ (x : ChainView). x.front) (same ∙ shown_with c.mbufs.pool _ _ _ c.append-in-mbufs.ensures) ∙ c.mbufs.invariant.front;
@@ -135,15 +157,24 @@ mbufs-preserved c =
       place = place_in c.append-in-mbufs.new.self c.drop_first.new.pool _ _ same (place_after _ _ _ _ _ _ c.append-in-mbufs.ensures c.mbufs.invariant.place);
       end = c.mbufs.invariant.end ∙ sym (ap (λ (x : ChainView). length x.entries) same ∙ length_now _ _ _ _ _ c.append-in-mbufs.ensures);
       plain = ap (λ (e : Entry). e.cluster) entry ∙ c.mbufs.invariant.plain;
-      room = subst (λ (e : Entry). HasBackRoom e left) (sym entry) (room_left (entry_of v i) (entry_of (chain_of c.mbufs.pool c.mbufs.back) c.first-from.result.index) c.segment-len.result.len c.mbufs.left c.mbufs.invariant.room len c.if-left-len.false);
+      bytes = λ t.
+          omega (
+            arith,
+            c.mbufs.invariant.bytes t,
+            first_bytes (chain_of c.mbufs.pool c.mbufs.back) c.first-from.result c.first-from.ensures.place c.first-from.ensures.index,
+            len,
+            ap (λ (es : List Entry). length (flat_bytes es)) rest,
+            c.saturating_sub-bytes.ensures,
+          );
+      room = subst (λ (e : Entry). HasBackRoom e left) (sym entry) (room_left (entry_of v i) (entry_of (chain_of c.mbufs.pool c.mbufs.back) c.first-from.result.index) c.segment-size.result.len c.mbufs.left c.mbufs.invariant.room len c.if-left-size.false);
     }
 
 pub returns : goal.returns
 returns c =
     let v : ChainView = chain_of c.mbufs.pool c.args.into.now in
     let w : ChainView = chain_of c.mbufs.pool c.mbufs.back in
-    let m = two_linked c.link-2.new.self _ c.mbufs.invariant.two c.link-2.ensures.change in
-    let shown = shown_with _ c.link-2.new.self _ _ c.link-2.ensures.change in
+    let m = two_linked c.link_rest-2.new.pool _ c.mbufs.invariant.two c.link_rest-2.ensures in
+    let shown = shown_with _ c.link_rest-2.new.pool _ _ c.link_rest-2.ensures in
     record {
       adds = m.adds;
       front = ap (λ (x : ChainView). x.front) shown ∙ c.mbufs.invariant.front;

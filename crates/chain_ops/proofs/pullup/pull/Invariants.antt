@@ -1,5 +1,5 @@
-use Rattle.std.proofs.Common.{◌≡◌, ◌+◌, ◌++◌, None, length, take}
-use Rattle.mbuf_chain.specs.Chain.{IsPlace, HasBackRoom, chain_of, entry_of, without}
+use Rattle.std.proofs.Common.{◌≡◌, ◌+◌, ◌++◌, true, None, length, take}
+use Rattle.mbuf_chain.specs.Chain.{IsPlace, HasBackRoom, chain_of, entry_of, string, without}
 use Rattle.chain_ops.specs.Pulls.{moved}
 use Rattle.chain_ops.proofs.Two.{HasTwo}
 use Rattle.chain_ops.proofs.pullup.pull.Given as goal
@@ -13,6 +13,7 @@ invariant-mbufs l = record {
   place : IsPlace (chain_of l.pool l.into) l.last;
   end : l.last.index + 1 ≡ length (chain_of l.pool l.into).entries;
   plain : (entry_of (chain_of l.pool l.into) l.last.index).cluster ≡ None;
+  bytes : l.counted ≡ true → l.bytes ≡ length (string (chain_of l.pool l.back));
   room : HasBackRoom (entry_of (chain_of l.pool l.into) l.last.index) l.left;
 }
 

@@ -1,15 +1,15 @@
 use Rattle.std.proofs.Common.{◌≡◌, ℕ, ◌-◌, ◌++◌, ◌∷◌, ◌≤◌, length, take, drop, arith, ap, sym, refl, ◌∙◌, subst}
 use Rattle.std.proofs.lemmas.List.{length-take}
 use Rattle.mbuf_chain.specs.declared.place.Segment.{Segment}
-use Rattle.mbuf_chain.specs.Chain.{Entry, ChainView, PoolView, Adds, HasBackRoom, chain_of, entry_of, with_chain}
+use Rattle.mbuf_chain.specs.Chain.{Entry, ChainView, PoolView, Adds, HasBackRoom, chain_of, entry_of, with_chain, flat_bytes}
 use Rattle.mbuf_chain.specs.Steps.{first_part}
-use Rattle.mbuf_chain.proofs.Moves.{live_here, live_adds, shown_adds, chain_here}
-use Rattle.mbuf_chain.proofs.AfterStep.{live_beside, apart}
+use Rattle.mbuf_chain.proofs.Laws.Owners.{live_here, live_adds, shown_adds, chain_here}
+use Rattle.mbuf_chain.proofs.Laws.Steps.{live_beside, apart}
 use Rattle.chain_ops.specs.Pulls.{moved}
 use Rattle.chain_ops.proofs.Laws.Steps.{kept_adds}
 use Rattle.chain_ops.proofs.Laws.Makes.{makes_as, makes_in_place, base_cut}
 use Rattle.chain_ops.proofs.Trims.{changed_none}
-use Rattle.chain_ops.proofs.Joins.{first_entry, first_split, room_plain, room_back, moved-none}
+use Rattle.chain_ops.proofs.Joins.{first_entry, first_split, room_plain, room_back, moved-none, first_bytes}
 use Rattle.chain_ops.proofs.pullup.pull_in_place.Goals as goal
 
 -- what the chain is once it was cut behind its first mbuf
@@ -41,6 +41,18 @@ pull-requires-clause-room c =
     let le : length e.bytes ≤ c.args.n = omega (arith, len, c.if-len-n.true) in
     subst (λ (f : Entry). HasBackRoom f (c.args.n - c.segment-len.result.len)) (sym (first_of c.args.pool.now _ _ _ _ _ c.cut-rest.ensures c.first-at.ensures.index))
     (subst (λ (n : ℕ). HasBackRoom e (c.args.n - n)) (sym len) (room_back e c.args.n c.requires.room le))
+
+pub pull-requires-clause-len : goal.pull-requires-clause-len
+pull-requires-clause-len c = λ t.
+    let v : ChainView = chain_of c.args.pool.now c.args.chain.now in
+    omega (
+      arith,
+      c.counted_len-counted.ensures t,
+      first_bytes v c.first-first.result c.first-first.ensures.place c.first-first.ensures.index,
+      ap (λ (x : Segment). x.len) c.segment-len.ensures.value,
+      ap (λ (x : ChainView). length (flat_bytes x.entries)) (shown_adds c.cut-rest.ensures),
+      c.saturating_sub.ensures,
+    )
 
 pub returns-then-len-n : goal.returns-then-len-n
 returns-then-len-n c =

@@ -1,9 +1,9 @@
 use Rattle.std.proofs.Common.{ℕ, ◌++◌, Bool, None, length, take, arith, ap, sym, ◌∙◌, subst}
-use Rattle.mbuf_chain.specs.Chain.{Entry, ChainView, PoolView, IsLive, HasBackRoom, chain_of, entry_of, without, alone}
+use Rattle.mbuf_chain.specs.Chain.{Entry, ChainView, PoolView, IsLive, HasBackRoom, chain_of, entry_of, without, alone, flat_bytes}
 use Rattle.mbuf_chain.specs.Steps.{empty_entry}
-use Rattle.mbuf_chain.proofs.Moves.{live_adds, shown_adds}
-use Rattle.mbuf_chain.proofs.Ledger.{held-adds}
-use Rattle.mbuf_chain.proofs.AfterStep.{live_beside}
+use Rattle.mbuf_chain.proofs.Laws.Owners.{live_adds, shown_adds}
+use Rattle.mbuf_chain.proofs.Laws.Accounts.{held-adds}
+use Rattle.mbuf_chain.proofs.Laws.Steps.{live_beside}
 use Rattle.chain_ops.specs.Rooms.{room_low}
 use Rattle.chain_ops.specs.Pulls.{moved}
 use Rattle.chain_ops.proofs.Laws.Steps.{new_entry, kept_adds}
@@ -31,6 +31,11 @@ pull-requires-clause-room c =
     subst (λ (k : ℕ). HasBackRoom (entry_of (chain_of c.new_plain.new.self k) c.first-at.result.index) c.args.n) (sym c.replace-old.ensures.after)
     (subst (λ (e : Entry). HasBackRoom e c.args.n) (sym (new_entry c.args.pool.now c.new_plain.new.self _ _ _ _ c.in_ok-new.ensures.ok c.first-at.ensures.index))
     (omega (arith, c.room_low.ensures, low_at_most c.has_header-header.result, c.requires.most)))
+
+pub pull-requires-clause-len : goal.pull-requires-clause-len
+pull-requires-clause-len c = λ t.
+    c.counted_len-counted.ensures t
+    ∙ sym (ap (λ (n : ℕ). length (flat_bytes (chain_of c.new_plain.new.self n).entries)) c.replace-old.ensures.value ∙ ap (λ (x : ChainView). length (flat_bytes x.entries)) (kept_adds c.args.pool.now c.new_plain.new.self _ c.args.chain.now _ c.in_ok-new.ensures.ok c.requires.live))
 
 pub returns-clause-ok : goal.returns-clause-ok
 returns-clause-ok c =

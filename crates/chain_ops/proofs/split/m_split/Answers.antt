@@ -5,8 +5,8 @@ use Rattle.std.proofs.lemmas.List.{take_all, take_more, drop-set-lt, length-set}
 use Rattle.mbuf_chain.specs.declared.place.Segment.{Segment}
 use Rattle.mbuf_chain.specs.Chain.{Entry, ChainView, PoolView, no_entry, alone, chain_of, entry_of, with_chain, flat_bytes}
 use Rattle.mbuf_chain.specs.Steps.{narrowed, first_part}
-use Rattle.mbuf_chain.proofs.Moves.{live_here, live_adds, shown_adds, shown_with, kept_with, chain_here, chain_left}
-use Rattle.mbuf_chain.proofs.AfterStep.{live_beside, live_shown, place_after, apart}
+use Rattle.mbuf_chain.proofs.Laws.Owners.{live_here, live_adds, shown_adds, shown_with, kept_with, chain_here, chain_left}
+use Rattle.mbuf_chain.proofs.Laws.Steps.{live_beside, live_shown, place_after, apart}
 use Rattle.chain_ops.specs.Splits.{rest_of, split_back, split_need}
 use Rattle.chain_ops.proofs.Lists.{none_behind}
 use Rattle.chain_ops.proofs.Laws.Makes.{makes_new, makes_as, makes_held, makes_mbufs, makes_kept}

@@ -1,7 +1,7 @@
 use Rattle.std.proofs.Common.{◌++◌, ◌∷◌, [], true, length, arith, ap, refl, ◌∙◌}
 use Rattle.mbuf_chain.specs.Chain.{ChainView, PoolView, alone, entry_of, without}
-use Rattle.mbuf_chain.proofs.Moves.{live_adds, shown_adds}
-use Rattle.mbuf_chain.proofs.AfterStep.{live_beside, place_beside}
+use Rattle.mbuf_chain.proofs.Laws.Owners.{live_adds, shown_adds}
+use Rattle.mbuf_chain.proofs.Laws.Steps.{live_beside, place_beside}
 use Rattle.chain_ops.specs.Copies.{copied_entry}
 use Rattle.chain_ops.proofs.Laws.Steps.{kept_adds}
 use Rattle.chain_ops.proofs.Laws.Makes.{makes_new, makes_then, makes_undone, makes_as, makes_held, makes_mbufs}

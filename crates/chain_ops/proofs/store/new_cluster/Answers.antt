@@ -4,8 +4,8 @@ use Rattle.std.proofs.lemmas.Option.{same_Some}
 use Rattle.std.proofs.lemmas.List.Sums.{sum_by-cons}
 use Rattle.mbuf_chain.specs.Chain.{Entry, PoolView, IsUnshared, HasBackRoom, chain_of, references, refers, with_chain, entry_of, Adds}
 use Rattle.mbuf_chain.specs.Steps.{one_mbuf, empty_entry, with_entry, with_back}
-use Rattle.mbuf_chain.proofs.Moves.{live_adds}
-use Rattle.mbuf_chain.proofs.Ledger.{references-adds}
+use Rattle.mbuf_chain.proofs.Laws.Owners.{live_adds}
+use Rattle.mbuf_chain.proofs.Laws.Accounts.{references-adds}
 use Rattle.chain_ops.proofs.Laws.Steps.{new_entry, filled}
 use Rattle.chain_ops.proofs.store.new_cluster.Goals as goal
 

@@ -5,9 +5,9 @@ use Rattle.std.proofs.lemmas.Bool.{eqb-true, false≢true}
 use Rattle.mbuf_chain.specs.Steps.{one_mbuf, joined}
 use Rattle.mbuf_chain.specs.Chain.{Entry, ChainView, PoolView, chain_of, references, references_of, without}
 use Rattle.mbuf_chain.specs.Owners.{times}
-use Rattle.mbuf_chain.proofs.Moves.{live_adds, shown_adds, shown_with, times-append}
-use Rattle.mbuf_chain.proofs.AfterStep.{live_beside, live_shown, place_beside}
-use Rattle.mbuf_chain.proofs.Ledger.{references-adds}
+use Rattle.mbuf_chain.proofs.Laws.Owners.{live_adds, shown_adds, shown_with, times-append}
+use Rattle.mbuf_chain.proofs.Laws.Steps.{live_beside, live_shown, place_beside}
+use Rattle.mbuf_chain.proofs.Laws.Accounts.{references-adds}
 use Rattle.flat_model.specs.Layout.{is_cluster, Room}
 use Rattle.chain_ops.specs.Stored.{Lacks, rooms_for, stored, stored_first}
 use Rattle.chain_ops.proofs.Laws.Makes.{makes_new, makes_then, makes_undone, makes_held, makes_mbufs, linked_new}

@@ -1,7 +1,7 @@
 use Rattle.std.proofs.Common.{[], ◌∷◌, refl}
 use Rattle.mbuf_chain.specs.Chain.{without}
-use Rattle.mbuf_chain.proofs.Moves.{moves_trans, moves_without, moves_adds, moves_behind}
-use Rattle.mbuf_chain.proofs.AfterStep.{live_without}
+use Rattle.mbuf_chain.proofs.Laws.Owners.{moves_trans, moves_without, moves_adds, moves_behind}
+use Rattle.mbuf_chain.proofs.Laws.Steps.{live_without}
 use Rattle.chain_ops.proofs.theorems.frame.Goals as goal
 
 pub returns-clause-made : goal.returns-clause-made
