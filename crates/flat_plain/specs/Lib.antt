@@ -6,3 +6,4 @@ pub mod Heads
 pub mod Queues
 pub mod Ports
 pub mod Tables
+pub mod Weights

@@ -1,18 +1,25 @@
 -- A table of the programs as a map of the definitions.
-use Rattle.std.specs.Prelude.{ℕ, Bool, false, List, [], Option, Some, None, slice_index_or}
-use Rattle.flat_model.specs.Overlay.{Held, Map, Fragment}
+use Rattle.std.specs.Prelude.{ℕ, Bool, false, List, Option, Some, None, slice_index_or, filter_map}
+use Rattle.flat_model.specs.Weight.{Weight}
+use Rattle.flat_model.specs.Overlay as Overlay
+use Rattle.flat_model.specs.Overlay.{Held, Map}
 use Rattle.flat_plain.specs.declared.maps.Cell.{Cell}
+use Rattle.flat_plain.specs.declared.maps.Fragment.{Fragment}
+
+-- so many mbufs, and the clusters that are there
+abbrev pub weight_at : ℕ → List (Option ℕ) → Weight
+weight_at mbufs clusters = record { mbufs = mbufs; bag = filter_map (λ c. c) clusters }
 
 abbrev pub held_of : Option Cell → Option Held
 held_of None = None
-held_of (Some cell) = Some (record { byte = cell.byte; piece = record { first = cell.first; more = cell.more; weight = record { mbufs = cell.mbufs; bag = [] } } })
+held_of (Some cell) = Some (record { byte = cell.byte; piece = record { first = cell.first; more = cell.more; weight = weight_at cell.mbufs cell.clusters } })
 
 -- nothing lies behind the table's end
 abbrev pub map_of : List (Option Cell) → Map
 map_of cells offset = held_of (slice_index_or cells offset None)
 
-abbrev pub fragment_of : ℕ → List ℕ → Bool → ℕ → Fragment
-fragment_of offset bytes more mbufs = record { offset = offset; bytes = bytes; more = more; weight = record { mbufs = mbufs; bag = [] } }
+abbrev pub fragment_of : Fragment → List ℕ → Overlay.Fragment
+fragment_of f bytes = record { offset = f.offset; bytes = bytes; more = f.more; weight = weight_at f.mbufs f.clusters }
 
 -- whether more come behind the piece that lies there
 abbrev pub more_of : Option Held → Bool

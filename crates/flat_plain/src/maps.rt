@@ -13,8 +13,10 @@ pub struct Cell {
     pub first: u32,
     /// Whether more come behind the piece.
     pub more: bool,
-    /// What the piece weighs; it refers to no cluster.
+    /// How many mbufs the piece has.
     pub mbufs: u32,
+    /// The clusters to which they refer.
+    pub clusters: [Option<u32>; 5],
 }
 
 // Whether what lies there stays where a fragment at this offset comes.
@@ -52,6 +54,8 @@ pub struct Fragment {
     pub offset: u32,
     pub more: bool,
     pub mbufs: u32,
+    /// The clusters to which its mbufs refer.
+    pub clusters: [Option<u32>; 5],
 }
 
 // Whether the offset is one of the fragment's.
@@ -59,7 +63,7 @@ fn is_within(fragment: Fragment, bytes: &[u8], k: u32) -> bool
     requires small { length bytes.now ≤ 65536 }
     requires offset { fragment.offset ≤ 65536 }
     ensures { result ≡ Overlay.is_within
-        (fragment_of fragment.offset bytes.now fragment.more fragment.mbufs) k }
+        (fragment_of fragment bytes.now) k }
 {
     fragment.offset <= k && k < fragment.offset + bytes.len() as u32
 }
@@ -76,12 +80,13 @@ fn laid(old: Option<Cell>, k: u32, fragment: Fragment, first: u32, bytes: &[u8])
     requires small { length bytes.now ≤ 65536 }
     requires offset { fragment.offset ≤ 65536 }
     ensures { (map : Overlay.Map) → map k ≡ held_of old →
-        Overlay.first_owned map (fragment_of fragment.offset bytes.now fragment.more fragment.mbufs) ≡ first →
+        Overlay.first_owned map (fragment_of fragment bytes.now) ≡ first →
         held_of result
-        ≡ Overlay.overlay map (fragment_of fragment.offset bytes.now fragment.more fragment.mbufs) k }
+        ≡ Overlay.overlay map (fragment_of fragment bytes.now) k }
 {
     let behind = fragment.offset + bytes.len() as u32;
     let within = is_within(fragment, bytes, k);
+    let clusters = fragment.clusters;
     match old {
         None => {
             if within {
@@ -91,6 +96,7 @@ fn laid(old: Option<Cell>, k: u32, fragment: Fragment, first: u32, bytes: &[u8])
                     first,
                     more: fragment.more,
                     mbufs: fragment.mbufs,
+                    clusters,
                 });
             }
             None
@@ -106,14 +112,17 @@ fn laid(old: Option<Cell>, k: u32, fragment: Fragment, first: u32, bytes: &[u8])
                     first,
                     more: fragment.more,
                     mbufs: fragment.mbufs,
+                    clusters,
                 });
             }
             if begins_between(cell.first, fragment.offset, behind) {
+                let clusters = cell.clusters;
                 return Some(Cell {
                     byte: cell.byte,
                     first: behind,
                     more: cell.more,
                     mbufs: cell.mbufs,
+                    clusters,
                 });
             }
             Some(cell)
@@ -127,7 +136,7 @@ pub fn is_covered(cells: &[Option<Cell>], fragment: Fragment, bytes: &[u8]) -> b
     requires small { length cells.now ≤ 65536 }
     requires inside { fragment.offset + length bytes.now ≤ length cells.now }
     ensures { result
-        ≡ Overlay.is_covered (map_of cells.now) (fragment_of fragment.offset bytes.now fragment.more fragment.mbufs) }
+        ≡ Overlay.is_covered (map_of cells.now) (fragment_of fragment bytes.now) }
 {
     first_owned(cells, fragment, bytes) >= fragment.offset + bytes.len() as u32
 }
@@ -137,7 +146,7 @@ fn first_owned(cells: &[Option<Cell>], fragment: Fragment, bytes: &[u8]) -> u32
     requires small { length cells.now ≤ 65536 }
     requires inside { fragment.offset + length bytes.now ≤ length cells.now }
     ensures { result
-        ≡ Overlay.first_owned (map_of cells.now) (fragment_of fragment.offset bytes.now fragment.more fragment.mbufs) }
+        ≡ Overlay.first_owned (map_of cells.now) (fragment_of fragment bytes.now) }
 {
     fragment.offset + staying(cells, fragment.offset, fragment.offset, bytes.len() as u32)
 }
@@ -147,7 +156,7 @@ pub fn overlay(cells: &mut [Option<Cell>], fragment: Fragment, bytes: &[u8])
     requires small { length cells.old ≤ 65536 }
     requires inside { fragment.offset + length bytes.now ≤ length cells.old }
     ensures { (k : ℕ) → map_of cells.new k ≡
-        Overlay.overlay (map_of cells.old) (fragment_of fragment.offset bytes.now fragment.more fragment.mbufs) k }
+        Overlay.overlay (map_of cells.old) (fragment_of fragment bytes.now) k }
 {
     let first = first_owned(cells, fragment, bytes);
     for k in 0..cells.len() {
@@ -227,6 +236,7 @@ mod tests {
             offset,
             more,
             mbufs: 1,
+            clusters: [None; 5],
         };
         assert!(rt; !is_covered(cells, fragment, bytes));
         overlay(cells, fragment, bytes);
@@ -242,6 +252,7 @@ mod tests {
                 offset,
                 more: true,
                 mbufs: 1,
+                clusters: [None; 5],
             },
             bytes,
         )
@@ -317,6 +328,7 @@ mod tests {
             first: 16,
             more: true,
             mbufs: 1,
+            clusters: [None; 5],
         };
         assert_eq!(rt; cells[16], Some(rest));
         Ok(())

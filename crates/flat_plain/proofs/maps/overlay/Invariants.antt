@@ -11,4 +11,4 @@ pub record IsLaid (old new : List (Option Cell)) (f : Overlay.Fragment) (i : ℕ
   pub ahead : (k : ℕ) → i ≤ k → slice_index_or new k None ≡ slice_index_or old k None
 
 abbrev pub invariant-loop-k : goal.invariant-loop-k
-invariant-loop-k l = IsLaid l.fn.cells l.cells (fragment_of l.fragment.offset l.bytes l.fragment.more l.fragment.mbufs) l.k
+invariant-loop-k l = IsLaid l.fn.cells l.cells (fragment_of l.fragment l.bytes) l.k

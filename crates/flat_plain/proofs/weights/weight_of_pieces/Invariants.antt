@@ -1,0 +1,14 @@
+use Rattle.std.proofs.Common.{◌≡◌, ℕ, ◌*◌, ◌^◌, ◌≤◌}
+use Rattle.flat_model.specs.Weight as flat
+use Rattle.flat_model.specs.Whole.{pieces_below}
+use Rattle.flat_plain.specs.Tables.{map_of}
+use Rattle.flat_plain.specs.Weights.{weight_of}
+use Rattle.flat_plain.proofs.weights.weight_of_pieces.Given as goal
+
+-- the pieces that begin below k were added
+pub record AreAdded (have pieces : flat.Weight) (k : ℕ) : Type 0 where
+  pub weight : have ≡ pieces
+  pub most : have.mbufs ≤ 2 ^ 32 * k
+
+abbrev pub invariant-loop-k : goal.invariant-loop-k
+invariant-loop-k l = AreAdded (weight_of l.weight) (flat.all_of (λ piece. piece.weight) (pieces_below l.k (map_of l.cells))) l.k

@@ -1,0 +1,73 @@
+//! How much of a pool is in use.
+ghost use Rattle.std.specs.Prelude.{◌≡◌, ◌≤◌, length};
+ghost use Rattle.flat_model.specs.Ledger.{usage_of, weight_of_state};
+ghost use Rattle.flat_model.specs.State.{State};
+ghost use Rattle.flat_model.specs.Weight.{SameWeight, times};
+ghost use Rattle.flat_plain.specs.Weights.{weight_of};
+
+use crate::weights::Weight;
+use flat_model::Mbstat;
+
+// How often the cluster stands in the bag.
+fn times_of(bag: &[u32], cluster: u32) -> u32
+    requires { length bag.now ≤ 65536 }
+    ensures number { result ≡ times cluster bag.now }
+    ensures most { result ≤ 65536 }
+{
+    bag.iter().filter(|c| **c == cluster).count() as u32
+}
+
+/// What is shown of a pool of so many mbufs and clusters, at most 4,096 of these, where all that is held weighs so.
+pub fn usage(mbufs: u32, clusters: u32, held: &Weight) -> Mbstat
+    requires clusters { clusters ≤ 4096 }
+    requires bag { length held.now.bag.items ≤ 65536 }
+    ensures { (s : State) → s.config.mbufs ≡ mbufs → s.config.clusters ≡ clusters →
+        SameWeight (weight_of_state s) (weight_of held.now) → usage_of s ≡ result }
+{
+    let bag = held.bag.as_slice();
+    let mut free_clusters = 0u32;
+    let mut refs = 0u32;
+    let mut most = 0u32;
+    for c in 0..clusters {
+        let count = times_of(bag, c);
+        free_clusters += if count == 0 { 1 } else { 0 };
+        refs += count;
+        most = most.max(count);
+    }
+    let free_mbufs = u64::from(mbufs).saturating_sub(held.mbufs) as u32;
+    Mbstat {
+        free_mbufs,
+        mbufs,
+        free_clusters,
+        clusters,
+        refs,
+        most,
+    }
+}
+
+#[cfg(test)]
+mod tests {
+    use super::*;
+    use std::test::Fail;
+
+    // The packets of the largest send on a link of 1500: 22 mbufs, and its five clusters 2, 3, 4, 3 and 3 times.
+    #[test]
+    fn of_the_largest_send(rt: HostRuntime) -> Result<(), Fail> {
+        let mut held = Weight {
+            mbufs: 22,
+            bag: Vec::new(rt.alloc()),
+        };
+        for (cluster, count) in [(0u32, 2u32), (1, 3), (2, 4), (3, 3), (4, 3)] {
+            for _ in 0..count {
+                held.bag.push(cluster)?;
+            }
+        }
+        assert!(rt; held.bag.len() <= 65536);
+        let shown = usage(512, 64, &held);
+        assert_eq!(rt; shown.free_mbufs, 490);
+        assert_eq!(rt; shown.free_clusters, 59);
+        assert_eq!(rt; shown.refs, 15);
+        assert_eq!(rt; shown.most, 4);
+        Ok(())
+    }
+}

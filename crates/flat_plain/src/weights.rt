@@ -1,0 +1,212 @@
+//! What items weigh, and how much of a pool that is.
+ghost use Rattle.std.specs.Prelude.{◌≡◌, ℕ, ◌+◌, ◌*◌, ◌^◌, ◌<◌, ◌≤◌, ◌++◌, length, filter_map, Option, OnOk, IfOk};
+ghost use Rattle.flat_model.specs.Arrival as Arrival;
+ghost use Rattle.flat_model.specs.Layout as Layout;
+ghost use Rattle.flat_model.specs.Sending as Sending;
+ghost use Rattle.flat_model.specs.Weight.{◌⊕◌};
+ghost use Rattle.flat_model.specs.Whole as Whole;
+ghost use Rattle.flat_plain.specs.Parts.{part_of};
+ghost use Rattle.flat_plain.specs.Tables.{map_of, weight_at};
+ghost use Rattle.flat_plain.specs.Weights.{entries_of, entry_size, weight_begun, weight_of};
+
+use crate::maps::Cell;
+use crate::parts::Part;
+use std::alloc::{AllocError, Global};
+
+/// So many mbufs, and the number of a cluster for each of them that refers to one.
+#[derive(Debug, Drop)]
+pub struct Weight {
+    pub mbufs: u64,
+    pub bag: Vec<u32>,
+}
+
+/// An mbuf of a chain: the bytes in it, and the cluster to which it refers, if it does.
+#[derive(Clone, Copy, Debug, PartialEq, Eq)]
+pub struct Entry {
+    pub size: u32,
+    pub cluster: Option<u32>,
+}
+
+// Adds those that share a byte with the range from a up to b, where the first one begins at `at`.
+fn add_met(
+    weight: &mut Weight,
+    entries: &[Entry],
+    at: u64,
+    a: u64,
+    b: u64,
+) -> Result<(), AllocError>
+    requires short { at + 2 ^ 32 * length entries.now < 2 ^ 63 }
+    requires few { weight.old.mbufs + length entries.now < 2 ^ 63 }
+    ensures { OnOk result (weight_of weight.new
+        ≡ weight_of weight.old ⊕ Layout.weight_of (Layout.meets_from entry_size at (entries_of entries.now) a b)) }
+{
+    match entries {
+        [] => Ok(()),
+        [entry, rest @ ..] => {
+            let behind = at + entry.size as u64;
+            if at.max(a) < behind.min(b) {
+                add(weight, 1, &[entry.cluster])?;
+            }
+            add_met(weight, rest, behind, a, b)?;
+            Ok(())
+        }
+    }
+}
+
+// Adds so many mbufs, and the clusters that are there.
+fn add(weight: &mut Weight, mbufs: u32, clusters: &[Option<u32>]) -> Result<(), AllocError>
+    requires { weight.old.mbufs + mbufs < 2 ^ 64 }
+    ensures { OnOk result (weight_of weight.new ≡ weight_of weight.old ⊕ weight_at mbufs clusters.now) }
+{
+    weight.mbufs += mbufs as u64;
+    add_clusters(&mut weight.bag, clusters)?;
+    Ok(())
+}
+
+fn add_clusters(bag: &mut Vec<u32>, clusters: &[Option<u32>]) -> Result<(), AllocError>
+    ensures { OnOk result (bag.new.items ≡ bag.old.items ++ filter_map (λ (c : Option ℕ). c) clusters.now) }
+{
+    match clusters {
+        [] => Ok(()),
+        [first, rest @ ..] => {
+            if let Some(cluster) = first {
+                bag.push(*cluster)?;
+            }
+            add_clusters(bag, rest)?;
+            Ok(())
+        }
+    }
+}
+
+/// The weight of the packet of a later part, of a send whose bytes lie in these mbufs.
+pub fn later_weight(alloc: Global, entries: &[Entry], part: Part) -> Result<Weight, AllocError>
+    requires { length entries.now ≤ 65536 }
+    ensures { IfOk result (λ w. weight_of w ≡ Sending.later_weight (entries_of entries.now) (part_of part)) }
+{
+    let mut weight = Weight {
+        mbufs: 1,
+        bag: Vec::new(alloc),
+    };
+    let from = 20 + part.offset as u64;
+    let behind = from + part.size as u64;
+    add_met(&mut weight, entries, 0, from, behind)?;
+    Ok(weight)
+}
+
+/// The weight of a fragment in a cluster, of so many bytes with its header, once it was pulled up.
+pub fn pulled_up(total: u32, weight: Weight) -> Weight
+    requires { weight.mbufs < 2 ^ 63 }
+    ensures { weight_of result ≡ Arrival.pulled_up total (weight_of weight) }
+{
+    let mut weight = weight;
+    if 40 < total {
+        weight.mbufs += 1;
+    } else if !weight.bag.is_empty() {
+        let _cluster = weight.bag.remove(0);
+    }
+    weight
+}
+
+/// What the pieces in a table weigh that still own an offset.
+pub fn weight_of_pieces(alloc: Global, cells: &[Option<Cell>]) -> Result<Weight, AllocError>
+    requires { length cells.now ≤ 65515 }
+    ensures { IfOk result (λ w. weight_of w ≡ Whole.weight_of_pieces (map_of cells.now)) }
+{
+    let mut weight = Weight {
+        mbufs: 0,
+        bag: Vec::new(alloc),
+    };
+    for k in 0..cells.len() {
+        add_piece(&mut weight, cells[k], k as u32)?;
+    }
+    Ok(weight)
+}
+
+// Adds the piece that lies at k, where it begins there.
+fn add_piece(weight: &mut Weight, cell: Option<Cell>, k: u32) -> Result<(), AllocError>
+    requires { weight.old.mbufs < 2 ^ 63 }
+    ensures weight { OnOk result (weight_of weight.new ≡ weight_of weight.old ⊕ weight_begun cell k) }
+    ensures most { OnOk result (weight.new.mbufs < weight.old.mbufs + 2 ^ 32) }
+{
+    if let Some(cell) = cell {
+        if cell.first == k {
+            add(weight, cell.mbufs, &cell.clusters)?;
+        }
+    }
+    Ok(())
+}
+
+#[cfg(test)]
+mod tests {
+    use super::*;
+    use crate::maps::{Fragment, overlay};
+    use crate::parts::cuts;
+    use std::test::Fail;
+
+    // The largest send on a link of 1500, in clusters 10 to 14: its later packets have 3, 3, 2, 3, 3 and 2 mbufs.
+    #[test]
+    fn of_later_packets(rt: HostRuntime) -> Result<(), Fail> {
+        let entry = |size, cluster| Entry { size, cluster };
+        let entries = [
+            entry(28, None),
+            entry(1992, Some(10)),
+            entry(2048, Some(11)),
+            entry(2048, Some(12)),
+            entry(2048, Some(13)),
+            entry(1080, Some(14)),
+        ];
+        let parts = cuts(rt.alloc(), 9224, 1500)?;
+        let rows: [(u64, &[u32]); 6] = [
+            (3, &[10, 11]),
+            (3, &[11, 12]),
+            (2, &[12]),
+            (3, &[12, 13]),
+            (3, &[13, 14]),
+            (2, &[14]),
+        ];
+        assert_eq!(rt; parts.len(), 7);
+        for (part, (mbufs, bag)) in parts.as_slice()[1..].iter().zip(rows) {
+            let weight = later_weight(rt.alloc(), &entries, *part)?;
+            assert_eq!(rt; weight.mbufs, mbufs);
+            assert_eq!(rt; weight.bag.as_slice(), bag);
+        }
+        Ok(())
+    }
+
+    // A packet of 40 bytes leaves its cluster, one of 41 has an mbuf more.
+    #[test]
+    fn of_what_was_pulled_up(rt: HostRuntime) -> Result<(), Fail> {
+        for (total, mbufs, references) in [(40, 1, 0), (41, 2, 1)] {
+            let weight = Weight {
+                mbufs: 1,
+                bag: vec![in rt.alloc(); 7u32; 1]?,
+            };
+            let weight = pulled_up(total, weight);
+            assert_eq!(rt; weight.mbufs, mbufs);
+            assert_eq!(rt; weight.bag.len(), references);
+        }
+        Ok(())
+    }
+
+    // A piece that lost its last byte weighs nothing any more.
+    #[test]
+    fn of_pieces(rt: HostRuntime) -> Result<(), Fail> {
+        let mut cells = [None; 32];
+        let piece = |offset, mbufs, cluster| Fragment {
+            offset,
+            more: true,
+            mbufs,
+            clusters: [Some(cluster), None, None, None, None],
+        };
+        overlay(&mut cells, piece(16, 2, 5), b"cccccccc");
+        overlay(&mut cells, piece(24, 3, 6), b"dddddddd");
+        let both = weight_of_pieces(rt.alloc(), &cells)?;
+        assert_eq!(rt; both.mbufs, 5);
+        assert_eq!(rt; both.bag.as_slice(), [5, 6].as_slice());
+        overlay(&mut cells, piece(8, 1, 7), b"aaaaaaaaaaaaaaaaaaaa");
+        let left = weight_of_pieces(rt.alloc(), &cells)?;
+        assert_eq!(rt; left.mbufs, 4);
+        assert_eq!(rt; left.bag.as_slice(), [7, 6].as_slice());
+        Ok(())
+    }
+}
