@@ -1,8 +1,9 @@
 -- A machine that answers the lines of a script, and what is printed for them (this project's own).
-use Rattle.std.specs.Prelude.{◌≡◌, ℕ, Bool, IsTrue, List, [], ◌∷◌, flat_map, Option, Some, None}
+use Rattle.std.specs.Prelude.{◌≡◌, ℕ, Bool, true, IsTrue, List, [], ◌∷◌, flat_map, Option, Some, None}
 use Rattle.flat_model.specs.Event.{Event, Reply}
-use Rattle.flat_model.specs.State.{State}
-use Rattle.flat_model.specs.Ledger.{Ledger}
+use Rattle.flat_model.specs.State.{State, boot}
+use Rattle.flat_model.specs.declared.config.Config.{Config}
+use Rattle.flat_model.specs.Ledger.{Ledger, exact_ledger}
 use Rattle.flat_model.specs.Run.{Turn, Leads}
 use Rattle.flat_model.specs.Grammar.{IsLine}
 use Rattle.flat_model.specs.Texts.{answer_text}
@@ -50,3 +51,13 @@ pub record IsPrintOfRun (L : Ledger) (serves : Event → Bool) (old : State) (li
   pub are : AreTurns serves lines answers turns
   pub leads : Leads L old turns new
   pub text : printed ≡ flat_map answer_text answers
+
+-- ---- the whole machine
+
+-- all lines are served
+abbrev pub all_events : Event → Bool
+all_events event = true
+
+-- this is printed for the lines by a run of the machine that keeps exact books: by its turns, which `Run` leads through
+abbrev pub PrintsRun : Config → List (List ℕ) → List ℕ → State → Type 0
+PrintsRun config lines printed new = IsPrintOfRun exact_ledger all_events (boot config) lines printed new

@@ -8,7 +8,7 @@ ghost use Rattle.flat_model.specs.State.{IsConfig, State, boot};
 ghost use Rattle.flat_model.specs.Consistent.{IsConsistent};
 ghost use Rattle.flat_model.specs.Step.{Step, Loose};
 ghost use Rattle.flat_model.specs.Run.{Turn, Leads, Run};
-ghost use Rattle.flat_model.specs.Script.{Prints, IsPrintOfRun};
+ghost use Rattle.flat_model.specs.Script.{Prints, IsPrintOfRun, PrintsRun, all_events};
 ghost use Rattle.flat_model.specs.declared.config.Config.{Config};
 ghost use Rattle.flat_model.specs.Wire.{WireLaw};
 ghost use Rattle.flat_model.specs.Laws.{CutsJoin, IsFragmentOf, OverlayOrder};
@@ -61,12 +61,15 @@ pub fn leads_on()
 {}
 
 /// What is printed for the lines of a script is told by a run: each line that asks for an event has its turn, in
-/// their order, and what is printed are the replies of these turns, with a question mark for every other line.
+/// their order, and what is printed are the replies of these turns, with a question mark for every other line. From
+/// boot, and where all lines are served, it's a run of the whole machine.
 pub fn printed_is_run()
     ensures exact { (serves : Event → Bool) (old new : State) (lines : List (List ℕ)) (printed : List ℕ) →
         Prints serves Step old lines printed new → IsPrintOfRun exact_ledger serves old lines printed new }
     ensures loose { (serves : Event → Bool) (old new : State) (lines : List (List ℕ)) (printed : List ℕ) →
         Prints serves Loose old lines printed new → IsPrintOfRun loose_ledger serves old lines printed new }
+    ensures whole { (config : Config) (lines : List (List ℕ)) (printed : List ℕ) (new : State) →
+        Prints all_events Step (boot config) lines printed new → PrintsRun config lines printed new }
 {}
 
 /// The books balance: free and held mbufs are all that there are, the counts of all clusters add up to the
