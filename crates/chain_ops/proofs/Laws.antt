@@ -5,3 +5,4 @@ pub mod Rooms
 pub mod Steps
 pub mod Strings
 pub mod Joins
+pub mod Weights

@@ -1,5 +1,4 @@
 mod Lists
-mod CopyWeights
 mod Joins
 mod Splits
 mod Stored

@@ -7,7 +7,7 @@ ghost use Rattle.chain_ops.specs.Makes.{Makes, HasMbufs, LacksMbufs};
 ghost use Rattle.chain_ops.specs.Pulls.{IsRefused, moved, has_room, pulled_up, pulled_front, pull_need};
 
 use crate::cat::drop_first;
-use crate::step::room_low;
+use crate::step::{counted_len, link_rest, room_low};
 use mbuf_chain::{Chain, Place, Pool};
 use mbuf_pool::NoBufs;
 use params::{MAX_PROTOCOL_HEADER, MHLEN, MSIZE};
@@ -22,24 +22,6 @@ pub enum Refusal {
     TooShort,
     /// A new first mbuf is needed, and none is free.
     NoBufs,
-}
-
-/// Links a chain behind the last mbuf of another. Where that one has a packet header, the number of its bytes is told.
-fn link_rest(pool: &mut Pool, into: &Chain, last: Place, rest: Chain, counted: bool, len: u32)
-    requires front { IsLive pool.old into.now }
-    requires back { IsLive pool.old rest }
-    requires apart { into.now ≢ rest }
-    requires place { IsPlace (chain_of pool.old into.now) last }
-    requires last { last.index + 1 ≡ length (chain_of pool.old into.now).entries }
-    requires len { counted ≡ true → len ≡ length (string (chain_of pool.old rest)) }
-    ensures { pool.new ≡ with_chain (without pool.old rest) into.now
-        (joined (chain_of pool.old into.now) (chain_of pool.old rest)) }
-{
-    if counted {
-        pool.link_counted(into, last, rest, len);
-    } else {
-        pool.link(into, last, rest);
-    }
 }
 
 /// Moves the first `n` bytes of a chain behind those of the last mbuf of another, and links what is left.
@@ -91,18 +73,6 @@ fn has_room(pool: &Pool, chain: &Chain, n: u32) -> bool
     let first = pool.first(chain);
     let segment = pool.segment(chain, first);
     segment.cluster.is_none() && segment.start <= MSIZE - n
-}
-
-/// How many bytes a chain has, where it has a packet header, and else 0: so no mbuf is looked at.
-fn counted_len(pool: &Pool, chain: &Chain) -> (bool, u32)
-    requires { IsLive pool.now chain.now }
-    ensures { result.0 ≡ true → result.1 ≡ length (string (chain_of pool.now chain.now)) }
-{
-    if pool.has_header(chain) {
-        (true, pool.len(chain))
-    } else {
-        (false, 0)
-    }
 }
 
 /// Brings the first `n` bytes of a chain into its first mbuf, which has room for them.

@@ -8,7 +8,7 @@ ghost use Rattle.chain_ops.specs.Copies.{copied_entry};
 ghost use Rattle.chain_ops.specs.Splits.{rest_of, split_front, split_back, split_need};
 
 use crate::prepend::at_end;
-use crate::step::{append_copy, new_copy};
+use crate::step::{append_copy, counted_len, link_rest, new_copy};
 use mbuf_chain::{Chain, Place, Pool};
 use mbuf_pool::NoBufs;
 use params::{MBUF_HEADER, MHLEN};
@@ -20,6 +20,8 @@ fn find_cut(pool: &Pool, chain: &Chain, off: u32) -> (Place, u32)
     requires within { off < length (string (chain_of pool.now chain.now)) }
     ensures place { IsPlace (chain_of pool.now chain.now) result.0 }
     ensures within { result.1 ≤ length (entry_in pool.now chain.now result.0).bytes }
+    ensures left { off + length (flat_bytes (drop result.0.index (chain_of pool.now chain.now).entries))
+        ≡ result.1 + length (string (chain_of pool.now chain.now)) }
     ensures behind { result.1 < length (flat_bytes (drop result.0.index (chain_of pool.now chain.now).entries)) }
     ensures front { split_front (chain_of pool.now chain.now).entries off
         ≡ take result.0.index (chain_of pool.now chain.now).entries
@@ -115,7 +117,7 @@ fn new_head(
 
 /// Cuts a chain in two behind its first `at` bytes, fewer than it has. The chain keeps these, the answer has the
 /// others: of an mbuf that is cut through, a cluster is shared, and bytes of a plain one are copied. Where the chain
-/// has a packet header, both have one. `NoBufs` comes exactly where fewer mbufs are free than that takes, and
+/// has a packet header, both have one, and no mbuf behind the cut is looked at. `NoBufs` comes exactly where fewer mbufs are free than that takes, and
 /// changes nothing (`m_split` of 4.4BSD; the details are this project's own).
 pub fn m_split(pool: &mut Pool, chain: &Chain, at: u32) -> Result<Chain, NoBufs>
     requires live { IsLive pool.old chain.now }
@@ -137,6 +139,7 @@ pub fn m_split(pool: &mut Pool, chain: &Chain, at: u32) -> Result<Chain, NoBufs>
     let (place, off) = find_cut(pool, chain, at);
     let len = pool.segment(chain, place).len;
     let header = pool.has_header(chain);
+    let (counted, total) = counted_len(pool, chain);
     pool.laws();
     if !header && off == len {
         let _ = pool.next(chain, place).unwrap();
@@ -150,6 +153,8 @@ pub fn m_split(pool: &mut Pool, chain: &Chain, at: u32) -> Result<Chain, NoBufs>
     }
     let back = pool.cut(chain, place.index + 1);
     let last = pool.last(&head);
-    pool.link(&head, last, back);
+    let moved = len.saturating_sub(off);
+    let rest = total.saturating_sub(at).saturating_sub(moved);
+    link_rest(pool, &head, last, back, counted, rest);
     Ok(head)
 }

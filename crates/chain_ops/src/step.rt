@@ -1,7 +1,6 @@
 //! Steps that several operations share.
-ghost use Rattle.std.specs.Prelude.{◌≡◌, ℕ, ◌+◌, ◌≤◌, false, length, IfOk, OnErr, IsTrue};
-ghost use Rattle.mbuf_chain.specs.Chain.{IsLive, IsPlace, HasFrontRoom, HasBackRoom, chain_of, entry_in, held_mbufs, room_start, room_end, with_chain, string, Adds, Entry};
-ghost use Rattle.mbuf_chain.specs.Frames.{IsBounded};
+ghost use Rattle.std.specs.Prelude.{◌≡◌, ◌≢◌, ℕ, ◌+◌, ◌≤◌, true, false, length, IfOk, OnErr, IsTrue};
+ghost use Rattle.mbuf_chain.specs.Chain.{IsLive, IsPlace, chain_of, entry_in, held_mbufs, with_chain, without, string, Adds};
 ghost use Rattle.mbuf_chain.specs.Steps.{one_mbuf, joined};
 ghost use Rattle.chain_ops.specs.Rooms.{room_low};
 ghost use Rattle.chain_ops.specs.Copies.{copied_entry};
@@ -79,4 +78,41 @@ pub(crate) fn append_copy(
     let back = new_copy(pool, false, chain, at, skip, n)?;
     let place = pool.link_counted(copy, last, back, n);
     Ok(place)
+}
+
+/// How many bytes a chain has, where it has a packet header, and else 0: so no mbuf is looked at.
+pub(crate) fn counted_len(pool: &Pool, chain: &Chain) -> (bool, u32)
+    requires { IsLive pool.now chain.now }
+    ensures { result.0 ≡ true → result.1 ≡ length (string (chain_of pool.now chain.now)) }
+{
+    if pool.has_header(chain) {
+        (true, pool.len(chain))
+    } else {
+        (false, 0)
+    }
+}
+
+/// Links a chain behind the last mbuf of another. Where that one has a packet header, the number of its bytes is told.
+pub(crate) fn link_rest(
+    pool: &mut Pool,
+    into: &Chain,
+    last: Place,
+    rest: Chain,
+    counted: bool,
+    len: u32,
+)
+    requires front { IsLive pool.old into.now }
+    requires back { IsLive pool.old rest }
+    requires apart { into.now ≢ rest }
+    requires place { IsPlace (chain_of pool.old into.now) last }
+    requires last { last.index + 1 ≡ length (chain_of pool.old into.now).entries }
+    requires len { counted ≡ true → len ≡ length (string (chain_of pool.old rest)) }
+    ensures { pool.new ≡ with_chain (without pool.old rest) into.now
+        (joined (chain_of pool.old into.now) (chain_of pool.old rest)) }
+{
+    if counted {
+        pool.link_counted(into, last, rest, len);
+    } else {
+        pool.link(into, last, rest);
+    }
 }

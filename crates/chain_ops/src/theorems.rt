@@ -5,7 +5,8 @@ ghost use Rattle.mbuf_chain.specs.Owners.{Moves};
 ghost use Rattle.chain_ops.specs.Makes.{Makes};
 ghost use Rattle.flat_model.specs.Weight.{Covers, IsSubBag, ◌⊕◌};
 ghost use Rattle.flat_model.specs.Layout.{weight_of, entries_met, user, sent, wire, is_cluster, laid_on};
-ghost use Rattle.chain_ops.specs.Copies.{copied};
+ghost use Rattle.chain_ops.specs.Copies.{copied, copied_all};
+ghost use Rattle.chain_ops.specs.Rooms.{room_low};
 ghost use Rattle.chain_ops.specs.Joins.{cat};
 ghost use Rattle.chain_ops.specs.Prepends.{prepended};
 ghost use Rattle.chain_ops.specs.Stored.{stored_first};
@@ -18,6 +19,14 @@ pub fn copy_weight()
     ensures { (header : Bool) (es : List Entry) (off len : ℕ) → HaveBytes es → 0 < len →
         weight_of (laid (copied header es off len))
         ≡ weight_of (entries_met (laid es) off (off + len)) }
+{}
+
+/// A copy of all has the layout of the original, and its bytes.
+pub fn copy_all()
+    ensures layout { (header : Bool) (es : List Entry) →
+        laid (copied_all (room_low header) es) ≡ laid es }
+    ensures bytes { (header : Bool) (es : List Entry) →
+        flat_bytes (copied_all (room_low header) es) ≡ flat_bytes es }
 {}
 
 /// A join takes no more mbufs and refers to no other cluster than the two chains, and has room for its bytes.

@@ -8,7 +8,7 @@ use Rattle.mbuf_chain.specs.Steps.{narrowed, first_part}
 use Rattle.mbuf_chain.proofs.Laws.Owners.{live_here, live_adds, shown_adds, shown_with, kept_with, chain_here, chain_left}
 use Rattle.mbuf_chain.proofs.Laws.Steps.{live_beside, live_shown, place_after, apart}
 use Rattle.chain_ops.specs.Splits.{rest_of, split_back, split_need}
-use Rattle.chain_ops.proofs.Lists.{none_behind}
+use Rattle.chain_ops.proofs.Lists.{none_behind, flat_at}
 use Rattle.chain_ops.proofs.Laws.Makes.{makes_new, makes_as, makes_held, makes_mbufs, makes_kept}
 use Rattle.chain_ops.proofs.Laws.Strings.{split_front_bytes, split_back_bytes}
 use Rattle.chain_ops.proofs.Laws.Steps.{place_in, kept_adds}
@@ -93,11 +93,11 @@ last-last-requires c =
     let cut = two_first _ (first_part (c.find_cut-off.result.0.index + 1) (chain_of c.narrow.new.self c.args.chain.now)) two refl in
     live_beside _ _ _ _ c.cut-back.ensures _ cut.live_second
 
-pub link-requires-clause-back : goal.link-requires-clause-back
-link-requires-clause-back c = live_adds c.cut-back.ensures
+pub link_rest-requires-clause-back : goal.link_rest-requires-clause-back
+link_rest-requires-clause-back c = live_adds c.cut-back.ensures
 
-pub link-requires-clause-apart : goal.link-requires-clause-apart
-link-requires-clause-apart c =
+pub link_rest-requires-clause-apart : goal.link_rest-requires-clause-apart
+link_rest-requires-clause-apart c =
     let two = two_first c.narrow.new.self _ (two_new c.args.chain.now c.requires.live c.in_ok-head.ensures.ok) c.narrow.ensures in
     let cut = two_first _ (first_part (c.find_cut-off.result.0.index + 1) (chain_of c.narrow.new.self c.args.chain.now)) two refl in
     apart _ _ _ _ c.cut-back.ensures _ cut.live_second
@@ -130,6 +130,34 @@ returns-then-is_none-clause-ok c =
       entries = now ∙ sym (take_all (i + 1) (slice_set v.entries i (narrowed e 0 off)) (omega (arith, end, length-set v.entries i (narrowed e 0 off)))) ∙ front_done v c.find_cut-off.result.0 off place c.find_cut-off.ensures.within ∙ sym c.find_cut-off.ensures.front;
     }
 
+pub link_rest-requires-clause-len : goal.link_rest-requires-clause-len
+link_rest-requires-clause-len c = λ counted.
+    let p : PoolView = c.args.pool.now in
+    let k : ℕ = c.args.chain.now in
+    let v : ChainView = chain_of p k in
+    let q : PoolView = c.new_head.new.pool in
+    let r : PoolView = c.narrow.new.self in
+    let i : ℕ = c.find_cut-off.result.0.index in
+    let off : ℕ = c.find_cut-off.result.1 in
+    let e : Entry = entry_of v i in
+    let place = c.find_cut-off.ensures.place in
+    let m = c.in_ok-head.ensures.ok in
+    let kept_q = makes_kept k m c.requires.live in
+    let now = entries_now q r k i _ c.narrow.ensures ∙ ap (λ (x : ChainView). slice_set x.entries i (narrowed (entry_of x i) 0 off)) kept_q in
+    let back = ap (λ (x : ChainView). x.entries) (shown_adds c.cut-back.ensures) ∙ ap (λ (es : List Entry). drop (i + 1) es) now ∙ drop-set-lt (i + 1) v.entries i (narrowed e 0 off) (omega arith) in
+    omega (
+      arith,
+      c.counted_len-counted.ensures counted,
+      ap (λ (es : List Entry). length (flat_bytes es)) back,
+      flat_at v c.find_cut-off.result.0 place,
+      c.find_cut-off.ensures.left,
+      c.find_cut-off.ensures.within,
+      ap (λ (x : Segment). x.len) c.segment-len.ensures.value,
+      c.saturating_sub-moved.ensures,
+      c.saturating_sub.ensures,
+      c.saturating_sub-rest.ensures,
+    )
+
 pub returns-clause-ok : goal.returns-clause-ok
 returns-clause-ok c =
     let p : PoolView = c.args.pool.now in
@@ -138,7 +166,7 @@ returns-clause-ok c =
     let q : PoolView = c.new_head.new.pool in
     let r : PoolView = c.narrow.new.self in
     let s : PoolView = c.cut-back.new.self in
-    let t : PoolView = c.link.new.self in
+    let t : PoolView = c.link_rest.new.pool in
     let d : ℕ = c.in_ok-head.head in
     let b : ℕ = c.cut-back.result in
     let i : ℕ = c.find_cut-off.result.0.index in
@@ -151,13 +179,13 @@ returns-clause-ok c =
     let two = two_first r _ (two_new k c.requires.live m) c.narrow.ensures in
     let part : ChainView = first_part (i + 1) (chain_of r k) in
     let cut = two_first (with_chain r k part) part two refl in
-    let fin = two_parts p t k d (two_moved s t b part _ _ two c.cut-back.ensures c.link.ensures.change) in
+    let fin = two_parts p t k d (two_moved s t b part _ _ two c.cut-back.ensures c.link_rest.ensures) in
     let now = entries_now q r k i _ c.narrow.ensures ∙ ap (λ (x : ChainView). slice_set x.entries i (narrowed (entry_of x i) 0 off)) kept_q in
     let here : chain_of t k ≡ part =
-    kept_with _ t d _ k c.link.ensures.change two.apart ∙ chain_left s b k (apart _ _ _ _ c.cut-back.ensures k cut.live_first) ∙ kept_adds _ s b k _ c.cut-back.ensures cut.live_first ∙ chain_here r k part in
+    kept_with _ t d _ k c.link_rest.ensures two.apart ∙ chain_left s b k (apart _ _ _ _ c.cut-back.ensures k cut.live_first) ∙ kept_adds _ s b k _ c.cut-back.ensures cut.live_first ∙ chain_here r k part in
     let head : chain_of s d ≡ chain_of q d =
     kept_adds _ s b d _ c.cut-back.ensures cut.live_second ∙ kept_with r (with_chain r k part) k part d refl (λ x. two.apart (sym x)) ∙ kept_with q r k _ d c.narrow.ensures (λ x. two.apart (sym x)) in
-    let shown = shown_with _ t d _ c.link.ensures.change in
+    let shown = shown_with _ t d _ c.link_rest.ensures in
     let back = ap (λ (x : ChainView). x.entries) (shown_adds c.cut-back.ensures) ∙ ap (λ (es : List Entry). drop (i + 1) es) now ∙ drop-set-lt (i + 1) v.entries i (narrowed e 0 off) (omega arith) in
     let front' = ap (λ (x : ChainView). x.entries) head ∙ m.entries in
     record {

@@ -1,4 +1,4 @@
-use Rattle.chain_ops.proofs.CopyWeights.{copied_weight}
+use Rattle.chain_ops.proofs.Laws.Weights.{copied_weight}
 use Rattle.chain_ops.proofs.theorems.copy_weight.Goals as goal
 
 pub returns : goal.returns

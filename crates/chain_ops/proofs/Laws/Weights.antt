@@ -1,14 +1,14 @@
 -- What the operations make of a chain's weight, in the words of the flat machine.
-use Rattle.std.proofs.Common.{◌≡◌, ℕ, ◌+◌, ◌-◌, ◌<◌, ◌≤◌, min, max, Bool, List, [], ◌∷◌, length, map, Option, refl, sym, ap, ◌∙◌, arith, inl, inr}
+use Rattle.std.proofs.Common.{◌≡◌, ℕ, ◌+◌, ◌-◌, ◌<◌, ◌≤◌, min, max, Bool, List, [], ◌∷◌, length, map, Option, refl, sym, ap, ◌∙◌, arith, inl, inr, take}
 use Rattle.std.specs.Prelude.{◌⊎◌, filter_map}
 use Rattle.std.specs.List.{AllByRecursion, cons_option}
 use Rattle.std.proofs.lemmas.Bool.{cases_lt, lt-ltb, le-ltb, cond-true, cond-false, ne_eqb}
-use Rattle.std.proofs.lemmas.List.{length-map}
+use Rattle.std.proofs.lemmas.List.{length-map, take_all}
 use Rattle.mbuf_chain.specs.Chain.{Entry}
 use Rattle.flat_model.specs.Layout as flat
 use Rattle.flat_model.specs.Layout.{weight_of, entries_met, meets_from}
 use Rattle.chain_ops.specs.Rooms.{room_low}
-use Rattle.chain_ops.specs.Copies.{Position, position_of, copied_from, copied}
+use Rattle.chain_ops.specs.Copies.{Position, position_of, copied_from, copied, copied_all}
 use Rattle.chain_ops.specs.Weights.{laid}
 use Rattle.chain_ops.proofs.Lists.{position-stays, position-passes, copied_none}
 
@@ -94,3 +94,10 @@ pub copied_weight : (header : Bool) (es : List Entry) (off len : ℕ) → AllByR
     → weight_of (laid (copied header es off len)) ≡ weight_of (entries_met (laid es) off (off + len))
 copied_weight header es off len some l =
     same_weight _ _ (sym (from_position (room_low header) es 0 off (off + len) off len some l (omega arith) refl))
+
+-- a copy of all has the layout of the original
+pub copied_all-laid : (room : ℕ) (es : List Entry) → laid (copied_all room es) ≡ laid es
+copied_all-laid room [] = refl
+copied_all-laid room (e ∷ es) =
+    let size : length (take (length e.bytes) e.bytes) ≡ length e.bytes = ap (λ (xs : List ℕ). length xs) (take_all (length e.bytes) e.bytes (omega arith)) in
+    λ j. let x : flat.Entry = record { size = size j; cluster = e.cluster } in x ∷ copied_all-laid 20 es j
