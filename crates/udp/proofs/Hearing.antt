@@ -1,0 +1,48 @@
+-- Who hears a datagram, in each machine that has the blocks.
+use Rattle.std.proofs.Common.{◌≡◌, ℕ, zero, suc, ◌+◌, ◌<◌, ◌≤◌, Bool, true, false, cond, List, [], ◌∷◌, map, get_or, length, All, Option, Some, None, ◌==◌, refl, sym, ap, ◌∙◌, arith}
+use Rattle.std.specs.Prelude.{option_to_list}
+use Rattle.flat_model.specs.Weight.{times}
+use Rattle.flat_model.specs.Lookup.{Sought, best, receivers}
+use Rattle.flat_model.specs.State.{State, Socket}
+use Rattle.flat_model.proofs.Laws.{count_cons}
+use Rattle.pcb_table.specs.declared.block.Block.{Block}
+use Rattle.pcb_table.specs.Found.{Finds}
+use Rattle.pcb_table.specs.Table.{Queues, Table, block_at, sockets_with, socket_with}
+use Rattle.udp.specs.Datagrams.{AreHearers}
+use Rattle.udp.specs.Inside.{broadcasts}
+
+module _ (t : Table) (destination : ℕ) (q : Sought) (one : broadcasts t destination ≡ false) where
+  -- one is found
+  pub one_hearer : (fd : ℕ) (fds : List ℕ) → Finds (best q) t (Some fd) → fds ≡ fd ∷ [] → AreHearers t destination q fds
+  one_hearer fd fds finds is = record {
+    found = finds.0 ∷ [];
+    named = is ∙ ap (λ k. k ∷ []) (sym finds.1);
+    once = λ k. once k;
+    held = λ k d lt. held k d lt;
+    sockets = λ rest queues.
+        (λ i. cond (one i) (receivers q (sockets_with queues t)) (option_to_list (best q (sockets_with queues t))))
+        ∙ ap option_to_list (finds.3 queues);
+  }
+    where
+      once : (k : ℕ) → times k fds ≤ 1
+      once k = omega (arith, ap (times k) is, count_cons (λ j. j == k) fd [], most (fd == k))
+        where
+          most : (b : Bool) → cond {A = ℕ} b 1 0 ≤ 1
+          most true = omega arith
+          most false = omega arith
+
+      held : (k : ℕ) (d : Block) → k < 1 → block_at (get_or (finds.0 ∷ []) k d).fd t ≡ Some (get_or (finds.0 ∷ []) k d)
+      held zero d lt = ap (λ j. block_at j t) finds.1 ∙ finds.2
+      held (suc k) d lt = absurd (omega arith)
+
+  -- none is
+  pub no_hearer : (fds : List ℕ) → Finds (best q) t None → fds ≡ [] → AreHearers t destination q fds
+  no_hearer fds finds is = record {
+    found = [];
+    named = is;
+    once = λ k. omega (arith, ap (times k) is);
+    held = λ k d lt. absurd (omega arith);
+    sockets = λ rest queues.
+        (λ i. cond (one i) (receivers q (sockets_with queues t)) (option_to_list (best q (sockets_with queues t))))
+        ∙ ap option_to_list (finds queues);
+  }

@@ -1,0 +1,5 @@
+pub mod Laws
+mod Hearing
+mod Cutting
+mod Summing
+mod Building

@@ -1,0 +1,18 @@
+use Rattle.std.proofs.Common.{pos, ap, ◌∙◌}
+use Rattle.mbuf_chain.specs.Chain.{ChainView, chain_of, with_chain}
+use Rattle.mbuf_chain.proofs.Laws.Owners.{live_with, shown_with}
+use Rattle.chain_ops.specs.Trims.{without_first}
+use Rattle.udp.specs.Inside.{cut_to}
+use Rattle.udp.proofs.Cutting.{with_twice}
+use Rattle.udp.proofs.arrival.trim.Goals as goal
+
+pub m_adj-requires : goal.m_adj-requires
+m_adj-requires c = live_with _ _ _ _ _ c.drop_excess.ensures c.requires.live
+
+pub returns : goal.returns
+returns c =
+    let p = c.args.pool.now in
+    let k = c.args.chain.now in
+    let v : ChainView = cut_to c.args.len (chain_of p k) in
+    with_twice p c.drop_excess.new.pool c.m_adj.new.pool k v _ c.drop_excess.ensures c.m_adj.ensures.change
+    ∙ ap (λ (w : ChainView). with_chain p k (record w { entries = without_first 8 w.entries })) (shown_with p c.drop_excess.new.pool k v c.drop_excess.ensures)

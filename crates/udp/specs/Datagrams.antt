@@ -1,0 +1,82 @@
+-- A datagram in a chain: what is written of it when it's sent, and what becomes of it when it came (RFC 768;
+-- `udp_output` and `udp_input` of TCP/IP Illustrated, volume 2, chapter 23).
+use Rattle.std.specs.Prelude.{◌≡◌, ◌⊎◌, ℕ, ◌<◌, ◌≤◌, ◌==◌, if◌then◌else◌, List, [], ◌∷◌, length, take, drop, map, All, Option, Some, None}
+use Rattle.params.specs.declared.TheConstants.{IP_HEADER, IP_UDP_HEADERS, PROTOCOL_UDP, UDP_HEADER}
+use Rattle.flat_model.specs.Weight.{times}
+use Rattle.flat_model.specs.State.{State}
+use Rattle.flat_model.specs.Header.{udp, udp_fault, udp_bytes, u16_at}
+use Rattle.flat_model.specs.Lookup.{Sought}
+use Rattle.flat_model.specs.Arrival.{hearers, no_port}
+use Rattle.flat_model.specs.declared.address.Addr.{Addr}
+use Rattle.flat_model.specs.declared.counters.Why.{Why}
+use Rattle.flat_model.specs.declared.counters.Why.TheVariants.{NoProtocol}
+use Rattle.mbuf_chain.specs.Chain.{ChainView, PoolView, chain_of, entry_of, string, with_chain, without}
+use Rattle.mbuf_chain.specs.Steps.{overwritten, with_entry}
+use Rattle.chain_ops.specs.Trims.{only_first, without_first}
+use Rattle.ip_out.specs.declared.head.IpHead.{IpHead}
+use Rattle.pcb_table.specs.declared.block.Block.{Block}
+use Rattle.pcb_table.specs.Table.{Queues, Table, block_at, machine, packet_sought, socket_with}
+use Rattle.udp.specs.declared.arrival.Outcome.{Outcome}
+use Rattle.udp.specs.declared.arrival.Outcome.TheVariants.{Deliver, Drop}
+
+-- ---- sent
+
+-- a packet whose UDP header is written: 8 bytes of the first mbuf, behind the 20 of the IP header
+abbrev pub built : ℕ → ℕ → ℕ → ℕ → ChainView → ChainView
+built src dst sport dport v = with_entry v 0 (overwritten (entry_of v 0) IP_HEADER (take UDP_HEADER (udp src dst sport dport (drop IP_UDP_HEADERS (string v)))))
+
+-- ---- come
+
+-- a datagram of n bytes cut to its data: what stands behind them goes, and then the header; no mbuf goes
+abbrev pub without_header : ℕ → ChainView → ChainView
+without_header n v = record v { entries = without_first UDP_HEADER (only_first n v.entries) }
+
+abbrev pub sender_of : IpHead → List ℕ → Addr
+sender_of h s = record { ip = h.src; port = u16_at 0 s }
+
+-- what a datagram asks for: its four values
+abbrev pub sought_by : IpHead → List ℕ → Sought
+sought_by h s = packet_sought h.dst (u16_at 2 s) (sender_of h s)
+
+-- what ends it before anybody is looked for
+abbrev pub fault_of : IpHead → List ℕ → Option Why
+fault_of h s = if h.proto == PROTOCOL_UDP then udp_fault h.src h.dst s else Some NoProtocol
+
+-- In each machine that has these blocks the sockets of these descriptors hear it, in this order, and no others.
+pub record AreHearers (t : Table) (destination : ℕ) (q : Sought) (fds : List ℕ) : Type 0 where
+  pub found : List Block
+  pub named : fds ≡ map (λ b. b.fd) found
+  pub once : (fd : ℕ) → times fd fds ≤ 1
+  pub held : All (λ b. block_at b.fd t ≡ Some b) found
+  pub sockets : (rest : State) (queues : Queues) → hearers (machine rest queues t) destination q ≡ map (socket_with queues) found
+
+-- From p to q, chain c became the data of a datagram for these sockets.
+pub record IsDelivered (p : PoolView) (c : ℕ) (h : IpHead) (t : Table) (q : PoolView) (to : List ℕ) (from : Addr) (d : ℕ) : Type 0 where
+  pub faultless : fault_of h (string (chain_of p c)) ≡ None
+  pub sender : from ≡ sender_of h (string (chain_of p c))
+  pub heard : AreHearers t h.dst (sought_by h (string (chain_of p c))) to
+  pub some : 0 < length to
+  pub same : d ≡ c
+  pub chain : q ≡ with_chain p c (without_header (u16_at 4 (string (chain_of p c))) (chain_of p c))
+  pub bytes : string (chain_of q c) ≡ udp_bytes (string (chain_of p c))
+
+-- nobody hears it, and it's counted so
+pub record IsUnheard (h : IpHead) (t : Table) (s : List ℕ) (why : Why) : Type 0 where
+  pub faultless : fault_of h s ≡ None
+  pub heard : AreHearers t h.dst (sought_by h s) []
+  pub counted : (rest : State) (queues : Queues) → why ≡ no_port (machine rest queues t) h.dst
+
+-- from p to q, chain c was freed, for this cause
+pub record IsDropped (p : PoolView) (c : ℕ) (h : IpHead) (t : Table) (q : PoolView) (why : Why) : Type 0 where
+  pub cause : (fault_of h (string (chain_of p c)) ≡ Some why) ⊎ IsUnheard h t (string (chain_of p c)) why
+  pub freed : q ≡ without p c
+
+-- what becomes of a datagram
+abbrev pub IsInput : PoolView → ℕ → IpHead → Table → PoolView → Outcome → Type 0
+IsInput p c h t q (Deliver to from chain) = IsDelivered p c h t q to.items from chain
+IsInput p c h t q (Drop why) = IsDropped p c h t q why
+
+-- the chains in hand then
+abbrev pub chains_of : Outcome → List ℕ
+chains_of (Deliver to from chain) = chain ∷ []
+chains_of (Drop why) = []

@@ -1,0 +1,161 @@
+//! A datagram that came.
+ghost use Rattle.std.specs.Prelude.{◌≡◌, ◌≤◌, ◌∷◌, [], IfErr, IfOk, All, None, Some, length};
+ghost use Rattle.flat_model.specs.Header.{udp_fault};
+ghost use Rattle.flat_model.specs.Arrival as flat;
+ghost use Rattle.mbuf_chain.specs.Chain.{IsLive, chain_of, string, with_chain, without};
+ghost use Rattle.mbuf_chain.specs.Owners.{Moves};
+ghost use Rattle.pcb_table.specs.Table.{IsDescriptor, packet_sought};
+ghost use Rattle.udp.specs.Datagrams.{AreHearers, IsInput, chains_of, without_header};
+ghost use Rattle.udp.specs.Inside.{broadcasts, cut_to, header_in, unheard};
+
+use crate::header::{Header, read_header};
+use crate::sums::is_right;
+use arrayvec::ArrayVec;
+use chain_ops::m_adj;
+use flat_model::{Addr, Why};
+use ip_out::IpHead;
+use mbuf_chain::{Chain, Pool};
+use params::{IP_MAX_PACKET, LIMITED_BROADCAST, PROTOCOL_UDP, UDP_HEADER};
+use pcb_table::{Pcbs, SOCKETS};
+
+/// What becomes of a datagram. It holds a chain, and so must be spent.
+pub enum Outcome {
+    /// These sockets get it, one or more. The chain has its data, behind the UDP header and no longer than its length
+    /// says.
+    Deliver {
+        /// Their descriptors, the youngest socket first.
+        to: ArrayVec<u32, SOCKETS>,
+        /// The sender.
+        from: Addr,
+        chain: Chain,
+    },
+    /// It ended here, and its chain was freed.
+    Drop(Why),
+}
+
+// The header of a datagram, or the first test that it fails.
+fn examine(pool: &Pool, chain: &Chain, src: u32, dst: u32) -> Result<Header, Why>
+    requires { IsLive pool.now chain.now }
+    ensures ok { IfOk result (λ header. (udp_fault src dst (string (chain_of pool.now chain.now)) ≡ None)
+        × (header ≡ header_in (string (chain_of pool.now chain.now)))) }
+    ensures err { IfErr result (λ why. udp_fault src dst (string (chain_of pool.now chain.now)) ≡ Some why) }
+{
+    let carried = pool.len(chain);
+    if carried < UDP_HEADER {
+        return Err(Why::UdpHeaderDrops);
+    }
+    let header = read_header(pool, chain);
+    if carried < header.len as u32 || (header.len as u32) < UDP_HEADER {
+        return Err(Why::UdpBadLength);
+    }
+    if !is_right(pool, chain, header, src, dst) {
+        return Err(Why::UdpBadSum);
+    }
+    Ok(header)
+}
+
+// Whether the address is one of the two broadcast addresses.
+fn is_broadcast(pcbs: &Pcbs, ip: u32) -> bool
+    ensures { result ≡ broadcasts pcbs.now ip }
+{
+    ip == pcbs.bcast() || ip == LIMITED_BROADCAST
+}
+
+// Who hears a datagram: many for a broadcast, else the best match.
+fn hearers(pcbs: &mut Pcbs, destination: u32, port: u16, source: Addr) -> ArrayVec<u32, SOCKETS>
+    ensures found { AreHearers pcbs.old destination (packet_sought destination port source) result.items }
+    ensures range { All IsDescriptor result.items }
+    ensures blocks { pcbs.new ≡ pcbs.old }
+{
+    if is_broadcast(pcbs, destination) {
+        return pcbs.receivers(destination, port, source);
+    }
+    let mut to = ArrayVec::new();
+    if let Some(fd) = pcbs.lookup(destination, port, source) {
+        to.push(fd);
+    }
+    to
+}
+
+// Takes off what stands behind the first `len` bytes.
+fn drop_excess(pool: &mut Pool, chain: &Chain, len: u16)
+    requires live { IsLive pool.old chain.now }
+    requires most { length (string (chain_of pool.old chain.now)) ≤ IP_MAX_PACKET }
+    requires within { len ≤ length (string (chain_of pool.old chain.now)) }
+    ensures { pool.new ≡ with_chain pool.old chain.now (cut_to len (chain_of pool.old chain.now)) }
+{
+    let excess = pool.len(chain) - len as u32;
+    if excess > 0 {
+        m_adj(pool, chain, -(excess as i32));
+    }
+}
+
+// Leaves the data of a datagram of `len` bytes: what stands behind them goes, and then the header. No mbuf is freed.
+fn trim(pool: &mut Pool, chain: &Chain, len: u16)
+    requires live { IsLive pool.old chain.now }
+    requires most { length (string (chain_of pool.old chain.now)) ≤ IP_MAX_PACKET }
+    requires within { len ≤ length (string (chain_of pool.old chain.now)) }
+    ensures { pool.new ≡ with_chain pool.old chain.now (without_header len (chain_of pool.old chain.now)) }
+{
+    drop_excess(pool, chain, len);
+    m_adj(pool, chain, UDP_HEADER as i32);
+}
+
+/// What becomes of a whole datagram without its IP header, which said `head` (`udp_input` of volume 2, chapter 23).
+/// The chain has at most 65,535 bytes.
+///
+/// The first of these that holds drops it: its protocol isn't UDP (`NoProtocol`); it has fewer than 8 bytes
+/// (`UdpHeaderDrops`); its UDP length is above what is carried, or below 8 (`UdpBadLength`); its checksum is there and
+/// wrong (`UdpBadSum`); nobody hears it (`UdpNoPort`, and `UdpNoPortBroadcast` for the machine's broadcast address and
+/// 255.255.255.255). Its chain is freed then, and nothing else changes.
+///
+/// Else it goes to the socket that the look-up finds, or for those two addresses to all that hear it. Bytes behind the
+/// UDP length and the header are taken off by `m_adj`: the chain keeps its number, its mbufs and its clusters. No
+/// control block changes.
+pub fn input(pool: &mut Pool, chain: Chain, head: IpHead, pcbs: &mut Pcbs) -> Outcome
+    requires live { IsLive pool.old chain }
+    requires most { length (string (chain_of pool.old chain)) ≤ IP_MAX_PACKET }
+    ensures answer { IsInput pool.old chain head pcbs.old pool.new result }
+    ensures moves { Moves pool.old (chain ∷ []) pool.new (chains_of result) }
+    ensures blocks { pcbs.new ≡ pcbs.old }
+{
+    if head.proto != PROTOCOL_UDP {
+        return drop_for(pool, chain, Why::NoProtocol);
+    }
+    let header = match examine(pool, &chain, head.src, head.dst) {
+        Ok(header) => header,
+        Err(why) => return drop_for(pool, chain, why),
+    };
+    let from = Addr {
+        ip: head.src,
+        port: header.source,
+    };
+    let to = hearers(pcbs, head.dst, header.destination, from);
+    if to.is_empty() {
+        let why = no_port(pcbs, head.dst);
+        return drop_for(pool, chain, why);
+    }
+    trim(pool, &chain, header.len);
+    Outcome::Deliver { to, from, chain }
+}
+
+// Frees a chain that ends here.
+fn drop_for(pool: &mut Pool, chain: Chain, why: Why) -> Outcome
+    requires { IsLive pool.old chain }
+    ensures outcome { result ≡ Outcome.Drop why }
+    ensures freed { pool.new ≡ without pool.old chain }
+{
+    pool.free_chain(chain);
+    Outcome::Drop(why)
+}
+
+// How a datagram is counted that nobody hears.
+fn no_port(pcbs: &Pcbs, destination: u32) -> Why
+    ensures { result ≡ unheard pcbs.now destination }
+{
+    if is_broadcast(pcbs, destination) {
+        Why::UdpNoPortBroadcast
+    } else {
+        Why::UdpNoPort
+    }
+}

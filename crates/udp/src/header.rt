@@ -1,0 +1,88 @@
+//! The 8 bytes in front of a datagram.
+ghost use Rattle.std.specs.Prelude.{◌≡◌, ◌+◌, ◌≤◌, ◌++◌, length, drop};
+ghost use Rattle.flat_model.specs.Header.{address_bytes, pseudo_header, two_bytes, u16_at};
+ghost use Rattle.mbuf_chain.specs.Chain.{IsLive, chain_of, string};
+ghost use Rattle.udp.specs.Inside.{header_bytes, header_in};
+
+use byteorder::{BigEndian, ByteOrder};
+use chain_ops::m_copydata;
+use mbuf_chain::{Chain, Pool};
+use params::{PROTOCOL_UDP, PSEUDO_HEADER, UDP_HEADER};
+
+/// Bytes of a header.
+pub(crate) const HEADER: usize = UDP_HEADER as usize;
+
+/// Bytes of a pseudo header.
+const PSEUDO: usize = PSEUDO_HEADER as usize;
+
+/// A header as numbers (RFC 768).
+#[derive(Clone, Copy, Debug, PartialEq, Eq)]
+pub(crate) struct Header {
+    pub(crate) source: u16,
+    pub(crate) destination: u16,
+    // of header and data
+    pub(crate) len: u16,
+    // 0 where there is none
+    pub(crate) sum: u16,
+}
+
+fn field(bytes: &[u8], at: usize) -> u16
+    requires { at + 2 ≤ length bytes.now }
+    ensures { result ≡ u16_at at bytes.now }
+{
+    BigEndian::read_u16(&bytes[at..])
+}
+
+/// What the first 8 bytes of a chain say.
+pub(crate) fn read_header(pool: &Pool, chain: &Chain) -> Header
+    requires live { IsLive pool.now chain.now }
+    requires header { UDP_HEADER ≤ length (string (chain_of pool.now chain.now)) }
+    ensures { result ≡ header_in (string (chain_of pool.now chain.now)) }
+{
+    let mut bytes = [0; HEADER];
+    m_copydata(pool, chain, 0, &mut bytes);
+    Header {
+        source: field(&bytes, 0),
+        destination: field(&bytes, 2),
+        len: field(&bytes, 4),
+        sum: field(&bytes, 6),
+    }
+}
+
+// Writes two numbers of 16 bits, one behind the other.
+fn put_pair(bytes: &mut [u8], first: u16, second: u16)
+    requires { 4 ≤ length bytes.old }
+    ensures { bytes.new ≡ (two_bytes first ++ two_bytes second) ++ drop 4 bytes.old }
+{
+    BigEndian::write_u16(bytes, first);
+    BigEndian::write_u16(&mut bytes[2..], second);
+}
+
+// Writes two addresses, one behind the other.
+fn put_addresses(bytes: &mut [u8], source: u32, destination: u32)
+    requires { 8 ≤ length bytes.old }
+    ensures { bytes.new ≡ address_bytes source destination ++ drop 8 bytes.old }
+{
+    BigEndian::write_u32(bytes, source);
+    BigEndian::write_u32(&mut bytes[4..], destination);
+}
+
+/// The bytes of a header.
+pub(crate) fn to_bytes(header: Header) -> [u8; 8]
+    ensures { result ≡ header_bytes header }
+{
+    let mut bytes = [0; HEADER];
+    put_pair(&mut bytes, header.source, header.destination);
+    put_pair(&mut bytes[4..], header.len, header.sum);
+    bytes
+}
+
+/// What the checksum covers in front of the header, of a datagram of `len` bytes (RFC 768).
+pub(crate) fn pseudo(src: u32, dst: u32, len: u16) -> [u8; 12]
+    ensures { result ≡ pseudo_header src dst len }
+{
+    let mut bytes = [0; PSEUDO];
+    put_addresses(&mut bytes, src, dst);
+    put_pair(&mut bytes[8..], PROTOCOL_UDP as u16, len);
+    bytes
+}
