@@ -1,12 +1,11 @@
 -- The 8 bytes that are written.
-use Rattle.std.proofs.Common.{◌≡◌, ℕ, ◌+◌, ◌-◌, ◌≤◌, List, [], ◌∷◌, ◌++◌, length, take, drop, refl, sym, ap, ◌∙◌, arith}
+use Rattle.std.proofs.Common.{◌≡◌, ℕ, ◌+◌, ◌≤◌, List, [], ◌∷◌, ◌++◌, length, take, drop, refl, sym, ap, ◌∙◌, arith}
 use Rattle.std.proofs.lemmas.List.{append_assoc, length-append, take-append-le, drop-append-le}
 use Rattle.flat_model.specs.Checksum.{checksum}
-use Rattle.flat_model.specs.Header.{not_zero, pseudo_header, two_bytes, udp}
+use Rattle.flat_model.specs.Header.{not_zero, pseudo_header, udp}
 use Rattle.mbuf_chain.specs.Chain.{ChainView, Entry, entry_of, flat_bytes, no_entry, string}
 use Rattle.mbuf_chain.specs.Steps.{overwritten}
 use Rattle.std.specs.Prelude.{slice_index_or, slice_set}
-use Rattle.udp.specs.declared.header.Header.{Header}
 use Rattle.udp.specs.Datagrams.{built}
 use Rattle.udp.specs.Inside.{header_bytes}
 

@@ -1,8 +1,7 @@
 -- A chain cut to a datagram's data.
-use Rattle.std.proofs.Common.{◌≡◌, ℕ, zero, suc, ◌+◌, ◌-◌, ◌≤◌, min, List, [], ◌∷◌, ◌++◌, length, take, drop, refl, sym, ap, ◌∙◌, arith}
+use Rattle.std.proofs.Common.{◌≡◌, ℕ, ◌+◌, ◌-◌, ◌≤◌, min, List, [], ◌∷◌, ◌++◌, length, take, drop, refl, sym, ap, ◌∙◌, arith}
 use Rattle.std.proofs.lemmas.List.{take_all, length-append}
 use Rattle.mbuf_chain.specs.Chain.{Entry, ChainView, PoolView, IsLive, chain_of, flat_bytes, string, with_chain}
-use Rattle.mbuf_chain.specs.Steps.{narrowed}
 use Rattle.mbuf_chain.proofs.Laws.Maps.{insert-insert, insert_same}
 use Rattle.chain_ops.specs.Trims.{only_first, without_first}
 use Rattle.chain_ops.proofs.Laws.Strings.{only_first_bytes, without_first_bytes}

@@ -1,13 +1,12 @@
 -- Who hears a datagram, in each machine that has the blocks.
-use Rattle.std.proofs.Common.{◌≡◌, ℕ, zero, suc, ◌+◌, ◌<◌, ◌≤◌, Bool, true, false, cond, List, [], ◌∷◌, map, get_or, length, All, Option, Some, None, ◌==◌, refl, sym, ap, ◌∙◌, arith}
+use Rattle.std.proofs.Common.{◌≡◌, ℕ, zero, suc, ◌<◌, ◌≤◌, Bool, true, false, cond, List, [], ◌∷◌, get_or, Some, None, ◌==◌, sym, ap, ◌∙◌, arith}
 use Rattle.std.specs.Prelude.{option_to_list}
 use Rattle.flat_model.specs.Weight.{times}
 use Rattle.flat_model.specs.Lookup.{Sought, best, receivers}
-use Rattle.flat_model.specs.State.{State, Socket}
 use Rattle.flat_model.proofs.Laws.{count_cons}
 use Rattle.pcb_table.specs.declared.block.Block.{Block}
 use Rattle.pcb_table.specs.Found.{Finds}
-use Rattle.pcb_table.specs.Table.{Queues, Table, block_at, sockets_with, socket_with}
+use Rattle.pcb_table.specs.Table.{Table, block_at, sockets_with}
 use Rattle.udp.specs.Datagrams.{AreHearers}
 use Rattle.udp.specs.Inside.{broadcasts}
 

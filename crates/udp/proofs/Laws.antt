@@ -1,16 +1,15 @@
 -- For the layers above: what becomes of a datagram as the flat machine's arrival, and what the steps leave of a chain's
 -- weight.
-use Rattle.std.proofs.Common.{◌≡◌, ℕ, ◌+◌, ◌-◌, ◌<◌, ◌≤◌, min, Bool, true, false, ◌==◌, cond, List, [], ◌∷◌, ◌++◌, map, take, drop, length, filter_map, Option, Some, None, refl, sym, ap, ◌∙◌, subst, arith, inl, inr}
+use Rattle.std.proofs.Common.{◌≡◌, ℕ, ◌+◌, ◌-◌, ◌<◌, ◌≤◌, true, false, ◌==◌, cond, List, [], ◌∷◌, ◌++◌, map, take, drop, length, filter_map, Option, Some, None, refl, sym, ap, ◌∙◌, subst, arith, inl, inr}
 use Rattle.std.specs.Prelude.{◌⊎◌}
 use Rattle.std.proofs.lemmas.List.{length-append, length-drop, length-map, length-take}
 use Rattle.std.proofs.lemmas.Option.{none-some, same_Some}
 use Rattle.flat_model.specs.Weight.{Item, Weight}
 use Rattle.flat_model.specs.Layout as flat
-use Rattle.flat_model.specs.Header.{udp, udp_bytes, udp_fault, u16_at}
-use Rattle.flat_model.specs.Lookup.{Sought}
+use Rattle.flat_model.specs.Header.{udp, udp_bytes, udp_fault}
 use Rattle.flat_model.specs.Ledger.{Ledger}
 use Rattle.flat_model.specs.State.{State, Socket, ends}
-use Rattle.flat_model.specs.Arrival.{Delivers, GoesTo, WholeArrives, hearers, no_port}
+use Rattle.flat_model.specs.Arrival.{Delivers, GoesTo, WholeArrives}
 use Rattle.flat_model.specs.declared.address.Addr.{Addr}
 use Rattle.flat_model.specs.declared.counters.Why.{Why}
 use Rattle.flat_model.specs.declared.counters.Why.TheVariants.{NoProtocol}
@@ -22,7 +21,7 @@ use Rattle.chain_ops.specs.Weights.{laid}
 use Rattle.ip_out.specs.declared.head.IpHead.{IpHead}
 use Rattle.pcb_table.specs.declared.block.Block.{Block}
 use Rattle.pcb_table.specs.Table.{Queues, Table, machine, socket_with}
-use Rattle.udp.specs.Datagrams.{AreHearers, IsDelivered, IsDropped, IsUnheard, built, fault_of, sender_of, sought_by, without_header}
+use Rattle.udp.specs.Datagrams.{IsDelivered, IsDropped, IsUnheard, built, fault_of, sender_of, without_header}
 use Rattle.udp.proofs.Building.{header_length}
 
 -- ---- the flat machine's arrival, for every rest of the machine

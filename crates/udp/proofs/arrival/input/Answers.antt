@@ -1,7 +1,5 @@
-use Rattle.std.proofs.Common.{◌≡◌, ◌<◌, List, [], ◌∷◌, length, cond, Some, None, refl, ap, sym, subst, ◌∙◌, arith, rules}
+use Rattle.std.proofs.Common.{◌≡◌, List, [], ◌∷◌, refl, ap, sym, subst, ◌∙◌, arith, rules}
 use Rattle.std.proofs.lemmas.Grind.{common_steps}
-use Rattle.flat_model.specs.Header.{udp_fault}
-use Rattle.flat_model.specs.declared.counters.Why.TheVariants.{NoProtocol}
 use Rattle.mbuf_chain.specs.Chain.{chain_of, string, with_chain}
 use Rattle.mbuf_chain.specs.Owners.{Moves}
 use Rattle.mbuf_chain.proofs.Laws.Owners.{moves_with, moves_without, shown_with}

@@ -1,4 +1,4 @@
-use Rattle.std.proofs.Common.{pos, ap, ◌∙◌}
+use Rattle.std.proofs.Common.{ap, ◌∙◌}
 use Rattle.mbuf_chain.specs.Chain.{ChainView, chain_of, with_chain}
 use Rattle.mbuf_chain.proofs.Laws.Owners.{live_with, shown_with}
 use Rattle.chain_ops.specs.Trims.{without_first}
