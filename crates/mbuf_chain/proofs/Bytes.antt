@@ -1,45 +1,8 @@
 -- Runs of bytes in a list, and what a write leaves of them.
-use Rattle.std.proofs.Common.{◌≡◌, ℕ, ◌+◌, ◌-◌, ◌≤◌, ◌<◌, ◌⊎◌, inl, inr, List, [], ◌∷◌, ◌++◌, zero, suc, length, take, drop, get_or, refl, sym, ap, ◌∙◌, arith, ext_get_or, length-take-le, length-append, length-drop, take_all, get_or-drop}
-use Rattle.std.proofs.lemmas.List.{drop-drop, get_or-take, get_or_append_left, get_or-append_right}
-use Rattle.raw_cells.specs.Over.{over}
-
-module _ {X : Type 0} (xs : List X) (at : ℕ) (ws : List X) (fits : at + length ws ≤ length xs) where
-  -- a write that fits, with no cut
-  over_is : over xs at ws ≡ take at xs ++ (ws ++ drop (at + length ws) xs)
-  over_is =
-      let rest = drop (at + length ws) xs in
-      take_all (length xs) (take at xs ++ (ws ++ rest)) (omega (arith, length-append (take at xs) (ws ++ rest), length-append ws rest, length-take-le at xs (omega arith), length-drop (at + length ws) xs))
-
-  pub length_over : length (over xs at ws) ≡ length xs
-  length_over =
-      let rest = drop (at + length ws) xs in
-      length-take-le (length xs) (take at xs ++ (ws ++ rest)) (omega (arith, length-append (take at xs) (ws ++ rest), length-append ws rest, length-take-le at xs (omega arith), length-drop (at + length ws) xs))
-
-  -- outside the write each element is as it was, within it the one that was written
-  over_below : (k : ℕ) (d : X) → k < at → get_or (over xs at ws) k d ≡ get_or xs k d
-  over_below k d lt =
-      ap (λ l. get_or l k d) over_is
-      ∙ get_or_append_left (take at xs) (ws ++ drop (at + length ws) xs) d k (omega (arith, length-take-le at xs (omega arith)))
-      ∙ get_or-take at xs k d lt
-
-  over_above : (k : ℕ) (d : X) → at + length ws ≤ k → get_or (over xs at ws) k d ≡ get_or xs k d
-  over_above k d le =
-      let front = length-take-le at xs (omega arith) in
-      let same : at + length ws + (k - at - length ws) ≡ k = omega arith in
-      ap (λ l. get_or l k d) over_is
-      ∙ get_or-append_right (take at xs) (ws ++ drop (at + length ws) xs) at k d front (omega arith)
-      ∙ get_or-append_right ws (drop (at + length ws) xs) (length ws) (k - at) d refl (omega arith)
-      ∙ get_or-drop (at + length ws) xs (k - at - length ws) d
-      ∙ ap (λ j. get_or xs j d) same
-
-  over_in : (j : ℕ) (d : X) → j < length ws → get_or (over xs at ws) (at + j) d ≡ get_or ws j d
-  over_in j d lt =
-      let front = length-take-le at xs (omega arith) in
-      let same : at + j - at ≡ j = omega arith in
-      ap (λ l. get_or l (at + j) d) over_is
-      ∙ get_or-append_right (take at xs) (ws ++ drop (at + length ws) xs) at (at + j) d front (omega arith)
-      ∙ ap (λ k. get_or (ws ++ drop (at + length ws) xs) k d) same
-      ∙ get_or_append_left ws (drop (at + length ws) xs) d j lt
+use Rattle.std.proofs.Common.{◌≡◌, ℕ, ◌+◌, ◌-◌, ◌≤◌, ◌<◌, ◌⊎◌, inl, inr, List, [], ◌∷◌, ◌++◌, zero, suc, length, take, drop, get_or, refl, sym, ap, ◌∙◌, arith, ext_get_or, length-take-le, length-drop, take_all, get_or-drop}
+use Rattle.std.proofs.lemmas.List.{drop-drop, get_or-take}
+use Rattle.mbuf_pool.specs.Cells.{over}
+use Rattle.mbuf_pool.proofs.Laws.{over_below, over_above, over_in, length_over}
 
 -- ---- runs
 pub run_length : (xs : List ℕ) (a n : ℕ) → a + n ≤ length xs → length (take n (drop a xs)) ≡ n
@@ -56,14 +19,14 @@ run_is xs ys a b n fx fy h =
 
 pub run_apart : (xs : List ℕ) (at : ℕ) (ws : List ℕ) (a n : ℕ) → at + length ws ≤ length xs → a + n ≤ length xs → (at + length ws ≤ a) ⊎ (a + n ≤ at) → take n (drop a (over xs at ws)) ≡ take n (drop a xs)
 run_apart xs at ws a n fits le apart =
-    run_is (over xs at ws) xs a a n (omega (arith, length_over xs at ws fits)) le (λ k lt. elim apart [
+    run_is (over xs at ws) xs a a n (omega (arith, length_over xs at ws (omega arith))) le (λ k lt. elim apart [
       | inl after ↦ over_above xs at ws fits (a + k) 0 (omega arith)
       | inr before ↦ over_below xs at ws fits (a + k) 0 (omega arith)
     ])
 
 pub run_written : (xs : List ℕ) (at : ℕ) (ws : List ℕ) → at + length ws ≤ length xs → take (length ws) (drop at (over xs at ws)) ≡ ws
 run_written xs at ws fits =
-    run_is (over xs at ws) ws at 0 (length ws) (omega (arith, length_over xs at ws fits)) (omega arith)
+    run_is (over xs at ws) ws at 0 (length ws) (omega (arith, length_over xs at ws (omega arith))) (omega arith)
     (λ k lt. let e : k ≡ 0 + k = omega arith in over_in xs at ws fits k 0 lt ∙ ap (λ j. get_or ws j 0) e)
     ∙ take_all (length ws) ws (omega arith)
 

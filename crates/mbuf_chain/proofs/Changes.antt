@@ -8,7 +8,7 @@ use Rattle.std.specs.List.{AllByRecursion}
 use Rattle.std.proofs.lemmas.Bool.{cases_lt}
 use Rattle.std.proofs.lemmas.List.{get_or_past}
 use Rattle.std.proofs.lemmas.List.Sums.{sum_by-cons}
-use Rattle.raw_cells.specs.declared.head.Head.{Head}
+use Rattle.mbuf_pool.specs.Cells.{Head}
 use Rattle.mbuf_pool.specs.Store.{StoreView, MbufView, mbuf_of, head_of, cluster_of, is_out, mbufs_out, count_of, IsStore}
 use Rattle.mbuf_chain.specs.Chain.{ChainView, mbufs_of, references_of, refers}
 use Rattle.mbuf_chain.specs.Cells.{weigh, weigh_all, is_at, one, place_bytes, entry_from, entry_at, front_of, refers_at, first_of, read_chain, cells_from, is_pointed, chain_at, view_of, IsLinked, IsFollower, AllFollow, IsChain, IsTotal, IsSound, IsFit, len_at, out_at}
@@ -81,9 +81,6 @@ pub record SameList (s t : StoreView) (l : List ℕ) : Type 0 where
   pub entries : map (entry_at t) l ≡ map (entry_at s) l
   pub counted : (c : ℕ) → weigh (refers_at t c) l ≡ weigh (refers_at s c) l
   pub lens : weigh (len_at t) l ≡ weigh (len_at s) l
-
-pub AllSame : StoreView → StoreView → List ℕ → Type 0
-AllSame s t l = (k : ℕ) → 0 < weigh (is_at k) l → SameCell s t k
 
 pub list_kept : (s t : StoreView) (l : List ℕ) → ((k : ℕ) → 0 < weigh (is_at k) l → SameCell s t k) → SameList s t l
 list_kept s t [] kept = record { entries = refl; counted = λ c. refl; lens = refl }

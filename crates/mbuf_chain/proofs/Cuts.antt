@@ -5,8 +5,7 @@ use Rattle.std.specs.FinMap.{FinMap}
 use Rattle.std.specs.Ordering.{nat_cmp}
 use Rattle.std.specs.Option.{IsSome}
 use Rattle.std.proofs.lemmas.Option.{none-some, same_Some}
-use Rattle.raw_cells.specs.declared.head.Head.{Head}
-use Rattle.raw_cells.specs.declared.head.PacketHeader.{PacketHeader}
+use Rattle.mbuf_pool.specs.Cells.{Head, PacketHeader}
 use Rattle.mbuf_pool.specs.Store.{StoreView, is_out, head_of, SetsHead, IsStore}
 use Rattle.mbuf_chain.specs.Chain.{ChainView, PoolView, alone, chain_of, IsLive, with_chain, Adds}
 use Rattle.mbuf_chain.specs.Steps.{first_part, second_part}

@@ -1,7 +1,7 @@
 -- The first mbufs of a chain, walked along.
 use Rattle.std.proofs.Common.{◌≡◌, ℕ, zero, suc, ◌+◌, ◌-◌, ◌<◌, ◌≤◌, List, [], ◌∷◌, length, Option, None, Some, refl, sym, ap, ◌∙◌, subst, arith, take, drop, take-append-drop, slice_index, true}
 use Rattle.std.specs.Option.{IsSome}
-use Rattle.raw_cells.specs.declared.head.Head.{Head}
+use Rattle.mbuf_pool.specs.Cells.{Head}
 use Rattle.mbuf_pool.specs.Store.{StoreView, is_out, head_of, IsStore}
 use Rattle.mbuf_chain.specs.Cells.{weigh, one, len_at, cells_from, IsWhole, last_of}
 use Rattle.mbuf_chain.proofs.Lists.{walk_on, walk_end, few_cells, bytes_bound}

@@ -1,8 +1,7 @@
 -- An mbuf that shows more bytes, once they were written beside its own.
 use Rattle.std.proofs.Common.{◌≡◌, ℕ, zero, suc, Bool, true, false, [], ◌∷◌, slice_index, ◌+◌, ◌-◌, ◌<◌, ◌≤◌, cond, List, length, Option, None, Some, is_some, refl, sym, ap, ◌∙◌, subst, arith, inl, inr}
 use Rattle.std.proofs.lemmas.Bool.{cases_eq, eq-eqb, ne_eqb}
-use Rattle.raw_cells.specs.declared.head.Head.{Head}
-use Rattle.raw_cells.specs.declared.head.PacketHeader.{PacketHeader}
+use Rattle.mbuf_pool.specs.Cells.{Head, PacketHeader}
 use Rattle.mbuf_pool.specs.Store.{StoreView, head_of, is_out}
 use Rattle.mbuf_chain.specs.declared.place.Place.{Place}
 use Rattle.mbuf_chain.specs.Chain.{Entry, chain_of, IsLive, IsPlace, with_chain, entry_of, room_start, room_end, front_room, back_room}

@@ -4,10 +4,7 @@ use Rattle.std.specs.List.{AllByRecursion}
 use Rattle.std.proofs.lemmas.Bool.{cases_eq}
 use Rattle.std.proofs.lemmas.Option.{none-some, same_Some}
 use Rattle.std.proofs.lemmas.List.{length-set}
-use Rattle.raw_cells.specs.declared.head.Head.{Head}
-use Rattle.raw_cells.specs.declared.head.PacketHeader.{PacketHeader}
-use Rattle.raw_cells.specs.Cells.{head_size}
-use Rattle.raw_cells.specs.Over.{over}
+use Rattle.mbuf_pool.specs.Cells.{Head, PacketHeader, head_size, over}
 use Rattle.mbuf_pool.specs.Store.{StoreView, MbufView, ClusterView, is_out, mbuf_of, head_of, cluster_of, count_of, mbufs_out, with_mbuf, SetsHead, IsStore}
 use Rattle.mbuf_chain.specs.declared.place.Place.{Place}
 use Rattle.mbuf_chain.specs.Chain.{Entry, Front, ChainView, PoolView, chain_of, IsLive, with_chain, entry_of, IsPlace}

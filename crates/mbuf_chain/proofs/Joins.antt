@@ -8,8 +8,7 @@ use Rattle.std.specs.List.{AllByRecursion}
 use Rattle.std.proofs.lemmas.Bool.{cases_eq, cases_lt}
 use Rattle.std.proofs.lemmas.Option.{none-some, same_Some, get_or_from_slice_get}
 use Rattle.std.proofs.lemmas.List.{length-append, map-append}
-use Rattle.raw_cells.specs.declared.head.Head.{Head}
-use Rattle.raw_cells.specs.declared.head.PacketHeader.{PacketHeader}
+use Rattle.mbuf_pool.specs.Cells.{Head, PacketHeader}
 use Rattle.mbuf_pool.specs.Store.{StoreView, is_out, head_of, SetsHead, IsStore}
 use Rattle.mbuf_chain.specs.declared.place.Place.{Place}
 use Rattle.mbuf_chain.specs.Chain.{Front, ChainView, chain_of, IsLive, IsPlace, with_chain, without, string, flat_bytes, alone}

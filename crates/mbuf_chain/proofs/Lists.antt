@@ -9,6 +9,7 @@ use Rattle.std.proofs.lemmas.Bool.{cases_lt, cases_eq, cases_Bool, eq-eqb, ne_eq
 use Rattle.std.proofs.lemmas.List.Sums.{count_by-le-length}
 use Rattle.std.proofs.lemmas.Option.{none-some, same_Some}
 use Rattle.std.proofs.lemmas.List.{get_or_past}
+use Rattle.mbuf_pool.specs.Cells.{Head}
 use Rattle.mbuf_pool.specs.Store.{StoreView, MbufView, head_of, is_out, mbufs_out}
 use Rattle.mbuf_chain.specs.Chain.{ChainView}
 use Rattle.mbuf_chain.specs.Cells.{weigh, weigh_all, is_at, one, first_of, read_chain, walk, cells_from, is_pointed, chain_at, IsLinked, IsChain, IsSound, IsFit, IsTotal, IsTotalBy, IsWhole, len_at}
@@ -296,7 +297,7 @@ next_cell s at whole = go (cells_from s (Some at)) whole (few_cells s (Some at))
 pub no_cells : (s : StoreView) → cells_from s None ≡ []
 no_cells s = walk_is (length s.mbufs) s None [] refl (omega arith)
 
-pub high_small : (h : Rattle.raw_cells.specs.declared.head.Head.Head) → IsFit h → h.len ≤ 2048
+pub high_small : (h : Head) → IsFit h → h.len ≤ 2048
 high_small h fit = omega (arith, fit.high, go h.cluster)
   where
     go : (o : Option ℕ) → cond {A = ℕ} (is_some o) 2048 128 ≤ 2048
@@ -325,16 +326,16 @@ pub walk_end : (s : StoreView) (at : Option ℕ) → at ≡ None → cells_from 
 walk_end s at is = ap (cells_from s) is ∙ no_cells s
 
 -- a walk that has added up so far goes on
-pub record Goes (s : StoreView) (f : ℕ → ℕ) (all total : ℕ) (i : ℕ) (h : Rattle.raw_cells.specs.declared.head.Head.Head) : Type 0 where
+pub record Goes (s : StoreView) (f : ℕ → ℕ) (all total : ℕ) (i : ℕ) (h : Head) : Type 0 where
   pub whole : IsWhole s h.next
   pub sum : total + f i + weigh f (cells_from s h.next) ≡ all
   pub shorter : (at : Option ℕ) → at ≡ Some i → IsWhole s at → weigh one (cells_from s h.next) < weigh one (cells_from s at)
 
-pub goes : (s : StoreView) (f : ℕ → ℕ) (all total : ℕ) (at : Option ℕ) (i : ℕ) (h : Rattle.raw_cells.specs.declared.head.Head.Head) → at ≡ Some i → IsWhole s at → total + weigh f (cells_from s at) ≡ all → h ≡ head_of s i → Goes s f all total i h
+pub goes : (s : StoreView) (f : ℕ → ℕ) (all total : ℕ) (at : Option ℕ) (i : ℕ) (h : Head) → at ≡ Some i → IsWhole s at → total + weigh f (cells_from s at) ≡ all → h ≡ head_of s i → Goes s f all total i h
 goes s f all total at i h is whole sum head =
     let w = walk_on s at i is whole in
     record {
-      whole = subst (IsWhole s) (ap (λ (y : Rattle.raw_cells.specs.declared.head.Head.Head). y.next) (sym head)) w.whole;
-      sum = omega (arith, sum, ap (weigh f) w.cells, ap (λ (y : Rattle.raw_cells.specs.declared.head.Head.Head). weigh f (cells_from s y.next)) head);
-      shorter = λ at' is' whole'. omega (arith, ap (weigh one) (walk_on s at' i is' whole').cells, ap (λ (y : Rattle.raw_cells.specs.declared.head.Head.Head). weigh one (cells_from s y.next)) head);
+      whole = subst (IsWhole s) (ap (λ (y : Head). y.next) (sym head)) w.whole;
+      sum = omega (arith, sum, ap (weigh f) w.cells, ap (λ (y : Head). weigh f (cells_from s y.next)) head);
+      shorter = λ at' is' whole'. omega (arith, ap (weigh one) (walk_on s at' i is' whole').cells, ap (λ (y : Head). weigh one (cells_from s y.next)) head);
     }

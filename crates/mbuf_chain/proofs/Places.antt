@@ -3,7 +3,7 @@ use Rattle.std.proofs.Common.{◌≡◌, ◌≢◌, ℕ, zero, suc, ◌+◌, ◌
 use Rattle.std.specs.FinMap as finmap
 use Rattle.std.proofs.lemmas.Option.{none-some, slice_get_within}
 use Rattle.std.proofs.lemmas.List.{length-append}
-use Rattle.raw_cells.specs.declared.head.Head.{Head}
+use Rattle.mbuf_pool.specs.Cells.{Head}
 use Rattle.mbuf_pool.specs.Store.{StoreView, head_of}
 use Rattle.mbuf_chain.specs.declared.place.Place.{Place}
 use Rattle.mbuf_chain.specs.declared.place.Segment.{Segment}

@@ -1,7 +1,6 @@
 -- A walk that reads the mbufs of a live chain.
 use Rattle.std.proofs.Common.{◌≡◌, ℕ, ◌<◌, true, cond, List, ◌∷◌, length, map, take, drop, Option, None, Some, is_some, refl, sym, ap, ◌∙◌, subst, arith}
-use Rattle.raw_cells.specs.declared.head.Head.{Head}
-use Rattle.raw_cells.specs.Cells.{head_size}
+use Rattle.mbuf_pool.specs.Cells.{Head, head_size}
 use Rattle.mbuf_pool.specs.Store.{StoreView, is_out, mbuf_of, head_of, cluster_of, count_of, IsRoom, IsPart, bytes_in, read}
 use Rattle.mbuf_chain.specs.Chain.{Entry, ChainView, chain_of, entry_of, IsLive, IsPlace, layout_of}
 use Rattle.mbuf_chain.specs.declared.place.Place.{Place}

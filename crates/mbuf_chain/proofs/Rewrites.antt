@@ -6,7 +6,7 @@ use Rattle.std.specs.FinMap.{FinMap}
 use Rattle.std.specs.Option.{option_eq}
 use Rattle.std.specs.List.{AllByRecursion}
 use Rattle.std.proofs.lemmas.Bool.{cases_eq, eq-eqb, ne_eqb}
-use Rattle.raw_cells.specs.declared.head.Head.{Head}
+use Rattle.mbuf_pool.specs.Cells.{Head}
 use Rattle.mbuf_pool.specs.Store.{StoreView, head_of, is_out, mbufs_out, count_of, IsStore}
 use Rattle.mbuf_chain.specs.Chain.{Front, ChainView, chain_of, with_chain}
 use Rattle.mbuf_chain.specs.Steps.{with_entry}

@@ -5,8 +5,7 @@ use Rattle.std.proofs.lemmas.Bool.{cases_lt, cases_eq, eq-eqb, ne_eqb}
 use Rattle.std.proofs.lemmas.Option.{slice_get_within, get_or_from_slice_get}
 use Rattle.std.proofs.lemmas.List.{get_or_past, length-set, get_or-set_same, get_or-set_other}
 use Rattle.std.proofs.lemmas.List.Sums.{sum_by-set, sum_by-cons}
-use Rattle.raw_cells.specs.declared.head.Head.{Head}
-use Rattle.raw_cells.specs.Over.{over}
+use Rattle.mbuf_pool.specs.Cells.{Head, over}
 use Rattle.mbuf_pool.specs.Store.{StoreView, MbufView, ClusterView, no_mbuf, free_cluster, is_out, mbuf_of, head_of, cluster_of, count_of, mbufs_out, with_mbuf, with_cluster, released, SetsHead, TakesMbuf}
 use Rattle.mbuf_chain.specs.Cells.{weigh, is_at, one, refers_at, out_at, released_in, Taken, Freed, IsFreeable, IsWhole, cells_from}
 use Rattle.mbuf_chain.proofs.Lists.{is_at_same, is_at_other, on, off, bit, out_below, walk_on}
@@ -125,9 +124,6 @@ free_one s t l m i f out known = go (head_of s i).cluster refl
             | inr ne ↦ omega (arith, f.counted c, ap (λ (w : ClusterView). w.count) (cluster_there t d v lt c ne), refers_not s i c d some ne)
           ];
         }
-
-pub freed_none : (s : StoreView) (l : List ℕ) → Freed s s l l
-freed_none s l = record { mbufs = refl; clusters = refl; kept = λ k h. refl; bytes = λ c h. refl; once = λ k. refl; total = refl; counted = λ c. refl }
 
 -- what a loop that gives mbufs back needs of the next one
 pub record Ready (s t : StoreView) (first at : Option ℕ) (i : ℕ) : Type 0 where

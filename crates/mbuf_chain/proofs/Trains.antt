@@ -13,9 +13,9 @@ use Rattle.mbuf_chain.specs.Frames.{SameAt, IsBounded}
 use Rattle.mbuf_chain.specs.Train.{TrainView, Car, no_car, follow, numbers, car_of, cars, car_at, last_number, IsHeld, Inserts, Takes}
 pub use Rattle.mbuf_chain.specs.Kept.{numbers_same, cars_same, held_same, none_left}
 use Rattle.mbuf_chain.specs.Kept.{cars_of_same}
-use Rattle.mbuf_chain.proofs.Laws.Owners.{times_same, times_other, times-append, owned_more, owned_after, live_owned, live_first, apart_first, same_without, same_with, same_adds, same_behind, apart_new, moves_none, then_adds, then_without, shown_with, kept_with, live_with, moves_within, moves_trans, moves_reordered, live_at_most}
+use Rattle.mbuf_chain.proofs.Laws.Owners.{times_same, times_other, times-append, owned_more, owned_after, live_owned, apart_first, same_without, same_with, same_adds, same_behind, apart_new, moves_none, then_adds, then_without, shown_with, kept_with, live_with, moves_within, moves_trans, moves_reordered, live_at_most}
 use Rattle.mbuf_chain.proofs.Laws.Accounts.{owned_at_most}
-use Rattle.mbuf_chain.proofs.Runs.{IsRun, Split, split_at, get_front, times_get, times_twice, passing, run_follow, run_ends, run_of, run_same, run_with, run_without, run_next, last-append, insert-append, remove-append}
+use Rattle.mbuf_chain.proofs.Runs.{IsRun, Split, split_at, get_front, times_get, times_twice, run_follow, run_ends, run_of, run_same, run_with, run_without, run_next, last-append, insert-append, remove-append}
 
 -- ---- a train by the list of its numbers
 record Linked (p : PoolView) (t : TrainView) (xs : List ℕ) : Type 0 where
@@ -123,11 +123,6 @@ get_car p (x ∷ xs) (suc i) c e = get_car p xs i c e
 pub car_is : (p : PoolView) (t : TrainView) (i c : ℕ) → slice_get (numbers p t) i ≡ Some c → car_at p t i ≡ car_of p c
 car_is p t i c e = get_car p (numbers p t) i c e
 
-pub first_car : (p : PoolView) (t : TrainView) → IsHeld p t → 0 < t.len → (c : ℕ) × (t.first ≡ Some c) × (slice_get (numbers p t) 0 ≡ Some c)
-first_car p t h some =
-    let at = passing p t.first (numbers p t) 0 (omega (arith, h.whole)) (run_of p t.len t.first h.whole h.ends) in
-    (at.number, at.is, at.stands)
-
 -- behind a car that isn't the last stands another
 pub behind_car : (p : PoolView) (t : TrainView) (i b : ℕ) → IsHeld p t → slice_get (numbers p t) i ≡ Some b → suc i < t.len → (c : ℕ) × ((chain_of p b).front.behind ≡ Some c) × (slice_get (numbers p t) (suc i) ≡ Some c)
 behind_car p t i b h e more =
@@ -158,13 +153,6 @@ live_behind p t i b h e =
     go us zs all =
         let l : Linked p t ((us ++ b ∷ []) ++ zs) = subst (Linked p t) all (linked_of p t h) in
         live_link p t.first us b zs l.owned l.run
-
-pub live_front : (p : PoolView) (t : TrainView) → IsHeld p t → IfSome t.first (IsLive p)
-live_front p t h = go (numbers p t) (linked_of p t h).run h.owned
-  where
-    go : (xs : List ℕ) → IsRun p t.first xs → IsOwned p xs → IfSome t.first (IsLive p)
-    go [] r o = subst (λ (at : Option ℕ). IfSome at (IsLive p)) (sym r) tt
-    go (x ∷ xs) r o = subst (λ (at : Option ℕ). IfSome at (IsLive p)) (sym r.0) (live_first p x xs o)
 
 -- a pool has fewer chains than a count can tell
 pub room_for : (p : PoolView) (t : TrainView) (c : ℕ) (v : ChainView) (q : PoolView) → IsHeld p t → IsLive p c → times c (numbers p t) ≡ 0 → q ≡ with_chain p c v → IsBounded q → t.len < 65535

@@ -2,12 +2,8 @@
 use Rattle.std.proofs.Common.{◌≡◌, ◌≢◌, ℕ, ◌+◌, ◌-◌, ◌<◌, ◌≤◌, ◌⊎◌, true, cond, List, [], ◌∷◌, ◌++◌, length, Option, None, Some, is_some, unwrap_or, refl, sym, ap, ◌∙◌, subst, arith, inl, inr, take, drop, take_all}
 use Rattle.std.proofs.lemmas.Bool.{cases_eq}
 use Rattle.std.proofs.lemmas.List.{length-set}
-use Rattle.raw_cells.specs.declared.head.Head.{Head}
-use Rattle.raw_cells.specs.declared.part.Part.{Part}
-use Rattle.raw_cells.specs.declared.part.Buffer.{Buffer}
-use Rattle.raw_cells.specs.Over.{over}
+use Rattle.mbuf_pool.specs.Cells.{Head, Part, Buffer, over}
 use Rattle.mbuf_pool.specs.Store.{StoreView, MbufView, ClusterView, no_mbuf, is_out, mbuf_of, head_of, cluster_of, count_of, with_mbuf, with_cluster, with_bytes, bytes_in, read, write, IsRoom, IsStore}
-use Rattle.mbuf_pool.proofs.Laws.{store_written}
 use Rattle.mbuf_chain.specs.declared.place.Place.{Place}
 use Rattle.mbuf_chain.specs.Chain.{Entry, PoolView, chain_of, IsLive, IsPlace, IsUnshared, with_chain, entry_of, room_end}
 use Rattle.mbuf_chain.specs.Steps.{with_entry, with_front, with_back, overwritten}
@@ -147,10 +143,6 @@ room_of s c start n at k counted low high = go (head_of s at.cell).cluster refl
     go : (o : Option ℕ) → (head_of s at.cell).cluster ≡ o → IsRoom s (buffer_of at.cell (head_of s at.cell).cluster) start n
     go None e = subst (λ (o : Option ℕ). IsRoom s (buffer_of at.cell o) start n) (sym e) (k.out, e, omega (arith, low_is (head_of s at.cell) e, low), omega (arith, high, ap (λ (o : Option ℕ). cond {A = ℕ} (is_some o) 2048 128) e))
     go (Some d) e = subst (λ (o : Option ℕ). IsRoom s (buffer_of at.cell o) start n) (sym e) (counted d e, omega (arith, high, ap (λ (o : Option ℕ). cond {A = ℕ} (is_some o) 2048 128) e))
-
--- a store stays one under a write of bytes as long as the part
-pub stays_store : (s : StoreView) (p : Part) (ws : List ℕ) → IsStore s → IsRoom s p.buffer p.start p.len → IsStore (write s p ws)
-stays_store s p ws store room = store_written s p ws store room
 
 pub write_is : (s : StoreView) (p : Part) (ws : List ℕ) → p.len ≡ length ws → write s p ws ≡ with_bytes s p.buffer (over (bytes_in s p.buffer) p.start ws)
 write_is s p ws e = ap (λ (l : List ℕ). with_bytes s p.buffer (over (bytes_in s p.buffer) p.start l)) (take_all p.len ws (omega (arith, e)))

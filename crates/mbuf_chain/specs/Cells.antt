@@ -5,11 +5,7 @@ use Rattle.std.specs.FinMap as finmap
 use Rattle.std.specs.FinMap.{FinMap}
 use Rattle.std.specs.Option.{option_eq}
 use Rattle.std.specs.List.{AllByRecursion}
-use Rattle.raw_cells.specs.declared.head.Head.{Head}
-use Rattle.raw_cells.specs.declared.head.PacketHeader.{PacketHeader}
-use Rattle.raw_cells.specs.declared.part.Buffer.{Buffer}
-use Rattle.raw_cells.specs.declared.part.Buffer.TheVariants.{Mbuf, Cluster}
-use Rattle.raw_cells.specs.Over.{over}
+use Rattle.mbuf_pool.specs.Cells.{Head, PacketHeader, Buffer, Mbuf, Cluster, over}
 use Rattle.mbuf_chain.specs.declared.place.Place.{Place}
 use Rattle.mbuf_pool.specs.Store.{StoreView, is_out, mbuf_of, head_of, cluster_of, count_of, mbufs_out, with_mbuf, with_cluster, released, IsStore}
 use Rattle.mbuf_chain.specs.Chain.{Entry, Front, ChainView, PoolView, chain_of, with_chain}

@@ -1,7 +1,6 @@
 -- What the iterators over a chain give (this project's own).
 use Rattle.std.specs.Prelude.{ℕ, ◌≤◌, List, map, Option}
-use Rattle.raw_cells.specs.declared.head.Head.{Head}
-use Rattle.raw_cells.specs.declared.part.Part.{Part}
+use Rattle.mbuf_pool.specs.Cells.{Head, Part}
 use Rattle.mbuf_pool.specs.Store.{StoreView, count_of, IsStore}
 use Rattle.mbuf_chain.specs.Chain.{Entry, ChainView}
 use Rattle.mbuf_chain.specs.Cells.{weigh, entry_at, refers_at, cells_from, buffer_of, IsWhole}

@@ -1,15 +1,14 @@
 //! The bytes of an mbuf: lent, and written where no other mbuf shows them.
 ghost use Rattle.std.specs.Prelude.{◌≡◌, ◌≢◌, ℕ, ◌+◌, ◌-◌, ◌<◌, ◌≤◌, ◌^◌, true, length, take, drop};
 ghost use Rattle.mbuf_pool.specs.Store.{IsStore, is_out, head_of, with_bytes, bytes_in, IsRoom};
-ghost use Rattle.raw_cells.specs.Over.{over};
+ghost use Rattle.mbuf_pool.specs.Cells.{over};
 ghost use Rattle.mbuf_chain.specs.Chain.{IsLive, IsPlace, IsUnshared, chain_of, entry_of, with_chain, room_start, room_end, entry_in, HasFrontRoom, HasBackRoom};
 ghost use Rattle.mbuf_chain.specs.Steps.{with_entry, with_front, with_back, overwritten, with_entry_in};
 ghost use Rattle.mbuf_chain.specs.Cells.{IsPool, pool_of, buffer_of, place_bytes, room_low, room_high, WritesPlace};
 
 use crate::edit::resize;
 use crate::place::Place;
-use mbuf_pool::Store;
-use raw_cells::{Buffer, Part};
+use mbuf_pool::{Buffer, Part, Store};
 
 /// The mbuf or cluster in which an mbuf's bytes lie.
 pub(crate) fn buffer_of(cell: u32, cluster: Option<u32>) -> Buffer

@@ -6,8 +6,7 @@ ghost use Rattle.mbuf_chain.specs.Steps.{with_entry, narrowed, placed, with_entr
 ghost use Rattle.mbuf_chain.specs.Cells.{IsPool, IsOff, pool_of, room_low, room_high, with_segment, entry_from};
 
 use crate::place::Place;
-use mbuf_pool::Store;
-use raw_cells::{Head, PacketHeader};
+use mbuf_pool::{Head, PacketHeader, Store};
 
 /// Puts a chain's packet length right, where it has one and so many bytes came in and went.
 pub(crate) fn set_total(store: &mut Store, first: u32, added: u32, removed: u32)

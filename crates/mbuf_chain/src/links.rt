@@ -8,8 +8,7 @@ ghost use Rattle.mbuf_chain.specs.Cells.{IsPool, IsWhole, pool_of, cells_from, w
 use crate::cells::{bytes_from, count_from, free_from};
 use crate::edit::set_total;
 use crate::place::{Place, Segment};
-use mbuf_pool::Store;
-use raw_cells::{Head, PacketHeader};
+use mbuf_pool::{Head, PacketHeader, Store};
 
 /// How many bytes an mbuf has.
 const MBUF_LEN: u32 = 128;

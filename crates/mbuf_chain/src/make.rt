@@ -1,14 +1,13 @@
 //! New chains of one mbuf.
 ghost use Rattle.std.specs.Prelude.{◌≡◌, ◌≢◌, ℕ, ◌+◌, ◌<◌, ◌≤◌, ◌⊎◌, true, Bool, Some, None, length, IfOk, OnOk, OnErr, IsSome};
 ghost use Rattle.mbuf_pool.specs.Store.{IsStore, mbufs_out};
-ghost use Rattle.raw_cells.specs.Cells.{IsHead};
+ghost use Rattle.mbuf_pool.specs.Cells.{IsHead};
 ghost use Rattle.mbuf_chain.specs.Chain.{IsLive, IsPlace, chain_of, entry_of, Adds, held_mbufs, references, free_clusters, entry_in};
 ghost use Rattle.mbuf_chain.specs.Steps.{one_mbuf, empty_entry, narrowed};
 ghost use Rattle.mbuf_chain.specs.Cells.{IsPool, pool_of, Taken, start_of, head_for};
 
 use crate::place::Place;
-use mbuf_pool::{NoBufs, Store};
-use raw_cells::{Head, PacketHeader};
+use mbuf_pool::{Head, NoBufs, PacketHeader, Store};
 
 /// The kind of each mbuf of a chain. Nobody reads it.
 const KIND: u16 = 1;

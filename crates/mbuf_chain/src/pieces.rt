@@ -6,8 +6,7 @@ ghost use Rattle.mbuf_chain.specs.Cells.{IsPool, pool_of};
 ghost use Rattle.mbuf_chain.specs.Pieces.{pieces, data_of};
 
 use crate::data::buffer_of;
-use mbuf_pool::Store;
-use raw_cells::{Head, Part};
+use mbuf_pool::{Head, Part, Store};
 use std::marker::Model;
 
 /// An iterator over a chain's mbufs: for each the number of its bytes, and the number of the cluster in

@@ -3,7 +3,7 @@ use Rattle.std.proofs.Common.{◌≡◌, ℕ, ◌+◌, ◌-◌, ◌<◌, ◌≤�
 use Rattle.std.proofs.lemmas.List.{get_or-take}
 use Rattle.std.proofs.lemmas.Bool.{cases_lt}
 use Rattle.raw_cells.specs.Over.{over}
-use Rattle.mbuf_pool.proofs.Over.{over_below, over_above, over_in, length_over}
+use Rattle.raw_cells.proofs.Laws.{over_below, over_above, over_in, length_over}
 
 -- the n elements from a on
 abbrev pub block : List ℕ → ℕ → ℕ → List ℕ

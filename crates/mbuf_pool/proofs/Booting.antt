@@ -1,11 +1,10 @@
 -- How a store is booted: all of it is handed out, and then given back.
-use Rattle.std.proofs.Common.{◌≡◌, ℕ, ◌+◌, ◌-◌, ◌<◌, ◌≤◌, ◌==◌, IsTrue, cond, None, is_some, List, [], length, replicate, slice_index, slice_index_or, slice_set, refl, sym, ap, ◌∙◌, subst, arith, inl, inr, ext_get_or}
-use Rattle.std.proofs.lemmas.Bool.{cases_eq, cases_lt}
+use Rattle.std.proofs.Common.{◌≡◌, ℕ, ◌<◌, ◌≤◌, ◌==◌, IsTrue, cond, None, is_some, List, [], length, replicate, slice_index, slice_index_or, refl, sym, ap, ◌∙◌, subst, arith, ext_get_or}
 use Rattle.std.proofs.lemmas.List.{length-replicate, get_or-replicate, length-set, get_or-set_same, get_or-set_other}
 use Rattle.raw_cells.specs.Cells.{Cells, zero_cells, zero_head}
 use Rattle.raw_cells.proofs.Laws.{sized_zero}
 use Rattle.mbuf_pool.specs.declared.sizes.Sizes.{Sizes}
-use Rattle.mbuf_pool.specs.Store.{ClusterView, StoreView, is_out, cluster_of, count_of, free_cluster, free_store, released, with_mbuf, with_cluster}
+use Rattle.mbuf_pool.specs.Store.{StoreView, is_out, cluster_of, count_of, free_cluster, free_store}
 use Rattle.mbuf_pool.specs.AllOut.{IsAllOut}
 use Rattle.mbuf_pool.specs.Inside.{shown, IsSound}
 use Rattle.mbuf_pool.proofs.Shown.{mbuf_out, count_at, mbufs_long, clusters_long}
@@ -52,46 +51,12 @@ pub record ClustersLeft (z : Sizes) (s : StoreView) (k : ℕ) : Type 0 where
   pub below : (c : ℕ) → c < k → count_of s c ≡ 1
   pub above : (c : ℕ) → k ≤ c → cluster_of s c ≡ free_cluster
 
-pub mbufs_first : (z : Sizes) (s : StoreView) → IsAllOut s z → MbufsLeft z s z.mbufs
-mbufs_first z s h = record {
-  mbufs = h.mbufs;
-  below = h.mbufs_out;
-  above = λ i le. Rattle.std.proofs.lemmas.List.get_or_past s.mbufs i None (omega (arith, h.mbufs));
-  clusters = h.clusters;
-  counted = h.counted;
-}
-
-pub mbufs_next : (z : Sizes) (s : StoreView) (k : ℕ) → k < z.mbufs → MbufsLeft z s (k + 1) → MbufsLeft z (with_mbuf s k None) k
-mbufs_next z s k lt h = record {
-  mbufs = length-set s.mbufs k None ∙ h.mbufs;
-  below = λ i less. ap is_some (get_or-set_other s.mbufs k i None None (λ e. absurd (omega arith))) ∙ h.below i (omega arith);
-  above = λ i le. elim (cases_eq i k) [
-    | inl e ↦ subst (λ (j : ℕ). slice_index_or (slice_set s.mbufs k None) j None ≡ None) (sym e) (get_or-set_same s.mbufs k None None (omega (arith, h.mbufs)))
-    | inr ne ↦ get_or-set_other s.mbufs k i None None ne ∙ h.above i (omega arith)
-  ];
-  clusters = h.clusters;
-  counted = h.counted;
-}
-
 pub clusters_first : (z : Sizes) (s : StoreView) → MbufsLeft z s 0 → ClustersLeft z s z.clusters
 clusters_first z s h = record {
   mbufs = ext_get_or None s.mbufs (replicate z.mbufs None) (h.mbufs ∙ sym (length-replicate z.mbufs None)) (λ i lt. h.above i (omega arith) ∙ sym (get_or-replicate z.mbufs i None None (omega (arith, h.mbufs))));
   clusters = h.clusters;
   below = h.counted;
   above = λ c le. Rattle.std.proofs.lemmas.List.get_or_past s.clusters c free_cluster (omega (arith, h.clusters));
-}
-
-pub clusters_next : (z : Sizes) (s : StoreView) (k : ℕ) → k < z.clusters → ClustersLeft z s (k + 1) → ClustersLeft z (with_cluster s k (released (cluster_of s k))) k
-clusters_next z s k lt h = record {
-  mbufs = h.mbufs;
-  clusters = length-set s.clusters k (released (cluster_of s k)) ∙ h.clusters;
-  below = λ c less. ap (λ (v : ClusterView). v.count) (get_or-set_other s.clusters k c (released (cluster_of s k)) free_cluster (λ e. absurd (omega arith))) ∙ h.below c (omega arith);
-  above = λ c le. elim (cases_eq c k) [
-    | inl e ↦ subst (λ (j : ℕ). cluster_of (with_cluster s k (released (cluster_of s k))) j ≡ free_cluster) (sym e)
-        (get_or-set_same s.clusters k (released (cluster_of s k)) free_cluster (omega (arith, h.clusters))
-        ∙ ap (λ b. Rattle.std.specs.Prelude.if◌then◌else◌ b free_cluster (record (cluster_of s k) { count = count_of s k - 1 })) (Rattle.std.proofs.lemmas.Bool.eq-eqb (count_of s k) 1 (h.below k (omega arith))))
-    | inr ne ↦ get_or-set_other s.clusters k c (released (cluster_of s k)) free_cluster ne ∙ h.above c (omega arith)
-  ];
 }
 
 pub all_free : (z : Sizes) (s : StoreView) → ClustersLeft z s 0 → s ≡ free_store z

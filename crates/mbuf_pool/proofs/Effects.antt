@@ -10,7 +10,7 @@ use Rattle.raw_cells.specs.declared.head.Head.{Head}
 use Rattle.raw_cells.specs.declared.part.Part.{Part}
 use Rattle.raw_cells.specs.declared.part.Buffer.{Buffer}
 use Rattle.raw_cells.specs.declared.part.Buffer.TheVariants.{Mbuf, Cluster}
-use Rattle.mbuf_pool.proofs.Over.{length_over, over_all}
+use Rattle.raw_cells.proofs.Laws.{length_over, over_all}
 use Rattle.mbuf_pool.specs.FreeList.{times, IsFreeList}
 use Rattle.mbuf_pool.specs.Link.{link_in, link_bytes, link_part}
 use Rattle.mbuf_pool.specs.Store.{MbufView, ClusterView, StoreView, with_mbuf, with_cluster, with_bytes, bytes_in, is_out, mbuf_of, cluster_of, count_of, free_cluster, held, released, new_head, TakesMbuf, TakesCluster, IsRoom, IsPart, read, write, IsStore}
@@ -257,11 +257,6 @@ module _ (s : Inside) (v : StoreView) (a : IsInside s) (e : seen s ≡ v) where
   some_free i first =
       let found = first_free (next_mbuf s.region) (length s.region.heads) i s.free_mbufs a.1.0 (subst (λ (f : Option ℕ). IsFreeList (next_mbuf s.region) (length s.region.heads) f s.free_mbufs a.1.0) first a.1.2.mbuf_list) in
       omega (arith, a.1.2.mbuf_list.size, ap length found.1)
-
-  pub some_cluster_free : (c : ℕ) → s.first_cluster ≡ Some c → 0 < s.free_clusters
-  some_cluster_free c first =
-      let found = first_free (next_cluster s.region) s.region.clusters c s.free_clusters a.1.1 (subst (λ (f : Option ℕ). IsFreeList (next_cluster s.region) s.region.clusters f s.free_clusters a.1.1) first a.1.2.cluster_list) in
-      omega (arith, a.1.2.cluster_list.size, ap length found.1)
 
   pub get_left : (i : ℕ) (t : Cells) (next : Option ℕ) → s.first_mbuf ≡ Some i → next ≡ next_mbuf s.region i → (sets : cells.SetsHead s.region t i new_head)
       → Leaves t s.counts.items next (s.free_mbufs - 1) s.first_cluster s.free_clusters (with_mbuf v i (Some (record { head = new_head; bytes = over (mbuf_bytes s.region i) 0 sets.0 }))) × TakesMbuf v (seen_in t s.counts.items next) i

@@ -8,7 +8,7 @@ use Rattle.raw_cells.specs.Over.{over}
 use Rattle.raw_cells.specs.declared.part.Part.{Part}
 use Rattle.raw_cells.specs.declared.part.Buffer.{Buffer}
 use Rattle.raw_cells.specs.declared.part.Buffer.TheVariants.{Mbuf, Cluster}
-use Rattle.mbuf_pool.proofs.Over.{length_over}
+pub use Rattle.raw_cells.proofs.Laws.{over_below, over_above, over_in, length_over}
 use Rattle.mbuf_pool.specs.Store.{MbufView, ClusterView, StoreView, no_mbuf, new_head, free_cluster, is_out, mbuf_of, head_of, cluster_of, count_of, free_mbufs, free_clusters, held, released, with_mbuf, with_cluster, with_bytes, bytes_in, write, IsRoom, IsPart, IsStore, TakesMbuf, TakesCluster}
 
 -- ---- one mbuf, or one cluster, in place of another

@@ -1,5 +1,4 @@
 pub mod FreeList
-pub mod Over
 pub mod Blocks
 pub mod Shown
 pub mod Reading

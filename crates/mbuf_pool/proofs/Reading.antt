@@ -21,9 +21,6 @@ some_or_none (None ∷ xs) = omega (arith, some_or_none xs, sum_by-cons (λ x. c
 some_or_none (Some x ∷ xs) = omega (arith, some_or_none xs, sum_by-cons (λ x. cond {A = ℕ} (is_none x) 1 0) (Some x) xs, sum_by-cons (λ x. cond {A = ℕ} (is_some x) 1 0) (Some x) xs)
 
 module _ (s : Inside) (v : StoreView) (a : IsInside s) (e : seen s ≡ v) where
-  abbrev pub shown_here : StoreView
-  shown_here = shown s.region s.counts.items a.1.0
-
   pub shown_as : shown s.region s.counts.items a.1.0 ≡ v
   shown_as = sym (seen_is s.region s.counts.items s.first_mbuf s.free_mbufs s.first_cluster s.free_clusters a.1.0 a.1.1 a.1.2) ∙ e
 

@@ -4,3 +4,4 @@ pub mod AllOut
 pub mod Link
 pub mod Inside
 pub mod Lending
+pub mod Cells

@@ -16,5 +16,6 @@ mod tests;
 
 pub use counts::Counts;
 pub use fault::{BootFault, NoBufs};
+pub use raw_cells::{Buffer, Head, PacketHeader, Part};
 pub use sizes::Sizes;
 pub use store::Store;

@@ -37,10 +37,6 @@ by_flags true true x p = refl
 by_flags true false x p = refl
 by_flags false b x p = refl
 
--- an mbuf's head lies in the block
-pub head_fits : (i n k : ℕ) (h : Head) → i < n → 128 * i + head_size h ≤ 128 * n + k
-head_fits i n k h lt = omega (arith, head_size_le h)
-
 module _ (xs ys : List ℕ) (o p n : ℕ) (h : (k : ℕ) → k < n → get_or xs (o + k) 0 ≡ get_or ys (p + k) 0) where
   same_byte : (j m : ℕ) → j + m < n → get_or xs (o + j + m) 0 ≡ get_or ys (p + j + m) 0
   same_byte j m lt =
@@ -107,8 +103,8 @@ heads_kept n bs at ws fits apart =
     sym (fill_by_all (λ i. head_in (over bs at ws) (128 * i)) (heads_in n bs) n zero_head (length-heads n bs)
     (λ i lt. head_at n bs i zero_head lt ∙ same_head bs (over bs at ws) (128 * i) (128 * i) (λ k less.
     elim (apart i k lt less) [
-      | inl h ↦ sym (over_below bs at ws (128 * i + k) 0 fits h)
-      | inr h ↦ sym (over_above bs at ws (128 * i + k) 0 fits h)
+      | inl h ↦ sym (over_below bs at ws fits (128 * i + k) 0 h)
+      | inr h ↦ sym (over_above bs at ws fits (128 * i + k) 0 h)
     ])))
 
 zero_at : (n k : ℕ) → let z : ℕ = 0 in get_or (replicate n z) k z ≡ z
@@ -161,13 +157,13 @@ head_written bs enc n i h lt room long is =
     let here : head_in (over bs o b) o ≡ h = sym (same_head enc (over bs o b) 0 o (λ k less.
     let less' : k < head_size h = subst (λ g. k < head_size g) is less in
     let zero_k : 0 + k ≡ k = omega arith in
-    ap (λ j. get_or enc j 0) zero_k ∙ sym (over_in bs o b k 0 fits (omega arith) ∙ get_or-take (head_size h) enc k 0 less'))) ∙ is in
+    ap (λ j. get_or enc j 0) zero_k ∙ sym (over_in bs o b fits k 0 (omega arith) ∙ get_or-take (head_size h) enc k 0 less'))) ∙ is in
     let there : (j : ℕ) → (j < i) ⊎ (i < j) → head_in bs (128 * j) ≡ head_in (over bs o b) (128 * j) = λ j apart.
     same_head bs (over bs o b) (128 * j) (128 * j) (λ k less.
     let small = head_size_le (head_in bs (128 * j)) in
     elim apart [
-      | inl below ↦ sym (over_below bs o b (128 * j + k) 0 fits (omega (arith, small)))
-      | inr above ↦ sym (over_above bs o b (128 * j + k) 0 fits (omega (arith, size, head_size_le h)))
+      | inl below ↦ sym (over_below bs o b fits (128 * j + k) 0 (omega (arith, small)))
+      | inr above ↦ sym (over_above bs o b fits (128 * j + k) 0 (omega (arith, size, head_size_le h)))
     ]) in
     sym (fill_by_all (λ j. head_in (over bs o b) (128 * j)) xs n zero_head (length-set (heads_in n bs) i h ∙ count)
     (λ j less. elim (less_or_at_least j i) [

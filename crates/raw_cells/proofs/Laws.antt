@@ -7,7 +7,7 @@ use Rattle.raw_cells.specs.declared.head.Head.{Head}
 use Rattle.raw_cells.specs.declared.part.Part.{Part}
 use Rattle.raw_cells.specs.declared.part.Buffer.{Buffer}
 use Rattle.raw_cells.specs.declared.part.Buffer.TheVariants.{Mbuf, Cluster}
-use Rattle.raw_cells.proofs.Over.{over_below, over_above, over_in, length_over}
+pub use Rattle.raw_cells.proofs.Over.{over_is, over_below, over_above, over_in, over_all, length_over}
 use Rattle.raw_cells.proofs.Heads.{head_size_le, less_or_at_least}
 
 -- a region as it is made has the sizes of a region
@@ -87,7 +87,7 @@ read_within c p q ws sized at inside long =
     ∙ ap (λ l. take q.len (drop (o + p.start + d) (over c.bytes (o + p.start) l))) all
     ∙ run_is (over c.bytes (o + p.start) ws) ws (o + p.start + d) d q.len (omega (arith, inside.1, inside.2)) (omega (arith, inside.1, inside.2))
     (λ k lt. let e : o + p.start + d + k ≡ o + p.start + (d + k) = omega arith in
-    ap (λ j. get_or (over c.bytes (o + p.start) ws) j 0) e ∙ over_in c.bytes (o + p.start) ws (d + k) 0 (omega arith) (omega (arith, inside.1, inside.2)))
+    ap (λ j. get_or (over c.bytes (o + p.start) ws) j 0) e ∙ over_in c.bytes (o + p.start) ws (omega arith) (d + k) 0 (omega (arith, inside.1, inside.2)))
 
 pub read_written : (c : Cells) (p : Part) (ws : List ℕ) → IsSized c → IsPart c p → length ws ≡ p.len → read (write c p ws) p ≡ ws
 read_written c p ws sized at long =
@@ -134,8 +134,8 @@ read_apart c p q ws sized at_p at_q apart =
     let in_block : a + n ≤ length c.bytes = part_fits c q sized at_q in
     ap (λ k. take n (drop k (over c.bytes at w))) (same_place c p q ws)
     ∙ run_is (over c.bytes at w) c.bytes a a n (omega arith) (omega arith) (λ k lt. elim (rooms_apart c sized p.buffer q.buffer p.start p.len q.start q.len at_p at_q apart) [
-      | inl after ↦ over_above c.bytes at w (a + k) 0 fits (omega arith)
-      | inr before ↦ over_below c.bytes at w (a + k) 0 fits (omega arith)
+      | inl after ↦ over_above c.bytes at w fits (a + k) 0 (omega arith)
+      | inr before ↦ over_below c.bytes at w fits (a + k) 0 (omega arith)
     ])
 
 module _ (old new : Cells) (i : ℕ) (h : Head) (sized : IsSized old) (lt : i < length old.heads) (sets : SetsHead old new i h) where
@@ -186,8 +186,8 @@ module _ (old new : Cells) (i : ℕ) (h : Head) (sized : IsSized old) (lt : i < 
       let count : length (over old.bytes (128 * i) b) ≡ length old.bytes = length_over old.bytes (128 * i) b (omega arith) in
       (λ t. take q.len (drop (origin_after q.buffer t + q.start) (sets.2 t).bytes))
       ∙ run_is (over old.bytes (128 * i) b) old.bytes a a q.len (omega (arith, apart.0)) (omega (arith, apart.0)) (λ k less. elim apart.1 [
-        | inl above ↦ over_above old.bytes (128 * i) b (a + k) 0 fits (omega arith)
-        | inr below ↦ over_below old.bytes (128 * i) b (a + k) 0 fits (omega arith)
+        | inl above ↦ over_above old.bytes (128 * i) b fits (a + k) 0 (omega arith)
+        | inr below ↦ over_below old.bytes (128 * i) b fits (a + k) 0 (omega arith)
       ])
 
   room_other : (b : Buffer) (s n : ℕ) → b ≢ Mbuf i → IsRoom old b s n → IsRoom new b s n

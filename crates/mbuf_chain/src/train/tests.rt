@@ -40,12 +40,7 @@ fn drop_at(pool: &mut Pool, train: &mut Train, i: u32) -> u32
 }
 
 /// Puts a new packet without bytes in behind a place, and answers its own place.
-fn put_after(
-    pool: &mut Pool,
-    train: &mut Train,
-    at: CarPlace,
-    tag: u32,
-) -> Result<CarPlace, NoBufs>
+fn put_after(pool: &mut Pool, train: &mut Train, at: CarPlace, tag: u32) -> Result<CarPlace, NoBufs>
     requires place { IsCar pool.old train.old at }
     requires held { IsHeld pool.old train.old }
     ensures ok { IfOk result (λ to. IsCar pool.new train.new to) }

@@ -1,5 +1,5 @@
 use Rattle.std.proofs.Common.{ap, ◌∙◌}
-use Rattle.raw_cells.specs.declared.head.Head.{Head}
+use Rattle.mbuf_pool.specs.Cells.{Head}
 use Rattle.mbuf_chain.proofs.Writes.{lent_room, lent_bytes}
 use Rattle.mbuf_chain.proofs.Heads.{shown_at}
 use Rattle.mbuf_chain.proofs.data.bytes.Goals as goal

@@ -1,5 +1,5 @@
 use Rattle.std.proofs.Common.{arith, ap}
-use Rattle.raw_cells.specs.declared.head.Head.{Head}
+use Rattle.mbuf_pool.specs.Cells.{Head}
 use Rattle.mbuf_chain.proofs.Writes.{source_room, target_room, copied}
 use Rattle.mbuf_chain.proofs.Heads.{shown_at}
 use Rattle.mbuf_chain.proofs.data.copy_in.Goals as goal

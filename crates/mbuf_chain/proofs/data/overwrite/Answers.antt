@@ -1,5 +1,5 @@
 use Rattle.std.proofs.Common.{arith, ap, ◌∙◌}
-use Rattle.raw_cells.specs.declared.head.Head.{Head}
+use Rattle.mbuf_pool.specs.Cells.{Head}
 use Rattle.mbuf_chain.specs.Chain.{Entry, with_chain, chain_of}
 use Rattle.mbuf_chain.specs.Steps.{with_entry}
 use Rattle.mbuf_chain.specs.Cells.{pool_of, entry_over}

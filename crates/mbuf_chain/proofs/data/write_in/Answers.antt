@@ -1,7 +1,5 @@
 use Rattle.std.proofs.Common.{length, sym, ap, subst, ◌∙◌}
-use Rattle.raw_cells.specs.declared.head.Head.{Head}
-use Rattle.raw_cells.specs.declared.part.Buffer.{Buffer}
-use Rattle.raw_cells.specs.Over.{over}
+use Rattle.mbuf_pool.specs.Cells.{Head, Buffer, over}
 use Rattle.mbuf_pool.specs.Store.{with_bytes, bytes_in, IsRoom}
 use Rattle.mbuf_chain.specs.Cells.{buffer_of}
 use Rattle.mbuf_chain.proofs.Heads.{shown_at}

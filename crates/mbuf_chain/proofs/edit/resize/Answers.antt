@@ -1,5 +1,5 @@
 use Rattle.std.proofs.Common.{arith, ap, subst, ◌∙◌}
-use Rattle.raw_cells.specs.declared.head.Head.{Head}
+use Rattle.mbuf_pool.specs.Cells.{Head}
 use Rattle.mbuf_pool.specs.Store.{SetsHead}
 use Rattle.mbuf_chain.specs.Cells.{with_segment}
 use Rattle.mbuf_chain.proofs.Heads.{shown_at, resized}

@@ -1,5 +1,5 @@
 use Rattle.std.proofs.Common.{arith, sym, ap, subst, ◌∙◌}
-use Rattle.raw_cells.specs.declared.head.Head.{Head}
+use Rattle.mbuf_pool.specs.Cells.{Head}
 use Rattle.mbuf_pool.specs.Store.{SetsHead}
 use Rattle.mbuf_chain.proofs.Heads.{total_known, total_right, total_set, with_total}
 use Rattle.mbuf_chain.proofs.edit.set_total.Goals as goal

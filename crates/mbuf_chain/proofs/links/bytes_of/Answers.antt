@@ -1,5 +1,5 @@
 use Rattle.std.proofs.Common.{sym, ap, ◌∙◌}
-use Rattle.raw_cells.specs.declared.head.Head.{Head}
+use Rattle.mbuf_pool.specs.Cells.{Head}
 use Rattle.mbuf_chain.proofs.Focused.{open_on, first_out, whole_of}
 use Rattle.mbuf_chain.proofs.Joins.{total_is, sum_is}
 use Rattle.mbuf_chain.proofs.links.bytes_of.Goals as goal

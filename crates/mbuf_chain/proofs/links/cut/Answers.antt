@@ -1,5 +1,5 @@
 use Rattle.std.proofs.Common.{None, arith, sym, ap, subst, ◌∙◌}
-use Rattle.raw_cells.specs.declared.head.Head.{Head}
+use Rattle.mbuf_pool.specs.Cells.{Head}
 use Rattle.mbuf_pool.specs.Store.{SetsHead}
 use Rattle.mbuf_chain.specs.Chain.{PoolView, Adds, with_chain, chain_of}
 use Rattle.mbuf_chain.specs.Steps.{first_part, second_part}

@@ -1,5 +1,5 @@
 use Rattle.std.proofs.Common.{Some, arith, subst, ◌∙◌}
-use Rattle.raw_cells.specs.declared.head.Head.{Head}
+use Rattle.mbuf_pool.specs.Cells.{Head}
 use Rattle.mbuf_pool.specs.Store.{SetsHead}
 use Rattle.mbuf_chain.proofs.Focused.{open_on, first_out}
 use Rattle.mbuf_chain.proofs.Heads.{shown_at}

@@ -1,5 +1,5 @@
 use Rattle.std.proofs.Common.{arith, inl, inr, subst, ◌∙◌}
-use Rattle.raw_cells.specs.declared.head.Head.{Head}
+use Rattle.mbuf_pool.specs.Cells.{Head}
 use Rattle.std.proofs.lemmas.Option.{slice_get_within}
 use Rattle.mbuf_chain.specs.Cells.{Taken}
 use Rattle.mbuf_chain.proofs.Made.{clustered_made, none_free, some_free, cluster_free, free_are, was_unreferenced}

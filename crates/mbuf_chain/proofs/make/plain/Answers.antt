@@ -1,5 +1,5 @@
 use Rattle.std.proofs.Common.{subst}
-use Rattle.raw_cells.specs.declared.head.Head.{Head}
+use Rattle.mbuf_pool.specs.Cells.{Head}
 use Rattle.mbuf_chain.specs.Cells.{Taken}
 use Rattle.mbuf_chain.proofs.Made.{plain_made, none_free, one_free}
 use Rattle.mbuf_chain.proofs.make.plain.Goals as goal

@@ -1,5 +1,5 @@
 use Rattle.std.proofs.Common.{ℕ, ◌+◌, Option, arith, sym, ap, subst, ◌∙◌}
-use Rattle.raw_cells.specs.declared.head.Head.{Head}
+use Rattle.mbuf_pool.specs.Cells.{Head}
 use Rattle.std.specs.Option.{IsSome}
 use Rattle.mbuf_chain.specs.Chain.{Entry}
 use Rattle.mbuf_chain.specs.Cells.{Taken}

@@ -1,0 +1,8 @@
+-- The words of raw_cells that contracts of stores and of those above them use: heads, parts, and a write over a list.
+pub use Rattle.raw_cells.specs.declared.head.Head.{Head}
+pub use Rattle.raw_cells.specs.declared.head.PacketHeader.{PacketHeader}
+pub use Rattle.raw_cells.specs.declared.part.Part.{Part}
+pub use Rattle.raw_cells.specs.declared.part.Buffer.{Buffer}
+pub use Rattle.raw_cells.specs.declared.part.Buffer.TheVariants.{Mbuf, Cluster}
+pub use Rattle.raw_cells.specs.Cells.{IsHead, IsLink, head_size}
+pub use Rattle.raw_cells.specs.Over.{over}
