@@ -1,12 +1,13 @@
 -- An `Address`, a `Bytes` and a `Deed` as machine values. Assumes `Logic`.
-use Rattle.std.proofs.Common.{◌≡◌, List, [], ◌∷◌, ◌++◌, refl, subst, lit<}
+use Rattle.std.proofs.Common.{◌≡◌, ℕ, ◌+◌, ◌<◌, ◌^◌, List, [], ◌∷◌, ◌++◌, length, refl, subst, arith, lit<}
 use lib.Dec.{T}
 use seplogic.Ra.Ura.{Ura}
-use base.Logic.{ent, sep, emp}
+use base.Logic.{ent, sep, emp, id⊢}
+use base.Fml.{froom}
 use mir.Syntax.{ty_ptr, ty_struct, tcons, tnil}
 use mir.Val.{Val, WT, has_ty, vstruct, vcons, vnil, of_list}
 use types.Logic.{Logic, sem}
-use types.Kit.{Item, Goal, Seq, ‵, ◌$◌, ◌∵◌, !, qed, move, drop, fsplit, fjoin, fpick, fpack, feq_i, feq_l, done}
+use types.Kit.{Item, Goal, Seq, ‵, ◌$◌, ◌∵◌, !, qed, move, drop, use0, rewrite, flt_i, fsplit, fjoin, fpick, fpack, feq_i, feq_l, done}
 use denote.RattleType.{RattleType, Valss}
 use denote.RawPtr.{Ptr, block_ptr, null_ptr, ptr_val}
 use denote.Shadow.{makes_shadow}
@@ -16,6 +17,8 @@ use denote.Struct.Owning as Owning
 use denote.Struct.Struct.{Struct, within}
 use denote.Struct.Tuple.{Tuple, tuple_type}
 use Rattle.std.specs.declared.alloc.Allocator.{Ghosts}
+use Rattle.raw_cells.specs.Memory.{block_type}
+use Rattle.raw_cells.proofs.Lying.{Lie}
 use Rattle.raw_cells.specs.contracts.memory.Address as A
 use Rattle.raw_cells.specs.contracts.memory.Bytes as B
 use Rattle.raw_cells.specs.contracts.memory.Deed as D
@@ -51,26 +54,51 @@ bytes_made 𝓛 = makes_shadow 𝓛 (BytesFields.own_val tt (bytes_val ∷ [])) 
 pub address_made : {M : Type 1} {𝓤 : Ura M} (𝓛 : Logic 𝓤) (a : A.the_row.Denot) → ent 𝓤 (emp 𝓤) (sem 𝓛 (A.the_row.own_val a (address_val a.ptr ∷ [])))
 address_made 𝓛 a = makes_shadow 𝓛 (A.the_row.own_val a (address_val a.ptr ∷ [])) (λ vss. (tt, (tt, tt))) ((ptr_val a.ptr ∷ [], tt), (refl, (refl, tt)))
 
+-- ---- what a block is taken as
+module _ (Z : RattleType) (g : Ghosts Z.Denot) where
+  -- its address, its bytes, and the right to give it back
+  abbrev pub Parts : RattleType
+  Parts = Tuple (A.the_row ∷ B.the_row ∷ D.the_row Z g ∷ [])
+
+  abbrev pub parts_val : Ptr → Val
+  parts_val p = vstruct (vcons (address_val p) (vcons bytes_val (vcons deed_val vnil)))
+
+  -- as they are where nothing was written yet
+  abbrev pub new_parts : Ptr → ℕ → Z.Denot → Parts.Denot
+  new_parts p len owner = (record { ptr = p }, record { at = p; written = []; blank = len }, record { mark = record {}; alloc = owner; at = p; len = len })
+
+  -- room for a block and the token by which it is given back are these parts: from the last to the first, each is put together and set before those behind it
+  pub parts_made : {M : Type 1} {𝓤 : Ura M} (𝓛 : Logic 𝓤) (b o len : ℕ) (owner : Z.Denot) → len < 2 ^ 63
+      → ent 𝓤 (sep 𝓤 (sem 𝓛 (froom (block_type len) b o)) (sem 𝓛 (g.dealloc_token owner (block_type len) (block_ptr b o)))) (sem 𝓛 (Parts.own_val (new_parts (block_ptr b o) len owner) (parts_val (block_ptr b o) ∷ [])))
+  parts_made {𝓤 = 𝓤} 𝓛 b o len owner small =
+      let p : Ptr = block_ptr b o in
+      let value : List Val = parts_val (block_ptr b o) ∷ [] in
+      qed 𝓛 (‵ (froom (block_type len) b o) ∷ ‵ (g.dealloc_token owner (block_type len) (block_ptr b o)) ∷ []) ∵
+      move ! (1 ∷ []) $ use0 𝓛 (‵ ((DeedFields Z g).own_val (tt, tt) (deed_val ∷ []))) (deed_made Z g 𝓛) $ fjoin ! $
+      -- [the deed; the room]
+      nothing ! $ move ! (1 ∷ 0 ∷ []) $ fjoin ! $ move ! (1 ∷ []) $
+      rewrite ! 0 (λ (k : ℕ). ‵ (froom (block_type len) b k)) {x = o + length {A = ℕ} []} (omega (arith)) refl $ use0 𝓛 (‵ (Lie [] b o)) (id⊢ 𝓤 _) $ fjoin ! $
+      flt_i ! (length {A = ℕ} [] + len) (2 ^ 63) (omega (arith, small)) $ fjoin ! $ use0 𝓛 (‵ (BytesFields.own_val tt (bytes_val ∷ []))) (bytes_made 𝓛) $ fjoin ! $
+      -- [the bytes; the deed]
+      fjoin ! $ use0 𝓛 (‵ (A.the_row.own_val (record { ptr = p }) (address_val p ∷ []))) (address_made 𝓛 (record { ptr = p })) $ fjoin ! $
+      feq_i ! (List Val) value value refl $ fjoin ! $
+      fpack ! (Valss (A.the_row ∷ B.the_row ∷ D.the_row Z g ∷ [])) (within (Declared.shape (tuple_type (A.the_row ∷ B.the_row ∷ D.the_row Z g ∷ []))) ((new_parts p len owner).0, ((new_parts p len owner).1, ((new_parts p len owner).2, tt))) value)
+      (address_val p ∷ [], (bytes_val ∷ [], (deed_val ∷ [], tt))) $ done !
+
+-- ---- what is owned tells the machine value: the fields first, then the struct of them
+of_fields : (vs fields known : List Val) → fields ≡ known → vs ≡ vstruct (of_list (fields ++ [])) ∷ [] → vs ≡ vstruct (of_list (known ++ [])) ∷ []
+of_fields vs fields known e is = subst (λ (ws : List Val). vs ≡ vstruct (of_list (ws ++ [])) ∷ []) e is
+
 module _ {M : Type 1} {𝓤 : Ura M} {𝓛 : Logic 𝓤} {K : Type 0} {Γ : List (Item 𝓤)} {G : Goal 𝓤 𝓛.H} where
-  -- what is owned of an address is its machine value alone
-  pub address_had : K → (a : A.the_row.Denot) (vs : List Val) → (vs ≡ address_val a.ptr ∷ [] → Seq K 𝓛 Γ G) → Seq K 𝓛 (‵ (A.the_row.own_val a vs) ∷ Γ) G
-  address_had t a vs k = fpick t (λ vss. fsplit t $ feq_l t (λ ev. fsplit t $ feq_l t (λ e. drop t $ k (subst (λ (ws : List Val). vs ≡ vstruct (of_list (ws ++ [])) ∷ []) e ev))))
+  pub told_bytes : K → (vs : List Val) → (vs ≡ bytes_val ∷ [] → Seq K 𝓛 Γ G) → Seq K 𝓛 (‵ (BytesFields.own_val tt vs) ∷ Γ) G
+  told_bytes t vs next = fpick t (λ none. fsplit t $ move t (1 ∷ []) $ drop t $ feq_l t next)
 
-  pub bytes_had : K → (vs : List Val) → (vs ≡ bytes_val ∷ [] → Seq K 𝓛 Γ G) → Seq K 𝓛 (‵ (BytesFields.own_val tt vs) ∷ Γ) G
-  bytes_had t vs k = fpick t (λ vss. fsplit t $ feq_l t (λ ev. drop t $ k ev))
+  pub told_deed : K → (Z : RattleType) (g : Ghosts Z.Denot) (vs : List Val) → (vs ≡ deed_val ∷ [] → Seq K 𝓛 Γ G) → Seq K 𝓛 (‵ ((DeedFields Z g).own_val (tt, tt) vs) ∷ Γ) G
+  told_deed t Z g vs next =
+      fpick t (λ fields. fsplit t $ move t (1 ∷ []) $ fsplit t $ move t (1 ∷ []) $ drop t $
+      fpick t (λ mark. fsplit t $ move t (1 ∷ []) $ drop t $ feq_l t (λ e. feq_l t (λ is. next (of_fields vs fields.0 (vstruct vnil ∷ []) e is)))))
 
-  pub deed_had : K → (Z : RattleType) (g : Ghosts Z.Denot) (vs : List Val) → (vs ≡ deed_val ∷ [] → Seq K 𝓛 Γ G) → Seq K 𝓛 (‵ ((DeedFields Z g).own_val (tt, tt) vs) ∷ Γ) G
-  deed_had t Z g vs k = fpick t (λ vss. fsplit t $ feq_l t (λ ev. fsplit t $ fpick t (λ uss. fsplit t $ feq_l t (λ e. drop t $ drop t $
-      k (subst (λ (ws : List Val). vs ≡ vstruct (of_list (ws ++ [])) ∷ []) e ev)))))
-
-abbrev pub three_val : Val → Val → Val → Val
-three_val u v w = vstruct (vcons u (vcons v (vcons w vnil)))
-
--- a tuple of three, of its parts
-pub three_of : {M : Type 1} {𝓤 : Ura M} (𝓛 : Logic 𝓤) (R S Q : RattleType) (x : R.Denot) (y : S.Denot) (z : Q.Denot) (u v w : Val)
-    → ent 𝓤 (sep 𝓤 (sem 𝓛 (Q.own_val z (w ∷ []))) (sep 𝓤 (sem 𝓛 (S.own_val y (v ∷ []))) (sem 𝓛 (R.own_val x (u ∷ []))))) (sem 𝓛 ((Tuple (R ∷ S ∷ Q ∷ [])).own_val (x, y, z) (three_val u v w ∷ [])))
-three_of 𝓛 R S Q x y z u v w =
-    qed 𝓛 (‵ (Q.own_val z (w ∷ [])) ∷ ‵ (S.own_val y (v ∷ [])) ∷ ‵ (R.own_val x (u ∷ [])) ∷ []) ∵
-    nothing ! $ move ! (1 ∷ 0 ∷ []) $ fjoin ! $ move ! (1 ∷ 0 ∷ []) $ fjoin ! $ move ! (1 ∷ 0 ∷ []) $ fjoin ! $
-    feq_i ! (List Val) (three_val u v w ∷ []) (three_val u v w ∷ []) refl $ fjoin ! $
-    fpack ! (Valss (R ∷ S ∷ Q ∷ [])) (within (Declared.shape (tuple_type (R ∷ S ∷ Q ∷ []))) (x, (y, (z, tt))) (three_val u v w ∷ [])) (u ∷ [], (v ∷ [], (w ∷ [], tt))) $ done !
+  pub told_address : K → (a : A.the_row.Denot) (vs : List Val) → (vs ≡ address_val a.ptr ∷ [] → Seq K 𝓛 Γ G) → Seq K 𝓛 (‵ (A.the_row.own_val a vs) ∷ Γ) G
+  told_address t a vs next =
+      fpick t (λ fields. fsplit t $ move t (1 ∷ []) $ fsplit t $ move t (1 ∷ []) $ drop t $
+      feq_l t (λ e. feq_l t (λ is. next (of_fields vs fields.0 (ptr_val a.ptr ∷ []) e is))))

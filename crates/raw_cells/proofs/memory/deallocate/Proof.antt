@@ -30,7 +30,7 @@ use Rattle.std.proofs.alloc.Calls.{Al, Goes-blank, Gives, at_gives, Gives-goes, 
 use Rattle.std.proofs.alloc.Shapes.{after}
 use Rattle.std.proofs.raw_atomic.Walks.{proved_at}
 use Rattle.raw_cells.specs.Memory.{bytes_owned, block_type}
-use Rattle.raw_cells.proofs.Addresses.{address_val, bytes_val, deed_val, address_had, bytes_had, deed_had}
+use Rattle.raw_cells.proofs.Addresses.{address_val, bytes_val, deed_val, told_address, told_bytes, told_deed}
 use Rattle.raw_cells.proofs.Lying.{as_room}
 use Rattle.raw_cells.specs.contracts.memory.Address as A
 use Rattle.raw_cells.specs.contracts.memory.Bytes as B
@@ -67,8 +67,8 @@ deallocate_spec 𝓤 𝓛 𝓜 𝓡 wired X L g d dd met md =
     move ! (1 ∷ []) $ split ! $ heard ! (z.0.0.1.0 ⊑ X.lives) (λ le. heard ! Asked (λ asked. split ! $
     use1 𝓛 (‵ (flft κ q) ⊛ ‵ (flft z.0.0.1.0 z.0.1.1.0) ⊛ ‵ ftrue) (id⊢ 𝓤 _) $ split ! $ move ! (2 ∷ []) $
     -- [what the parameters own; the token; the other token]
-    fsplit ! $ fsplit ! $ feq_l ! (λ e₀. move ! (1 ∷ []) $ fsplit ! $ address_had ! a.1.0 vss.1.0 (λ e₁. fsplit ! $ fsplit ! $ feq_l ! (λ e₂. flt_l ! (λ fits.
-    fsplit ! $ fsplit ! $ bytes_had ! vss.1.1.1.0 (λ e₃. move ! (1 ∷ []) $ fsplit ! $ fsplit ! $ deed_had ! Z g vss.1.1.1.1.0 (λ e₄.
+    fsplit ! $ fsplit ! $ feq_l ! (λ e₀. move ! (1 ∷ []) $ fsplit ! $ told_address ! a.1.0 vss.1.0 (λ e₁. fsplit ! $ fsplit ! $ feq_l ! (λ e₂. flt_l ! (λ fits.
+    fsplit ! $ fsplit ! $ told_bytes ! vss.1.1.1.0 (λ e₃. move ! (1 ∷ []) $ fsplit ! $ fsplit ! $ told_deed ! Z g vss.1.1.1.1.0 (λ e₄.
     keep ! (2 ∷ 0 ∷ 3 ∷ 4 ∷ 5 ∷ []) $
     in_a_block ! bytes.at (λ y. bytes_owned y bytes.written bytes.blank) (id⊢ 𝓤 (never 𝓤)) (λ b o e. let there : p ≡ block_ptr b o = sym (asked.0) ∙ e in
     fsplit ! $ drop ! $ fsplit ! $ use2 𝓛 (‵ (froom (block_type (length bytes.written + bytes.blank)) b o)) (as_room 𝓛 b bytes.written bytes.blank o (o + length bytes.written) refl) $

@@ -23,7 +23,7 @@ use denote.Steps.{nothing, opens, closes, heard}
 use denote.Triple.Entry.{alive}
 use denote.Triple.Walked.{Stays, stay_dropped, stay_ref, walk_of, ends_at, says, Goes-dropped, Goes-ref}
 use Rattle.std.proofs.raw_atomic.Walks.{proved_at}
-use Rattle.raw_cells.proofs.Addresses.{address_val, address_typed, address_had}
+use Rattle.raw_cells.proofs.Addresses.{address_val, address_typed, told_address}
 use Rattle.raw_cells.specs.Memory.{bytes_owned, block_type}
 use Rattle.raw_cells.proofs.Lying.{Lie, put_behind}
 use Rattle.raw_cells.specs.contracts.memory.Address.{the_row as Addr}
@@ -51,7 +51,7 @@ push_spec 𝓤 𝓛 𝓜 𝓡 wired =
     move ! (1 ∷ []) $ heard ! Asked (λ asked. split ! $
     use1 𝓛 (‵ (flft κ q) ⊛ ‵ ftrue) (id⊢ 𝓤 _) $ split ! $ move ! (2 ∷ []) $
     -- [what the parameters own; the token; nothing]
-    fsplit ! $ fsplit3 ! $ feq_l ! (λ e₀. move ! (2 ∷ []) $ fsplit ! $ address_had ! a.1.0 vss.1.0 (λ e₁. fsplit ! $ fsplit ! $ feq_l ! (λ e₂. flt_l ! (λ fits.
+    fsplit ! $ fsplit3 ! $ feq_l ! (λ e₀. move ! (2 ∷ []) $ fsplit ! $ told_address ! a.1.0 vss.1.0 (λ e₁. fsplit ! $ fsplit ! $ feq_l ! (λ e₂. flt_l ! (λ fits.
     fsplit ! $ fsplit ! $ feq_l ! (λ e₃. flt_l ! (λ small. keep ! (1 ∷ 2 ∷ 3 ∷ []) $
     regoal ! (λ (us : List Val). prop (WpFn 𝓤 H 𝓣.C 𝓣.Λ fn us Post)) (λ i. e₀ i ++ (e₁ i ++ (e₂ i ++ (e₃ i ++ [])))) refl $
     enter ! 𝓣.C 𝓣.Λ fn (vptr rb ro ∷ address_val p ∷ vint w64 index ∷ vint w8 byte ∷ []) Post $ alloc_all ! (λ l. pass_all ! refl ((tt, tt), (address_typed p, ((tt, record { fits = fits }), ((tt, record { fits = small }), tt)))) $

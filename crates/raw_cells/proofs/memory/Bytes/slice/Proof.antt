@@ -25,7 +25,7 @@ use denote.Triple.Entry.{alive}
 use denote.Triple.Walked.{Stays, stay_dropped, walk_of, ends_at, says, Goes-dropped}
 use Rattle.std.proofs.raw_atomic.Walks.{proved_at}
 use Rattle.raw_cells.specs.Memory.{bytes_lent}
-use Rattle.raw_cells.proofs.Addresses.{address_val, address_typed, address_had}
+use Rattle.raw_cells.proofs.Addresses.{address_val, address_typed, told_address}
 use Rattle.raw_cells.proofs.Lying.{run_seen}
 use Rattle.raw_cells.specs.contracts.memory.Address.{the_row as Addr}
 use Rattle.raw_cells.specs.contracts.memory.Bytes.{the_row as Row}
@@ -51,7 +51,7 @@ slice_spec 𝓤 𝓛 𝓜 𝓡 wired =
     qed 𝓛 ((raw (alive 𝓛 f.signature z.0.0 z.0.1) ⊛ ‵ (owns (types_at f.signature.params z.0.0) a vss)) ∷ raw (fact 𝓤 Asked) ∷ []) ∵
     move ! (1 ∷ []) $ heard ! Asked (λ asked. split ! $ use1 𝓛 (‵ (flft κ q) ⊛ ‵ ftrue) (id⊢ 𝓤 _) $ split ! $ move ! (2 ∷ []) $
     -- [what the parameters own; the token; nothing]
-    fsplit ! $ fsplit ! $ feq_l ! (λ e₀. move ! (1 ∷ []) $ fsplit ! $ address_had ! a.1.0 vss.1.0 (λ e₁. fsplit ! $ fsplit ! $ feq_l ! (λ e₂. flt_l ! (λ fits_from.
+    fsplit ! $ fsplit ! $ feq_l ! (λ e₀. move ! (1 ∷ []) $ fsplit ! $ told_address ! a.1.0 vss.1.0 (λ e₁. fsplit ! $ fsplit ! $ feq_l ! (λ e₂. flt_l ! (λ fits_from.
     fsplit ! $ fsplit ! $ feq_l ! (λ e₃. flt_l ! (λ fits. keep ! (1 ∷ 2 ∷ []) $
     regoal ! (λ (us : List Val). prop (WpFn 𝓤 H 𝓣.C 𝓣.Λ fn us Post)) (λ i. e₀ i ++ (e₁ i ++ (e₂ i ++ (e₃ i ++ [])))) refl $
     enter ! 𝓣.C 𝓣.Λ fn (vptr rb ro ∷ address_val p ∷ vint w64 from ∷ vint w64 len ∷ []) Post $ alloc_all ! (λ l. pass_all ! refl ((tt, tt), (address_typed p, ((tt, record { fits = fits_from }), ((tt, record { fits = fits }), tt)))) $

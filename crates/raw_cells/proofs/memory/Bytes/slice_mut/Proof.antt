@@ -35,7 +35,7 @@ use Rattle.raw_cells.specs.Memory.{bytes_owned, block_type}
 use Rattle.raw_cells.specs.MemoryLends.{with_written}
 use Rattle.raw_cells.specs.Over.{over}
 use Rattle.raw_cells.proofs.Over.{over_is, length_over}
-use Rattle.raw_cells.proofs.Addresses.{address_val, address_typed, address_had}
+use Rattle.raw_cells.proofs.Addresses.{address_val, address_typed, told_address}
 use Rattle.raw_cells.proofs.Lying.{Lie, Around, run_out, run_in}
 use Rattle.raw_cells.specs.contracts.memory.Address.{the_row as Addr}
 use Rattle.raw_cells.specs.contracts.memory.Bytes as C
@@ -91,7 +91,7 @@ slice_mut_spec 𝓤 𝓛 𝓜 𝓡 wired =
     qed 𝓛 ((raw (alive 𝓛 f.signature z.0.0 z.0.1) ⊛ ‵ (owns (types_at f.signature.params z.0.0) a vss)) ∷ raw (fact 𝓤 Asked) ∷ []) ∵
     move ! (1 ∷ []) $ heard ! Asked (λ asked. split ! $ use1 𝓛 (‵ (flft κ q) ⊛ ‵ ftrue) (id⊢ 𝓤 _) $ split ! $ move ! (2 ∷ []) $
     -- [what the parameters own; the token; nothing]
-    fsplit ! $ fsplit3 ! $ feq_l ! (λ e₀. move ! (2 ∷ []) $ fsplit ! $ address_had ! a.1.0 vss.1.0 (λ e₁. fsplit ! $ fsplit ! $ feq_l ! (λ e₂. flt_l ! (λ fits_from.
+    fsplit ! $ fsplit3 ! $ feq_l ! (λ e₀. move ! (2 ∷ []) $ fsplit ! $ told_address ! a.1.0 vss.1.0 (λ e₁. fsplit ! $ fsplit ! $ feq_l ! (λ e₂. flt_l ! (λ fits_from.
     fsplit ! $ fsplit ! $ feq_l ! (λ e₃. flt_l ! (λ fits. keep ! (1 ∷ 2 ∷ 3 ∷ []) $
     regoal ! (λ (us : List Val). prop (WpFn 𝓤 H 𝓣.C 𝓣.Λ fn us Post)) (λ i. e₀ i ++ (e₁ i ++ (e₂ i ++ (e₃ i ++ [])))) refl $
     enter ! 𝓣.C 𝓣.Λ fn (vptr rb ro ∷ address_val p ∷ vint w64 from ∷ vint w64 len ∷ []) Post $ alloc_all ! (λ l. pass_all ! refl ((tt, tt), (address_typed p, ((tt, record { fits = fits_from }), ((tt, record { fits = fits }), tt)))) $
