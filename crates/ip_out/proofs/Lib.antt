@@ -1,2 +1,10 @@
-pub mod Rooms
-pub mod Counting
+mod Counting
+mod Later
+mod Outputs
+mod Firsts
+mod Queues
+mod Sends
+mod Copies
+mod Flat
+mod Datagrams
+pub mod Laws

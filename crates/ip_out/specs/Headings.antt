@@ -1,6 +1,6 @@
 -- IP headers with all their fields (RFC 791, section 3.1). Those of the flat machine have type of service 0, time to
 -- live 64 and "don't fragment" clear.
-use Rattle.std.specs.Prelude.{ℕ, ◌+◌, ◌*◌, ◌/◌, ◌%◌, nat_lt, List, [], ◌∷◌, ◌++◌, length, take, drop, slice_index}
+use Rattle.std.specs.Prelude.{ℕ, ◌+◌, ◌*◌, ◌/◌, ◌%◌, nat_lt, if◌then◌else◌, List, [], ◌∷◌, ◌++◌, length, take, drop, slice_index}
 use Rattle.flat_model.specs.Checksum.{checksum}
 use Rattle.flat_model.specs.Header.{flag, two_bytes, address_bytes, u16_at, u32_at}
 use Rattle.ip_out.specs.declared.head.IpHead.{IpHead}
@@ -11,7 +11,7 @@ written bytes at new = take at bytes ++ (new ++ drop (at + length new) bytes)
 
 -- the field of flags and offset
 abbrev pub flags_of : IpHead → ℕ
-flags_of h = flag h.dont 16384 + (flag h.more 8192 + h.offset / 8)
+flags_of h = if h.dont then 16384 + (flag h.more 8192 + h.offset / 8) else flag h.more 8192 + h.offset / 8
 
 -- the ten bytes in front of the checksum: version 4, 5 words of header, and what the header says
 abbrev pub front_of : IpHead → List ℕ

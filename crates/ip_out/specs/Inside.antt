@@ -1,6 +1,19 @@
--- How many mbufs of a send its later fragments meet (this project's own). No caller reads it.
-use Rattle.std.specs.Prelude.{◌≡◌, ℕ, ◌+◌, ◌-◌, ◌/◌, ◌<◌, ◌≤◌, min, max, nat_lt, if◌then◌else◌, List, length, drop, sum_by}
-use Rattle.flat_model.specs.Cuts.{Part, cuts}
+-- How packets are counted and made, one after another (this project's own). No caller reads it.
+use Rattle.std.specs.Prelude.{◌≡◌, ℕ, ◌+◌, ◌-◌, ◌*◌, ◌/◌, ◌%◌, ◌<◌, ◌≤◌, min, max, nat_lt, if◌then◌else◌, List, [], ◌∷◌, ◌++◌, length, map, drop, sum_by, None}
+use Rattle.std.specs.List.{range_with_len}
+use Rattle.params.specs.declared.TheConstants.{IP_HEADER, FRAGMENT_UNIT}
+use Rattle.flat_model.specs.Weight.{Item}
+use Rattle.flat_model.specs.Cuts.{Part, cuts, part}
+use Rattle.flat_model.specs.Sending.{later_weight}
+use Rattle.mbuf_chain.specs.Chain.{Entry, PoolView, ChainView, string}
+use Rattle.mbuf_chain.specs.Train.{TrainView, numbers, IsHeld}
+use Rattle.mbuf_chain.specs.Owners.{Moves, IsOwned}
+use Rattle.chain_ops.specs.Weights.{laid}
+use Rattle.ip_out.specs.declared.head.IpHead.{IpHead}
+use Rattle.ip_out.specs.Headings.{head_bytes}
+use Rattle.ip_out.specs.Packets.{packets, part_bytes}
+
+-- ---- how many mbufs of a send its later fragments meet
 
 -- 1 where the bytes from `at` up to `end` share one with a part
 abbrev pub here : ℕ → ℕ → Part → ℕ
@@ -14,3 +27,43 @@ later_parts n mtu = drop 1 (cuts (n + 8) mtu)
 pub record Counts (n mtu c m : ℕ) : Type 0 where
   pub parts : m ≡ length (later_parts n mtu)
   pub counts : (at end : ℕ) → at < end → end ≤ 28 + n → sum_by (here at end) (later_parts n mtu) ≡ (end - 21) / c - ((at - 20) / c - 1)
+
+-- ---- packets
+
+-- an mbuf with a header at the front of its room
+abbrev pub head_entry : IpHead → Entry
+head_entry h = record { bytes = head_bytes h; start = 28; cluster = None }
+
+-- the packet of a later part
+abbrev pub later_item : ChainView → IpHead → Part → Item
+later_item v h p = record { bytes = part_bytes h (drop IP_HEADER (string v)) p; weight = later_weight (laid v.entries) p }
+
+-- the parts behind the first, up to part i
+abbrev pub parts_to : ℕ → ℕ → ℕ → List Part
+parts_to n c i = map (part n c) (range_with_len 1 (i - 1))
+
+-- from p to q the packets of these later parts came
+pub record IsLater (p q : PoolView) (t : TrainView) (v : ChainView) (h : IpHead) (parts : List Part) : Type 0 where
+  pub held : IsHeld q t
+  pub moves : Moves p [] q (numbers q t)
+  pub items : packets q t ≡ map (later_item v h) parts
+
+-- n bytes are cut into parts of c, k of them
+pub record IsCut (n mtu c k : ℕ) : Type 0 where
+  pub some : 0 < k
+  pub least : 0 < c
+  pub most : c ≤ 65536
+  pub unit : c % FRAGMENT_UNIT ≡ 0
+  pub parts : cuts n mtu ≡ part n c 0 ∷ parts_to n c k
+  pub inside : (i : ℕ) → 0 < i → i < k → i * c < n
+
+-- ---- the output queue
+
+-- from p to q, packets went from a train to the end of a queue
+pub record IsMoving (p : PoolView) (t u : TrainView) (q : PoolView) (t' u' : TrainView) : Type 0 where
+  pub queue : IsHeld q t'
+  pub rest : IsHeld q u'
+  pub owned : IsOwned q (numbers q t' ++ numbers q u')
+  pub moves : Moves p (numbers p t ++ numbers p u) q (numbers q t' ++ numbers q u')
+  pub items : packets q t' ++ packets q u' ≡ packets p t ++ packets p u
+  pub room : t'.len ≤ 50

@@ -1,2 +1,5 @@
 pub mod Headings
+pub mod Packets
+pub mod Queues
+pub mod Ways
 pub mod Inside

@@ -61,8 +61,12 @@ fn flags_of(head: &IpHead) -> u16
     ensures { result ≡ flags_of head.now }
 {
     let more = if head.more { MORE_FRAGMENTS } else { 0 };
-    let dont = if head.dont { DONT_FRAGMENT } else { 0 };
-    dont + (more + (head.offset / FRAGMENT_UNIT) as u16)
+    let field = more + (head.offset / FRAGMENT_UNIT) as u16;
+    if head.dont {
+        DONT_FRAGMENT + field
+    } else {
+        field
+    }
 }
 
 /// Writes a number of 8 bits over the byte at a place.

@@ -1,8 +1,17 @@
 //! IP output: headers, fragments, and what they need.
 #![tactic(auto)]
 
+mod fragments;
 mod head;
 mod needs;
+mod queue;
+mod sending;
+#[cfg(test)]
+mod tests;
+mod ways;
 
 pub use head::{IpHead, MAX_OFFSET, read_head, write_head};
 pub use needs::{need, need_bcast};
+pub use queue::Queue;
+pub use sending::output;
+pub use ways::{Packets, Way, make_packets};

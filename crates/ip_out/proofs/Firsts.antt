@@ -1,0 +1,159 @@
+-- The first packet: the chain itself, trimmed, with its header written over its first bytes.
+use Rattle.std.proofs.Common.{◌≡◌, ◌≢◌, ℕ, zero, suc, ◌+◌, ◌-◌, ◌*◌, ◌<◌, ◌≤◌, min, Bool, true, false, List, [], ◌∷◌, ◌++◌, length, take, drop, map, refl, sym, ap, ◌∙◌, subst, arith, None, Some, Option}
+use Rattle.std.specs.List.{insert, cons_option}
+use Rattle.std.specs.Prelude.{slice_set, slice_index_or, sum_by}
+use Rattle.std.proofs.lemmas.List.Sums.{sum_by-cons}
+use Rattle.std.proofs.lemmas.List.{length-take, length-append, append_assoc}
+use Rattle.flat_model.specs.Weight.{Weight, Item}
+use Rattle.flat_model.specs.Cuts.{Part, part, cuts}
+use Rattle.flat_model.specs.Layout.{weight_of}
+use Rattle.flat_model.specs.Sending.{items}
+use Rattle.mbuf_chain.specs.declared.place.Place.{Place}
+use Rattle.mbuf_chain.specs.Chain.{Entry, ChainView, PoolView, IsLive, IsUnshared, chain_of, entry_of, entry_in, no_entry, flat_bytes, string, with_chain, held_mbufs, mbufs_of}
+use Rattle.mbuf_chain.specs.Steps.{narrowed, overwritten, with_entry, with_entry_in}
+use Rattle.mbuf_chain.specs.Owners.{Moves, times, live_at, IsOwned}
+use Rattle.mbuf_chain.specs.Train.{TrainView, Car, car_of, cars, numbers, IsHeld}
+use Rattle.mbuf_chain.proofs.Laws.Owners.{owned_more, moves_trans, moves_beside, times_same, moves_within, live_at_most, live_one, shown_with}
+use Rattle.mbuf_chain.proofs.Laws.Steps.{live_shown}
+use Rattle.mbuf_chain.proofs.Laws.Accounts.{held_moves}
+use Rattle.mbuf_chain.proofs.Laws.Trains.{Beside, beside_with}
+use Rattle.chain_ops.specs.Weights.{laid}
+use Rattle.chain_ops.specs.Trims.{only_first}
+use Rattle.chain_ops.proofs.Laws.Strings.{only_first_bytes}
+use Rattle.ledger.specs.Accounts as ledger
+use Rattle.ledger.specs.Accounts.{item_of}
+use Rattle.ip_out.specs.declared.head.IpHead.{IpHead}
+use Rattle.ip_out.specs.Headings.{head_bytes}
+use Rattle.ip_out.specs.Packets.{packets, packets_of, parts_of, part_need, later_need, head_for, part_bytes, IsDatagram}
+use Rattle.ip_out.specs.Inside.{later_item, parts_to, IsLater, IsCut}
+use Rattle.ip_out.proofs.Outputs.{kept_moves, weight-laid, weigh_numbers, weigh_parts, length-laid}
+
+-- ---- bytes and weight
+only_weight : (k : ℕ) (es : List Entry) → ledger.weight_of (only_first k es) ≡ ledger.weight_of es
+only_weight k [] = refl
+only_weight k (e ∷ es) =
+    let w = only_weight (k - length e.bytes) es in
+    λ i. record { mbufs = suc (w i).mbufs; bag = cons_option e.cluster (w i).bag }
+
+nothing_left : (a k : ℕ) → drop (suc a) (take {A = ℕ} k []) ≡ []
+nothing_left a zero = refl
+nothing_left a (suc k) = refl
+
+drop_take : (a s : ℕ) (xs : List ℕ) → drop a (take (a + s) xs) ≡ take s (drop a xs)
+drop_take zero s xs = let e : zero + s ≡ s = omega arith in ap (λ (k : ℕ). take k xs) e
+drop_take (suc a) zero [] = nothing_left a (suc a + zero)
+drop_take (suc a) (suc s) [] = nothing_left a (suc a + suc s)
+drop_take (suc a) s (x ∷ xs) = let e : suc a + s ≡ suc (a + s) = omega arith in ap (λ (k : ℕ). drop (suc a) (take k (x ∷ xs))) e ∙ drop_take a s xs
+
+drop_front : (n : ℕ) (xs ys : List ℕ) → n ≤ length xs → drop n xs ++ ys ≡ drop n (xs ++ ys)
+drop_front zero xs ys h = refl
+drop_front (suc n) [] ys h = absurd (omega arith)
+drop_front (suc n) (x ∷ xs) ys h = drop_front n xs ys (omega arith)
+
+pub first_is : (es : List Entry) (k s : ℕ) (hdr : List ℕ) → 20 ≤ length (slice_index_or es 0 no_entry).bytes → k ≡ 20 + s → length hdr ≡ 20
+    → item_of (slice_set (only_first k es) 0 (overwritten (slice_index_or (only_first k es) 0 no_entry) 0 hdr)) ≡ record { bytes = hdr ++ take s (drop 20 (flat_bytes es)); weight = weight_of (laid es) }
+first_is [] k s hdr room e len = absurd (omega arith)
+first_is (f ∷ es) k s hdr room e len =
+    let g : Entry = narrowed f 0 (min k (length f.bytes)) in
+    let rest : List ℕ = flat_bytes (only_first (k - length f.bytes) es) in
+    let long : 20 ≤ length g.bytes = omega (arith, length-take (min k (length f.bytes)) f.bytes, room, e) in
+    let bytes : (hdr ++ drop (0 + length hdr) g.bytes) ++ rest ≡ hdr ++ take s (drop 20 (flat_bytes (f ∷ es))) =
+    append_assoc hdr (drop (0 + length hdr) g.bytes) rest
+    ∙ (let n : 0 + length hdr ≡ 20 = omega (arith, len) in ap (λ (m : ℕ). hdr ++ (drop m g.bytes ++ rest)) n)
+    ∙ ap (λ (xs : List ℕ). hdr ++ xs) (drop_front 20 g.bytes rest long ∙ ap (drop 20) (only_first_bytes k (f ∷ es)) ∙ ap (λ (m : ℕ). drop 20 (take m (flat_bytes (f ∷ es)))) e ∙ drop_take 20 s (flat_bytes (f ∷ es))) in
+    λ i. record { bytes = bytes i; weight = (only_weight k (f ∷ es) ∙ sym (weight-laid (f ∷ es))) i }
+
+-- ---- the pool
+abbrev pub trimmed : ChainView → ℕ → ChainView
+trimmed v k = record v { entries = only_first k v.entries }
+
+pub apart_later : {p q : PoolView} {ys : List ℕ} (c : ℕ) → Moves p [] q ys → IsLive p c → times c ys ≡ 0
+apart_later {p} {q} {ys} c m live = omega (arith, m.owned c, live_at_most q c, live_one p c live)
+
+pub only_some : (es : List Entry) (k : ℕ) → 20 ≤ length (slice_index_or es 0 no_entry).bytes → 20 ≤ k
+    → (20 ≤ length (slice_index_or (only_first k es) 0 no_entry).bytes)
+    × ((slice_index_or (only_first k es) 0 no_entry).cluster ≡ (slice_index_or es 0 no_entry).cluster)
+only_some [] k room h = absurd (omega arith)
+only_some (f ∷ es) k room h = (omega (arith, length-take (min k (length f.bytes)) f.bytes, room, h), refl)
+
+-- the first mbuf of the chain once it's trimmed
+pub entry_trimmed : {p q r : PoolView} {ys : List ℕ} (c k : ℕ) (at : Place) → Moves p [] q ys → IsLive p c → r ≡ with_chain q c (trimmed (chain_of q c) k) → at.index ≡ 0
+    → entry_in r c at ≡ entry_of (trimmed (chain_of p c) k) 0
+entry_trimmed {p} {q} {r} c k at m live is first =
+    (λ i. entry_of ((shown_with q r c (trimmed (chain_of q c) k) is) i) (first i)) ∙ ap (λ (v : ChainView). entry_of (trimmed v k) 0) (kept_moves c m live).0
+
+pub record Written (p q s : PoolView) (t : TrainView) (c k : ℕ) (hdr : List ℕ) : Type 0 where
+  pub live : IsLive s c
+  pub shown : chain_of s c ≡ with_entry (trimmed (chain_of p c) k) 0 (overwritten (entry_of (trimmed (chain_of p c) k) 0) 0 hdr)
+  pub beside : Beside q s t
+  pub apart : times c (numbers s t) ≡ 0
+  pub moves : Moves p (c ∷ []) s (c ∷ numbers s t)
+
+pub written : {p q r s : PoolView} {t : TrainView} (c k : ℕ) (at : Place) (hdr : List ℕ) → Moves p [] q (numbers q t) → IsHeld q t → IsLive p c
+    → r ≡ with_chain q c (trimmed (chain_of q c) k) → at.index ≡ 0 → s ≡ with_entry_in r c at (overwritten (entry_in r c at) 0 hdr) → Written p q s t c k hdr
+written {p} {q} {r} {s} {t} c k at hdr m held live is_r index is_s =
+    let apart : times c (numbers q t) ≡ 0 = apart_later c m live in
+    let one : Beside q r t = beside_with q r c (trimmed (chain_of q c) k) t is_r apart held in
+    let apart_r : times c (numbers r t) ≡ 0 = ap (times c) one.numbers ∙ apart in
+    let w : ChainView = with_entry (chain_of r c) at.index (overwritten (entry_in r c at) 0 hdr) in
+    let two : Beside r s t = beside_with r s c w t is_s apart_r one.held in
+    let shown_r : chain_of r c ≡ trimmed (chain_of p c) k = shown_with q r c (trimmed (chain_of q c) k) is_r ∙ ap (λ (v : ChainView). trimmed v k) (kept_moves c m live).0 in
+    let live_q : IsLive q c = (kept_moves c m live).1 in
+    let live_r : IsLive r c = live_shown q r c (trimmed (chain_of q c) k) is_r in
+    let first : Moves p (c ∷ []) q (c ∷ numbers q t) = moves_beside (c ∷ []) (c ∷ numbers q t) (c ∷ []) m (λ j. omega arith) (λ j. omega arith) in
+    let here : (xs : List ℕ) → 0 < times c (c ∷ xs) = λ xs. omega (arith, times_same c xs) in
+    let then_r : Moves q (c ∷ numbers q t) r (c ∷ numbers q t) = moves_within q r c (trimmed (chain_of q c) k) (c ∷ numbers q t) live_q (here (numbers q t)) is_r in
+    let then_s : Moves r (c ∷ numbers q t) s (c ∷ numbers q t) = moves_within r s c w (c ∷ numbers q t) live_r (here (numbers q t)) is_s in
+    let same : numbers s t ≡ numbers q t = two.numbers ∙ one.numbers in
+    record {
+      live = live_shown r s c w is_s;
+      shown = shown_with r s c w is_s ∙ (λ i. with_entry (shown_r i) (index i) (overwritten (entry_of (shown_r i) (index i)) 0 hdr));
+      beside = record { held = two.held; numbers = same; cars = two.cars ∙ one.cars };
+      apart = ap (times c) same ∙ apart;
+      moves = subst (λ (xs : List ℕ). Moves p (c ∷ []) s (c ∷ xs)) (sym same) (moves_trans first (moves_trans then_r then_s));
+    }
+
+-- ---- all packets
+pub packets_are : {p q s : PoolView} {t : TrainView} (z : PoolView) (u : TrainView) (c n size k count mtu : ℕ) (h h0 : IpHead) (hdr : List ℕ) → IsDatagram (chain_of p c) → n + 20 ≡ length (string (chain_of p c)) → IsCut n mtu size count
+    → IsLater p q t (chain_of p c) h (parts_to n size count) → k ≡ 20 + min size n → h0 ≡ head_for h (part n size 0) → hdr ≡ head_bytes h0 → length hdr ≡ 20 → Written p q s t c k hdr
+    → cars z u ≡ insert (cars s t) 0 (record { number = c; entries = (chain_of s c).entries; tag = 0 }) → packets z u ≡ packets_of (chain_of p c) h mtu
+packets_are {p} {q} {s} {t} z u c n size k count mtu h h0 hdr d len is_cut l ek eh eb el w in_cars =
+    let v : ChainView = chain_of p c in
+    let f : Car → Item = λ car. item_of car.entries in
+    let x : Car = record { number = c; entries = (chain_of s c).entries; tag = 0 } in
+    let all : packets z u ≡ f x ∷ packets q t = ap (map f) in_cars ∙ ap (λ (xs : List Car). f x ∷ map f xs) w.beside.cars in
+    let fits : min size n ≡ (part n size 0).size = omega arith in
+    let first : f x ≡ record { bytes = hdr ++ take (min size n) (drop 20 (string v)); weight = weight_of (laid v.entries) } =
+    ap (λ (y : ChainView). item_of y.entries) w.shown ∙ first_is v.entries k (min size n) hdr d.room ek el in
+    let off : 0 ≡ (part n size 0).offset = omega arith in
+    let bytes : hdr ++ take (min size n) (drop 20 (string v)) ≡ part_bytes h (drop 20 (string v)) (part n size 0) =
+    (λ i. (eb ∙ ap head_bytes eh) i ++ take (fits i) (drop (off i) (drop 20 (string v)))) in
+    let whole : items (laid v.entries) (part_bytes h (drop 20 (string v))) (part n size 0 ∷ parts_to n size count) ≡ packets_of v h mtu =
+    ap (items (laid v.entries) (part_bytes h (drop 20 (string v)))) (sym is_cut.parts) ∙ (let e : n ≡ length (string v) - 20 = omega (arith, len) in ap (λ (m : ℕ). items (laid v.entries) (part_bytes h (drop 20 (string v))) (cuts m mtu)) e) in
+    all ∙ (λ i. first i ∷ l.items i) ∙ ap (λ (xs : List ℕ). record { bytes = xs; weight = weight_of (laid v.entries) } ∷ map (later_item v h) (parts_to n size count)) bytes ∙ whole
+
+pub string_long : (es : List Entry) → 20 ≤ length (slice_index_or es 0 no_entry).bytes → 20 ≤ length (flat_bytes es)
+string_long [] h = absurd (omega arith)
+string_long (e ∷ es) h = omega (arith, length-append e.bytes (flat_bytes es), h)
+
+-- how many mbufs they take beyond the chain's own
+pub held_packets : {p z : PoolView} (t : TrainView) (c n size k mtu : ℕ) (h : IpHead) → Moves p (c ∷ []) z (numbers z t) → IsLive p c → IsCut n mtu size k → n + 20 ≡ length (string (chain_of p c))
+    → packets z t ≡ packets_of (chain_of p c) h mtu → held_mbufs z ≡ held_mbufs p + later_need (chain_of p c) mtu
+held_packets {p} {z} t c n size k mtu h m live is_cut len is =
+    let v : ChainView = chain_of p c in
+    let e : length (string v) - 20 ≡ n = omega (arith, len) in
+    let parts : parts_of v mtu ≡ part n size 0 ∷ parts_to n size k = ap (λ (j : ℕ). cuts j mtu) e ∙ is_cut.parts in
+    let all : packets z t ≡ record { bytes = part_bytes h (drop 20 (string v)) (part n size 0); weight = weight_of (laid v.entries) } ∷ map (later_item v h) (parts_to n size k) =
+    is ∙ ap (items (laid v.entries) (part_bytes h (drop 20 (string v)))) parts in
+    let one : IsOwned p (c ∷ []) = owned_more p c [] (λ j. omega arith) live refl in
+    omega (
+      arith,
+      held_moves m one,
+      sum_by-cons (λ (j : ℕ). mbufs_of (chain_of p j)) c [],
+      weigh_numbers z (numbers z t),
+      ap (sum_by (λ (it : Item). it.weight.mbufs)) all,
+      sum_by-cons (λ (it : Item). it.weight.mbufs) (record { bytes = part_bytes h (drop 20 (string v)) (part n size 0); weight = weight_of (laid v.entries) }) (map (later_item v h) (parts_to n size k)),
+      weigh_parts v h (parts_to n size k),
+      length-laid v.entries,
+      ap (λ (ps : List Part). sum_by (part_need v) (drop 1 ps)) parts,
+    )

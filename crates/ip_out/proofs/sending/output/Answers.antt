@@ -1,0 +1,49 @@
+use Rattle.std.proofs.Common.{◌≡◌, ℕ, ◌<◌, ◌++◌, true, false, List, length, take, ap, sym, ◌∙◌, subst}
+use Rattle.std.specs.Prelude.{nat_lt}
+use Rattle.std.proofs.lemmas.Bool.{ltb-true}
+use Rattle.flat_model.specs.Weight.{Item}
+use Rattle.mbuf_chain.specs.Chain.{chain_of}
+use Rattle.mbuf_chain.proofs.Laws.Owners.{moves_trans}
+use Rattle.ip_out.specs.Packets.{packets, packets_of}
+use Rattle.ip_out.proofs.Sends.{aside, aside_gone, all_fit}
+use Rattle.ip_out.proofs.sending.output.Goals as goal
+
+pub returns-in_default-clause-queue : goal.returns-in_default-clause-queue
+returns-in_default-clause-queue c = record {
+  held = (aside_gone c.args.chain c.args.queue.now c.in_default.ensures.freed c.requires.live c.requires.queue.held c.requires.apart).0;
+  room = c.requires.queue.room;
+}
+
+pub returns-in_default-clause-moves : goal.returns-in_default-clause-moves
+returns-in_default-clause-moves c = (aside_gone c.args.chain c.args.queue.now c.in_default.ensures.freed c.requires.live c.requires.queue.held c.requires.apart).1
+
+pub push_all-requires-clause-queue : goal.push_all-requires-clause-queue
+push_all-requires-clause-queue c = record {
+  held = (aside c.args.chain c.args.queue.now c.in-Ok.ensures.moves c.requires.live c.requires.queue.held c.requires.apart).held;
+  room = c.requires.queue.room;
+}
+
+pub push_all-requires-clause-owned : goal.push_all-requires-clause-owned
+push_all-requires-clause-owned c = (aside c.args.chain c.args.queue.now c.in-Ok.ensures.moves c.requires.live c.requires.queue.held c.requires.apart).owned
+
+pub returns-then-push_all-clause-err : goal.returns-then-push_all-clause-err
+returns-then-push_all-clause-err c =
+    let a = aside c.args.chain c.args.queue.now c.in-Ok.ensures.moves c.requires.live c.requires.queue.held c.requires.apart in
+    let all : List Item = packets c.args.pool.now c.args.queue.now ++ packets_of (chain_of c.args.pool.now c.args.chain) c.args.head c.args.mtu in
+    let same : packets c.fragments.new.pool c.args.queue.now ++ packets c.fragments.new.pool c.in-Ok.packets ≡ all = λ i. a.same_packets i ++ c.in-Ok.ensures.packets i in
+    let over : nat_lt 50 (length all) ≡ true = sym (ap (λ (xs : List Item). nat_lt 50 (length xs)) same) ∙ sym c.push_all.ensures.lost ∙ c.if-push_all.true in
+    (c.in-Ok.ensures.enough, ltb-true 50 (length all) over, c.push_all.ensures.packets ∙ ap (take 50) same)
+
+pub returns-then-push_all-clause-moves : goal.returns-then-push_all-clause-moves
+returns-then-push_all-clause-moves c = moves_trans (aside c.args.chain c.args.queue.now c.in-Ok.ensures.moves c.requires.live c.requires.queue.held c.requires.apart).moves c.push_all.ensures.moves
+
+pub returns-clause-ok : goal.returns-clause-ok
+returns-clause-ok c =
+    let a = aside c.args.chain c.args.queue.now c.in-Ok.ensures.moves c.requires.live c.requires.queue.held c.requires.apart in
+    let all : List Item = packets c.args.pool.now c.args.queue.now ++ packets_of (chain_of c.args.pool.now c.args.chain) c.args.head c.args.mtu in
+    let same : packets c.fragments.new.pool c.args.queue.now ++ packets c.fragments.new.pool c.in-Ok.packets ≡ all = λ i. a.same_packets i ++ c.in-Ok.ensures.packets i in
+    let within : nat_lt 50 (length all) ≡ false = sym (ap (λ (xs : List Item). nat_lt 50 (length xs)) same) ∙ sym c.push_all.ensures.lost ∙ c.if-push_all.false in
+    (c.in-Ok.ensures.enough, c.push_all.ensures.packets ∙ ap (take 50) same ∙ all_fit all within)
+
+pub returns-clause-moves : goal.returns-clause-moves
+returns-clause-moves c = moves_trans (aside c.args.chain c.args.queue.now c.in-Ok.ensures.moves c.requires.live c.requires.queue.held c.requires.apart).moves c.push_all.ensures.moves

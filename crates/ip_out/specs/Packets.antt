@@ -1,0 +1,51 @@
+-- The packets of a datagram as chains (RFC 791, section 3.2; `ip_output` of volume 2, chapters 8 and 10; that all are
+-- made before any is queued is this project's own).
+use Rattle.std.specs.Prelude.{◌≡◌, ℕ, ◌+◌, ◌-◌, ◌≤◌, true, List, ◌++◌, length, take, drop, map, sum_by, None}
+use Rattle.params.specs.declared.TheConstants.{IP_HEADER, IP_MAX_PACKET}
+use Rattle.flat_model.specs.Weight.{Item}
+use Rattle.flat_model.specs.Cuts.{Part, cuts}
+use Rattle.flat_model.specs.Layout.{entries_met}
+use Rattle.flat_model.specs.Sending.{items}
+use Rattle.mbuf_chain.specs.Chain.{PoolView, ChainView, string, entry_of}
+use Rattle.mbuf_chain.specs.Train.{TrainView, Car, cars}
+use Rattle.chain_ops.specs.Weights.{laid, HaveBytes}
+use Rattle.ledger.specs.Accounts.{item_of}
+use Rattle.ip_out.specs.declared.head.IpHead.{IpHead}
+use Rattle.ip_out.specs.Headings.{head_bytes}
+
+-- the chains of a train as packets, in order: their bytes and what they weigh
+abbrev pub packets : PoolView → TrainView → List Item
+packets p t = map (λ (car : Car). item_of car.entries) (cars p t)
+
+-- the header of the packet of one part
+abbrev pub head_for : IpHead → Part → IpHead
+head_for h p = record h { total = IP_HEADER + p.size; more = p.more; offset = p.offset }
+
+-- the packet of one part of what is carried
+abbrev pub part_bytes : IpHead → List ℕ → Part → List ℕ
+part_bytes h carried p = head_bytes (head_for h p) ++ take p.size (drop p.offset carried)
+
+-- the parts of a datagram that lies in a chain behind 20 bytes for its header
+abbrev pub parts_of : ChainView → ℕ → List Part
+parts_of v mtu = cuts (length (string v) - IP_HEADER) mtu
+
+-- its packets: the first weighs what the chain weighs, each later one an mbuf and those in which its bytes lie
+abbrev pub packets_of : ChainView → IpHead → ℕ → List Item
+packets_of v h mtu = items (laid v.entries) (part_bytes h (drop IP_HEADER (string v))) (parts_of v mtu)
+
+-- how many mbufs a later packet takes: one for its header, and one for each mbuf in which its bytes lie
+abbrev pub part_need : ChainView → Part → ℕ
+part_need v p = 1 + length (entries_met (laid v.entries) (IP_HEADER + p.offset) (IP_HEADER + p.offset + p.size))
+
+-- how many all later packets take
+abbrev pub later_need : ChainView → ℕ → ℕ
+later_need v mtu = sum_by (part_need v) (drop 1 (parts_of v mtu))
+
+-- A chain that can be output: its first mbuf is plain, has a packet header and begins with the 20 bytes of the
+-- IP header, whatever they are; none of its mbufs is empty, and no more bytes are there than a packet has.
+pub record IsDatagram (v : ChainView) : Type 0 where
+  pub headed : v.front.header ≡ true
+  pub plain : (entry_of v 0).cluster ≡ None
+  pub room : IP_HEADER ≤ length (entry_of v 0).bytes
+  pub bytes : HaveBytes v.entries
+  pub most : length (string v) ≤ IP_MAX_PACKET

@@ -1,0 +1,24 @@
+-- Where the packets of a datagram go (`ip_output`, `looutput` and `ether_output` of volume 2, chapters 8, 5 and 4).
+use Rattle.std.specs.Prelude.{ℕ, ◌+◌, List, [], length}
+use Rattle.flat_model.specs.Weight.{Item}
+use Rattle.mbuf_chain.specs.Chain.{ChainView}
+use Rattle.ip_out.specs.declared.ways.Way.{Way}
+use Rattle.ip_out.specs.declared.ways.Way.TheVariants.{Link, Loopback, Both}
+use Rattle.ip_out.specs.Packets.{later_need}
+
+-- the packets that go to the link, and those that come back
+abbrev pub to_link : Way → List Item → List Item
+to_link Link items = items
+to_link Loopback items = []
+to_link Both items = items
+
+abbrev pub to_self : Way → List Item → List Item
+to_self Link items = []
+to_self Loopback items = items
+to_self Both items = items
+
+-- how many mbufs they take beyond those of the chain; a copy of a chain takes as many as the chain has
+abbrev pub way_need : Way → ChainView → ℕ → ℕ
+way_need Link v mtu = later_need v mtu
+way_need Loopback v mtu = later_need v mtu
+way_need Both v mtu = length v.entries + (later_need v mtu + later_need v mtu)

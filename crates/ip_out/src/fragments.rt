@@ -1,0 +1,185 @@
+//! The packets of a datagram: the chain itself, trimmed, and copies that share its clusters.
+ghost use Rattle.std.specs.Prelude.{◌≡◌, ℕ, ◌+◌, ◌*◌, ◌%◌, ◌<◌, ◌≤◌, [], ◌∷◌, true, false, length, sum_by, IfOk, OnOk, OnErr};
+ghost use Rattle.flat_model.specs.Cuts.{part};
+ghost use Rattle.mbuf_chain.specs.Chain.{IsLive, chain_of, string, alone, held_mbufs, without, Adds};
+ghost use Rattle.mbuf_chain.specs.Steps.{one_mbuf};
+ghost use Rattle.mbuf_chain.specs.Owners.{Moves};
+ghost use Rattle.mbuf_chain.specs.Train.{IsHeld, numbers};
+ghost use Rattle.chain_ops.specs.Makes.{Makes, HasMbufs, LacksMbufs};
+ghost use Rattle.chain_ops.specs.Copies.{copied};
+ghost use Rattle.chain_ops.specs.Cursors.{IsCursor};
+ghost use Rattle.ip_out.specs.Packets.{IsDatagram, head_for, later_need, packets, packets_of, part_need};
+ghost use Rattle.ip_out.specs.Inside.{head_entry, parts_to, IsCut, IsLater};
+
+use crate::head::{IpHead, MAX_OFFSET, write_head};
+use chain_ops::theorems::copy_weight;
+use chain_ops::{Cursor, advance, copy_at, cursor_at, trim_back};
+use mbuf_chain::{Chain, Pool, Train};
+use mbuf_pool::NoBufs;
+use params::{FRAGMENT_UNIT, IP_HEADER, IP_MAX_DATA, MBUF_HEADER, MIN_MTU, PACKET_HEADER};
+
+/// More bytes than any packet carries: what one carries that isn't cut.
+const UNCUT: u32 = 65_536;
+
+/// Where the data of a new mbuf with packet header begins: at the front of its room.
+const FRONT: u32 = MBUF_HEADER + PACKET_HEADER;
+
+/// How many bytes each packet but the last carries of `n` bytes, and how many packets there are.
+fn cut_of(n: u32, mtu: u32) -> (u32, u32)
+    requires short { n ≤ IP_MAX_DATA }
+    requires least { MIN_MTU ≤ mtu }
+    requires most { mtu ≤ 65535 }
+    ensures { IsCut n mtu result.0 result.1 }
+{
+    if IP_HEADER + n <= mtu {
+        return (UNCUT, 1);
+    }
+    let chunk = (mtu - IP_HEADER) / FRAGMENT_UNIT * FRAGMENT_UNIT;
+    (chunk, (n + (chunk - 1)) / chunk)
+}
+
+/// The header of the packet that carries part `i` of `n` bytes in chunks.
+fn head_of(head: IpHead, n: u32, chunk: u32, i: u32) -> IpHead
+    requires short { n ≤ IP_MAX_DATA }
+    requires chunk { chunk ≤ UNCUT }
+    requires some { i * chunk ≤ n }
+    ensures { result ≡ head_for head (part n chunk i) }
+{
+    let offset = i * chunk;
+    IpHead {
+        total: (IP_HEADER + chunk.min(n - offset)) as u16,
+        more: offset + chunk < n,
+        offset,
+        ..head
+    }
+}
+
+/// A new mbuf with packet header, in which a header lies at the front.
+fn header_mbuf(pool: &mut Pool, head: IpHead) -> Result<Chain, NoBufs>
+    requires offset { head.offset ≤ MAX_OFFSET }
+    requires unit { head.offset % FRAGMENT_UNIT ≡ 0 }
+    ensures ok { IfOk result (λ d. Adds pool.old pool.new d (one_mbuf true (head_entry head) d)) }
+    ensures err { OnErr result (held_mbufs pool.old ≡ pool.old.mbufs) }
+    ensures same { OnErr result (pool.new ≡ pool.old) }
+{
+    let front = pool.new_plain(true, FRONT)?;
+    let at = pool.first(&front);
+    let mut bytes = [0; IP_HEADER as usize];
+    write_head(&mut bytes, head);
+    pool.put_back(&front, at, &bytes);
+    Ok(front)
+}
+
+/// A fragment: an mbuf with a header, and behind it a copy of `size` bytes of a chain from a cursor on.
+fn fragment(
+    pool: &mut Pool,
+    chain: &Chain,
+    head: IpHead,
+    from: Cursor,
+    size: u32,
+) -> Result<Chain, NoBufs>
+    requires live { IsLive pool.old chain.now }
+    requires offset { head.offset ≤ MAX_OFFSET }
+    requires unit { head.offset % FRAGMENT_UNIT ≡ 0 }
+    requires cursor { IsCursor (chain_of pool.old chain.now) from }
+    requires behind { 0 < from.off }
+    requires some { 0 < size }
+    requires within { from.off + size ≤ length (string (chain_of pool.old chain.now)) }
+    ensures ok { IfOk result (λ d. Makes pool.old pool.new d (alone true)
+        (head_entry head ∷ copied false (chain_of pool.old chain.now).entries from.off size)) }
+    ensures enough { OnOk result (HasMbufs pool.old
+        (1 + length (copied false (chain_of pool.old chain.now).entries from.off size))) }
+    ensures err { OnErr result (LacksMbufs pool.old
+        (1 + length (copied false (chain_of pool.old chain.now).entries from.off size))) }
+    ensures same { OnErr result (pool.new ≡ pool.old) }
+{
+    let front = header_mbuf(pool, head)?;
+    let Ok(back) = copy_at(pool, chain, from, size) else {
+        pool.free_chain(front);
+        return Err(NoBufs);
+    };
+    let at = pool.first(&front);
+    pool.link_counted(&front, at, back, size);
+    pool.laws();
+    Ok(front)
+}
+
+/// The packets of the parts behind the first. The chain is walked once.
+fn later(
+    pool: &mut Pool,
+    chain: &Chain,
+    head: IpHead,
+    n: u32,
+    chunk: u32,
+    count: u32,
+) -> Result<Train, NoBufs>
+    requires live { IsLive pool.old chain.now }
+    requires datagram { IsDatagram (chain_of pool.old chain.now) }
+    requires len { n + IP_HEADER ≡ length (string (chain_of pool.old chain.now)) }
+    requires chunk { 0 < chunk }
+    requires wide { chunk ≤ UNCUT }
+    requires unit { chunk % FRAGMENT_UNIT ≡ 0 }
+    requires count { 0 < count }
+    requires inside { (i : ℕ) → 0 < i → i < count → i * chunk < n }
+    ensures ok { IfOk result
+        (λ t. IsLater pool.old pool.new t (chain_of pool.old chain.now) head (parts_to n chunk count)) }
+    ensures enough { OnOk result
+        (HasMbufs pool.old (sum_by (part_need (chain_of pool.old chain.now)) (parts_to n chunk count))) }
+    ensures err { OnErr result
+        (LacksMbufs pool.old (sum_by (part_need (chain_of pool.old chain.now)) (parts_to n chunk count))) }
+    ensures same { OnErr result (pool.new ≡ pool.old) }
+{
+    copy_weight();
+    let mut train = Train::new();
+    let mut from = cursor_at(pool, chain, 0);
+    'parts: for i in 1..count {
+        let off = IP_HEADER + i * chunk;
+        let size = chunk.min(n - i * chunk);
+        from = advance(pool, chain, from, off - from.off);
+        let Ok(packet) = fragment(pool, chain, head_of(head, n, chunk, i), from, size) else {
+            train.free(pool);
+            return Err(NoBufs);
+        };
+        let end = train.len();
+        train.insert(pool, end, packet, 0);
+    }
+    pool.laws();
+    Ok(train)
+}
+
+/// Cuts a datagram, which lies in a chain behind 20 bytes for its header, into the packets for a link that takes
+/// packets of `mtu` bytes. The first is the chain itself, trimmed behind; each other has an mbuf for its header, and
+/// behind it a copy that shares clusters. All are made, or none: `NoBufs` comes exactly where fewer mbufs are free
+/// than the later ones take, and then the chain is freed.
+pub(crate) fn fragments(
+    pool: &mut Pool,
+    chain: Chain,
+    head: IpHead,
+    mtu: u16,
+) -> Result<Train, NoBufs>
+    requires live { IsLive pool.old chain }
+    requires datagram { IsDatagram (chain_of pool.old chain) }
+    requires least { MIN_MTU ≤ mtu }
+    ensures held { IfOk result (IsHeld pool.new) }
+    ensures packets { IfOk result (λ t. packets pool.new t ≡ packets_of (chain_of pool.old chain) head mtu) }
+    ensures moves { IfOk result (λ t. Moves pool.old (chain ∷ []) pool.new (numbers pool.new t)) }
+    ensures count { OnOk result
+        (held_mbufs pool.new ≡ held_mbufs pool.old + later_need (chain_of pool.old chain) mtu) }
+    ensures enough { OnOk result (HasMbufs pool.old (later_need (chain_of pool.old chain) mtu)) }
+    ensures err { OnErr result (LacksMbufs pool.old (later_need (chain_of pool.old chain) mtu)) }
+    ensures freed { OnErr result (pool.new ≡ without pool.old chain) }
+{
+    let n = pool.len(&chain) - IP_HEADER;
+    let (chunk, count) = cut_of(n, mtu as u32);
+    let Ok(mut train) = later(pool, &chain, head, n, chunk, count) else {
+        pool.free_chain(chain);
+        return Err(NoBufs);
+    };
+    trim_back(pool, &chain, IP_HEADER + chunk.min(n));
+    let at = pool.first(&chain);
+    let mut bytes = [0; IP_HEADER as usize];
+    write_head(&mut bytes, head_of(head, n, chunk, 0));
+    pool.overwrite(&chain, at, 0, &bytes);
+    train.insert(pool, 0, chain, 0);
+    Ok(train)
+}

@@ -1,0 +1,143 @@
+//! The output queue.
+ghost use Rattle.std.specs.Prelude.{◌≡◌, ◌+◌, ◌<◌, ◌≤◌, ◌==◌, ◌++◌, [], ◌∷◌, true, None, IfSome, MatchOption, take, length, nat_lt};
+ghost use Rattle.mbuf_chain.specs.Chain.{PoolView, IsLive, chain_of, alone};
+ghost use Rattle.mbuf_chain.specs.Owners.{Moves, IsOwned, times};
+ghost use Rattle.mbuf_chain.specs.Train.{IsHeld, numbers};
+ghost use Rattle.ledger.specs.Accounts.{item_at};
+ghost use Rattle.ip_out.specs.Packets.{packets};
+ghost use Rattle.ip_out.specs.Queues.{IsQueue};
+
+use mbuf_chain::{Chain, Pool, Train};
+use params::OUTPUT_QUEUE_PACKETS;
+use std::marker::Model;
+
+/// The packets that wait for the link, at most 50, first in first out: `ifqueue` of TCP/IP Illustrated volume 2,
+/// chapter 3. They are linked through their own first mbufs, so the queue takes no buffer. It must be spent, by `end`.
+///
+/// The packets stay in the pool that each call is given, which is the one that they came from.
+pub struct Queue {
+    train: Train,
+}
+
+/// Puts packets at the end of a train up to the 50th, and frees the others. Answers whether there were others.
+fn move_packets(pool: &mut Pool, train: &mut Train, more: Train) -> bool
+    requires held { IsHeld pool.old train.old }
+    requires more { IsHeld pool.old more }
+    requires owned { IsOwned pool.old (numbers pool.old train.old ++ numbers pool.old more) }
+    requires room { train.old.len ≤ OUTPUT_QUEUE_PACKETS }
+    ensures packets { packets pool.new train.new
+        ≡ take OUTPUT_QUEUE_PACKETS (packets pool.old train.old ++ packets pool.old more) }
+    ensures lost { result
+        ≡ nat_lt OUTPUT_QUEUE_PACKETS (length (packets pool.old train.old ++ packets pool.old more)) }
+    ensures queue { IsQueue pool.new train.new }
+    ensures moves { Moves pool.old (numbers pool.old train.old ++ numbers pool.old more)
+        pool.new (numbers pool.new train.new) }
+{
+    let mut rest = more;
+    'packets: while train.len() < OUTPUT_QUEUE_PACKETS && rest.len() > 0 {
+        let (packet, _) = rest.take(pool, 0);
+        let end = train.len();
+        train.insert(pool, end, packet, 0);
+    }
+    let is_lost = rest.len() > 0;
+    rest.free(pool);
+    is_lost
+}
+
+impl Model for Queue {
+    ghost use Rattle.mbuf_chain.specs.Train.{TrainView};
+
+    ghost Value = { TrainView };
+
+    ghost view = { λ q. q.train };
+}
+
+impl Queue {
+    /// A queue without packets.
+    pub const fn new() -> Queue
+        ensures empty { result ≡ record { first = None; last = None; len = 0 } }
+        ensures queue { (p : PoolView) → IsQueue p result }
+    {
+        Queue {
+            train: Train::new(),
+        }
+    }
+
+    /// How many packets wait.
+    pub const fn len(&self) -> u32
+        ensures { result ≡ self.now.len }
+    {
+        self.train.len()
+    }
+
+    /// Whether none waits.
+    pub const fn is_empty(&self) -> bool
+        ensures { result ≡ (self.now.len == 0) }
+    {
+        self.train.is_empty()
+    }
+
+    /// Puts a packet at the end. Conditions: fewer than 50 wait; the first mbuf has a packet header. It takes a number
+    /// of steps that doesn't depend on the queue.
+    pub fn push(&mut self, pool: &mut Pool, packet: Chain)
+        requires queue { IsQueue pool.old self.old }
+        requires room { self.old.len < OUTPUT_QUEUE_PACKETS }
+        requires live { IsLive pool.old packet }
+        requires headed { (chain_of pool.old packet).front.header ≡ true }
+        requires apart { times packet (numbers pool.old self.old) ≡ 0 }
+        ensures packets { packets pool.new self.new ≡ packets pool.old self.old ++ item_at pool.old packet ∷ [] }
+        ensures queue { IsQueue pool.new self.new }
+        ensures len { self.new.len ≡ self.old.len + 1 }
+        ensures moves { Moves pool.old (packet ∷ numbers pool.old self.old) pool.new (numbers pool.new self.new) }
+    {
+        let end = self.len();
+        self.train.insert(pool, end, packet, 0);
+    }
+
+    /// Takes the packet that has waited longest, or answers `None` where none waits. It takes a number of steps that
+    /// doesn't depend on the queue.
+    pub fn pop(&mut self, pool: &mut Pool) -> Option<Chain>
+        requires { IsQueue pool.old self.old }
+        ensures packets { MatchOption result
+            ((packets pool.old self.old ≡ []) × (pool.new ≡ pool.old) × (self.new ≡ self.old))
+            (λ packet. packets pool.old self.old ≡ item_at pool.new packet ∷ packets pool.new self.new) }
+        ensures alone { MatchOption result (self.old.len ≡ 0)
+            (λ packet. (chain_of pool.new packet).front ≡ alone true) }
+        ensures live { IfSome result (IsLive pool.new) }
+        ensures apart { IfSome result (λ packet. times packet (numbers pool.new self.new) ≡ 0) }
+        ensures queue { IsQueue pool.new self.new }
+        ensures moves { MatchOption result (self.old.len ≡ 0)
+            (λ packet. Moves pool.old (numbers pool.old self.old) pool.new (packet ∷ numbers pool.new self.new)) }
+    {
+        if self.is_empty() {
+            return None;
+        }
+        let (packet, _) = self.train.take(pool, 0);
+        Some(packet)
+    }
+
+    /// Puts packets at the end, as many as there is room for, and frees the others. Answers whether there were others.
+    pub fn push_all(&mut self, pool: &mut Pool, more: Train) -> bool
+        requires queue { IsQueue pool.old self.old }
+        requires more { IsHeld pool.old more }
+        requires owned { IsOwned pool.old (numbers pool.old self.old ++ numbers pool.old more) }
+        ensures packets { packets pool.new self.new
+            ≡ take OUTPUT_QUEUE_PACKETS (packets pool.old self.old ++ packets pool.old more) }
+        ensures lost { result
+            ≡ nat_lt OUTPUT_QUEUE_PACKETS (length (packets pool.old self.old ++ packets pool.old more)) }
+        ensures queue { IsQueue pool.new self.new }
+        ensures moves { Moves pool.old (numbers pool.old self.old ++ numbers pool.old more)
+            pool.new (numbers pool.new self.new) }
+    {
+        move_packets(pool, &mut self.train, more)
+    }
+
+    /// Frees all packets, and spends the queue.
+    pub fn end(self, pool: &mut Pool)
+        requires { IsQueue pool.old self }
+        ensures { Moves pool.old (numbers pool.old self) pool.new [] }
+    {
+        let Queue { train } = self;
+        train.free(pool);
+    }
+}

@@ -1,0 +1,125 @@
+//! Where the packets of a datagram go.
+ghost use Rattle.std.specs.Prelude.{◌≡◌, ◌≤◌, [], ◌∷◌, ◌++◌, length, nat_lt, IfOk, OnOk, OnErr};
+ghost use Rattle.mbuf_chain.specs.Chain.{IsLive, chain_of, without};
+ghost use Rattle.mbuf_chain.specs.Owners.{Moves};
+ghost use Rattle.mbuf_chain.specs.Train.{IsHeld, numbers};
+ghost use Rattle.chain_ops.specs.Makes.{HasMbufs, LacksMbufs};
+ghost use Rattle.ip_out.specs.Packets.{IsDatagram, packets, packets_of, parts_of};
+ghost use Rattle.ip_out.specs.Ways.{to_link, to_self, way_need};
+
+use crate::fragments::fragments;
+use crate::head::IpHead;
+use chain_ops::{Extent, m_copym};
+use mbuf_chain::{Chain, Pool, Train};
+use mbuf_pool::NoBufs;
+use params::MIN_MTU;
+
+/// Where the packets of a datagram go.
+#[derive(Clone, Copy, Debug, PartialEq, Eq)]
+pub enum Way {
+    /// To the link.
+    Link,
+    /// Back to this machine, to which the datagram is sent.
+    Loopback,
+    /// To the link, and a copy back: a broadcast, which this machine receives too.
+    Both,
+}
+
+/// The packets of a datagram. Both trains must be spent.
+pub struct Packets {
+    /// Those for the link.
+    pub link: Train,
+    /// Those that come back.
+    pub looped: Train,
+    /// Whether the datagram was cut into more than one packet.
+    pub is_cut: bool,
+}
+
+/// The packets of a datagram that goes both ways: see `make_packets`.
+fn both_ways(pool: &mut Pool, chain: Chain, head: IpHead, mtu: u16) -> Result<Packets, NoBufs>
+    requires live { IsLive pool.old chain }
+    requires datagram { IsDatagram (chain_of pool.old chain) }
+    requires least { MIN_MTU ≤ mtu }
+    ensures link { IfOk result (λ s. packets pool.new s.link ≡ packets_of (chain_of pool.old chain) head mtu) }
+    ensures looped { IfOk result (λ s. packets pool.new s.looped ≡ packets_of (chain_of pool.old chain) head mtu) }
+    ensures cut { IfOk result (λ s. s.is_cut ≡ nat_lt 1 (length (parts_of (chain_of pool.old chain) mtu))) }
+    ensures held { IfOk result (λ s. IsHeld pool.new s.link × IsHeld pool.new s.looped) }
+    ensures moves { IfOk result (λ s. Moves pool.old (chain ∷ [])
+        pool.new (numbers pool.new s.link ++ numbers pool.new s.looped)) }
+    ensures enough { OnOk result (HasMbufs pool.old (way_need Way.Both (chain_of pool.old chain) mtu)) }
+    ensures err { OnErr result (LacksMbufs pool.old (way_need Way.Both (chain_of pool.old chain) mtu)) }
+    ensures freed { OnErr result (pool.new ≡ without pool.old chain) }
+{
+    let Ok(copy) = m_copym(pool, &chain, Extent::All) else {
+        pool.free_chain(chain);
+        return Err(NoBufs);
+    };
+    let Ok(link) = fragments(pool, chain, head, mtu) else {
+        pool.free_chain(copy);
+        return Err(NoBufs);
+    };
+    let Ok(looped) = fragments(pool, copy, head, mtu) else {
+        link.free(pool);
+        return Err(NoBufs);
+    };
+    pool.laws();
+    let is_cut = link.len() > 1;
+    Ok(Packets {
+        link,
+        looped,
+        is_cut,
+    })
+}
+
+/// Makes the packets of a datagram, and tells those for the link from those that come back; see `output` for the
+/// datagram and its packets. The chain is spent on each answer.
+///
+/// A datagram that goes both ways is copied once, by `m_copym`, and its copy shares its clusters. `NoBufs` comes
+/// exactly where fewer mbufs are free than copy and later packets take, and then the chain is freed (`ip_output`,
+/// `looutput` and `ether_output` of TCP/IP Illustrated volume 2, chapters 8, 5 and 4).
+pub fn make_packets(
+    pool: &mut Pool,
+    chain: Chain,
+    head: IpHead,
+    mtu: u16,
+    way: Way,
+) -> Result<Packets, NoBufs>
+    requires live { IsLive pool.old chain }
+    requires datagram { IsDatagram (chain_of pool.old chain) }
+    requires least { MIN_MTU ≤ mtu }
+    ensures link { IfOk result
+        (λ s. packets pool.new s.link ≡ to_link way (packets_of (chain_of pool.old chain) head mtu)) }
+    ensures looped { IfOk result
+        (λ s. packets pool.new s.looped ≡ to_self way (packets_of (chain_of pool.old chain) head mtu)) }
+    ensures cut { IfOk result (λ s. s.is_cut ≡ nat_lt 1 (length (parts_of (chain_of pool.old chain) mtu))) }
+    ensures held { IfOk result (λ s. IsHeld pool.new s.link × IsHeld pool.new s.looped) }
+    ensures moves { IfOk result (λ s. Moves pool.old (chain ∷ [])
+        pool.new (numbers pool.new s.link ++ numbers pool.new s.looped)) }
+    ensures enough { OnOk result (HasMbufs pool.old (way_need way (chain_of pool.old chain) mtu)) }
+    ensures err { OnErr result (LacksMbufs pool.old (way_need way (chain_of pool.old chain) mtu)) }
+    ensures freed { OnErr result (pool.new ≡ without pool.old chain) }
+{
+    match way {
+        Way::Link => {
+            let link = fragments(pool, chain, head, mtu)?;
+            let is_cut = link.len() > 1;
+            let looped = Train::new();
+            Ok(Packets {
+                link,
+                looped,
+                is_cut,
+            })
+        }
+        Way::Loopback => {
+            let looped = fragments(pool, chain, head, mtu)?;
+            let is_cut = looped.len() > 1;
+            let link = Train::new();
+            Ok(Packets {
+                link,
+                looped,
+                is_cut,
+            })
+        }
+        Way::Both => both_ways(pool, chain, head, mtu),
+    }
+}
