@@ -3,5 +3,4 @@ mod Weights
 mod Accounts
 mod Moved
 mod PoolTests
-mod Counted
 mod Shown

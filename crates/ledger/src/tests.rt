@@ -6,7 +6,7 @@ ghost use Rattle.std.specs.Prelude.{◌≡◌, ◌≢◌, ℕ, IfOk};
 ghost use Rattle.mbuf_chain.specs.Chain.{IsLive};
 
 use crate::{mbstat, reserve};
-use flat_model::{Config, Counters, Mbstat};
+use flat_model::{Counters, Mbstat};
 use mbuf_chain::{Chain, Pool};
 use mbuf_pool::{BootFault, NoBufs, Sizes, Store};
 use nobody::Nobody;
@@ -52,56 +52,10 @@ fn shared(rt: &impl Abort, pool: &mut Pool, chain: &Chain) -> Chain
         .expect(rt, "an mbuf is free")
 }
 
-/// A configuration with so many buffers.
-fn config(mbufs: u32, clusters: u32) -> Config
-    ensures mbufs { result.mbufs ≡ mbufs }
-    ensures clusters { result.clusters ≡ clusters }
-{
-    Config {
-        addr: 0x0a00_0001,
-        bcast: 0x0a00_00ff,
-        mtu: 1500,
-        mbufs,
-        clusters,
-        first_id: 1,
-    }
-}
-
-/// Nothing was counted.
-const NO_COUNTS: Counters = Counters {
-    ip_total: 0,
-    ip_toosmall: 0,
-    ip_badvers: 0,
-    ip_badhlen: 0,
-    ip_options: 0,
-    ip_badsum: 0,
-    ip_badlen: 0,
-    ip_tooshort: 0,
-    ip_cantforward: 0,
-    ip_badfrag: 0,
-    ip_fragments: 0,
-    ip_fragdropped: 0,
-    ip_fragtimeout: 0,
-    ip_reclaimed: 0,
-    ip_reassembled: 0,
-    ip_noproto: 0,
-    udp_hdrops: 0,
-    udp_badlen: 0,
-    udp_badsum: 0,
-    udp_noport: 0,
-    udp_noportbcast: 0,
-    udp_fullsock: 0,
-    ip_localout: 0,
-    ip_fragmented: 0,
-    out_dropped: 0,
-    nobufs: 0,
-};
-
 #[test]
 #[tactic(auto, using(mbuf_chain::proofs::Laws::Maps::map_steps))]
 fn shows_what_is_in_use(rt: HostRuntime) -> Result<(), Fail> {
     let mut pool = booted(rt.alloc(), 8, 4)?;
-    let config = config(8, 4);
     let nothing = Mbstat {
         free_mbufs: 8,
         mbufs: 8,
@@ -110,7 +64,7 @@ fn shows_what_is_in_use(rt: HostRuntime) -> Result<(), Fail> {
         refs: 0,
         most: 0,
     };
-    assert_eq!(rt; mbstat(&pool, &config), nothing);
+    assert_eq!(rt; mbstat(&pool), nothing);
     let a = on_cluster(&rt, &mut pool);
     let b = shared(&rt, &mut pool, &a);
     let c = on_cluster(&rt, &mut pool);
@@ -122,11 +76,11 @@ fn shows_what_is_in_use(rt: HostRuntime) -> Result<(), Fail> {
         refs: 3,
         most: 2,
     };
-    assert_eq!(rt; mbstat(&pool, &config), in_use);
+    assert_eq!(rt; mbstat(&pool), in_use);
     pool.free_chain(a);
     pool.free_chain(b);
     pool.free_chain(c);
-    assert_eq!(rt; mbstat(&pool, &config), nothing);
+    assert_eq!(rt; mbstat(&pool), nothing);
     Ok(())
 }
 
@@ -134,7 +88,7 @@ fn shows_what_is_in_use(rt: HostRuntime) -> Result<(), Fail> {
 fn tests_the_pool(rt: HostRuntime) -> Result<(), Fail> {
     let mut pool = booted(rt.alloc(), 3, 2)?;
     let mut nobody = Nobody;
-    let mut counters = NO_COUNTS;
+    let mut counters = Counters::none();
     for (mbufs, clusters, enough) in [
         (0, 0, true),
         (3, 2, true),
@@ -147,6 +101,6 @@ fn tests_the_pool(rt: HostRuntime) -> Result<(), Fail> {
             enough
         );
     }
-    assert_eq!(rt; counters, NO_COUNTS);
+    assert_eq!(rt; counters, Counters::none());
     Ok(())
 }
