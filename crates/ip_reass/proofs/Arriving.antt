@@ -1,0 +1,400 @@
+-- A fragment that arrives, as a step of the flat machine.
+use Rattle.std.proofs.Common.{◌≡◌, ◌⊎◌, ℕ, zero, suc, ◌+◌, ◌-◌, ◌<◌, ◌≤◌, min, Bool, true, false, not, cond, List, [], ◌∷◌, ◌++◌, length, find, count_by, drop, take, Option, None, Some, is_some, get_or, refl, sym, ap, ◌∙◌, subst, arith, inl, inr, length-drop, length-append}
+use Rattle.std.specs.Prelude.{filter_map, slice_get}
+use Rattle.std.specs.List.{cons_option}
+use Rattle.std.proofs.lemmas.Bool.{false≢true, cases_lt, le-leb, lt-leb, lt-ltb, le-ltb, eq-eqb, ne_eqb, ltb-false, or_parts, and_left, cond-true, cond-false}
+use Rattle.std.proofs.lemmas.Option.{none-some}
+use Rattle.flat_model.specs.Weight.{Weight, Item, SameWeight, nothing, mbuf, ◌⊕◌, all_of, times}
+use Rattle.flat_model.specs.Whole.{weight_of_pieces}
+use Rattle.flat_model.specs.Overlay.{Fragment}
+use Rattle.flat_model.specs.State.{State, Socket, Key, Unfinished, is_key, begun, begin_unfinished, ends}
+use Rattle.flat_model.specs.Count.{counted, counts_more}
+use Rattle.flat_model.specs.Ledger.{exact_ledger, Affords, need_mbufs}
+use Rattle.flat_model.specs.Arrival.{Origin, By_wire, Looped, Tests, Lays, Joins, FragmentArrives, is_bad_fragment, counts_fragment}
+use Rattle.flat_model.specs.Arrival as flat
+use Rattle.flat_model.specs.declared.counters.Counters.{Counters}
+use Rattle.flat_model.specs.declared.counter.Counter.TheVariants.{IpFragments}
+use Rattle.flat_model.specs.declared.counters.Why.TheVariants.{BadFragment, NoBufs}
+use Rattle.flat_model.proofs.Laws.{times-both, all_of-append}
+use Rattle.mbuf_chain.specs.Chain.{Entry, Front, ChainView, PoolView, without, chain_of, entry_of, no_entry, flat_bytes, string, with_chain}
+use Rattle.mbuf_chain.specs.Steps.{narrowed, with_back, empty_entry}
+use Rattle.mbuf_chain.specs.Owners as owners
+use Rattle.mbuf_chain.specs.Owners.{IsOwned, Moves}
+use Rattle.mbuf_chain.specs.Frames.{SameAt}
+use Rattle.mbuf_chain.proofs.Laws.Owners.{moves_trans, moves_beside, moves_with, moves_without, moves_adds, same_with, same_beside, shown_with, owned_after, live_first, live_at_most, apart_first}
+use Rattle.chain_ops.specs.Makes.{Makes}
+use Rattle.ip_reass.proofs.Reserved.{Stays}
+use Rattle.chain_ops.specs.Pulls as ops
+use Rattle.chain_ops.specs.Pulls.{moved, pulled_len}
+use Rattle.chain_ops.specs.Rooms.{room_low}
+use Rattle.chain_ops.specs.Trims.{without_first}
+use Rattle.chain_ops.proofs.Laws.Strings.{without_first_bytes, pulled_up_bytes}
+use Rattle.ledger.specs.Accounts.{IsAccounted, Shifts, weight_of, weight_at, weight_owned}
+use Rattle.ledger.proofs.Laws.{accounted_after}
+use Rattle.ip_reass.specs.declared.head.IpHead.{IpHead}
+use Rattle.ip_reass.specs.Fragments.{fragment_of}
+use Rattle.ip_reass.specs.Inside.{arrived}
+use Rattle.ip_reass.specs.Table.{has_key, held_all, IsTable, unfinished, unfinished_of}
+use Rattle.ip_reass.specs.Steps.{datagram_at}
+use Rattle.ip_reass.specs.Same.{held_all_same, table_same, unfinished_same, table_weighs}
+use Rattle.ip_reass.specs.Arrivals.{AreDistinct, machine, flat_head, key_in, carried_at, CameBy, IsPulled, pulled_entries, carried_entries}
+use Rattle.ip_reass.specs.declared.datagram.Datagram.{Datagram}
+use Rattle.ip_reass.proofs.Edits.{weight_trimmed}
+use Rattle.ip_reass.proofs.Places.{found_passes}
+
+-- ---- the accounts after a step: those of what is in hand and of the table
+pub accounts : (p q : PoolView) (xs ys : List ℕ) (rest : State) (held a b : Weight) (ds es : List Datagram) (c d : Counters) → IsAccounted p (machine p ds c rest) (held ⊕ a) → Moves p (xs ++ held_all p ds) q (ys ++ held_all q es)
+    → IsOwned p (xs ++ held_all p ds) → IsTable p ds → IsTable q es → SameWeight (weight_owned p xs) a → SameWeight (weight_owned q ys) b → IsAccounted q (machine q es d rest) (held ⊕ b)
+accounts p q xs ys rest held a b ds es c d acc m owns is after wa wb =
+    let sockets : Weight = all_of (λ (socket : Socket). all_of (λ x. x.item.weight) socket.queue) rest.sockets in
+    let output : Weight = all_of (λ (item : Item). item.weight) rest.output in
+    let up : Weight = all_of (λ (u : Unfinished). mbuf ⊕ weight_of_pieces u.bytes) (unfinished p ds) in
+    let uq : Weight = all_of (λ (u : Unfinished). mbuf ⊕ weight_of_pieces u.bytes) (unfinished q es) in
+    let before : weight_owned p (xs ++ held_all p ds) ≡ weight_owned p xs ⊕ weight_owned p (held_all p ds) = all_of-append (weight_at p) xs (held_all p ds) in
+    let then_is : weight_owned q (ys ++ held_all q es) ≡ weight_owned q ys ⊕ weight_owned q (held_all q es) = all_of-append (weight_at q) ys (held_all q es) in
+    let tp = table_weighs p ds is.each in
+    let tq = table_weighs q es after.each in
+    let shifts : Shifts (machine p ds c rest) (held ⊕ a) (weight_owned p (xs ++ held_all p ds)) (machine q es d rest) (held ⊕ b) (weight_owned q (ys ++ held_all q es)) = record {
+      mbufs = omega (arith, ap (λ (w : Weight). w.mbufs) before, ap (λ (w : Weight). w.mbufs) then_is, tp.mbufs, tq.mbufs, wa.mbufs, wb.mbufs);
+      bag = λ k. omega (
+        arith,
+        ap (λ (w : Weight). times k w.bag) before,
+        ap (λ (w : Weight). times k w.bag) then_is,
+        tp.bag k,
+        tq.bag k,
+        wa.bag k,
+        wb.bag k,
+        times-both k (weight_owned p xs) (weight_owned p (held_all p ds)),
+        times-both k (weight_owned q ys) (weight_owned q (held_all q es)),
+        times-both k (sockets ⊕ up ⊕ output) (held ⊕ a),
+        times-both k (sockets ⊕ up) output,
+        times-both k sockets up,
+        times-both k held a,
+        times-both k (sockets ⊕ uq ⊕ output) (held ⊕ b),
+        times-both k (sockets ⊕ uq) output,
+        times-both k sockets uq,
+        times-both k held b,
+      );
+    } in
+    accounted_after acc m owns refl shifts
+
+pub one_weighs : (p : PoolView) (c : ℕ) → SameWeight (weight_owned p (c ∷ [])) (weight_at p c)
+one_weighs p c = record { mbufs = omega arith; bag = λ k. omega (arith, times-both k (weight_at p c) nothing) }
+
+pub same_weight : (a : Weight) → SameWeight a a
+same_weight a = record { mbufs = refl; bag = λ k. refl }
+
+-- ---- the header taken off
+pub record Trimmed (q : PoolView) (es : List Datagram) (n : ℕ) (r : PoolView) : Type 0 where
+  pub table : IsTable r es
+  pub shows : unfinished r es ≡ unfinished q es
+  pub chain : chain_of r n ≡ record (chain_of q n) { entries = without_first 20 (chain_of q n).entries }
+  pub owned : IsOwned r (n ∷ held_all r es)
+  pub moves : Moves q (n ∷ held_all q es) r (n ∷ held_all r es)
+
+pub trimmed_off : (q r : PoolView) (es : List Datagram) (n : ℕ) → IsTable q es → IsOwned q (n ∷ held_all q es) → r ≡ with_chain q n (record (chain_of q n) { entries = without_first 20 (chain_of q n).entries }) → Trimmed q es n r
+trimmed_off q r es n is owns gone =
+    let v : ChainView = record (chain_of q n) { entries = without_first 20 (chain_of q n).entries } in
+    let same : SameAt q r (held_all q es) = same_with q r n (record (chain_of q n) { entries = without_first 20 (chain_of q n).entries }) (held_all q es) (apart_first q n (held_all q es) owns) gone in
+    let all : held_all r es ≡ held_all q es = held_all_same q r es same in
+    let m : Moves q (n ∷ held_all q es) r (n ∷ held_all r es) =
+    moves_beside (n ∷ held_all q es) (n ∷ held_all r es) (held_all q es) (moves_with q r n (record (chain_of q n) { entries = without_first 20 (chain_of q n).entries }) (live_first q n (held_all q es) owns) gone) (λ k. omega arith) (λ k. omega (arith, ap (owners.times k) all)) in
+    record {
+      table = table_same q r es same is;
+      shows = unfinished_same q r es same;
+      chain = shown_with q r n (record (chain_of q n) { entries = without_first 20 (chain_of q n).entries }) gone;
+      owned = owned_after m owns;
+      moves = m;
+    }
+
+-- ---- what a packet weighs once its header is pulled up
+abbrev bag_of : List Entry → List ℕ
+bag_of es = filter_map (λ (e : Entry). e.cluster) es
+
+-- no byte more is moved
+moved_none : (x : Entry) (es : List Entry) (n : ℕ) → n ≡ 0 → moved n x es ≡ x ∷ es
+moved_none x [] n z = refl
+moved_none x (e ∷ es) n z = cond-true _ _ _ (eq-eqb n 0 z)
+
+-- the first mbuf is a cluster that is emptied
+moved_whole : (x e : Entry) (es : List Entry) (n : ℕ) → 0 < n → length e.bytes ≡ n → moved n x (e ∷ es) ≡ with_back x e.bytes ∷ es
+moved_whole x e es n some same =
+    cond-false _ _ _ (ne_eqb n 0 (λ z. absurd (omega arith))) ∙ (cond-true _ _ _ (le-leb (length e.bytes) n (omega arith)) ∙ moved_none (with_back x e.bytes) es (n - length e.bytes) (omega arith))
+
+-- or keeps some bytes
+moved_part : (x e : Entry) (es : List Entry) (n : ℕ) → 0 < n → n < length e.bytes → moved n x (e ∷ es) ≡ with_back x (take n e.bytes) ∷ narrowed e n (length e.bytes - n) ∷ es
+moved_part x e es n some less =
+    cond-false _ _ _ (ne_eqb n 0 (λ z. absurd (omega arith))) ∙ cond-false _ _ _ (lt-leb (length e.bytes) n less)
+
+pulled_weighs : (e x : Entry) (es : List Entry) (k n total : ℕ) → e.cluster ≡ Some k → x.cluster ≡ None → length e.bytes ≤ total → n ≡ min 40 total → 0 < n → (total ≤ length e.bytes) ⊎ (40 < length e.bytes)
+    → weight_of (moved n x (e ∷ es)) ≡ flat.pulled_up total (weight_of (e ∷ es))
+pulled_weighs e x es k n total is none long n_is some holds = elim (cases_lt 40 total) [
+  | inl more ↦
+      let less : n < length e.bytes = elim holds [ inl a ↦ omega arith | inr a ↦ omega arith ] in
+      let mbufs : length (with_back x (take n e.bytes) ∷ narrowed e n (length e.bytes - n) ∷ es) ≡ length (e ∷ es) + 1 = omega arith in
+      let bag : bag_of (with_back x (take n e.bytes) ∷ narrowed e n (length e.bytes - n) ∷ es) ≡ bag_of (e ∷ es) = ap (λ (o : Option ℕ). cons_option o (cons_option e.cluster (bag_of es))) none in
+      ap weight_of (moved_part x e es n some less) ∙ ((λ i. record { mbufs = mbufs i; bag = bag i }) ∙ sym (cond-true _ _ _ (lt-ltb 40 total more)))
+  | inr fewer ↦
+      let same : length e.bytes ≡ n = elim holds [ inl a ↦ omega arith | inr a ↦ absurd (omega arith) ] in
+      let bag : bag_of (with_back x e.bytes ∷ es) ≡ drop 1 (bag_of (e ∷ es)) =
+      ap (λ (o : Option ℕ). cons_option o (bag_of es)) none ∙ ap (λ (o : Option ℕ). drop 1 (cons_option o (bag_of es))) (sym is) in
+      ap weight_of (moved_whole x e es n some same) ∙ ((λ i. record { mbufs = suc (length es); bag = bag i }) ∙ sym (cond-false _ _ _ (le-ltb 40 total fewer)))
+]
+
+-- **a packet whose first mbuf is a cluster weighs what the flat machine says once its header is pulled up**
+pub pulled_is : (v : ChainView) → is_some (entry_of v 0).cluster ≡ true → 20 ≤ length (string v) → (length (string v) ≤ length (entry_of v 0).bytes) ⊎ (40 < length (entry_of v 0).bytes)
+    → weight_of (ops.pulled_up v 20) ≡ flat.pulled_up (length (string v)) (weight_of v.entries)
+pulled_is v is some holds = ap weight_of plain ∙ go v.entries is some holds
+  where
+    plain : ops.pulled_up v 20 ≡ moved (pulled_len 20 v.entries) (empty_entry (room_low v.front.header) None) v.entries
+    plain = cond-false _ _ _ (and_left _ _ (ap not is))
+
+    cluster_of : (o : Option ℕ) → is_some o ≡ true → (k : ℕ) × (o ≡ Some k)
+    cluster_of None e = absurd (false≢true e)
+    cluster_of (Some k) e = (k, refl)
+
+    go : (es : List Entry) → is_some (get_or es 0 no_entry).cluster ≡ true → 20 ≤ length (flat_bytes es) → (length (flat_bytes es) ≤ length (get_or es 0 no_entry).bytes) ⊎ (40 < length (get_or es 0 no_entry).bytes)
+        → weight_of (moved (pulled_len 20 es) (empty_entry (room_low v.front.header) None) es) ≡ flat.pulled_up (length (flat_bytes es)) (weight_of es)
+    go [] e l h = absurd (false≢true e)
+    go (e ∷ es) is l h =
+        let k = cluster_of e.cluster is in
+        pulled_weighs e (empty_entry (room_low v.front.header) None) es k.0 (pulled_len 20 (e ∷ es)) (length (flat_bytes (e ∷ es))) k.1 refl (omega (arith, length-append e.bytes (flat_bytes es))) (omega arith) (omega arith) h
+
+-- ---- the fragment that joins
+pub carried_bytes : (v : ChainView) → flat_bytes (carried_entries v) ≡ drop 20 (string v)
+carried_bytes v = without_first_bytes 20 (pulled_entries v) ∙ ap (drop 20) (pulled_bytes (is_some (entry_of v 0).cluster))
+  where
+    pulled_bytes : (b : Bool) → flat_bytes (cond b (ops.pulled_up v 20) v.entries) ≡ string v
+    pulled_bytes true = pulled_up_bytes v 20
+    pulled_bytes false = refl
+
+carried_is : (v : ChainView) (h : IpHead) (es : List Entry) (w : Weight) → es ≡ carried_entries v → weight_of (pulled_entries v) ≡ w
+    → fragment_of (record { offset = h.offset; more = h.more; entries = es }) ≡ record { offset = h.offset; bytes = drop 20 (string v); more = h.more; weight = w }
+carried_is v h es w e is =
+    let bytes : flat_bytes es ≡ drop 20 (string v) = ap flat_bytes e ∙ carried_bytes v in
+    let weight : weight_of es ≡ w = ap weight_of e ∙ (weight_trimmed 20 (pulled_entries v) ∙ is) in
+    λ i. record { offset = h.offset; bytes = bytes i; more = h.more; weight = weight i }
+
+-- ---- the three ends
+module _ (rest : State) (held : Weight) (new : State) (h : IpHead) (p : PoolView) (ds : List Datagram) (c : Counters) (n len : ℕ) (long : length (string (chain_of p n)) ≡ 20 + len) where
+  len_is : length (drop 20 (string (chain_of p n))) ≡ len
+  len_is = omega (arith, length-drop 20 (string (chain_of p n)))
+
+  -- none can be so
+  pub arrives_bad : (origin : Origin) → is_bad_fragment (flat_head h) len ≡ true → new ≡ ends BadFragment (machine p ds c rest) → FragmentArrives exact_ledger origin held (flat_head h) (carried_at p n) (machine p ds c rest) new
+  arrives_bad origin bad is = record {
+    yes = λ e. is;
+    no = λ e. absurd (false≢true (sym e ∙ (ap (is_bad_fragment (flat_head h)) len_is ∙ bad)));
+  }
+
+  -- no mbuf for the header
+  pub arrives_lacking : (origin : Origin) → CameBy origin (chain_of p n) → is_bad_fragment (flat_head h) len ≡ false → is_some (entry_of (chain_of p n) 0).cluster ≡ true
+      → Tests exact_ledger (counts_fragment (machine p ds c rest)) (held ⊕ weight_at p n) 1 new (λ mid. Joins exact_ledger held (key_in h) (record { offset = h.offset; bytes = drop 20 (string (chain_of p n)); more = h.more; weight = flat.pulled_up (20 + len) (weight_at p n) }) mid new)
+      → FragmentArrives exact_ledger origin held (flat_head h) (carried_at p n) (machine p ds c rest) new
+  arrives_lacking Looped came good cluster tests = absurd (false≢true (sym (ap is_some came) ∙ cluster))
+  arrives_lacking (By_wire received) came good cluster tests = record {
+    yes = λ e. absurd (false≢true (sym (ap (is_bad_fragment (flat_head h)) len_is ∙ good) ∙ e));
+    no = λ e. record {
+      yes = λ large. subst (λ (total : ℕ). Tests exact_ledger (counts_fragment (machine p ds c rest)) (held ⊕ weight_at p n) 1 new (λ mid. Joins exact_ledger held (key_in h) (record { offset = h.offset; bytes = drop 20 (string (chain_of p n)); more = h.more; weight = flat.pulled_up (20 + total) (weight_at p n) }) mid new)) (sym len_is) tests;
+      no = λ small. absurd (false≢true (sym small ∙ (sym came.cluster ∙ cluster)));
+    };
+  }
+
+  -- a plain first mbuf
+  pub arrives_plain : (origin : Origin) → CameBy origin (chain_of p n) → is_bad_fragment (flat_head h) len ≡ false → is_some (entry_of (chain_of p n) 0).cluster ≡ false
+      → Joins exact_ledger held (key_in h) (record { offset = h.offset; bytes = drop 20 (string (chain_of p n)); more = h.more; weight = weight_at p n }) (counts_fragment (machine p ds c rest)) new
+      → FragmentArrives exact_ledger origin held (flat_head h) (carried_at p n) (machine p ds c rest) new
+  arrives_plain Looped came good plain joins = record {
+    yes = λ e. absurd (false≢true (sym (ap (is_bad_fragment (flat_head h)) len_is ∙ good) ∙ e));
+    no = λ e. joins;
+  }
+  arrives_plain (By_wire received) came good plain joins = record {
+    yes = λ e. absurd (false≢true (sym (ap (is_bad_fragment (flat_head h)) len_is ∙ good) ∙ e));
+    no = λ e. record {
+      yes = λ large. absurd (false≢true (sym plain ∙ (came.cluster ∙ large)));
+      no = λ small. joins;
+    };
+  }
+
+-- what came by the wire in a cluster holds enough of the packet
+pub holds_of : (origin : Origin) (v : ChainView) → CameBy origin v → is_some (entry_of v 0).cluster ≡ true → (length (string v) ≤ length (entry_of v 0).bytes) ⊎ (40 < length (entry_of v 0).bytes)
+holds_of Looped v came cluster = absurd (false≢true (sym (ap is_some came) ∙ cluster))
+holds_of (By_wire received) v came cluster = came.holds
+
+-- a test for the header's mbuf, and where it passed, that the fragment joins
+pub tests_of : (rest : State) (held : Weight) (new : State) (k : Key) (f : Fragment) (w : Weight) (p q : PoolView) (ds es : List Datagram) (c d : Counters) (answer : Bool) → IsPulled p ds c w answer q es d rest held
+    → (answer ≡ true → Joins exact_ledger held k f (machine q es d rest) new) → (answer ≡ false → new ≡ machine q es d rest) → Tests exact_ledger (machine p ds c rest) (held ⊕ w) 1 new (λ mid. Joins exact_ledger held k f mid new)
+tests_of rest held new k f w p q ds es c d true t joins ended = record {
+  answer = true;
+  mid = machine q es t.mid rest;
+  affords = t.affords;
+  goes_on = record { yes = λ e. subst (λ (x : Counters). Joins exact_ledger held k f (machine q es x rest) new) t.counts (joins refl); no = λ e. absurd (false≢true (sym e)) };
+}
+tests_of rest held new k f w p q ds es c d false t joins ended = record {
+  answer = false;
+  mid = machine q es t.mid rest;
+  affords = t.affords;
+  goes_on = record { yes = λ e. absurd (false≢true e); no = λ e. ended refl ∙ ap (λ (x : Counters). machine q es x rest) t.counts };
+}
+
+-- ---- a look-up by key
+pub none_by_key : (p : PoolView) (k : Key) (ds : List Datagram) → find (λ (d : Datagram). is_key k (unfinished_of p d)) ds ≡ None → find (is_key k) (unfinished p ds) ≡ None
+none_by_key p k [] e = refl
+none_by_key p k (d ∷ ds) e = go (is_key k (unfinished_of p d)) refl (none_by_key p k ds)
+  where
+    go : (b : Bool) → is_key k (unfinished_of p d) ≡ b → (find (λ (x : Datagram). is_key k (unfinished_of p x)) ds ≡ None → find (is_key k) (unfinished p ds) ≡ None) → find (is_key k) (unfinished p (d ∷ ds)) ≡ None
+    go true is ih = absurd (none-some d (sym e ∙ cond-true _ _ _ is))
+    go false is ih = cond-false _ _ _ is ∙ ih (sym (cond-false _ _ _ is) ∙ e)
+
+pub some_by_key : (p : PoolView) (k : Key) (ds : List Datagram) (x : Datagram) → find (λ (d : Datagram). is_key k (unfinished_of p d)) ds ≡ Some x → find (is_key k) (unfinished p ds) ≡ Some (unfinished_of p x)
+some_by_key p k [] x e = absurd (none-some x e)
+some_by_key p k (d ∷ ds) x e = go (is_key k (unfinished_of p d)) refl (some_by_key p k ds x)
+  where
+    or_x : Option Datagram → Datagram
+    or_x None = x
+    or_x (Some y) = y
+
+    go : (b : Bool) → is_key k (unfinished_of p d) ≡ b → (find (λ (y : Datagram). is_key k (unfinished_of p y)) ds ≡ Some x → find (is_key k) (unfinished p ds) ≡ Some (unfinished_of p x)) → find (is_key k) (unfinished p (d ∷ ds)) ≡ Some (unfinished_of p x)
+    go true is ih = cond-true _ _ _ is ∙ ap (λ (y : Datagram). Some (unfinished_of p y)) (ap or_x (sym (cond-true _ _ _ is) ∙ e))
+    go false is ih = cond-false _ _ _ is ∙ ih (sym (cond-false _ _ _ is) ∙ e)
+
+-- ---- a fragment joins the others with its key
+pub joins_none : (rest : State) (held : Weight) (new : State) (k : Key) (f : Fragment) (p : PoolView) (ds : List Datagram) (c : Counters) → find (is_key k) (unfinished p ds) ≡ None
+    → Tests exact_ledger (machine p ds c rest) (held ⊕ f.weight) 1 new (λ mid. Lays exact_ledger held k f (begun k) (begin_unfinished k mid) new) → Joins exact_ledger held k f (machine p ds c rest) new
+joins_none rest held new k f p ds c none tests = record { none = λ e. tests; some = λ x e. absurd (none-some x (sym none ∙ e)) }
+
+pub joins_some : (rest : State) (held : Weight) (new : State) (k : Key) (f : Fragment) (p : PoolView) (ds : List Datagram) (c : Counters) (d : Datagram) → find (is_key k) (unfinished p ds) ≡ Some (unfinished_of p d)
+    → Lays exact_ledger held k f (unfinished_of p d) (machine p ds c rest) new → Joins exact_ledger held k f (machine p ds c rest) new
+joins_some rest held new k f p ds c d found lays = record {
+  none = λ e. absurd (none-some (unfinished_of p d) (sym e ∙ found));
+  some = λ x e. subst (λ (u : Unfinished). Lays exact_ledger held k f u (machine p ds c rest) new) (ap or_d (sym found ∙ e)) lays;
+}
+  where
+    or_d : Option Unfinished → Unfinished
+    or_d None = unfinished_of p d
+    or_d (Some u) = u
+
+slice_at : (ds : List Datagram) (i : ℕ) → i < length ds → slice_get ds i ≡ Some (datagram_at ds i)
+slice_at [] i l = absurd (omega arith)
+slice_at (d ∷ ds) zero l = refl
+slice_at (d ∷ ds) (suc i) l = slice_at ds i (omega arith)
+
+-- **its key was found at a place**
+pub joins_found : (rest : State) (held : Weight) (new : State) (k k' : Key) (f : Fragment) (p : PoolView) (slice items ds : List Datagram) (c : Counters) (i : ℕ) → slice ≡ items → items ≡ ds → k' ≡ k → i < length slice → find (has_key k') slice ≡ slice_get slice i
+    → AreDistinct p ds → (is_key k (unfinished_of p (datagram_at items i)) ≡ true → count_by (is_key k) (unfinished p items) ≤ 1 → Lays exact_ledger held k f (unfinished_of p (datagram_at items i)) (machine p items c rest) new) → Joins exact_ledger held k f (machine p ds c rest) new
+joins_found rest held new k k' f p slice items ds c i a b e l found distinct step =
+    let same : slice ≡ ds = a ∙ b in
+    let at : find (has_key k) ds ≡ slice_get ds i = subst (λ (zs : List Datagram). find (has_key k) zs ≡ slice_get zs i) same (subst (λ (j : Key). find (has_key j) slice ≡ slice_get slice i) e found) in
+    let within : i < length ds = omega (arith, ap (λ (zs : List Datagram). length zs) same) in
+    let key : find (is_key k) (unfinished p ds) ≡ Some (unfinished_of p (datagram_at ds i)) = some_by_key p k ds (datagram_at ds i) (at ∙ slice_at ds i within) in
+    let here : is_key k (unfinished_of p (datagram_at ds i)) ≡ true = found_passes (is_key k) (unfinished p ds) (unfinished_of p (datagram_at ds i)) key in
+    let step' : is_key k (unfinished_of p (datagram_at ds i)) ≡ true → count_by (is_key k) (unfinished p ds) ≤ 1 → Lays exact_ledger held k f (unfinished_of p (datagram_at ds i)) (machine p ds c rest) new =
+    subst (λ (zs : List Datagram). is_key k (unfinished_of p (datagram_at zs i)) ≡ true → count_by (is_key k) (unfinished p zs) ≤ 1 → Lays exact_ledger held k f (unfinished_of p (datagram_at zs i)) (machine p zs c rest) new) b step in
+    joins_some rest held new k f p ds c (datagram_at ds i) key (step' here (distinct k))
+
+-- it is held under no datagram
+pub none_found_in : (p : PoolView) (k k' : Key) (slice ds : List Datagram) → slice ≡ ds → k' ≡ k → find (has_key k') slice ≡ None → find (is_key k) (unfinished p ds) ≡ None
+none_found_in p k k' slice ds same e none = none_by_key p k ds (subst (λ (zs : List Datagram). find (has_key k) zs ≡ None) same (subst (λ (j : Key). find (has_key j) slice ≡ None) e none))
+
+-- ---- the header's mbuf
+pub pulled_lacking : (rest : State) (held w : Weight) (p q r : PoolView) (ds es : List Datagram) (c mid d : Counters) (answer : Bool) → answer ≡ false → Affords exact_ledger (machine p ds c rest) (held ⊕ w) (need_mbufs 1) answer (machine q es mid rest)
+    → unfinished r es ≡ unfinished q es → d ≡ counted NoBufs mid → IsPulled p ds c w false r es d rest held
+pulled_lacking rest held w p q r ds es c mid d answer refused af shows counts = record {
+  mid = mid;
+  affords = subst (λ (us : List Unfinished). Affords exact_ledger (machine p ds c rest) (held ⊕ w) (need_mbufs 1) false (record rest { unfinished = us; counters = mid })) (sym shows)
+      (subst (λ (b : Bool). Affords exact_ledger (machine p ds c rest) (held ⊕ w) (need_mbufs 1) b (machine q es mid rest)) refused af);
+  counts = counts;
+}
+
+pub pulled_done : (rest : State) (held w : Weight) (p q r : PoolView) (ds es : List Datagram) (c mid : Counters) (answer : Bool) → answer ≡ true → Affords exact_ledger (machine p ds c rest) (held ⊕ w) (need_mbufs 1) answer (machine q es mid rest)
+    → unfinished r es ≡ unfinished q es → IsPulled p ds c w true r es mid rest held
+pulled_done rest held w p q r ds es c mid answer agrees af shows = record {
+  mid = mid;
+  affords = subst (λ (us : List Unfinished). Affords exact_ledger (machine p ds c rest) (held ⊕ w) (need_mbufs 1) true (record rest { unfinished = us; counters = mid })) (sym shows)
+      (subst (λ (b : Bool). Affords exact_ledger (machine p ds c rest) (held ⊕ w) (need_mbufs 1) b (machine q es mid rest)) agrees af);
+  counts = refl;
+}
+
+-- the table beside a chain that was pulled up
+pub record Pulled (p : PoolView) (ds : List Datagram) (c : ℕ) (q r : PoolView) (es : List Datagram) (d : ℕ) : Type 0 where
+  pub table : IsTable r es
+  pub shows : unfinished r es ≡ unfinished q es
+  pub moves : Moves p (c ∷ held_all p ds) r (d ∷ held_all r es)
+
+pub pulled : (p q r : PoolView) (ds es : List Datagram) (c d : ℕ) (f : Front) (entries : List Entry) → Stays p ds c q es → IsTable q es → Makes (without q c) r d f entries → Pulled p ds c q r es d
+pulled p q r ds es c d f entries st is made =
+    let step : Moves q (c ∷ []) r (d ∷ []) = moves_trans (moves_without q (without q c) c st.live refl) (moves_adds made.adds) in
+    let same : SameAt q r (held_all q es) = same_beside (held_all q es) step is.owned (λ k l. omega (arith, st.owned k, live_at_most q k)) in
+    let all : held_all r es ≡ held_all q es = held_all_same q r es same in
+    record {
+      table = table_same q r es same is;
+      shows = unfinished_same q r es same;
+      moves = moves_trans st.moves (moves_beside (c ∷ held_all q es) (d ∷ held_all r es) (held_all q es) step (λ k. omega arith) (λ k. omega (arith, ap (owners.times k) all)));
+    }
+
+-- ---- a fragment that can be
+pub good_some : (h : IpHead) (n : ℕ) → is_bad_fragment (flat_head h) n ≡ false → 0 < n
+good_some h zero e = absurd (false≢true (sym e))
+good_some h (suc n) e = omega arith
+
+pub good_small : (h : IpHead) (n : ℕ) → is_bad_fragment (flat_head h) n ≡ false → h.offset + n ≤ 65515
+good_small h n e = ltb-false _ _ (or_parts _ _ e).1
+
+-- ---- what waits after a test
+distinct_then : (rest : State) (w : Weight) (p q : PoolView) (ds es : List Datagram) (c mid : Counters) → AreDistinct p ds → Affords exact_ledger (machine p ds c rest) w (need_mbufs 1) true (machine q es mid rest) → AreDistinct q es
+distinct_then rest w p q ds es c mid distinct (inl a) = λ k. omega (arith, distinct k, ap (λ (s : State). count_by (is_key k) s.unfinished) a.1)
+distinct_then rest w p q ds es c mid distinct (inr a) = λ k. omega (arith, ap (λ (s : State). count_by (is_key k) s.unfinished) a.1)
+
+distinct_same : (q r : PoolView) (es : List Datagram) → unfinished r es ≡ unfinished q es → AreDistinct q es → AreDistinct r es
+distinct_same q r es e distinct = λ k. omega (arith, distinct k, ap (count_by (is_key k)) e)
+
+-- **a fragment whose header stands in a plain mbuf now**
+module _ (rest : State) (held : Weight) (new : State) (h : IpHead) (p q r : PoolView) (ds es : List Datagram) (c c1 d : Counters) (n n' len : ℕ) (long : length (string (chain_of p n)) ≡ 20 + len) (good : is_bad_fragment (flat_head h) len ≡ false)
+    (counts : c1 ≡ counts_more IpFragments 1 c) (entries : (chain_of q n').entries ≡ pulled_entries (chain_of p n)) (t : Trimmed q es n' r) (distinct : AreDistinct p ds)
+    (joins : AreDistinct r es → Joins exact_ledger held (key_in h) (fragment_of (arrived r n' h.offset h.more)) (machine r es d rest) new) where
+  entries_here : (chain_of r n').entries ≡ carried_entries (chain_of p n)
+  entries_here = ap (λ (v : ChainView). v.entries) t.chain ∙ ap (without_first 20) entries
+
+  pub some_plain : (origin : Origin) → CameBy origin (chain_of p n) → is_some (entry_of (chain_of p n) 0).cluster ≡ false → q ≡ p → es ≡ ds → d ≡ c1 → FragmentArrives exact_ledger origin held (flat_head h) (carried_at p n) (machine p ds c rest) new
+  some_plain origin came plain q_is es_is d_is =
+      let shows : unfinished r es ≡ unfinished p ds = t.shows ∙ (λ j. unfinished (q_is j) (es_is j)) in
+      let there : AreDistinct r es = λ k. omega (arith, distinct k, ap (count_by (is_key k)) shows) in
+      let now : machine r es d rest ≡ counts_fragment (machine p ds c rest) = λ j. record rest { unfinished = shows j; counters = (d_is ∙ counts) j } in
+      let weight : weight_of (pulled_entries (chain_of p n)) ≡ weight_at p n = ap weight_of (cond-false _ _ _ plain) in
+      let f = carried_is (chain_of p n) h (chain_of r n').entries (weight_at p n) entries_here weight in
+      arrives_plain rest held new h p ds c n len long origin came good plain
+      (subst (λ (s : State). Joins exact_ledger held (key_in h) (record { offset = h.offset; bytes = drop 20 (string (chain_of p n)); more = h.more; weight = weight_at p n }) s new) now
+      (subst (λ (x : Fragment). Joins exact_ledger held (key_in h) x (machine r es d rest) new) f (joins there)))
+
+  pub some_cluster : (origin : Origin) → CameBy origin (chain_of p n) → is_some (entry_of (chain_of p n) 0).cluster ≡ true → IsPulled p ds c1 (weight_at p n) true q es d rest held → FragmentArrives exact_ledger origin held (flat_head h) (carried_at p n) (machine p ds c rest) new
+  some_cluster origin came cluster tested =
+      let there : AreDistinct r es = distinct_same q r es t.shows (distinct_then rest (held ⊕ weight_at p n) p q ds es c1 tested.mid distinct tested.affords) in
+      let holds = holds_of origin (chain_of p n) came cluster in
+      let weight : weight_of (pulled_entries (chain_of p n)) ≡ flat.pulled_up (20 + len) (weight_at p n) =
+      ap weight_of (cond-true _ _ _ cluster) ∙ (pulled_is (chain_of p n) cluster (omega (arith, long)) holds ∙ ap (λ (m : ℕ). flat.pulled_up m (weight_at p n)) long) in
+      let f = carried_is (chain_of p n) h (chain_of r n').entries (flat.pulled_up (20 + len) (weight_at p n)) entries_here weight in
+      let now : machine r es d rest ≡ machine q es d rest = λ j. record rest { unfinished = t.shows j; counters = d } in
+      let joined : Joins exact_ledger held (key_in h) (record { offset = h.offset; bytes = drop 20 (string (chain_of p n)); more = h.more; weight = flat.pulled_up (20 + len) (weight_at p n) }) (machine q es d rest) new =
+      subst (λ (s : State). Joins exact_ledger held (key_in h) (record { offset = h.offset; bytes = drop 20 (string (chain_of p n)); more = h.more; weight = flat.pulled_up (20 + len) (weight_at p n) }) s new) now
+      (subst (λ (x : Fragment). Joins exact_ledger held (key_in h) x (machine r es d rest) new) f (joins there)) in
+      let was : machine p ds c1 rest ≡ counts_fragment (machine p ds c rest) = ap (λ (x : Counters). machine p ds x rest) counts in
+      arrives_lacking rest held new h p ds c n len long origin came good cluster
+      (subst (λ (s : State). Tests exact_ledger s (held ⊕ weight_at p n) 1 new (λ mid. Joins exact_ledger held (key_in h) (record { offset = h.offset; bytes = drop 20 (string (chain_of p n)); more = h.more; weight = flat.pulled_up (20 + len) (weight_at p n) }) mid new)) was
+      (tests_of rest held new (key_in h) _ (weight_at p n) p q ds es c1 d true tested (λ e. joined) (λ e. absurd (false≢true (sym e)))))
+
+-- **no mbuf was had for its header**
+pub none_cluster : (rest : State) (held : Weight) (new : State) (h : IpHead) (p q : PoolView) (ds es : List Datagram) (c c1 d : Counters) (n len : ℕ) (answer : Bool) → length (string (chain_of p n)) ≡ 20 + len → is_bad_fragment (flat_head h) len ≡ false → c1 ≡ counts_more IpFragments 1 c
+    → (origin : Origin) → CameBy origin (chain_of p n) → is_some (entry_of (chain_of p n) 0).cluster ≡ true → IsPulled p ds c1 (weight_at p n) answer q es d rest held → answer ≡ false → new ≡ machine q es d rest → FragmentArrives exact_ledger origin held (flat_head h) (carried_at p n) (machine p ds c rest) new
+none_cluster rest held new h p q ds es c c1 d n len answer long good counts origin came cluster tested refused is =
+    let was : machine p ds c1 rest ≡ counts_fragment (machine p ds c rest) = ap (λ (x : Counters). machine p ds x rest) counts in
+    arrives_lacking rest held new h p ds c n len long origin came good cluster
+    (subst (λ (s : State). Tests exact_ledger s (held ⊕ weight_at p n) 1 new (λ mid. Joins exact_ledger held (key_in h) (record { offset = h.offset; bytes = drop 20 (string (chain_of p n)); more = h.more; weight = flat.pulled_up (20 + len) (weight_at p n) }) mid new)) was
+    (tests_of rest held new (key_in h) (record { offset = h.offset; bytes = drop 20 (string (chain_of p n)); more = h.more; weight = flat.pulled_up (20 + len) (weight_at p n) }) (weight_at p n) p q ds es c1 d answer tested (λ e. absurd (false≢true (sym refused ∙ e))) (λ e. is)))
+
+-- the length of what is carried
+pub carried_len : (p r : PoolView) (n n' len : ℕ) → length (string (chain_of p n)) ≡ 20 + len → (chain_of r n').entries ≡ carried_entries (chain_of p n) → length (string (chain_of r n')) ≡ len
+carried_len p r n n' len long e = omega (arith, long, length-drop 20 (string (chain_of p n)), ap length (ap flat_bytes e ∙ carried_bytes (chain_of p n)))
+
+-- the same weight beside other counters
+pub accounted_counters : (p : PoolView) (ds : List Datagram) (c d : Counters) (rest : State) (held : Weight) → IsAccounted p (machine p ds c rest) held → IsAccounted p (machine p ds d rest) held
+accounted_counters p ds c d rest held a = record { mbufs = a.mbufs; clusters = a.clusters; total = a.total; references = a.references }

@@ -1,0 +1,15 @@
+mod Edits
+mod Walks
+mod Laid
+mod Steps
+mod Lays
+mod Whole
+mod Joined
+mod Tables
+mod Aging
+mod Places
+mod Entered
+mod Settled
+mod Fitting
+mod Reserved
+mod Arriving

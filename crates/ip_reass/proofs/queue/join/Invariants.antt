@@ -1,0 +1,21 @@
+use Rattle.std.proofs.Common.{◌≡◌, ◌+◌, ◌∷◌, true, length}
+use Rattle.mbuf_chain.specs.Chain.{IsLive, IsPlace, chain_of, alone}
+use Rattle.mbuf_chain.specs.Owners.{times, Moves}
+use Rattle.mbuf_chain.specs.Train.{numbers, IsHeld}
+use Rattle.ip_reass.specs.Fragments.{joined, joined_behind, queued}
+use Rattle.ip_reass.proofs.queue.join.Given as goal
+
+abbrev pub invariant-fragments : goal.invariant-fragments
+invariant-fragments l = record {
+  live : IsLive l.pool l.chain;
+  held : IsHeld l.pool l.rest;
+  apart : times l.chain (numbers l.pool l.rest) ≡ 0;
+  front : (chain_of l.pool l.chain).front ≡ alone true;
+  entries : joined_behind (chain_of l.pool l.chain).entries (queued l.pool l.rest) ≡ joined (queued l.fn.pool l.fn.train);
+  place : IsPlace (chain_of l.pool l.chain) l.last;
+  end : l.last.index + 1 ≡ length (chain_of l.pool l.chain).entries;
+  moves : Moves l.fn.pool (numbers l.fn.pool l.fn.train) l.pool (l.chain ∷ numbers l.pool l.rest);
+}
+
+abbrev pub decreases-fragments : goal.decreases-fragments
+decreases-fragments l = l.rest.len

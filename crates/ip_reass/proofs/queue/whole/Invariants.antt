@@ -1,0 +1,14 @@
+use Rattle.std.proofs.Common.{◌-◌}
+use Rattle.mbuf_chain.specs.Train.{IsCar}
+use Rattle.ip_reass.specs.Fragments.{fragments}
+use Rattle.ip_reass.proofs.Whole.{Row}
+use Rattle.ip_reass.proofs.queue.whole.Given as goal
+
+abbrev pub invariant-fragments : goal.invariant-fragments
+invariant-fragments l = record {
+  place : IsCar l.pool l.train l.at;
+  row : Row (fragments l.pool l.train) l.at.index l.end;
+}
+
+abbrev pub decreases-fragments : goal.decreases-fragments
+decreases-fragments l = l.train.len - l.at.index

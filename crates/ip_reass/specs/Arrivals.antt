@@ -1,0 +1,94 @@
+-- An arrival beside that of the flat machine (`ip_reass` of TCP/IP Illustrated, volume 2, chapter 10): the clauses hold for
+-- every rest of the machine.
+use Rattle.std.specs.Prelude.{◌≡◌, ◌⊎◌, ℕ, ◌+◌, ◌<◌, ◌≤◌, Bool, true, false, is_some, nat_le, if◌then◌else◌, List, [], ◌∷◌, length, drop, count_by, None}
+use Rattle.flat_model.specs.Weight.{Weight, Item, ◌⊕◌}
+use Rattle.flat_model.specs.Header.{Head}
+use Rattle.flat_model.specs.Overlay.{Fragment}
+use Rattle.flat_model.specs.State.{State, Key, is_key, begun, begin_unfinished}
+use Rattle.flat_model.specs.Count.{counted}
+use Rattle.flat_model.specs.Ledger.{exact_ledger, Affords, need_mbufs}
+use Rattle.flat_model.specs.Arrival.{Origin, By_wire, Looped, Tests, Lays, WholeArrives}
+use Rattle.flat_model.specs.declared.counters.Counters.{Counters}
+use Rattle.flat_model.specs.declared.counters.Why.TheVariants.{NoBufs}
+use Rattle.mbuf_chain.specs.Chain.{ChainView, Entry, PoolView, alone, chain_of, entry_of, string}
+use Rattle.chain_ops.specs.Pulls.{pulled_up}
+use Rattle.chain_ops.specs.Trims.{without_first}
+use Rattle.ledger.specs.Accounts.{item_at, weight_at}
+use Rattle.ip_reass.specs.declared.head.IpHead.{IpHead}
+use Rattle.ip_reass.specs.Table.{unfinished}
+use Rattle.ip_reass.specs.declared.datagram.Datagram.{Datagram}
+use Rattle.ip_reass.specs.declared.arrival.Arrival.{Arrival}
+use Rattle.ip_reass.specs.declared.arrival.Arrival.TheVariants.{Kept, Whole, Dropped}
+
+-- the machine with these unfinished datagrams and counters, in all else the machine `rest`
+abbrev pub machine : PoolView → List Datagram → Counters → State → State
+machine p ds c rest = record rest { unfinished = unfinished p ds; counters = c }
+
+-- what the flat machine reads of a header, and the key that its fragment goes by
+abbrev pub flat_head : IpHead → Head
+flat_head h = record { id = h.id; more = h.more; offset = h.offset; protocol = h.proto; source = h.src; destination = h.dst }
+
+abbrev pub key_in : IpHead → Key
+key_in h = record { source = h.src; destination = h.dst; id = h.id; protocol = h.proto }
+
+-- what a packet carries behind its IP header, with the weight of its chain
+abbrev pub carried_at : PoolView → ℕ → Item
+carried_at p c = record { bytes = drop 20 (string (chain_of p c)); weight = weight_at p c }
+
+-- no two unfinished datagrams go by one key
+abbrev pub AreDistinct : PoolView → List Datagram → Type 0
+AreDistinct p ds = (k : Key) → count_by (is_key k) (unfinished p ds) ≤ 1
+
+-- How a packet came shows in its first mbuf: by loopback in a plain one; from the wire in a cluster where 208 bytes or
+-- more were received, which then holds more than 40 bytes of the packet, or all.
+pub record CameByWire (received : ℕ) (v : ChainView) : Type 0 where
+  pub cluster : is_some (entry_of v 0).cluster ≡ nat_le 208 received
+  pub holds : (length (string v) ≤ length (entry_of v 0).bytes) ⊎ (40 < length (entry_of v 0).bytes)
+
+abbrev pub CameBy : Origin → ChainView → Type 0
+CameBy (By_wire received) v = CameByWire received v
+CameBy Looped v = (entry_of v 0).cluster ≡ None
+
+-- the chains that are in hand then
+abbrev pub in_hand : Arrival → List ℕ
+in_hand Kept = []
+in_hand (Whole c h) = c ∷ []
+in_hand (Dropped why) = []
+
+-- a whole datagram that is handed out: its chain has a packet header and is in no train, and its header is that of the
+-- fragment that came last, with the total length of the whole, without offset and with no more after it
+pub record IsWholeOf (q : PoolView) (c : ℕ) (h last : IpHead) : Type 0 where
+  pub front : (chain_of q c).front ≡ alone true
+  pub head : h ≡ record last { total = 20 + length (string (chain_of q c)); more = false; offset = 0 }
+
+abbrev pub HasWhole : PoolView → IpHead → Arrival → Type 0
+HasWhole q last Kept = Unit {0}
+HasWhole q last (Whole c h) = IsWholeOf q c h last
+HasWhole q last (Dropped why) = Unit {0}
+
+-- From the machine `now` on, whatever becomes of what is in hand: a whole datagram arrives as the flat machine says.
+abbrev pub GoesOn : Weight → PoolView → Arrival → State → State → Type 0
+GoesOn held q Kept now new = new ≡ now
+GoesOn held q (Whole c h) now new = WholeArrives exact_ledger held h.src h.dst h.proto (item_at q c) now new
+GoesOn held q (Dropped why) now new = new ≡ now
+
+-- A fragment's datagram begins, where an mbuf is to be had for its key: from p, ds and counters c on to q, es and d, chain
+-- n arrived as the fragment f, whose key isn't held yet.
+pub record BeginsAt (p : PoolView) (ds : List Datagram) (c : Counters) (k : Key) (f : Fragment) (w : Weight) (result : Arrival) (q : PoolView) (es : List Datagram) (d : Counters) (rest : State) (held : Weight) (new : State) : Type 0 where
+  pub tests : Tests exact_ledger (machine p ds c rest) (held ⊕ w) 1 new (λ mid. Lays exact_ledger held k f (begun k) (begin_unfinished k mid) new)
+
+-- The header of chain v was pulled up: from p, ds and counters c on to q, es and d.
+pub record IsPulled (p : PoolView) (ds : List Datagram) (c : Counters) (w : Weight) (answer : Bool) (q : PoolView) (es : List Datagram) (d : Counters) (rest : State) (held : Weight) : Type 0 where
+  pub mid : Counters
+  pub affords : Affords exact_ledger (machine p ds c rest) (held ⊕ w) (need_mbufs 1) answer (machine q es mid rest)
+  pub counts : d ≡ (if answer then mid else counted NoBufs mid)
+
+-- ---- layouts
+
+-- the mbufs of a packet once its header is pulled up, where its first mbuf is a cluster
+abbrev pub pulled_entries : ChainView → List Entry
+pulled_entries v = if is_some (entry_of v 0).cluster then pulled_up v 20 else v.entries
+
+-- the same once the header is taken off, which leaves all mbufs
+abbrev pub carried_entries : ChainView → List Entry
+carried_entries v = without_first 20 (pulled_entries v)

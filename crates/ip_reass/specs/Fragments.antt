@@ -1,0 +1,108 @@
+-- The fragments of an unfinished datagram that are held, in order of offset and apart from one another, and what the
+-- flat machine sees of them (TCP/IP Illustrated, volume 2, chapter 10).
+use Rattle.std.specs.Prelude.{ℕ, ◌+◌, ◌-◌, ◌/◌, ◌%◌, ◌<◌, ◌≤◌, Bool, ◌&&◌, ◌==◌, nat_le, nat_lt, if◌then◌else◌, List, [], ◌∷◌, length, slice_index, map, None, Some}
+use Rattle.chain_ops.specs.Trims.{without_first}
+use Rattle.chain_ops.specs.Joins.{cat}
+use Rattle.flat_model.specs.Overlay.{Piece, Held, Map, Fragment}
+use Rattle.mbuf_chain.specs.Chain.{Entry, PoolView, flat_bytes}
+use Rattle.mbuf_chain.specs.Train.{Car, TrainView, cars, IsHeld}
+use Rattle.ledger.specs.Accounts.{weight_of}
+
+-- ---- a queue of fragments
+
+-- what is left of a fragment in a queue: where it begins, whether more come after the fragment, and its mbufs
+pub record QueuedFragment : Type 0 where
+  pub offset : ℕ
+  pub more : Bool
+  pub entries : List Entry
+
+-- the flat machine's fragment
+abbrev pub fragment_of : QueuedFragment → Fragment
+fragment_of q = record { offset = q.offset; bytes = flat_bytes q.entries; more = q.more; weight = weight_of q.entries }
+
+-- a chain in a train of fragments: its tag is the offset times 2, plus 1 where more come after it
+abbrev pub queued_of : Car → QueuedFragment
+queued_of car = record { offset = car.tag / 2; more = car.tag % 2 == 1; entries = car.entries }
+
+-- the fragments of a train, in order
+abbrev pub queued : PoolView → TrainView → List QueuedFragment
+queued p t = map queued_of (cars p t)
+
+-- the first offset after a queued fragment
+abbrev pub queued_end : QueuedFragment → ℕ
+queued_end q = q.offset + length (flat_bytes q.entries)
+
+-- a queued fragment without its first n bytes: `m_adj` leaves all its mbufs
+abbrev pub cut : ℕ → QueuedFragment → QueuedFragment
+cut n q = record { offset = q.offset + n; more = q.more; entries = without_first n q.entries }
+
+-- what is left of a queue from offset e on
+abbrev pub cut_to : ℕ → List QueuedFragment → List QueuedFragment
+cut_to e [] = []
+cut_to e (q ∷ qs) = if nat_le e q.offset then q ∷ qs else if nat_le (queued_end q) e then cut_to e qs else cut (e - q.offset) q ∷ qs
+
+-- A fragment laid in a queue, of which the fragments already passed end at `end`. Those that begin no later than it
+-- keep all they have, and it loses what they hold; those that begin later lose what it holds.
+abbrev pub laid_after : ℕ → QueuedFragment → List QueuedFragment → List QueuedFragment
+laid_after end f [] = cut (end - f.offset) f ∷ []
+laid_after end f (q ∷ qs) =
+    if nat_le q.offset f.offset
+    then q ∷ laid_after (queued_end q) f qs
+    else cut (end - f.offset) f ∷ cut_to (queued_end f) (q ∷ qs)
+
+abbrev pub laid : QueuedFragment → List QueuedFragment → List QueuedFragment
+laid f qs = laid_after 0 f qs
+
+-- entries, and the queued fragments joined behind them one after another (`m_cat`)
+abbrev pub joined_behind : List Entry → List QueuedFragment → List Entry
+joined_behind es [] = es
+joined_behind es (q ∷ qs) = joined_behind (cat es q.entries) qs
+
+-- the mbufs of the queue's fragments, joined in order
+abbrev pub joined : List QueuedFragment → List Entry
+joined [] = []
+joined (q ∷ qs) = joined_behind q.entries qs
+
+-- ---- what the flat machine sees of it
+
+-- the fragments of a train
+abbrev pub fragment_in : Car → Fragment
+fragment_in car = fragment_of (queued_of car)
+
+abbrev pub fragments : PoolView → TrainView → List Fragment
+fragments p t = map fragment_in (cars p t)
+
+-- the first offset after a fragment
+abbrev pub end_of : Fragment → ℕ
+end_of f = f.offset + length f.bytes
+
+-- the flat machine's piece
+abbrev pub piece_of : Fragment → Piece
+piece_of f = record { first = f.offset; more = f.more; weight = f.weight }
+
+-- what a fragment holds at an offset
+abbrev pub own : Fragment → ℕ → Held
+own f k = record { byte = slice_index f.bytes (k - f.offset); piece = piece_of f }
+
+-- what lies at an offset
+abbrev pub map_of : List Fragment → Map
+map_of [] k = None
+map_of (f ∷ fs) k = if nat_le f.offset k && nat_lt k (end_of f) then Some (own f k) else map_of fs k
+
+-- ---- in order and apart
+
+-- in order, apart, none empty, none before low
+abbrev pub Apart : ℕ → List Fragment → Type 0
+Apart low [] = Unit {0}
+Apart low (f ∷ fs) = (low ≤ f.offset) × (0 < length f.bytes) × Apart (end_of f) fs
+
+-- none ends beyond n
+abbrev pub AllEnd : ℕ → List Fragment → Type 0
+AllEnd n [] = Unit {0}
+AllEnd n (f ∷ fs) = (end_of f ≤ n) × AllEnd n fs
+
+-- a train of fragments in order and apart, none beyond the longest datagram
+pub record IsQueue (p : PoolView) (t : TrainView) : Type 0 where
+  pub held : IsHeld p t
+  pub apart : Apart 0 (fragments p t)
+  pub small : AllEnd 65515 (fragments p t)

@@ -1,0 +1,59 @@
+-- Words of the crate's own for the walks over the fragments of a datagram (this project's own).
+use Rattle.std.specs.Prelude.{ℕ, ◌+◌, ◌-◌, ◌<◌, ◌≤◌, Bool, true, nat_le, if◌then◌else◌, List, [], ◌∷◌, ◌++◌, length, slice_index_or, drop}
+use Rattle.std.specs.List.{AllByRecursion}
+use Rattle.chain_ops.specs.Weights.{AreFit}
+use Rattle.flat_model.specs.Weight.{nothing}
+use Rattle.flat_model.specs.Overlay.{Fragment}
+use Rattle.mbuf_chain.specs.Chain.{PoolView, chain_of}
+use Rattle.ip_reass.specs.Fragments.{QueuedFragment, end_of}
+
+-- a chain as a fragment that begins at the offset
+abbrev pub arrived : PoolView → ℕ → ℕ → Bool → QueuedFragment
+arrived p c offset more = record { offset = offset; more = more; entries = (chain_of p c).entries }
+
+-- where the last one ends
+abbrev pub reach : ℕ → List Fragment → ℕ
+reach low [] = low
+reach low (f ∷ fs) = reach (end_of f) fs
+
+-- all begin at most at a;  all begin above a
+abbrev pub AllUpto : ℕ → List Fragment → Type 0
+AllUpto a [] = Unit {0}
+AllUpto a (f ∷ fs) = (f.offset ≤ a) × AllUpto a fs
+
+abbrev pub AllAbove : ℕ → List Fragment → Type 0
+AllAbove a [] = Unit {0}
+AllAbove a (f ∷ fs) = (a < f.offset) × AllAbove a fs
+
+-- a fragment without its first n bytes
+abbrev pub trimmed : ℕ → Fragment → Fragment
+trimmed n f = record { offset = f.offset + n; bytes = drop n f.bytes; more = f.more; weight = f.weight }
+
+-- what is left of the fragments from offset e on
+abbrev pub left_from : ℕ → List Fragment → List Fragment
+left_from e [] = []
+left_from e (f ∷ fs) = if nat_le e f.offset then f ∷ fs else if nat_le (end_of f) e then left_from e fs else trimmed (e - f.offset) f ∷ fs
+
+abbrev pub no_fragment : Fragment
+no_fragment = record { offset = 0; bytes = []; more = true; weight = nothing }
+
+abbrev pub fragment_at : List Fragment → ℕ → Fragment
+fragment_at fs i = slice_index_or fs i no_fragment
+
+abbrev pub no_queued : QueuedFragment
+no_queued = record { offset = 0; more = true; entries = [] }
+
+abbrev pub queued_at : List QueuedFragment → ℕ → QueuedFragment
+queued_at qs i = slice_index_or qs i no_queued
+
+-- the bytes of the fragments, one after another
+abbrev pub bytes_of : List Fragment → List ℕ
+bytes_of [] = []
+bytes_of (f ∷ fs) = f.bytes ++ bytes_of fs
+
+-- the bytes of each lie in the room of their mbufs;  each has an mbuf
+abbrev pub AllFit : List QueuedFragment → Type 0
+AllFit qs = AllByRecursion (λ (q : QueuedFragment). AreFit q.entries) qs
+
+abbrev pub AllSome : List QueuedFragment → Type 0
+AllSome qs = AllByRecursion (λ (q : QueuedFragment). 0 < length q.entries) qs

@@ -1,0 +1,98 @@
+-- A step of somebody else leaves the table as it was, and what it weighs: laws that the ghost members of the table cite
+-- (this project's own).
+use Rattle.std.proofs.Common.{◌≡◌, ℕ, List, [], ◌∷◌, ◌++◌, length, map, refl, sym, ap, ◌∙◌, subst, arith}
+use Rattle.std.proofs.lemmas.List.{length-map}
+use Rattle.flat_model.specs.Weight.{Weight, SameWeight, all_of, mbuf, ◌⊕◌}
+use Rattle.flat_model.specs.State.{Unfinished}
+use Rattle.flat_model.specs.Whole.{weight_of_pieces}
+use Rattle.mbuf_chain.specs.Chain.{PoolView}
+use Rattle.mbuf_chain.specs.Owners.{IsOwned}
+use Rattle.mbuf_chain.specs.Frames.{SameAt}
+use Rattle.mbuf_chain.specs.Train.{TrainView, car_of, numbers, cars}
+use Rattle.mbuf_chain.proofs.Laws.Owners.{times-append, times_same, chain_same, same_part, owned_same}
+use Rattle.mbuf_chain.specs.Kept.{numbers_same, cars_same, held_same}
+use Rattle.ledger.specs.Accounts.{weight_of, weight_at, weight_owned}
+use Rattle.flat_model.proofs.Laws.{times-both, all_of-append}
+use Rattle.flat_model.specs.Overlay.{Fragment}
+use Rattle.ip_reass.specs.Fragments.{fragment_in, fragments, map_of, Apart, AllEnd, IsQueue}
+use Rattle.ip_reass.specs.Table.{held, held_all, IsUnfinished, AllUnfinished, IsTable, unfinished_of, unfinished}
+use Rattle.ip_reass.specs.declared.datagram.Datagram.{Datagram}
+use Rattle.ip_reass.specs.Weighs.{weight_is}
+
+pub none_held : (p : PoolView) (ds : List Datagram) → length ds ≡ 0 → held_all p ds ≡ []
+none_held p [] e = refl
+none_held p (d ∷ ds) e = absurd (omega arith)
+
+pub length-unfinished : (p : PoolView) (ds : List Datagram) → length (unfinished p ds) ≡ length ds
+length-unfinished p ds = length-map ds (unfinished_of p)
+
+-- ---- a step of somebody else
+queue_same : (p q : PoolView) (t : TrainView) → SameAt p q (numbers p t) → IsQueue p t → IsQueue q t
+queue_same p q t s is =
+    let e : fragments q t ≡ fragments p t = ap (map fragment_in) (cars_same p q t s) in
+    record { held = held_same p q t s is.held; apart = subst (Apart 0) (sym e) is.apart; small = subst (AllEnd 65515) (sym e) is.small }
+
+first_same : (p q : PoolView) (d : Datagram) (ds : List Datagram) → SameAt p q (held_all p (d ∷ ds)) → SameAt p q (held p d)
+first_same p q d ds s = same_part p q (held_all p (d ∷ ds)) (held p d) s (λ k. omega (arith, times-append k (held p d) (held_all p ds)))
+
+rest_same : (p q : PoolView) (d : Datagram) (ds : List Datagram) → SameAt p q (held_all p (d ∷ ds)) → SameAt p q (held_all p ds)
+rest_same p q d ds s = same_part p q (held_all p (d ∷ ds)) (held_all p ds) s (λ k. omega (arith, times-append k (held p d) (held_all p ds)))
+
+train_same : (p q : PoolView) (d : Datagram) → SameAt p q (held p d) → SameAt p q (numbers p d.fragments)
+train_same p q d s = same_part p q (held p d) (numbers p d.fragments) s (λ k. omega arith)
+
+pub held_all_same : (p q : PoolView) (ds : List Datagram) → SameAt p q (held_all p ds) → held_all q ds ≡ held_all p ds
+held_all_same p q [] s = refl
+held_all_same p q (d ∷ ds) s =
+    let one : numbers q d.fragments ≡ numbers p d.fragments = numbers_same p q d.fragments (train_same p q d (first_same p q d ds s)) in
+    λ j. (d.holder ∷ one j) ++ held_all_same p q ds (rest_same p q d ds s) j
+
+one_same : (p q : PoolView) (d : Datagram) → SameAt p q (held p d) → IsUnfinished p d → IsUnfinished q d
+one_same p q d s is = record {
+  queue = queue_same p q d.fragments (train_same p q d s) is.queue;
+  holder = ap (λ v. weight_of v.entries) (chain_same p q (held p d) d.holder s (omega (arith, times_same d.holder (numbers p d.fragments)))) ∙ is.holder;
+}
+
+pub each_same : (p q : PoolView) (ds : List Datagram) → SameAt p q (held_all p ds) → AllUnfinished p ds → AllUnfinished q ds
+each_same p q [] s a = tt
+each_same p q (d ∷ ds) s a = (one_same p q d (first_same p q d ds s) a.0, each_same p q ds (rest_same p q d ds s) a.1)
+
+pub table_same : (p q : PoolView) (ds : List Datagram) → SameAt p q (held_all p ds) → IsTable p ds → IsTable q ds
+table_same p q ds s is = record {
+  owned = subst (IsOwned q) (sym (held_all_same p q ds s)) (owned_same p q (held_all p ds) s is.owned);
+  each = each_same p q ds s is.each;
+}
+
+pub unfinished_same : (p q : PoolView) (ds : List Datagram) → SameAt p q (held_all p ds) → unfinished q ds ≡ unfinished p ds
+unfinished_same p q [] s = refl
+unfinished_same p q (d ∷ ds) s =
+    let one : cars q d.fragments ≡ cars p d.fragments = cars_same p q d.fragments (train_same p q d (first_same p q d ds s)) in
+    λ j. record { key = (unfinished_of p d).key; ticks = d.ticks; bytes = map_of (map fragment_in (one j)) } ∷ unfinished_same p q ds (rest_same p q d ds s) j
+
+-- ---- what they weigh
+cars_weigh : (p : PoolView) (xs : List ℕ) → all_of (λ (q : Fragment). q.weight) (map fragment_in (map (car_of p) xs)) ≡ weight_owned p xs
+cars_weigh p [] = refl
+cars_weigh p (x ∷ xs) = ap (λ (w : Weight). weight_at p x ⊕ w) (cars_weigh p xs)
+
+one_weighs : (p : PoolView) (d : Datagram) → IsUnfinished p d → weight_owned p (held p d) ≡ mbuf ⊕ weight_of_pieces (map_of (fragments p d.fragments))
+one_weighs p d is = λ j. is.holder j ⊕ (sym (cars_weigh p (numbers p d.fragments)) ∙ sym (weight_is (fragments p d.fragments) is.queue.apart is.queue.small)) j
+
+-- **the chains weigh what the flat machine says**
+pub table_weighs : (p : PoolView) (ds : List Datagram) → AllUnfinished p ds → SameWeight (weight_owned p (held_all p ds)) (all_of (λ (u : Unfinished). mbuf ⊕ weight_of_pieces u.bytes) (unfinished p ds))
+table_weighs p [] a = record { mbufs = refl; bag = λ c. refl }
+table_weighs p (d ∷ ds) a =
+    let rest = table_weighs p ds a.1 in
+    let two : weight_owned p (held p d ++ held_all p ds) ≡ weight_owned p (held p d) ⊕ weight_owned p (held_all p ds) = all_of-append (weight_at p) (held p d) (held_all p ds) in
+    let one : weight_owned p (held p d) ≡ mbuf ⊕ weight_of_pieces (map_of (fragments p d.fragments)) = one_weighs p d a.0 in
+    let us : Weight = all_of (λ (u : Unfinished). mbuf ⊕ weight_of_pieces u.bytes) (unfinished p ds) in
+    record {
+      mbufs = omega (arith, ap (λ (w : Weight). w.mbufs) two, rest.mbufs, ap (λ (w : Weight). w.mbufs) one);
+      bag = λ c. omega (
+        arith,
+        ap (λ (w : Weight). Rattle.flat_model.specs.Weight.times c w.bag) two,
+        rest.bag c,
+        times-both c (weight_owned p (held p d)) (weight_owned p (held_all p ds)),
+        times-both c (mbuf ⊕ weight_of_pieces (map_of (fragments p d.fragments))) us,
+        ap (λ (w : Weight). Rattle.flat_model.specs.Weight.times c w.bag) one,
+      );
+    }

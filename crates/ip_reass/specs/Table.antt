@@ -1,0 +1,56 @@
+-- The table of unfinished datagrams, and what the flat machine sees of it (TCP/IP Illustrated, volume 2, chapter 10).
+use Rattle.std.specs.Prelude.{◌≡◌, ℕ, ◌-◌, nat_lt, Bool, ◌==◌, ◌&&◌, if◌then◌else◌, List, [], ◌∷◌, ◌++◌, map, None}
+use Rattle.std.specs.List.{AllByRecursion}
+use Rattle.flat_model.specs.Weight.{mbuf}
+use Rattle.flat_model.specs.State.{Key, Unfinished}
+use Rattle.mbuf_chain.specs.Chain.{PoolView}
+use Rattle.mbuf_chain.specs.Owners.{times, IsOwned}
+use Rattle.mbuf_chain.specs.Train.{numbers}
+use Rattle.ledger.specs.Accounts.{weight_at}
+use Rattle.ip_reass.specs.Fragments.{IsQueue, fragments, map_of}
+use Rattle.ip_reass.specs.declared.datagram.Datagram.{Datagram}
+
+-- what the flat machine sees of a datagram
+abbrev pub unfinished_of : PoolView → Datagram → Unfinished
+unfinished_of p d = record { key = d.key; ticks = d.ticks; bytes = map_of (fragments p d.fragments) }
+
+abbrev pub unfinished : PoolView → List Datagram → List Unfinished
+unfinished p ds = map (unfinished_of p) ds
+
+-- a tick later, those that go on
+abbrev pub aged : List Datagram → List Datagram
+aged [] = []
+aged (d ∷ ds) = if nat_lt 1 d.ticks then record d { ticks = d.ticks - 1 } ∷ aged ds else aged ds
+
+-- the chains of a datagram, and of them all
+abbrev pub held : PoolView → Datagram → List ℕ
+held p d = d.holder ∷ numbers p d.fragments
+
+abbrev pub held_all : PoolView → List Datagram → List ℕ
+held_all p [] = []
+held_all p (d ∷ ds) = held p d ++ held_all p ds
+
+-- how often a number is that of a chain of the datagram
+abbrev pub holds : PoolView → ℕ → Datagram → ℕ
+holds p k d = times k (held p d)
+
+-- a datagram's fragments are in order, and its key has one plain mbuf
+pub record IsUnfinished (p : PoolView) (d : Datagram) : Type 0 where
+  pub queue : IsQueue p d.fragments
+  pub holder : weight_at p d.holder ≡ mbuf
+
+abbrev pub AllUnfinished : PoolView → List Datagram → Type 0
+AllUnfinished p ds = AllByRecursion (IsUnfinished p) ds
+
+-- the datagram goes by this key
+abbrev pub has_key : Key → Datagram → Bool
+has_key k d = (d.key.source == k.source) && (d.key.destination == k.destination) && (d.key.id == k.id) && (d.key.protocol == k.protocol)
+
+-- one that has just begun, with the mbuf of its key
+abbrev pub new_datagram : Key → ℕ → Datagram
+new_datagram k c = record { key = k; holder = c; ticks = 60; fragments = record { first = None; last = None; len = 0 } }
+
+-- the chains are the pool's, once each, and the fragments are in order
+pub record IsTable (p : PoolView) (ds : List Datagram) : Type 0 where
+  pub owned : IsOwned p (held_all p ds)
+  pub each : AllUnfinished p ds

@@ -1,0 +1,205 @@
+//! A fragment arrives: its header is pulled up, its key is looked for, and it joins the others of its datagram.
+ghost use Rattle.std.specs.Prelude.{◌≡◌, ℕ, ◌+◌, ◌<◌, ◌≤◌, ◌∷◌, ◌++◌, true, false, None, Some, IfSome, length, find, is_some, option_to_list};
+ghost use Rattle.flat_model.specs.State.{State, is_key};
+ghost use Rattle.flat_model.specs.Weight.{Weight, ◌⊕◌};
+ghost use Rattle.flat_model.specs.Ledger.{exact_ledger};
+ghost use Rattle.flat_model.specs.Arrival.{FragmentArrives, Joins, Origin, is_bad_fragment};
+ghost use Rattle.mbuf_chain.specs.Chain.{chain_of, entry_of, string};
+ghost use Rattle.mbuf_chain.specs.Owners.{IsOwned, Moves};
+ghost use Rattle.ledger.specs.Accounts.{IsAccounted, weight_at, weight_owned};
+ghost use Rattle.ip_reass.specs.Arrivals.{AreDistinct, BeginsAt, CameBy, GoesOn, HasWhole, IsPulled, carried_at, flat_head, in_hand, key_in, machine, pulled_entries};
+ghost use Rattle.ip_reass.specs.Fragments.{fragment_of};
+ghost use Rattle.ip_reass.specs.Table.{IsTable, held_all, unfinished};
+ghost use Rattle.ip_reass.specs.Inside.{arrived};
+
+use crate::arrival::Arrival;
+use crate::head::IpHead;
+use crate::lay::settle;
+use crate::table::{Reass, begin, find};
+use chain_ops::{m_pullup, trim_front};
+use flat_model::{Counter, Counters, FragmentKey, Why};
+use ledger::reserve;
+use mbuf_chain::{Chain, Pool};
+use params::{FRAGMENT_UNIT, IP_HEADER, IP_MAX_DATA};
+
+/// The key that a fragment goes by.
+fn key_of(head: &IpHead) -> FragmentKey
+    ensures { result ≡ key_in head.now }
+{
+    FragmentKey {
+        source: head.src,
+        destination: head.dst,
+        id: head.id,
+        protocol: head.proto,
+    }
+}
+
+/// Whether a fragment of `len` bytes is one that none can be: without a byte, one with others after it that is no
+/// multiple of 8, or one that reaches past the longest datagram.
+fn is_bad(head: &IpHead, len: u32) -> bool
+    requires offset { head.now.offset ≤ 65528 }
+    requires len { len ≤ 65535 }
+    ensures { result ≡ is_bad_fragment (flat_head head.now) len }
+{
+    len == 0 || (head.more && len % FRAGMENT_UNIT != 0) || head.offset + len > IP_MAX_DATA
+}
+
+impl Reass {
+    /// Begins the datagram of a fragment, whose key isn't held yet, and lays the fragment.
+    fn begin_with(
+        &mut self,
+        pool: &mut Pool,
+        counters: &mut Counters,
+        chain: Chain,
+        head: IpHead,
+    ) -> Arrival
+        requires table { IsTable pool.old self.old }
+        requires owned { IsOwned pool.old (chain ∷ held_all pool.old self.old) }
+        requires headed { (chain_of pool.old chain).front.header ≡ true }
+        requires some { 0 < length (string (chain_of pool.old chain)) }
+        requires small { head.offset + length (string (chain_of pool.old chain)) ≤ 65515 }
+        ensures step { (rest : State) (held : Weight) (new : State) →
+            find (is_key (key_in head)) (unfinished pool.old self.old) ≡ None →
+            IsAccounted pool.old (machine pool.old self.old counters.old rest) (held ⊕ weight_at pool.old chain) →
+            GoesOn held pool.new result (machine pool.new self.new counters.new rest) new →
+            BeginsAt pool.old self.old counters.old (key_in head) (fragment_of (arrived pool.old chain head.offset head.more))
+            (weight_at pool.old chain) result pool.new self.new counters.new rest held new }
+        ensures whole { HasWhole pool.new head result }
+        ensures table { IsTable pool.new self.new }
+        ensures moves { Moves pool.old (chain ∷ held_all pool.old self.old) pool.new
+            (in_hand result ++ held_all pool.new self.new) }
+    {
+        if !reserve(pool, self, counters, 1, 0) {
+            pool.free_chain(chain);
+            counters.count_ended(Why::NoBufs);
+            return Arrival::Dropped(Why::NoBufs);
+        }
+        pool.laws();
+        let Ok(holder) = pool.new_chain() else {
+            unreachable!()
+        };
+        let i = self.datagrams.as_slice().len();
+        begin(&mut self.datagrams, key_of(&head), holder);
+        settle(pool, &mut self.datagrams, counters, i, chain, head)
+    }
+
+    /// Lets a fragment join the others of its datagram, or begin it.
+    fn join_others(
+        &mut self,
+        pool: &mut Pool,
+        counters: &mut Counters,
+        chain: Chain,
+        head: IpHead,
+    ) -> Arrival
+        requires table { IsTable pool.old self.old }
+        requires owned { IsOwned pool.old (chain ∷ held_all pool.old self.old) }
+        requires headed { (chain_of pool.old chain).front.header ≡ true }
+        requires some { 0 < length (string (chain_of pool.old chain)) }
+        requires small { head.offset + length (string (chain_of pool.old chain)) ≤ 65515 }
+        ensures step { (rest : State) (held : Weight) (new : State) → AreDistinct pool.old self.old →
+            IsAccounted pool.old (machine pool.old self.old counters.old rest) (held ⊕ weight_at pool.old chain) →
+            GoesOn held pool.new result (machine pool.new self.new counters.new rest) new →
+            Joins exact_ledger held (key_in head) (fragment_of (arrived pool.old chain head.offset head.more))
+            (machine pool.old self.old counters.old rest) new }
+        ensures whole { HasWhole pool.new head result }
+        ensures table { IsTable pool.new self.new }
+        ensures moves { Moves pool.old (chain ∷ held_all pool.old self.old) pool.new
+            (in_hand result ++ held_all pool.new self.new) }
+    {
+        match find(self.datagrams.as_slice(), key_of(&head)) {
+            Some(i) => settle(pool, &mut self.datagrams, counters, i, chain, head),
+            None => self.begin_with(pool, counters, chain, head),
+        }
+    }
+
+    /// Brings the IP header of a fragment into a plain mbuf, where its first mbuf is a cluster; this takes an mbuf. `None`
+    /// comes where none is to be had, and the fragment is freed and counted then.
+    fn pull_up(
+        &mut self,
+        pool: &mut Pool,
+        counters: &mut Counters,
+        mut chain: Chain,
+    ) -> Option<Chain>
+        requires table { IsTable pool.old self.old }
+        requires owned { IsOwned pool.old (chain ∷ held_all pool.old self.old) }
+        requires headed { (chain_of pool.old chain).front.header ≡ true }
+        requires len { 20 ≤ length (string (chain_of pool.old chain)) }
+        ensures plain { is_some (entry_of (chain_of pool.old chain) 0).cluster ≡ false → (pool.new ≡ pool.old)
+            × (self.new ≡ self.old) × (counters.new ≡ counters.old) × (result ≡ Some chain) }
+        ensures tested { is_some (entry_of (chain_of pool.old chain) 0).cluster ≡ true → (rest : State) (held : Weight) →
+            IsAccounted pool.old (machine pool.old self.old counters.old rest) (held ⊕ weight_at pool.old chain) →
+            IsPulled pool.old self.old counters.old (weight_at pool.old chain) (is_some result) pool.new self.new counters.new
+            rest held }
+        ensures entries { IfSome result (λ d. (chain_of pool.new d).entries ≡ pulled_entries (chain_of pool.old chain)) }
+        ensures headed { IfSome result (λ d. (chain_of pool.new d).front.header ≡ true) }
+        ensures table { IsTable pool.new self.new }
+        ensures moves { Moves pool.old (chain ∷ held_all pool.old self.old) pool.new
+            (option_to_list result ++ held_all pool.new self.new) }
+    {
+        let first = pool.first(&chain);
+        if pool.segment(&chain, first).cluster.is_none() {
+            return Some(chain);
+        }
+        if !reserve(pool, self, counters, 1, 0) {
+            pool.free_chain(chain);
+            counters.count_ended(Why::NoBufs);
+            return None;
+        }
+        match m_pullup(pool, &mut chain, IP_HEADER) {
+            Ok(()) => Some(chain),
+            Err(_) => unreachable!(),
+        }
+    }
+
+    /// A fragment arrives, as a whole packet with its IP header (`ip_reass`, volume 2, chapter 10; RFC 791, section 3.2). Its
+    /// chain is spent; what `Whole` hands out is a chain without IP header.
+    ///
+    /// Where its first mbuf is a cluster, the header is pulled up, which takes an mbuf; a key that isn't held yet takes one
+    /// more. Each is asked for by `reserve`: where none is free, all unfinished datagrams are dropped, and it's asked once
+    /// more. `NoBufs` comes exactly where none is free then. `BadFragment` comes first, for a fragment that none can be,
+    /// and `FragmentDropped` where all its bytes are held by fragments that begin no later. Each case is counted.
+    ///
+    /// A fragment that begins no later keeps its bytes, one that begins later loses what the new one holds. The datagram is
+    /// whole where its bytes follow one another from 0 and no more come after the last. Its time is not renewed.
+    pub fn arrive(
+        &mut self,
+        pool: &mut Pool,
+        counters: &mut Counters,
+        chain: Chain,
+        head: IpHead,
+    ) -> Arrival
+        requires table { IsTable pool.old self.old }
+        requires owned { IsOwned pool.old (chain ∷ held_all pool.old self.old) }
+        requires headed { (chain_of pool.old chain).front.header ≡ true }
+        requires total { length (string (chain_of pool.old chain)) ≡ head.total }
+        requires header { 20 ≤ head.total }
+        requires offset { head.offset ≤ 65528 }
+        ensures step { (rest : State) (held : Weight) (origin : Origin) (new : State) → AreDistinct pool.old self.old →
+            CameBy origin (chain_of pool.old chain) →
+            IsAccounted pool.old (machine pool.old self.old counters.old rest) (held ⊕ weight_at pool.old chain) →
+            GoesOn held pool.new result (machine pool.new self.new counters.new rest) new →
+            FragmentArrives exact_ledger origin held (flat_head head) (carried_at pool.old chain)
+            (machine pool.old self.old counters.old rest) new }
+        ensures accounts { (rest : State) (held : Weight) →
+            IsAccounted pool.old (machine pool.old self.old counters.old rest) (held ⊕ weight_at pool.old chain) →
+            IsAccounted pool.new (machine pool.new self.new counters.new rest)
+            (held ⊕ weight_owned pool.new (in_hand result)) }
+        ensures whole { HasWhole pool.new head result }
+        ensures table { IsTable pool.new self.new }
+        ensures moves { Moves pool.old (chain ∷ held_all pool.old self.old) pool.new
+            (in_hand result ++ held_all pool.new self.new) }
+    {
+        let len = pool.len(&chain) - IP_HEADER;
+        if is_bad(&head, len) {
+            pool.free_chain(chain);
+            counters.count_ended(Why::BadFragment);
+            return Arrival::Dropped(Why::BadFragment);
+        }
+        counters.count(Counter::IpFragments);
+        let Some(chain) = self.pull_up(pool, counters, chain) else {
+            return Arrival::Dropped(Why::NoBufs);
+        };
+        trim_front(pool, &chain, IP_HEADER);
+        self.join_others(pool, counters, chain, head)
+    }
+}

@@ -1,0 +1,32 @@
+//! An unfinished datagram.
+ghost use Rattle.std.specs.Prelude.{[]};
+ghost use Rattle.mbuf_chain.specs.Owners.{IsOwned, Moves};
+ghost use Rattle.mbuf_chain.specs.Train.{IsHeld};
+ghost use Rattle.ip_reass.specs.Table.{held};
+
+use flat_model::FragmentKey;
+use mbuf_chain::{Chain, Pool, Train};
+
+/// An unfinished datagram: the mbuf of its key, the ticks that it has left, and its fragments, in order of offset.
+pub struct Datagram {
+    pub key: FragmentKey,
+    pub holder: Chain,
+    pub ticks: u8,
+    pub fragments: Train,
+}
+
+/// Frees a datagram's fragments and its key's mbuf.
+pub(crate) fn free_datagram(pool: &mut Pool, datagram: Datagram)
+    requires owned { IsOwned pool.old (held pool.old datagram) }
+    requires fragments { IsHeld pool.old datagram.fragments }
+    ensures { Moves pool.old (held pool.old datagram) pool.new [] }
+{
+    let Datagram {
+        key: _,
+        holder,
+        ticks: _,
+        fragments,
+    } = datagram;
+    pool.free_chain(holder);
+    fragments.free(pool);
+}

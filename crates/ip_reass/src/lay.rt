@@ -1,0 +1,110 @@
+//! A fragment laid among those of its datagram, and the datagram taken out where it is whole.
+ghost use Rattle.std.specs.Prelude.{◌≡◌, ℕ, ◌+◌, ◌<◌, ◌≤◌, ◌∷◌, ◌++◌, true, count_by, length, vec_capacity, vec_len};
+ghost use Rattle.flat_model.specs.State.{State, is_key};
+ghost use Rattle.flat_model.specs.Weight.{Weight};
+ghost use Rattle.flat_model.specs.Ledger.{exact_ledger};
+ghost use Rattle.flat_model.specs.Arrival.{Lays};
+ghost use Rattle.mbuf_chain.specs.Chain.{PoolView, IsLive, chain_of, string, alone};
+ghost use Rattle.mbuf_chain.specs.Owners.{IsOwned, Moves};
+ghost use Rattle.ip_reass.specs.Arrivals.{GoesOn, HasWhole, in_hand, key_in, machine};
+ghost use Rattle.ip_reass.specs.Fragments.{fragment_of};
+ghost use Rattle.ip_reass.specs.Table.{IsTable, held_all, unfinished, unfinished_of};
+ghost use Rattle.ip_reass.specs.Inside.{arrived};
+ghost use Rattle.ip_reass.specs.Steps.{LaysIn, TakesOut, datagram_at};
+
+use crate::arrival::Arrival;
+use crate::datagram::Datagram;
+use crate::head::IpHead;
+use crate::queue::{join, lay, whole};
+use flat_model::{Counter, Counters, Why};
+use mbuf_chain::{Chain, Pool};
+use params::IP_HEADER;
+
+/// Lays a fragment among those of the datagram at a place. The answer is whether something of it was left.
+pub(crate) fn lay_in(
+    pool: &mut Pool,
+    table: &mut [Datagram],
+    i: usize,
+    chain: Chain,
+    offset: u32,
+    more: bool,
+) -> bool
+    requires table { IsTable pool.old table.old }
+    requires place { i < length table.old }
+    requires owned { IsOwned pool.old (chain ∷ held_all pool.old table.old) }
+    requires headed { (chain_of pool.old chain).front.header ≡ true }
+    requires some { 0 < length (string (chain_of pool.old chain)) }
+    requires small { offset + length (string (chain_of pool.old chain)) ≤ 65515 }
+    ensures { LaysIn pool.old table.old i chain (arrived pool.old chain offset more) result pool.new table.new }
+{
+    let datagram = &mut table[i];
+    lay(pool, &mut datagram.fragments, chain, offset, more)
+}
+
+/// Takes a datagram out of the table, frees its key's mbuf and joins its fragments.
+pub(crate) fn take_out(pool: &mut Pool, table: &mut Vec<Datagram>, i: usize) -> Chain
+    requires table { IsTable pool.old table.old.items }
+    requires place { i < length table.old.items }
+    requires some { 0 < (datagram_at table.old.items i).fragments.len }
+    ensures takes { TakesOut pool.old table.old.items i result pool.new table.new.items }
+    ensures len { vec_len table.new ≤ vec_len table.old }
+    ensures capacity { vec_capacity table.new ≡ vec_capacity table.old }
+{
+    let Datagram {
+        key: _,
+        holder,
+        ticks: _,
+        fragments,
+    } = table.remove(i);
+    pool.free_chain(holder);
+    join(pool, fragments)
+}
+
+/// Lays a fragment among those of the datagram at a place, and counts. The datagram is taken out where it is whole then.
+pub(crate) fn settle(
+    pool: &mut Pool,
+    table: &mut Vec<Datagram>,
+    counters: &mut Counters,
+    i: usize,
+    chain: Chain,
+    head: IpHead,
+) -> Arrival
+    requires table { IsTable pool.old table.old.items }
+    requires place { i < length table.old.items }
+    requires owned { IsOwned pool.old (chain ∷ held_all pool.old table.old.items) }
+    requires headed { (chain_of pool.old chain).front.header ≡ true }
+    requires some { 0 < length (string (chain_of pool.old chain)) }
+    requires small { head.offset + length (string (chain_of pool.old chain)) ≤ 65515 }
+    ensures step { (rest : State) (held : Weight) (new : State) →
+        is_key (key_in head) (unfinished_of pool.old (datagram_at table.old.items i)) ≡ true →
+        count_by (is_key (key_in head)) (unfinished pool.old table.old.items) ≤ 1 →
+        GoesOn held pool.new result (machine pool.new table.new.items counters.new rest) new →
+        Lays exact_ledger held (key_in head) (fragment_of (arrived pool.old chain head.offset head.more))
+        (unfinished_of pool.old (datagram_at table.old.items i)) (machine pool.old table.old.items counters.old rest) new }
+    ensures whole { HasWhole pool.new head result }
+    ensures table { IsTable pool.new table.new.items }
+    ensures moves { Moves pool.old (chain ∷ held_all pool.old table.old.items) pool.new
+        (in_hand result ++ held_all pool.new table.new.items) }
+    ensures len { vec_len table.new ≤ vec_len table.old }
+    ensures capacity { vec_capacity table.new ≡ vec_capacity table.old }
+{
+    if !lay_in(pool, table.as_mut_slice(), i, chain, head.offset, head.more) {
+        counters.count_ended(Why::FragmentDropped);
+        return Arrival::Dropped(Why::FragmentDropped);
+    }
+    let Some(len) = whole(pool, &table[i].fragments) else {
+        return Arrival::Kept;
+    };
+    pool.laws();
+    let chain = take_out(pool, table, i);
+    counters.count(Counter::IpReassembled);
+    Arrival::Whole(
+        chain,
+        IpHead {
+            total: (IP_HEADER + len) as u16,
+            more: false,
+            offset: 0,
+            ..head
+        },
+    )
+}

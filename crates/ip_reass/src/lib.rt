@@ -1,0 +1,18 @@
+//! Reassembly of IP datagrams, as 4.4BSD does it (`ip_reass` of TCP/IP Illustrated, volume 2, chapter 10; RFC 791, section
+//! 3.2): the table of unfinished datagrams, a fragment that arrives, and the clock that drops those that take too long.
+//!
+//! Each contract is a step of the flat machine, for every rest of it. docs/ip_reass.md has the words.
+#![tactic(auto)]
+
+mod arrival;
+mod arrive;
+mod datagram;
+mod head;
+mod lay;
+mod queue;
+mod table;
+
+pub use arrival::Arrival;
+pub use datagram::Datagram;
+pub use head::IpHead;
+pub use table::Reass;

@@ -1,0 +1,229 @@
+//! The fragments of an unfinished datagram, in order of offset, as a train (TCP/IP Illustrated, volume 2, chapter 10).
+ghost use Rattle.std.specs.Bool.{OnTrue, OnFalse};
+ghost use Rattle.std.specs.Prelude.{◌≡◌, ℕ, ◌+◌, ◌-◌, ◌*◌, ◌/◌, ◌%◌, ◌==◌, ◌<◌, ◌≤◌, ◌++◌, ◌∷◌, [], true, length, not, take, drop, remove, slice_set, MatchOption};
+ghost use Rattle.flat_model.specs.Overlay.{overlay, is_covered};
+ghost use Rattle.flat_model.specs.Whole.{IsWhole};
+ghost use Rattle.mbuf_chain.specs.Chain.{IsLive, chain_of, string, alone, flat_bytes};
+ghost use Rattle.mbuf_chain.specs.Owners.{times, Moves};
+ghost use Rattle.mbuf_chain.specs.Train.{numbers, IsHeld};
+ghost use Rattle.ip_reass.specs.Fragments.{AllEnd, IsQueue, cut, cut_to, fragment_of, fragments, joined, laid, map_of, queued, queued_end};
+ghost use Rattle.ip_reass.specs.Inside.{AllAbove, AllUpto, arrived, queued_at, reach};
+
+use chain_ops::{cat_behind, trim_front};
+use mbuf_chain::{Chain, Pool, Train};
+
+/// The place of the first fragment that begins above an offset, and where those in front of it end.
+fn find(pool: &Pool, train: &Train, offset: u32) -> (u32, u32)
+    requires { IsQueue pool.now train.now }
+    ensures within { result.0 ≤ train.now.len }
+    ensures upto { AllUpto offset (take result.0 (fragments pool.now train.now)) }
+    ensures above { AllAbove offset (drop result.0 (fragments pool.now train.now)) }
+    ensures end { result.1 ≡ reach 0 (take result.0 (fragments pool.now train.now)) }
+{
+    let mut end = 0;
+    let Some(mut at) = train.first(pool) else {
+        return (0, 0);
+    };
+    'fragments: loop {
+        let begin = train.tag_at(pool, at) / 2;
+        if begin > offset {
+            return (at.index, end);
+        }
+        end = begin + train.len_at(pool, at);
+        let Some(next) = train.next(pool, at) else {
+            return (train.len(), end);
+        };
+        at = next;
+    }
+}
+
+/// Where the fragment at a place begins.
+fn begins(pool: &Pool, train: &Train, i: u32) -> u32
+    requires place { i < train.now.len }
+    requires held { IsHeld pool.now train.now }
+    ensures { result ≡ (queued_at (queued pool.now train.now) i).offset }
+{
+    train.tag(pool, i) / 2
+}
+
+/// The first offset after the fragment at a place.
+fn ends(pool: &Pool, train: &Train, i: u32) -> u32
+    requires place { i < train.now.len }
+    requires held { IsHeld pool.now train.now }
+    requires small { AllEnd 65515 (fragments pool.now train.now) }
+    ensures { result ≡ queued_end (queued_at (queued pool.now train.now) i) }
+{
+    begins(pool, train, i) + train.chain_len(pool, i)
+}
+
+/// Takes the fragment at a place out and frees it.
+fn free_at(pool: &mut Pool, train: &mut Train, i: u32)
+    requires place { i < train.old.len }
+    requires held { IsHeld pool.old train.old }
+    ensures queue { queued pool.new train.new ≡ remove (queued pool.old train.old) i }
+    ensures held { IsHeld pool.new train.new }
+    ensures len { train.new.len + 1 ≡ train.old.len }
+    ensures moves { Moves pool.old (numbers pool.old train.old) pool.new (numbers pool.new train.new) }
+{
+    let (chain, _) = train.take(pool, i);
+    pool.free_chain(chain);
+}
+
+/// Cuts the first n bytes off the fragment at a place, as `m_adj` does.
+fn trim_at(pool: &mut Pool, train: &mut Train, i: u32, n: u32)
+    requires place { i < train.old.len }
+    requires held { IsHeld pool.old train.old }
+    requires small { AllEnd 65515 (fragments pool.old train.old) }
+    requires within { n ≤ length (flat_bytes (queued_at (queued pool.old train.old) i).entries) }
+    ensures queue { queued pool.new train.new ≡
+        slice_set (queued pool.old train.old) i (cut n (queued_at (queued pool.old train.old) i)) }
+    ensures held { IsHeld pool.new train.new }
+    ensures len { train.new.len ≡ train.old.len }
+    ensures moves { Moves pool.old (numbers pool.old train.old) pool.new (numbers pool.new train.new) }
+{
+    let (chain, tag) = train.take(pool, i);
+    let moved = tag + 2 * n;
+    trim_front(pool, &chain, n);
+    train.insert(pool, i, chain, moved);
+}
+
+/// What lies below an offset goes from the fragments at a place and after it: whole fragments, and the front of one.
+fn clear(pool: &mut Pool, train: &mut Train, i: u32, end: u32)
+    requires place { i ≤ train.old.len }
+    requires held { IsHeld pool.old train.old }
+    requires small { AllEnd 65515 (fragments pool.old train.old) }
+    ensures queue { queued pool.new train.new ≡
+        take i (queued pool.old train.old) ++ cut_to end (drop i (queued pool.old train.old)) }
+    ensures held { IsHeld pool.new train.new }
+    ensures len { train.new.len ≤ train.old.len }
+    ensures moves { Moves pool.old (numbers pool.old train.old) pool.new (numbers pool.new train.new) }
+{
+    'fragments: while i < train.len() {
+        let begin = begins(pool, train, i);
+        if end <= begin {
+            return;
+        }
+        if end < ends(pool, train, i) {
+            trim_at(pool, train, i, end - begin);
+            return;
+        }
+        free_at(pool, train, i);
+    }
+}
+
+/// The tag of a fragment: its offset times 2, plus 1 where more come after it.
+fn tag_of(offset: u32, more: bool) -> u32
+    requires { offset ≤ 65535 }
+    ensures half { result / 2 ≡ offset }
+    ensures odd { (result % 2 == 1) ≡ more }
+{
+    if more { 2 * offset + 1 } else { 2 * offset }
+}
+
+/// Puts what is left of a chain at its place, and takes what it holds from the fragments after it.
+fn settle(
+    pool: &mut Pool,
+    train: &mut Train,
+    chain: Chain,
+    i: u32,
+    offset: u32,
+    skip: u32,
+    len: u32,
+    more: bool,
+)
+    requires place { i ≤ train.old.len }
+    requires held { IsHeld pool.old train.old }
+    requires small { AllEnd 65515 (fragments pool.old train.old) }
+    requires live { IsLive pool.old chain }
+    requires headed { (chain_of pool.old chain).front.header ≡ true }
+    requires apart { times chain (numbers pool.old train.old) ≡ 0 }
+    requires len { len ≡ length (string (chain_of pool.old chain)) }
+    requires left { skip < len }
+    requires within { offset + len ≤ 65515 }
+    ensures queue { let f = arrived pool.old chain offset more in
+        queued pool.new train.new ≡ take i (queued pool.old train.old)
+        ++ cut skip f ∷ cut_to (queued_end f) (drop i (queued pool.old train.old)) }
+    ensures held { IsHeld pool.new train.new }
+    ensures moves { Moves pool.old (chain ∷ numbers pool.old train.old) pool.new (numbers pool.new train.new) }
+{
+    let tag = tag_of(offset + skip, more);
+    trim_front(pool, &chain, skip);
+    clear(pool, train, i, offset + len);
+    train.insert(pool, i, chain, tag);
+}
+
+/// Lays a fragment among those held: what precedes it keeps its bytes, what follows loses its own to it. The answer is
+/// whether something of it was left; a fragment of which nothing is left is freed, and those held stay as they were.
+pub(crate) fn lay(pool: &mut Pool, train: &mut Train, chain: Chain, offset: u32, more: bool) -> bool
+    requires queue { IsQueue pool.old train.old }
+    requires live { IsLive pool.old chain }
+    requires headed { (chain_of pool.old chain).front.header ≡ true }
+    requires apart { times chain (numbers pool.old train.old) ≡ 0 }
+    requires some { 0 < length (string (chain_of pool.old chain)) }
+    requires small { offset + length (string (chain_of pool.old chain)) ≤ 65515 }
+    ensures covered { is_covered (map_of (fragments pool.old train.old))
+        (fragment_of (arrived pool.old chain offset more)) ≡ not result }
+    ensures map { OnTrue result (map_of (fragments pool.new train.new)
+        ≡ overlay (map_of (fragments pool.old train.old)) (fragment_of (arrived pool.old chain offset more))) }
+    ensures laid { OnTrue result (queued pool.new train.new
+        ≡ laid (arrived pool.old chain offset more) (queued pool.old train.old)) }
+    ensures none { OnFalse result (queued pool.new train.new ≡ queued pool.old train.old) }
+    ensures queue { IsQueue pool.new train.new }
+    ensures moves { Moves pool.old (chain ∷ numbers pool.old train.old) pool.new (numbers pool.new train.new) }
+{
+    let len = pool.len(&chain);
+    let (i, end) = find(pool, train, offset);
+    let skip = end.saturating_sub(offset);
+    if len <= skip {
+        pool.free_chain(chain);
+        return false;
+    }
+    settle(pool, train, chain, i, offset, skip, len, more);
+    true
+}
+
+/// How many bytes the fragments make, where they are a whole datagram: they follow one another from 0, and no more
+/// come after the last.
+pub(crate) fn whole(pool: &Pool, train: &Train) -> Option<u32>
+    requires { IsQueue pool.now train.now }
+    ensures { MatchOption result ((n : ℕ) → ¬ IsWhole (map_of (fragments pool.now train.now)) n)
+        (λ n. IsWhole (map_of (fragments pool.now train.now)) n) }
+{
+    let mut end = 0;
+    let Some(mut at) = train.first(pool) else {
+        return None;
+    };
+    'fragments: loop {
+        let tag = train.tag_at(pool, at);
+        if tag / 2 != end {
+            return None;
+        }
+        end += train.len_at(pool, at);
+        let Some(next) = train.next(pool, at) else {
+            if tag % 2 == 1 {
+                return None;
+            }
+            return Some(end);
+        };
+        at = next;
+    }
+}
+
+/// Joins the fragments, in their order, as one chain, as `m_cat` does.
+pub(crate) fn join(pool: &mut Pool, train: Train) -> Chain
+    requires held { IsHeld pool.old train }
+    requires some { 0 < train.len }
+    ensures entries { (chain_of pool.new result).entries ≡ joined (queued pool.old train) }
+    ensures front { (chain_of pool.new result).front ≡ alone true }
+    ensures moves { Moves pool.old (numbers pool.old train) pool.new (result ∷ []) }
+{
+    let mut rest = train;
+    let (chain, _) = rest.take(pool, 0);
+    let mut last = pool.last(&chain);
+    'fragments: while rest.len() > 0 {
+        let (next, _) = rest.take(pool, 0);
+        last = cat_behind(pool, &chain, last, next);
+    }
+    rest.free(pool);
+    chain
+}

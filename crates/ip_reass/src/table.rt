@@ -1,0 +1,207 @@
+//! The table of unfinished datagrams.
+ghost use Rattle.std.specs.Prelude.{IfOk, ◌==◌, ◌≡◌, ℕ, ◌+◌, ◌-◌, ◌≤◌, ◌<◌, ◌*◌, List, length, take, remove, find, sum_by, slice_get, slice_index_or, MatchOption, None, ◌++◌, ◌∷◌, [], vec_len, vec_capacity};
+ghost use Rattle.flat_model.specs.Count.{counts_more};
+ghost use Rattle.flat_model.specs.State.{State};
+ghost use Rattle.flat_model.specs.Step.{ticked};
+ghost use Rattle.flat_model.specs.declared.counter.Counter.TheVariants.{IpFragtimeout};
+ghost use Rattle.flat_model.specs.declared.counters.Counters.{Counters};
+ghost use Rattle.mbuf_chain.specs.Chain.{PoolView};
+ghost use Rattle.mbuf_chain.specs.Owners.{IsOwned, Moves};
+ghost use Rattle.mbuf_chain.specs.Frames.{SameAt};
+ghost use Rattle.mbuf_chain.specs.Train.{IsHeld};
+ghost use Rattle.ip_reass.specs.Arrivals.{machine};
+ghost use Rattle.ip_reass.specs.Table.{aged, unfinished, has_key, new_datagram, holds, held, held_all, AllUnfinished, IsTable};
+
+use crate::datagram::{Datagram, free_datagram};
+use flat_model::FragmentKey;
+use ledger::Waiting;
+use mbuf_chain::{Chain, Pool, Reclaim, Train};
+use params::{FRAGMENT_TICKS, MAX_MBUFS};
+use std::alloc::{AllocError, Global};
+use std::marker::Model;
+
+/// The unfinished datagrams, in the order of their beginning: what 4.4BSD keeps in its fragment queue (TCP/IP
+/// Illustrated, volume 2, chapter 10). It must be spent, by `end`.
+///
+/// A contract sees the list of them, each with its key, the mbuf of its key, the ticks that it has left and its
+/// fragments. The chains stay in the pool that each call is given, which is the one that they came from. No call but
+/// `boot` takes host memory.
+pub struct Reass {
+    pub(crate) datagrams: Vec<Datagram>,
+}
+
+impl Model for Reass {
+    ghost use Rattle.std.specs.Prelude.{List, ◌≤◌, vec_len, vec_capacity};
+    ghost use Rattle.ip_reass.specs.declared.datagram.Datagram.{Datagram};
+
+    ghost Value = { List Datagram };
+
+    ghost view = { λ r. r.datagrams.items };
+
+    ghost invariant = { λ r. (65535 ≤ vec_capacity r.datagrams) × (vec_len r.datagrams ≤ 65535) };
+}
+
+impl Reass {
+    /// A table without datagrams. `AllocError` comes where the host has no memory for it, and nothing is left then.
+    ///
+    /// After this as many unfinished datagrams as the pool has mbufs can be held, with no more host memory: each has an
+    /// mbuf for its key. There are places for those of the largest pool, 65,535 mbufs.
+    pub fn boot(alloc: Global, mbufs: u32) -> Result<Reass, AllocError>
+        ensures { IfOk result (λ r. r ≡ []) }
+    {
+        let places = mbufs.max(MAX_MBUFS);
+        let datagrams = Vec::with_capacity(alloc, places as usize)?;
+        Ok(Reass { datagrams })
+    }
+
+    /// Frees all datagrams, with all their mbufs and references.
+    pub fn end(mut self, pool: &mut Pool)
+        requires { IsTable pool.old self }
+        ensures { Moves pool.old (held_all pool.old self) pool.new [] }
+    {
+        free_beyond(pool, &mut self.datagrams, 0);
+        let Reass { datagrams } = self;
+        datagrams.destroy_empty();
+    }
+
+    /// How many datagrams are unfinished.
+    pub fn len(&self) -> u32
+        ensures { result ≡ length self.now }
+    {
+        self.datagrams.len() as u32
+    }
+
+    /// Whether no datagram is unfinished.
+    pub fn is_empty(&self) -> bool
+        ensures { result ≡ (length self.now == 0) }
+    {
+        self.datagrams.is_empty()
+    }
+
+    /// A tick of the slow timer, `ip_slowtimo` (volume 2, chapter 10): each datagram has one tick less, and those that have
+    /// none left are freed with all their mbufs. The answer is how many were.
+    pub fn tick(&mut self, pool: &mut Pool) -> u32
+        requires { IsTable pool.old self.old }
+        ensures step { (rest : State) (c : Counters) → ticked (machine pool.old self.old c rest)
+            ≡ machine pool.new self.new (counts_more IpFragtimeout result c) rest }
+        ensures aged { self.new ≡ aged self.old }
+        ensures gone { result + length (aged self.old) ≡ length self.old }
+        ensures ready { IsTable pool.new self.new }
+        ensures same { SameAt pool.old pool.new (held_all pool.old self.new) }
+        ensures moves { Moves pool.old (held_all pool.old self.old) pool.new (held_all pool.new self.new) }
+    {
+        let before = self.datagrams.len();
+        let kept = age(self.datagrams.as_mut_slice());
+        free_beyond(pool, &mut self.datagrams, kept);
+        (before - kept) as u32
+    }
+}
+
+/// Frees all datagrams from a place on, with all their buffers.
+fn free_beyond(pool: &mut Pool, table: &mut Vec<Datagram>, kept: usize)
+    requires place { kept ≤ vec_len table.old }
+    requires table { IsTable pool.old table.old.items }
+    ensures items { table.new.items ≡ take kept table.old.items }
+    ensures len { vec_len table.new ≡ kept }
+    ensures capacity { vec_capacity table.new ≡ vec_capacity table.old }
+    ensures table { IsTable pool.new table.new.items }
+    ensures same { SameAt pool.old pool.new (held_all pool.old table.new.items) }
+    ensures moves { Moves pool.old (held_all pool.old table.old.items) pool.new
+        (held_all pool.new table.new.items) }
+{
+    'table: while table.len() > kept {
+        if let Some(datagram) = table.pop() {
+            free_datagram(pool, datagram);
+        }
+    }
+}
+
+/// Takes a tick from each, and puts those that have none left behind the others. The answer is how many go on.
+fn age(table: &mut [Datagram]) -> usize
+    ensures within { result ≤ length table.new }
+    ensures kept { take result table.new ≡ aged table.old }
+    ensures holds { (p : PoolView) (k : ℕ) → sum_by (holds p k) table.new ≡ sum_by (holds p k) table.old }
+    ensures each { (p : PoolView) → AllUnfinished p table.old → AllUnfinished p table.new }
+{
+    let mut kept = 0;
+    'table: for i in 0..table.len() {
+        if table[i].ticks > 1 {
+            let datagram = &mut table[i];
+            datagram.ticks -= 1;
+            table.swap(kept, i);
+            kept += 1;
+        }
+    }
+    kept
+}
+
+/// The place of the datagram with a key, where there is one. This is the only look-up: an index of keys may take its
+/// place under the same contract.
+pub(crate) fn find(table: &[Datagram], key: FragmentKey) -> Option<usize>
+    ensures { MatchOption result (find (has_key key) table.now ≡ None)
+        (λ i. (i < length table.now) × (find (has_key key) table.now ≡ slice_get table.now i)) }
+{
+    'table: for i in 0..table.len() {
+        if table[i].key == key {
+            return Some(i);
+        }
+    }
+    None
+}
+
+/// A new datagram after the others, whose key has that mbuf.
+pub(crate) fn begin(table: &mut Vec<Datagram>, key: FragmentKey, holder: Chain)
+    requires { vec_len table.old < vec_capacity table.old }
+    ensures items { table.new.items ≡ table.old.items ++ new_datagram key holder ∷ [] }
+    ensures len { vec_len table.new ≡ vec_len table.old + 1 }
+    ensures capacity { vec_capacity table.new ≡ vec_capacity table.old }
+{
+    table.push_reserved(Datagram {
+        key,
+        holder,
+        ticks: FRAGMENT_TICKS as u8,
+        fragments: Train::new(),
+    });
+}
+
+impl Reclaim for Reass {
+    ghost use Rattle.ip_reass.specs.Table.{IsTable, held_all};
+    ghost use Rattle.ip_reass.specs.Same.{none_held, held_all_same, table_same};
+
+    ghost is_ready = { λ p ds. IsTable p ds };
+
+    ghost owned = { λ p ds. held_all p ds };
+
+    ghost datagrams = { λ ds. length ds };
+
+    ghost is_owner = { λ p ds h. h.owned };
+
+    ghost owns_nothing = { λ p ds h e. none_held p ds e };
+
+    ghost owned_same = { λ p q ds h. held_all_same p q ds h };
+
+    ghost ready_same = { λ p q ds h is. table_same p q ds h is };
+
+    fn reclaim(&mut self, pool: &mut Pool) -> u32 {
+        let before = self.datagrams.len() as u32;
+        free_beyond(pool, &mut self.datagrams, 0);
+        before
+    }
+}
+
+impl Waiting for Reass {
+    ghost use Rattle.ip_reass.specs.Table.{unfinished};
+    ghost use Rattle.ip_reass.specs.Same.{length-unfinished, table_weighs, unfinished_same};
+
+    ghost unfinished = { λ p ds. unfinished p ds };
+
+    fn count(&self) -> u32 {
+        self.len()
+    }
+
+    ghost counts = { λ p ds h. length-unfinished p ds };
+
+    ghost weighs = { λ p ds h. table_weighs p ds h.each };
+
+    ghost unfinished_same = { λ p q ds h. unfinished_same p q ds h };
+}
