@@ -31,7 +31,7 @@ use Rattle.chain_ops.specs.Trims.{without_first}
 use Rattle.chain_ops.proofs.Laws.Strings.{without_first_bytes, pulled_up_bytes}
 use Rattle.ledger.specs.Accounts.{IsAccounted, Shifts, weight_of, weight_at, weight_owned}
 use Rattle.ledger.proofs.Laws.{accounted_after}
-use Rattle.ip_reass.specs.declared.head.IpHead.{IpHead}
+use Rattle.ip_out.specs.declared.head.IpHead.{IpHead}
 use Rattle.ip_reass.specs.Fragments.{fragment_of}
 use Rattle.ip_reass.specs.Inside.{arrived}
 use Rattle.ip_reass.specs.Table.{has_key, held_all, IsTable, unfinished, unfinished_of}

@@ -14,7 +14,7 @@ use Rattle.mbuf_chain.specs.Chain.{ChainView, Entry, PoolView, alone, chain_of, 
 use Rattle.chain_ops.specs.Pulls.{pulled_up}
 use Rattle.chain_ops.specs.Trims.{without_first}
 use Rattle.ledger.specs.Accounts.{item_at, weight_at}
-use Rattle.ip_reass.specs.declared.head.IpHead.{IpHead}
+use Rattle.ip_out.specs.declared.head.IpHead.{IpHead}
 use Rattle.ip_reass.specs.Table.{unfinished}
 use Rattle.ip_reass.specs.declared.datagram.Datagram.{Datagram}
 use Rattle.ip_reass.specs.declared.arrival.Arrival.{Arrival}

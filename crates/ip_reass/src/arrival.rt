@@ -1,7 +1,7 @@
 //! What becomes of a fragment that arrives.
 
-use crate::head::IpHead;
 use flat_model::Why;
+use ip_out::IpHead;
 use mbuf_chain::Chain;
 
 /// What became of a fragment.

@@ -13,11 +13,11 @@ ghost use Rattle.ip_reass.specs.Table.{IsTable, held_all, unfinished};
 ghost use Rattle.ip_reass.specs.Inside.{arrived};
 
 use crate::arrival::Arrival;
-use crate::head::IpHead;
 use crate::lay::settle;
 use crate::table::{Reass, begin, find};
 use chain_ops::{m_pullup, trim_front};
 use flat_model::{Counter, Counters, FragmentKey, Why};
+use ip_out::IpHead;
 use ledger::reserve;
 use mbuf_chain::{Chain, Pool};
 use params::{FRAGMENT_UNIT, IP_HEADER, IP_MAX_DATA};

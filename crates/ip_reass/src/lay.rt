@@ -14,9 +14,9 @@ ghost use Rattle.ip_reass.specs.Steps.{LaysIn, TakesOut, datagram_at};
 
 use crate::arrival::Arrival;
 use crate::datagram::Datagram;
-use crate::head::IpHead;
 use crate::queue::{join, lay, whole};
 use flat_model::{Counter, Counters, Why};
+use ip_out::IpHead;
 use mbuf_chain::{Chain, Pool};
 use params::IP_HEADER;
 

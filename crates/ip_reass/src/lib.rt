@@ -7,12 +7,10 @@
 mod arrival;
 mod arrive;
 mod datagram;
-mod head;
 mod lay;
 mod queue;
 mod table;
 
 pub use arrival::Arrival;
 pub use datagram::Datagram;
-pub use head::IpHead;
 pub use table::Reass;
