@@ -24,7 +24,7 @@ use Rattle.ledger.specs.Accounts as ledger
 use Rattle.ledger.specs.Accounts.{item_of}
 use Rattle.ip_out.specs.declared.head.IpHead.{IpHead}
 use Rattle.ip_out.specs.Headings.{head_bytes}
-use Rattle.ip_out.specs.Packets.{packets, packets_of, parts_of, part_need, later_need, head_for, part_bytes, IsDatagram}
+use Rattle.ip_out.specs.Packets.{packets, packets_of, parts_of, part_need, later_need, head_for, part_bytes, AreBegunPlain, BeginPlain, IsDatagram}
 use Rattle.ip_out.specs.Inside.{later_item, parts_to, IsLater, IsCut}
 use Rattle.ip_out.proofs.Outputs.{kept_moves, weight-laid, weigh_numbers, weigh_parts, length-laid}
 
@@ -131,6 +131,19 @@ packets_are {p} {q} {s} {t} z u c n size k count mtu h h0 hdr d len is_cut l ek 
     let whole : items (laid v.entries) (part_bytes h (drop 20 (string v))) (part n size 0 ∷ parts_to n size count) ≡ packets_of v h mtu =
     ap (items (laid v.entries) (part_bytes h (drop 20 (string v)))) (sym is_cut.parts) ∙ (let e : n ≡ length (string v) - 20 = omega (arith, len) in ap (λ (m : ℕ). items (laid v.entries) (part_bytes h (drop 20 (string v))) (cuts m mtu)) e) in
     all ∙ (λ i. first i ∷ l.items i) ∙ ap (λ (xs : List ℕ). record { bytes = xs; weight = weight_of (laid v.entries) } ∷ map (later_item v h) (parts_to n size count)) bytes ∙ whole
+
+-- it begins in a plain mbuf, as do the others
+cluster_written : (es : List Entry) (k : ℕ) (hdr : List ℕ) → (slice_index_or es 0 no_entry).cluster ≡ None
+    → (slice_index_or (slice_set (only_first k es) 0 (overwritten (slice_index_or (only_first k es) 0 no_entry) 0 hdr)) 0 no_entry).cluster ≡ None
+cluster_written [] k hdr plain = refl
+cluster_written (e ∷ es) k hdr plain = plain
+
+pub begun_plain : {p q s : PoolView} {t : TrainView} (z : PoolView) (u : TrainView) (c k : ℕ) (hdr : List ℕ) → IsDatagram (chain_of p c) → BeginPlain q t → Written p q s t c k hdr
+    → cars z u ≡ insert (cars s t) 0 (record { number = c; entries = (chain_of s c).entries; tag = 0 }) → BeginPlain z u
+begun_plain {p} {q} {s} {t} z u c k hdr d later w in_cars =
+    let x : Car = record { number = c; entries = (chain_of s c).entries; tag = 0 } in
+    subst AreBegunPlain (sym (in_cars ∙ ap (λ (xs : List Car). x ∷ xs) w.beside.cars))
+    (ap (λ (v : ChainView). (entry_of v 0).cluster) w.shown ∙ cluster_written (chain_of p c).entries k hdr d.plain, later)
 
 pub string_long : (es : List Entry) → 20 ≤ length (slice_index_or es 0 no_entry).bytes → 20 ≤ length (flat_bytes es)
 string_long [] h = absurd (omega arith)

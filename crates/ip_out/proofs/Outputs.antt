@@ -1,6 +1,6 @@
 -- The packets of a datagram, one after another.
 use Rattle.std.proofs.Common.{◌≡◌, ◌≢◌, ℕ, zero, suc, ◌+◌, ◌-◌, ◌*◌, ◌/◌, ◌%◌, ◌<◌, ◌≤◌, min, Bool, true, false, List, [], ◌∷◌, ◌++◌, length, take, drop, map, refl, sym, ap, ◌∙◌, subst, arith, None, Some, Option, unwrap_or, inl, inr}
-use Rattle.std.specs.Prelude.{nat_le, nat_lt, sum_by, filter_map, ◌⊎◌}
+use Rattle.std.specs.Prelude.{nat_le, nat_lt, sum_by, filter_map, slice_index_or, ◌⊎◌}
 use Rattle.std.specs.List.{range_with_len, insert, cons_option}
 use Rattle.std.specs.FinMap as finmap
 use Rattle.std.proofs.lemmas.Bool.{cond-true, cond-false, le-leb, lt-leb, le-ltb}
@@ -13,7 +13,7 @@ use Rattle.flat_model.specs.Cuts.{Part, part, cuts, chunk, chunks}
 use Rattle.flat_model.specs.Layout as flat
 use Rattle.flat_model.specs.Layout.{weight_of, entries_met}
 use Rattle.flat_model.specs.Sending.{later_weight}
-use Rattle.mbuf_chain.specs.Chain.{Entry, ChainView, PoolView, IsLive, chain_of, no_chain, flat_bytes, string, alone, held_mbufs, mbufs_of}
+use Rattle.mbuf_chain.specs.Chain.{Entry, ChainView, PoolView, IsLive, chain_of, no_chain, no_entry, flat_bytes, string, alone, held_mbufs, mbufs_of}
 use Rattle.mbuf_chain.specs.Owners.{Moves, times}
 use Rattle.mbuf_chain.specs.Train.{TrainView, Car, car_of, cars, numbers, IsHeld}
 use Rattle.mbuf_chain.proofs.Laws.Owners.{moves_trans, moves_none}
@@ -27,7 +27,7 @@ use Rattle.chain_ops.specs.Weights.{laid, HaveBytes}
 use Rattle.chain_ops.proofs.Laws.Strings.{copied_bytes}
 use Rattle.ip_out.specs.declared.head.IpHead.{IpHead}
 use Rattle.ip_out.specs.Headings.{head_bytes}
-use Rattle.ip_out.specs.Packets.{packets, head_for, part_bytes, part_need, IsDatagram}
+use Rattle.ip_out.specs.Packets.{packets, head_for, part_bytes, part_need, AreBegunPlain, BeginPlain, IsDatagram}
 use Rattle.ip_out.specs.Inside.{head_entry, later_item, parts_to, IsLater, IsCut}
 use Rattle.ip_out.proofs.Counting.{div_cases, mul_more}
 
@@ -160,12 +160,17 @@ later_none p t v h e =
       held = held_none p t e;
       moves = subst (λ (xs : List ℕ). Moves p [] p xs) (sym none) (moves_none p []);
       items = ap (packets p) e;
+      plain = subst (λ (u : TrainView). BeginPlain p u) (sym e) tt;
     }
 
+plain_more : (cs : List Car) (c : Car) → AreBegunPlain cs → (slice_index_or c.entries 0 no_entry).cluster ≡ None → AreBegunPlain (cs ++ c ∷ [])
+plain_more [] c all one = (one, tt)
+plain_more (x ∷ cs) c all one = (all.0, plain_more cs c all.1 one)
+
 pub later_more : {p q r s : PoolView} {t u : TrainView} {v : ChainView} {h : IpHead} {ps qs : List Part} {d : ℕ} {es : List Entry} (x : Part) → IsLater p q t v h ps → Makes q r d (alone true) es
-    → item_of es ≡ later_item v h x → qs ≡ ps ++ x ∷ []
+    → (slice_index_or es 0 no_entry).cluster ≡ None → item_of es ≡ later_item v h x → qs ≡ ps ++ x ∷ []
     → cars s u ≡ insert (cars r t) t.len (record { number = d; entries = (chain_of r d).entries; tag = 0 }) → IsHeld s u → Moves r (d ∷ numbers r t) s (numbers s u) → IsLater p s u v h qs
-later_more {p} {q} {r} {s} {t} {u} {v} {h} {ps} {qs} {d} {es} x l m is more in_cars held moves =
+later_more {p} {q} {r} {s} {t} {u} {v} {h} {ps} {qs} {d} {es} x l m first is more in_cars held moves =
     let beside = beside_adds t m.adds l.held in
     let f : Car → Item = λ car. item_of car.entries in
     let c : Car = record { number = d; entries = (chain_of r d).entries; tag = 0 } in
@@ -177,6 +182,7 @@ later_more {p} {q} {r} {s} {t} {u} {v} {h} {ps} {qs} {d} {es} x l m is more in_c
       held = held;
       moves = moves_trans l.moves (moves_trans (moves_new t m.adds l.held) moves);
       items = ap (map f) cars_are ∙ map-append f (cars q t) (c ∷ []) ∙ (λ i. l.items i ++ item i ∷ []) ∙ sym (map-append (later_item v h) ps (x ∷ [])) ∙ ap (map (later_item v h)) (sym more);
+      plain = subst AreBegunPlain (sym cars_are) (plain_more (cars q t) c l.plain (ap (λ (fs : List Entry). (slice_index_or fs 0 no_entry).cluster) m.entries ∙ first));
     }
 
 pub parts_more : (n c i : ℕ) → 0 < i → parts_to n c (i + 1) ≡ parts_to n c i ++ part n c i ∷ []

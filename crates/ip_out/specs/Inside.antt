@@ -11,7 +11,7 @@ use Rattle.mbuf_chain.specs.Owners.{Moves, IsOwned}
 use Rattle.chain_ops.specs.Weights.{laid}
 use Rattle.ip_out.specs.declared.head.IpHead.{IpHead}
 use Rattle.ip_out.specs.Headings.{head_bytes}
-use Rattle.ip_out.specs.Packets.{packets, part_bytes}
+use Rattle.ip_out.specs.Packets.{packets, part_bytes, BeginPlain}
 
 -- ---- how many mbufs of a send its later fragments meet
 
@@ -47,6 +47,7 @@ pub record IsLater (p q : PoolView) (t : TrainView) (v : ChainView) (h : IpHead)
   pub held : IsHeld q t
   pub moves : Moves p [] q (numbers q t)
   pub items : packets q t ≡ map (later_item v h) parts
+  pub plain : BeginPlain q t
 
 -- n bytes are cut into parts of c, k of them
 pub record IsCut (n mtu c k : ℕ) : Type 0 where

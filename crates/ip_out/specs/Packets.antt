@@ -1,12 +1,13 @@
 -- The packets of a datagram as chains (RFC 791, section 3.2; `ip_output` of volume 2, chapters 8 and 10; that all are
 -- made before any is queued is this project's own).
-use Rattle.std.specs.Prelude.{◌≡◌, ℕ, ◌+◌, ◌-◌, ◌≤◌, true, List, ◌++◌, length, take, drop, map, sum_by, None}
+use Rattle.std.specs.Prelude.{◌≡◌, ℕ, ◌+◌, ◌-◌, ◌≤◌, true, List, ◌++◌, length, take, drop, map, sum_by, slice_index_or, None}
+use Rattle.std.specs.List.{AllByRecursion}
 use Rattle.params.specs.declared.TheConstants.{IP_HEADER, IP_MAX_PACKET}
 use Rattle.flat_model.specs.Weight.{Item}
 use Rattle.flat_model.specs.Cuts.{Part, cuts}
 use Rattle.flat_model.specs.Layout.{entries_met}
 use Rattle.flat_model.specs.Sending.{items}
-use Rattle.mbuf_chain.specs.Chain.{PoolView, ChainView, string, entry_of}
+use Rattle.mbuf_chain.specs.Chain.{PoolView, ChainView, string, entry_of, no_entry}
 use Rattle.mbuf_chain.specs.Train.{TrainView, Car, cars}
 use Rattle.chain_ops.specs.Weights.{laid, HaveBytes}
 use Rattle.ledger.specs.Accounts.{item_of}
@@ -49,3 +50,10 @@ pub record IsDatagram (v : ChainView) : Type 0 where
   pub room : IP_HEADER ≤ length (entry_of v 0).bytes
   pub bytes : HaveBytes v.entries
   pub most : length (string v) ≤ IP_MAX_PACKET
+
+-- each packet of a train begins in a plain mbuf
+abbrev pub AreBegunPlain : List Car → Type 0
+AreBegunPlain cs = AllByRecursion (λ (car : Car). (slice_index_or car.entries 0 no_entry).cluster ≡ None) cs
+
+abbrev pub BeginPlain : PoolView → TrainView → Type 0
+BeginPlain p t = AreBegunPlain (cars p t)

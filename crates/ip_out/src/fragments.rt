@@ -8,7 +8,7 @@ ghost use Rattle.mbuf_chain.specs.Train.{IsHeld, numbers};
 ghost use Rattle.chain_ops.specs.Makes.{Makes, HasMbufs, LacksMbufs};
 ghost use Rattle.chain_ops.specs.Copies.{copied};
 ghost use Rattle.chain_ops.specs.Cursors.{IsCursor};
-ghost use Rattle.ip_out.specs.Packets.{IsDatagram, head_for, later_need, packets, packets_of, part_need};
+ghost use Rattle.ip_out.specs.Packets.{BeginPlain, IsDatagram, head_for, later_need, packets, packets_of, part_need};
 ghost use Rattle.ip_out.specs.Inside.{head_entry, parts_to, IsCut, IsLater};
 
 use crate::head::{IpHead, MAX_OFFSET, write_head};
@@ -162,6 +162,7 @@ pub(crate) fn fragments(
     requires least { MIN_MTU ≤ mtu }
     ensures held { IfOk result (IsHeld pool.new) }
     ensures packets { IfOk result (λ t. packets pool.new t ≡ packets_of (chain_of pool.old chain) head mtu) }
+    ensures plain { IfOk result (BeginPlain pool.new) }
     ensures moves { IfOk result (λ t. Moves pool.old (chain ∷ []) pool.new (numbers pool.new t)) }
     ensures count { OnOk result
         (held_mbufs pool.new ≡ held_mbufs pool.old + later_need (chain_of pool.old chain) mtu) }

@@ -4,7 +4,7 @@ ghost use Rattle.mbuf_chain.specs.Chain.{IsLive, chain_of, without};
 ghost use Rattle.mbuf_chain.specs.Owners.{Moves};
 ghost use Rattle.mbuf_chain.specs.Train.{IsHeld, numbers};
 ghost use Rattle.chain_ops.specs.Makes.{HasMbufs, LacksMbufs};
-ghost use Rattle.ip_out.specs.Packets.{IsDatagram, packets, packets_of, parts_of};
+ghost use Rattle.ip_out.specs.Packets.{BeginPlain, IsDatagram, packets, packets_of, parts_of};
 ghost use Rattle.ip_out.specs.Ways.{to_link, to_self, way_need};
 
 use crate::fragments::fragments;
@@ -44,6 +44,7 @@ fn both_ways(pool: &mut Pool, chain: Chain, head: IpHead, mtu: u16) -> Result<Pa
     ensures looped { IfOk result (λ s. packets pool.new s.looped ≡ packets_of (chain_of pool.old chain) head mtu) }
     ensures cut { IfOk result (λ s. s.is_cut ≡ nat_lt 1 (length (parts_of (chain_of pool.old chain) mtu))) }
     ensures held { IfOk result (λ s. IsHeld pool.new s.link × IsHeld pool.new s.looped) }
+    ensures plain { IfOk result (λ s. BeginPlain pool.new s.looped) }
     ensures moves { IfOk result (λ s. Moves pool.old (chain ∷ [])
         pool.new (numbers pool.new s.link ++ numbers pool.new s.looped)) }
     ensures enough { OnOk result (HasMbufs pool.old (way_need Way.Both (chain_of pool.old chain) mtu)) }
@@ -93,6 +94,7 @@ pub fn make_packets(
         (λ s. packets pool.new s.looped ≡ to_self way (packets_of (chain_of pool.old chain) head mtu)) }
     ensures cut { IfOk result (λ s. s.is_cut ≡ nat_lt 1 (length (parts_of (chain_of pool.old chain) mtu))) }
     ensures held { IfOk result (λ s. IsHeld pool.new s.link × IsHeld pool.new s.looped) }
+    ensures plain { IfOk result (λ s. BeginPlain pool.new s.looped) }
     ensures moves { IfOk result (λ s. Moves pool.old (chain ∷ [])
         pool.new (numbers pool.new s.link ++ numbers pool.new s.looped)) }
     ensures enough { OnOk result (HasMbufs pool.old (way_need way (chain_of pool.old chain) mtu)) }

@@ -5,7 +5,7 @@ use Rattle.mbuf_chain.proofs.Laws.Owners.{moves_trans}
 use Rattle.mbuf_chain.proofs.Laws.Steps.{live_shown}
 use Rattle.chain_ops.proofs.Laws.Steps.{plain_unshared}
 use Rattle.ip_out.proofs.Later.{length_head}
-use Rattle.ip_out.proofs.Firsts.{entry_trimmed, only_some, string_long, written, packets_are, held_packets}
+use Rattle.ip_out.proofs.Firsts.{entry_trimmed, only_some, string_long, written, packets_are, begun_plain, held_packets}
 use Rattle.ip_out.proofs.fragments.fragments.Goals as goal
 
 pub first-at-requires : goal.first-at-requires
@@ -63,6 +63,12 @@ returns-clause-packets c =
     let len : length c.write_head.new.bytes ≡ 20 = ap (λ (xs : List ℕ). length xs) c.write_head.ensures ∙ length_head c.head_of.result in
     packets_are c.insert.new.pool c.insert.new.self c.args.chain _ _ (20 + c.min.result) _ c.args.mtu c.args.head c.head_of.result c.write_head.new.bytes c.requires.datagram (omega (arith, c.len-n.ensures, string_long (chain_of c.args.pool.now c.args.chain).entries c.requires.datagram.room)) c.cut_of-chunk.ensures l
     (ap (λ (k : ℕ). 20 + k) c.min.ensures) c.head_of.ensures c.write_head.ensures len w c.insert.ensures.cars
+
+pub returns-clause-plain : goal.returns-clause-plain
+returns-clause-plain c =
+    let l = c.in-Ok.ensures.ok in
+    let w = written c.args.chain (20 + c.min.result) c.first-at.result c.write_head.new.bytes l.moves l.held c.requires.live c.trim_back.ensures c.first-at.ensures.index c.overwrite.ensures in
+    begun_plain c.insert.new.pool c.insert.new.self c.args.chain (20 + c.min.result) c.write_head.new.bytes c.requires.datagram l.plain w c.insert.ensures.cars
 
 pub returns-clause-count : goal.returns-clause-count
 returns-clause-count c =

@@ -75,7 +75,7 @@ parts-preserved c =
     let end : insert (cars c.fragment.new.pool c.parts.train) c.len-end.result new ≡ insert (cars c.fragment.new.pool c.parts.train) c.parts.train.len new = ap (λ (k : ℕ). insert (cars c.fragment.new.pool c.parts.train) k new) c.len-end.ensures in
     let item = ap item_of head ∙ later_is c.copy_weight.ensures v c.args.head p c.requires.datagram.bytes pos in
     record {
-      later = later_more p inv c.in-Ok.ensures.ok item (parts_more c.args.n c.args.chunk i (omega arith)) (c.insert.ensures.cars ∙ end) c.insert.ensures.held c.insert.ensures.moves;
+      later = later_more p inv c.in-Ok.ensures.ok refl item (parts_more c.args.n c.args.chunk i (omega arith)) (c.insert.ensures.cars ∙ end) c.insert.ensures.held c.insert.ensures.moves;
       cursor = subst (λ (w : ChainView). IsCursor w c.advance-from.result) kept.0 c.advance-from.ensures.cursor;
       behind = omega (arith, c.advance-from.ensures.off, mul_more i c.args.chunk, c.requires.chunk);
     }
