@@ -250,6 +250,17 @@ impl Train {
         len_of(pool, self.number_at(pool, i))
     }
 
+    /// Ends a train without chains, for which no pool has to be at hand.
+    pub fn end_empty(self)
+        requires { self.len ≡ 0 }
+    {
+        let Train {
+            first: _,
+            last: _,
+            len: _,
+        } = self;
+    }
+
     /// Frees the chains, with all their mbufs and references.
     pub fn free(mut self, pool: &mut Pool)
         requires { IsHeld pool.old self }

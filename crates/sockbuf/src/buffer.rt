@@ -157,6 +157,18 @@ impl SockBuf {
         self.mbcnt = 0;
     }
 
+    /// Ends a queue in which nothing waits, for which no pool has to be at hand.
+    pub fn end_empty(self)
+        requires { self.train.len ≡ 0 }
+    {
+        let SockBuf {
+            train,
+            cc: _,
+            mbcnt: _,
+        } = self;
+        train.end_empty();
+    }
+
     /// Frees all datagrams, and ends the queue.
     pub fn end(self, pool: &mut Pool)
         requires { IsSockBuf pool.old self }
