@@ -137,8 +137,8 @@ begins_here rest held new k w p q r ds es hs c mid d n i offset more result t ts
     }
 
 -- there is room in the table: each datagram has an mbuf, and the chain in hand one more
-pub room : (p : PoolView) (ds : List Datagram) (c : ℕ) → IsBounded p → IsOwned p (c ∷ held_all p ds) → length ds < 65535
-room p ds c b owns = omega (arith, owned_at_most p (c ∷ held_all p ds) b owns, b.small, longer ds)
+pub room : (p : PoolView) (ds : List Datagram) (c : ℕ) → IsBounded p → IsOwned p (c ∷ held_all p ds) → length ds < p.mbufs
+room p ds c b owns = omega (arith, owned_at_most p (c ∷ held_all p ds) b owns, longer ds)
   where
     longer : (xs : List Datagram) → length xs ≤ length (held_all p xs)
     longer [] = omega arith

@@ -85,7 +85,7 @@ same_more p q r xs ys d e s n =
     same_trans p q r (held_all p ys) here (subst (SameAt q r) (held_all_same p q ys here) n)
 
 pub same_none : (p : PoolView) (xs : List ℕ) → SameAt p p xs
-same_none p xs = record { same = λ k h. refl }
+same_none p xs = record { mbufs = refl; same = λ k h. refl }
 
 -- ---- a look-up
 pub find_at : (test : Datagram → Bool) (xs : List Datagram) (i : ℕ) (d : Datagram) → i < length xs → test (get_or xs i d) ≡ true → find test (drop i xs) ≡ slice_get xs i

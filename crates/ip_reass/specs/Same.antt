@@ -15,7 +15,7 @@ use Rattle.ledger.specs.Accounts.{weight_of, weight_at, weight_owned}
 use Rattle.flat_model.proofs.Laws.{times-both, all_of-append}
 use Rattle.flat_model.specs.Overlay.{Fragment}
 use Rattle.ip_reass.specs.Fragments.{fragment_in, fragments, map_of, Apart, AllEnd, IsQueue}
-use Rattle.ip_reass.specs.Table.{held, held_all, IsUnfinished, AllUnfinished, IsTable, unfinished_of, unfinished}
+use Rattle.ip_reass.specs.Table.{held, held_all, IsUnfinished, AllUnfinished, IsTable, TableView, IsReady, unfinished_of, unfinished}
 use Rattle.ip_reass.specs.declared.datagram.Datagram.{Datagram}
 use Rattle.ip_reass.specs.Weighs.{weight_is}
 
@@ -62,6 +62,9 @@ table_same p q ds s is = record {
   owned = subst (IsOwned q) (sym (held_all_same p q ds s)) (owned_same p q (held_all p ds) s is.owned);
   each = each_same p q ds s is.each;
 }
+
+pub ready_same : (p q : PoolView) (r : TableView) → SameAt p q (held_all p r.datagrams) → IsReady p r → IsReady q r
+ready_same p q r s is = record { table = table_same p q r.datagrams s is.table; room = omega (arith, s.mbufs, is.room) }
 
 pub unfinished_same : (p q : PoolView) (ds : List Datagram) → SameAt p q (held_all p ds) → unfinished q ds ≡ unfinished p ds
 unfinished_same p q [] s = refl

@@ -1,5 +1,5 @@
 -- The table of unfinished datagrams, and what the flat machine sees of it (TCP/IP Illustrated, volume 2, chapter 10).
-use Rattle.std.specs.Prelude.{◌≡◌, ℕ, ◌-◌, nat_lt, Bool, ◌==◌, ◌&&◌, if◌then◌else◌, List, [], ◌∷◌, ◌++◌, map, None}
+use Rattle.std.specs.Prelude.{◌≡◌, ℕ, ◌-◌, ◌≤◌, nat_lt, Bool, ◌==◌, ◌&&◌, if◌then◌else◌, List, [], ◌∷◌, ◌++◌, map, None}
 use Rattle.std.specs.List.{AllByRecursion}
 use Rattle.flat_model.specs.Weight.{mbuf}
 use Rattle.flat_model.specs.State.{Key, Unfinished}
@@ -54,3 +54,13 @@ new_datagram k c = record { key = k; holder = c; ticks = 60; fragments = record 
 pub record IsTable (p : PoolView) (ds : List Datagram) : Type 0 where
   pub owned : IsOwned p (held_all p ds)
   pub each : AllUnfinished p ds
+
+-- what a contract sees of the table: its datagrams in the order of their beginning, and for how many there are places
+pub record TableView : Type 0 where
+  pub datagrams : List Datagram
+  pub room : ℕ
+
+-- the table fits the pool, and has a place for each of the pool's mbufs
+pub record IsReady (p : PoolView) (r : TableView) : Type 0 where
+  pub table : IsTable p r.datagrams
+  pub room : p.mbufs ≤ r.room

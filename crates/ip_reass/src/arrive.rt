@@ -9,7 +9,7 @@ ghost use Rattle.mbuf_chain.specs.Owners.{IsOwned, Moves};
 ghost use Rattle.ledger.specs.Accounts.{IsAccounted, weight_at, weight_owned};
 ghost use Rattle.ip_reass.specs.Arrivals.{AreDistinct, BeginsAt, CameBy, GoesOn, HasWhole, IsPulled, carried_at, flat_head, in_hand, key_in, machine, pulled_entries};
 ghost use Rattle.ip_reass.specs.Fragments.{fragment_of};
-ghost use Rattle.ip_reass.specs.Table.{IsTable, held_all, unfinished};
+ghost use Rattle.ip_reass.specs.Table.{IsReady, held_all, unfinished};
 ghost use Rattle.ip_reass.specs.Inside.{arrived};
 
 use crate::arrival::Arrival;
@@ -53,21 +53,21 @@ impl Reass {
         chain: Chain,
         head: IpHead,
     ) -> Arrival
-        requires table { IsTable pool.old self.old }
-        requires owned { IsOwned pool.old (chain ∷ held_all pool.old self.old) }
+        requires ready { IsReady pool.old self.old }
+        requires owned { IsOwned pool.old (chain ∷ held_all pool.old self.old.datagrams) }
         requires headed { (chain_of pool.old chain).front.header ≡ true }
         requires some { 0 < length (string (chain_of pool.old chain)) }
         requires small { head.offset + length (string (chain_of pool.old chain)) ≤ 65515 }
         ensures step { (rest : State) (held : Weight) (new : State) →
-            find (is_key (key_in head)) (unfinished pool.old self.old) ≡ None →
-            IsAccounted pool.old (machine pool.old self.old counters.old rest) (held ⊕ weight_at pool.old chain) →
-            GoesOn held pool.new result (machine pool.new self.new counters.new rest) new →
-            BeginsAt pool.old self.old counters.old (key_in head) (fragment_of (arrived pool.old chain head.offset head.more))
-            (weight_at pool.old chain) result pool.new self.new counters.new rest held new }
+            find (is_key (key_in head)) (unfinished pool.old self.old.datagrams) ≡ None →
+            IsAccounted pool.old (machine pool.old self.old.datagrams counters.old rest) (held ⊕ weight_at pool.old chain) →
+            GoesOn held pool.new result (machine pool.new self.new.datagrams counters.new rest) new →
+            BeginsAt pool.old self.old.datagrams counters.old (key_in head) (fragment_of (arrived pool.old chain head.offset head.more))
+            (weight_at pool.old chain) result pool.new self.new.datagrams counters.new rest held new }
         ensures whole { HasWhole pool.new head result }
-        ensures table { IsTable pool.new self.new }
-        ensures moves { Moves pool.old (chain ∷ held_all pool.old self.old) pool.new
-            (in_hand result ++ held_all pool.new self.new) }
+        ensures ready { IsReady pool.new self.new }
+        ensures moves { Moves pool.old (chain ∷ held_all pool.old self.old.datagrams) pool.new
+            (in_hand result ++ held_all pool.new self.new.datagrams) }
     {
         if !reserve(pool, self, counters, 1, 0) {
             pool.free_chain(chain);
@@ -91,20 +91,20 @@ impl Reass {
         chain: Chain,
         head: IpHead,
     ) -> Arrival
-        requires table { IsTable pool.old self.old }
-        requires owned { IsOwned pool.old (chain ∷ held_all pool.old self.old) }
+        requires ready { IsReady pool.old self.old }
+        requires owned { IsOwned pool.old (chain ∷ held_all pool.old self.old.datagrams) }
         requires headed { (chain_of pool.old chain).front.header ≡ true }
         requires some { 0 < length (string (chain_of pool.old chain)) }
         requires small { head.offset + length (string (chain_of pool.old chain)) ≤ 65515 }
-        ensures step { (rest : State) (held : Weight) (new : State) → AreDistinct pool.old self.old →
-            IsAccounted pool.old (machine pool.old self.old counters.old rest) (held ⊕ weight_at pool.old chain) →
-            GoesOn held pool.new result (machine pool.new self.new counters.new rest) new →
+        ensures step { (rest : State) (held : Weight) (new : State) → AreDistinct pool.old self.old.datagrams →
+            IsAccounted pool.old (machine pool.old self.old.datagrams counters.old rest) (held ⊕ weight_at pool.old chain) →
+            GoesOn held pool.new result (machine pool.new self.new.datagrams counters.new rest) new →
             Joins exact_ledger held (key_in head) (fragment_of (arrived pool.old chain head.offset head.more))
-            (machine pool.old self.old counters.old rest) new }
+            (machine pool.old self.old.datagrams counters.old rest) new }
         ensures whole { HasWhole pool.new head result }
-        ensures table { IsTable pool.new self.new }
-        ensures moves { Moves pool.old (chain ∷ held_all pool.old self.old) pool.new
-            (in_hand result ++ held_all pool.new self.new) }
+        ensures ready { IsReady pool.new self.new }
+        ensures moves { Moves pool.old (chain ∷ held_all pool.old self.old.datagrams) pool.new
+            (in_hand result ++ held_all pool.new self.new.datagrams) }
     {
         match find(self.datagrams.as_slice(), key_of(&head)) {
             Some(i) => settle(pool, &mut self.datagrams, counters, i, chain, head),
@@ -120,21 +120,21 @@ impl Reass {
         counters: &mut Counters,
         mut chain: Chain,
     ) -> Option<Chain>
-        requires table { IsTable pool.old self.old }
-        requires owned { IsOwned pool.old (chain ∷ held_all pool.old self.old) }
+        requires ready { IsReady pool.old self.old }
+        requires owned { IsOwned pool.old (chain ∷ held_all pool.old self.old.datagrams) }
         requires headed { (chain_of pool.old chain).front.header ≡ true }
         requires len { 20 ≤ length (string (chain_of pool.old chain)) }
         ensures plain { is_some (entry_of (chain_of pool.old chain) 0).cluster ≡ false → (pool.new ≡ pool.old)
             × (self.new ≡ self.old) × (counters.new ≡ counters.old) × (result ≡ Some chain) }
         ensures tested { is_some (entry_of (chain_of pool.old chain) 0).cluster ≡ true → (rest : State) (held : Weight) →
-            IsAccounted pool.old (machine pool.old self.old counters.old rest) (held ⊕ weight_at pool.old chain) →
-            IsPulled pool.old self.old counters.old (weight_at pool.old chain) (is_some result) pool.new self.new counters.new
+            IsAccounted pool.old (machine pool.old self.old.datagrams counters.old rest) (held ⊕ weight_at pool.old chain) →
+            IsPulled pool.old self.old.datagrams counters.old (weight_at pool.old chain) (is_some result) pool.new self.new.datagrams counters.new
             rest held }
         ensures entries { IfSome result (λ d. (chain_of pool.new d).entries ≡ pulled_entries (chain_of pool.old chain)) }
         ensures headed { IfSome result (λ d. (chain_of pool.new d).front.header ≡ true) }
-        ensures table { IsTable pool.new self.new }
-        ensures moves { Moves pool.old (chain ∷ held_all pool.old self.old) pool.new
-            (option_to_list result ++ held_all pool.new self.new) }
+        ensures ready { IsReady pool.new self.new }
+        ensures moves { Moves pool.old (chain ∷ held_all pool.old self.old.datagrams) pool.new
+            (option_to_list result ++ held_all pool.new self.new.datagrams) }
     {
         let first = pool.first(&chain);
         if pool.segment(&chain, first).cluster.is_none() {
@@ -168,26 +168,26 @@ impl Reass {
         chain: Chain,
         head: IpHead,
     ) -> Arrival
-        requires table { IsTable pool.old self.old }
-        requires owned { IsOwned pool.old (chain ∷ held_all pool.old self.old) }
+        requires ready { IsReady pool.old self.old }
+        requires owned { IsOwned pool.old (chain ∷ held_all pool.old self.old.datagrams) }
         requires headed { (chain_of pool.old chain).front.header ≡ true }
         requires total { length (string (chain_of pool.old chain)) ≡ head.total }
         requires header { 20 ≤ head.total }
         requires offset { head.offset ≤ 65528 }
-        ensures step { (rest : State) (held : Weight) (origin : Origin) (new : State) → AreDistinct pool.old self.old →
+        ensures step { (rest : State) (held : Weight) (origin : Origin) (new : State) → AreDistinct pool.old self.old.datagrams →
             CameBy origin (chain_of pool.old chain) →
-            IsAccounted pool.old (machine pool.old self.old counters.old rest) (held ⊕ weight_at pool.old chain) →
-            GoesOn held pool.new result (machine pool.new self.new counters.new rest) new →
+            IsAccounted pool.old (machine pool.old self.old.datagrams counters.old rest) (held ⊕ weight_at pool.old chain) →
+            GoesOn held pool.new result (machine pool.new self.new.datagrams counters.new rest) new →
             FragmentArrives exact_ledger origin held (flat_head head) (carried_at pool.old chain)
-            (machine pool.old self.old counters.old rest) new }
+            (machine pool.old self.old.datagrams counters.old rest) new }
         ensures accounts { (rest : State) (held : Weight) →
-            IsAccounted pool.old (machine pool.old self.old counters.old rest) (held ⊕ weight_at pool.old chain) →
-            IsAccounted pool.new (machine pool.new self.new counters.new rest)
+            IsAccounted pool.old (machine pool.old self.old.datagrams counters.old rest) (held ⊕ weight_at pool.old chain) →
+            IsAccounted pool.new (machine pool.new self.new.datagrams counters.new rest)
             (held ⊕ weight_owned pool.new (in_hand result)) }
         ensures whole { HasWhole pool.new head result }
-        ensures table { IsTable pool.new self.new }
-        ensures moves { Moves pool.old (chain ∷ held_all pool.old self.old) pool.new
-            (in_hand result ++ held_all pool.new self.new) }
+        ensures ready { IsReady pool.new self.new }
+        ensures moves { Moves pool.old (chain ∷ held_all pool.old self.old.datagrams) pool.new
+            (in_hand result ++ held_all pool.new self.new.datagrams) }
     {
         let len = pool.len(&chain) - IP_HEADER;
         if is_bad(&head, len) {

@@ -10,13 +10,13 @@ ghost use Rattle.mbuf_chain.specs.Owners.{IsOwned, Moves};
 ghost use Rattle.mbuf_chain.specs.Frames.{SameAt};
 ghost use Rattle.mbuf_chain.specs.Train.{IsHeld};
 ghost use Rattle.ip_reass.specs.Arrivals.{machine};
-ghost use Rattle.ip_reass.specs.Table.{aged, unfinished, has_key, new_datagram, holds, held, held_all, AllUnfinished, IsTable};
+ghost use Rattle.ip_reass.specs.Table.{aged, unfinished, has_key, new_datagram, holds, held, held_all, AllUnfinished, IsTable, IsReady};
 
 use crate::datagram::{Datagram, free_datagram};
 use flat_model::FragmentKey;
 use ledger::Waiting;
 use mbuf_chain::{Chain, Pool, Reclaim, Train};
-use params::{FRAGMENT_TICKS, MAX_MBUFS};
+use params::FRAGMENT_TICKS;
 use std::alloc::{AllocError, Global};
 use std::marker::Model;
 
@@ -24,40 +24,40 @@ use std::marker::Model;
 /// Illustrated, volume 2, chapter 10). It must be spent, by `end`.
 ///
 /// A contract sees the list of them, each with its key, the mbuf of its key, the ticks that it has left and its
-/// fragments. The chains stay in the pool that each call is given, which is the one that they came from. No call but
+/// fragments, and for how many there are places. The chains stay in the pool that each call is given, which is the one that they came from. No call but
 /// `boot` takes host memory.
 pub struct Reass {
     pub(crate) datagrams: Vec<Datagram>,
 }
 
 impl Model for Reass {
-    ghost use Rattle.std.specs.Prelude.{List, ◌≤◌, vec_len, vec_capacity};
-    ghost use Rattle.ip_reass.specs.declared.datagram.Datagram.{Datagram};
+    ghost use Rattle.std.specs.Prelude.{◌≤◌, vec_len, vec_capacity};
+    ghost use Rattle.ip_reass.specs.Table.{TableView};
 
-    ghost Value = { List Datagram };
+    ghost Value = { TableView };
 
-    ghost view = { λ r. r.datagrams.items };
+    ghost view = { λ r. record { datagrams = r.datagrams.items; room = vec_capacity r.datagrams } };
 
-    ghost invariant = { λ r. (65535 ≤ vec_capacity r.datagrams) × (vec_len r.datagrams ≤ 65535) };
+    ghost invariant = { λ r. vec_len r.datagrams ≤ 65535 };
 }
 
 impl Reass {
     /// A table without datagrams. `AllocError` comes where the host has no memory for it, and nothing is left then.
     ///
     /// After this as many unfinished datagrams as the pool has mbufs can be held, with no more host memory: each has an
-    /// mbuf for its key. There are places for those of the largest pool, 65,535 mbufs.
+    /// mbuf for its key. `mbufs` is that of the pool.
     pub fn boot(alloc: Global, mbufs: u32) -> Result<Reass, AllocError>
-        ensures { IfOk result (λ r. r ≡ []) }
+        ensures none { IfOk result (λ r. r.datagrams ≡ []) }
+        ensures room { IfOk result (λ r. mbufs ≤ r.room) }
     {
-        let places = mbufs.max(MAX_MBUFS);
-        let datagrams = Vec::with_capacity(alloc, places as usize)?;
+        let datagrams = Vec::with_capacity(alloc, mbufs as usize)?;
         Ok(Reass { datagrams })
     }
 
     /// Frees all datagrams, with all their mbufs and references.
     pub fn end(mut self, pool: &mut Pool)
-        requires { IsTable pool.old self }
-        ensures { Moves pool.old (held_all pool.old self) pool.new [] }
+        requires { IsTable pool.old self.datagrams }
+        ensures { Moves pool.old (held_all pool.old self.datagrams) pool.new [] }
     {
         free_beyond(pool, &mut self.datagrams, 0);
         let Reass { datagrams } = self;
@@ -66,14 +66,14 @@ impl Reass {
 
     /// How many datagrams are unfinished.
     pub fn len(&self) -> u32
-        ensures { result ≡ length self.now }
+        ensures { result ≡ length self.now.datagrams }
     {
         self.datagrams.len() as u32
     }
 
     /// Whether no datagram is unfinished.
     pub fn is_empty(&self) -> bool
-        ensures { result ≡ (length self.now == 0) }
+        ensures { result ≡ (length self.now.datagrams == 0) }
     {
         self.datagrams.is_empty()
     }
@@ -81,14 +81,14 @@ impl Reass {
     /// A tick of the slow timer, `ip_slowtimo` (volume 2, chapter 10): each datagram has one tick less, and those that have
     /// none left are freed with all their mbufs. The answer is how many were.
     pub fn tick(&mut self, pool: &mut Pool) -> u32
-        requires { IsTable pool.old self.old }
-        ensures step { (rest : State) (c : Counters) → ticked (machine pool.old self.old c rest)
-            ≡ machine pool.new self.new (counts_more IpFragtimeout result c) rest }
-        ensures aged { self.new ≡ aged self.old }
-        ensures gone { result + length (aged self.old) ≡ length self.old }
-        ensures ready { IsTable pool.new self.new }
-        ensures same { SameAt pool.old pool.new (held_all pool.old self.new) }
-        ensures moves { Moves pool.old (held_all pool.old self.old) pool.new (held_all pool.new self.new) }
+        requires { IsReady pool.old self.old }
+        ensures step { (rest : State) (c : Counters) → ticked (machine pool.old self.old.datagrams c rest)
+            ≡ machine pool.new self.new.datagrams (counts_more IpFragtimeout result c) rest }
+        ensures aged { self.new.datagrams ≡ aged self.old.datagrams }
+        ensures gone { result + length (aged self.old.datagrams) ≡ length self.old.datagrams }
+        ensures ready { IsReady pool.new self.new }
+        ensures same { SameAt pool.old pool.new (held_all pool.old self.new.datagrams) }
+        ensures moves { Moves pool.old (held_all pool.old self.old.datagrams) pool.new (held_all pool.new self.new.datagrams) }
     {
         let before = self.datagrams.len();
         let kept = age(self.datagrams.as_mut_slice());
@@ -165,22 +165,22 @@ pub(crate) fn begin(table: &mut Vec<Datagram>, key: FragmentKey, holder: Chain)
 }
 
 impl Reclaim for Reass {
-    ghost use Rattle.ip_reass.specs.Table.{IsTable, held_all};
-    ghost use Rattle.ip_reass.specs.Same.{none_held, held_all_same, table_same};
+    ghost use Rattle.ip_reass.specs.Table.{IsReady, held_all};
+    ghost use Rattle.ip_reass.specs.Same.{none_held, held_all_same, ready_same};
 
-    ghost is_ready = { λ p ds. IsTable p ds };
+    ghost is_ready = { λ p r. IsReady p r };
 
-    ghost owned = { λ p ds. held_all p ds };
+    ghost owned = { λ p r. held_all p r.datagrams };
 
-    ghost datagrams = { λ ds. length ds };
+    ghost datagrams = { λ r. length r.datagrams };
 
-    ghost is_owner = { λ p ds h. h.owned };
+    ghost is_owner = { λ p r h. h.table.owned };
 
-    ghost owns_nothing = { λ p ds h e. none_held p ds e };
+    ghost owns_nothing = { λ p r h e. none_held p r.datagrams e };
 
-    ghost owned_same = { λ p q ds h. held_all_same p q ds h };
+    ghost owned_same = { λ p q r h. held_all_same p q r.datagrams h };
 
-    ghost ready_same = { λ p q ds h is. table_same p q ds h is };
+    ghost ready_same = { λ p q r h is. ready_same p q r h is };
 
     fn reclaim(&mut self, pool: &mut Pool) -> u32 {
         let before = self.datagrams.len() as u32;
@@ -193,15 +193,15 @@ impl Waiting for Reass {
     ghost use Rattle.ip_reass.specs.Table.{unfinished};
     ghost use Rattle.ip_reass.specs.Same.{length-unfinished, table_weighs, unfinished_same};
 
-    ghost unfinished = { λ p ds. unfinished p ds };
+    ghost unfinished = { λ p r. unfinished p r.datagrams };
 
     fn count(&self) -> u32 {
         self.len()
     }
 
-    ghost counts = { λ p ds h. length-unfinished p ds };
+    ghost counts = { λ p r h. length-unfinished p r.datagrams };
 
-    ghost weighs = { λ p ds h. table_weighs p ds h.each };
+    ghost weighs = { λ p r h. table_weighs p r.datagrams h.table.each };
 
-    ghost unfinished_same = { λ p q ds h. unfinished_same p q ds h };
+    ghost unfinished_same = { λ p q r h. unfinished_same p q r.datagrams h };
 }

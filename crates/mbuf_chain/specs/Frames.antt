@@ -4,8 +4,9 @@ use Rattle.std.specs.FinMap as finmap
 use Rattle.mbuf_chain.specs.Chain.{ChainView, PoolView, IsLive, chain_of, mbufs_of, held_mbufs, entry_of, room_start, room_end}
 use Rattle.mbuf_chain.specs.Owners.{times}
 
--- each chain of the list is in q as it was in p
+-- the pool is as large in q as in p, and each chain of the list is in q as it was in p
 pub record SameAt (p q : PoolView) (xs : List ℕ) : Type 0 where
+  pub mbufs : q.mbufs ≡ p.mbufs
   pub same : (k : ℕ) → 0 < times k xs → finmap.get q.chains k ≡ finmap.get p.chains k
 
 -- the bytes of entry i lie in the room of its mbuf or in its cluster, which is one of the pool's

@@ -25,7 +25,7 @@ follow_same p q zero at s = refl
 follow_same p q (suc n) None s = refl
 follow_same p q (suc n) (Some c) s =
     ap (λ (v : ChainView). c ∷ follow q n v.front.behind) (chain_same p q (follow p (suc n) (Some c)) c s (omega (arith, times_same c (follow p n (chain_of p c).front.behind))))
-    ∙ ap (λ (xs : List ℕ). c ∷ xs) (follow_same p q n (chain_of p c).front.behind (record { same = λ k h. s.same k (omega (arith, h)) }))
+    ∙ ap (λ (xs : List ℕ). c ∷ xs) (follow_same p q n (chain_of p c).front.behind (record { mbufs = s.mbufs; same = λ k h. s.same k (omega (arith, h)) }))
 
 pub numbers_same : (p q : PoolView) (t : TrainView) → SameAt p q (numbers p t) → numbers q t ≡ numbers p t
 numbers_same p q t s = follow_same p q t.len t.first s
@@ -39,7 +39,7 @@ held_same p q t s h =
           let l' : 0 < times k (numbers p t) = omega (arith, l, ap (times k) e) in
           ap (λ (v : ChainView). v.front.header) (chain_same p q (numbers p t) k s l') ∙ h.headed k l';
       whole = ap length e ∙ h.whole;
-      ends = follow_same p q (suc t.len) t.first (record { same = λ k l. s.same k (omega (arith, l, ap (times k) h.ends)) }) ∙ (h.ends ∙ sym e);
+      ends = follow_same p q (suc t.len) t.first (record { mbufs = s.mbufs; same = λ k l. s.same k (omega (arith, l, ap (times k) h.ends)) }) ∙ (h.ends ∙ sym e);
       last = h.last ∙ ap last_number (sym e);
     }
 

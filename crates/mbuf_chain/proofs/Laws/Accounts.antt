@@ -293,7 +293,7 @@ sum_same f p q (x ∷ xs) s =
       sum_by-cons (λ k. f (chain_of p k)) x xs,
       sum_by-cons (λ k. f (chain_of q k)) x xs,
       ap f (chain_same p q (x ∷ xs) x s (omega (arith, times_same x xs))),
-      sum_same f p q xs (record { same = λ k h. s.same k (omega (arith, h)) }),
+      sum_same f p q xs (record { mbufs = s.mbufs; same = λ k h. s.same k (omega (arith, h)) }),
     )
 
 -- ---- the free clusters

@@ -138,21 +138,21 @@ all_after us vs zs m a b all = λ k. omega (arith, m.owned k, all k, a k, b k)
 
 -- a step leaves the chains of an owner who has none of its own
 pub same_beside : {p q : PoolView} {xs ys : List ℕ} (zs : List ℕ) → Moves p xs q ys → IsOwned p zs → ((k : ℕ) → 0 < times k zs → times k xs ≡ 0) → SameAt p q zs
-same_beside {p} {q} {xs} {ys} zs m o h = record { same = λ k l. m.others k (live_owned p zs k o l) (h k l) }
+same_beside {p} {q} {xs} {ys} zs m o h = record { mbufs = m.mbufs; same = λ k l. m.others k (live_owned p zs k o l) (h k l) }
 
 -- the same, where both are owned together
 pub same_behind : {p q : PoolView} {xs ys : List ℕ} (zs : List ℕ) → Moves p xs q ys → IsOwned p (zs ++ xs) → SameAt p q zs
 same_behind {p} {q} {xs} {ys} zs m o =
     same_beside zs m (λ k. omega (arith, o k, times-append k zs xs)) (λ k h. omega (arith, o k, times-append k zs xs, live_at_most p k))
 
-pub same_nothing : (p q : PoolView) (xs : List ℕ) → xs ≡ [] → SameAt p q xs
-same_nothing p q xs e = record { same = λ k h. absurd (omega (arith, h, ap (times k) e)) }
+pub same_nothing : (p q : PoolView) (xs : List ℕ) → xs ≡ [] → q.mbufs ≡ p.mbufs → SameAt p q xs
+same_nothing p q xs e m = record { mbufs = m; same = λ k h. absurd (omega (arith, h, ap (times k) e)) }
 
 pub same_trans : (p q r : PoolView) (xs : List ℕ) → SameAt p q xs → SameAt q r xs → SameAt p r xs
-same_trans p q r xs a b = record { same = λ k h. b.same k h ∙ a.same k h }
+same_trans p q r xs a b = record { mbufs = b.mbufs ∙ a.mbufs; same = λ k h. b.same k h ∙ a.same k h }
 
 pub same_part : (p q : PoolView) (xs ys : List ℕ) → SameAt p q xs → ((k : ℕ) → times k ys ≤ times k xs) → SameAt p q ys
-same_part p q xs ys s le = record { same = λ k h. s.same k (omega (arith, le k)) }
+same_part p q xs ys s le = record { mbufs = s.mbufs; same = λ k h. s.same k (omega (arith, le k)) }
 
 -- ---- the steps of one chain
 pub moves_without : (p q : PoolView) (c : ℕ) → IsLive p c → q ≡ without p c → Moves p (c ∷ []) q []
@@ -230,11 +230,11 @@ shown_adds {p} {q} {c} {v} a = shown_with p q c v a.pool
 -- a step of one chain leaves the others of its owner
 pub same_with : (p q : PoolView) (c : ℕ) (v : ChainView) (xs : List ℕ) → times c xs ≡ 0 → q ≡ with_chain p c v → SameAt p q xs
 same_with p q c v xs h e = subst (λ (r : PoolView). SameAt p r xs) (sym e)
-    (record { same = λ k l. get_there p.chains c v k (λ is. absurd (omega (arith, ap (λ (j : ℕ). times j xs) is))) })
+    (record { mbufs = refl; same = λ k l. get_there p.chains c v k (λ is. absurd (omega (arith, ap (λ (j : ℕ). times j xs) is))) })
 
 pub same_without : (p q : PoolView) (c : ℕ) (xs : List ℕ) → times c xs ≡ 0 → q ≡ without p c → SameAt p q xs
 same_without p q c xs h e = subst (λ (r : PoolView). SameAt p r xs) (sym e)
-    (record { same = λ k l. get_left p.chains c k (λ is. absurd (omega (arith, ap (λ (j : ℕ). times j xs) is))) })
+    (record { mbufs = refl; same = λ k l. get_left p.chains c k (λ is. absurd (omega (arith, ap (λ (j : ℕ). times j xs) is))) })
 
 -- ---- an owner of nothing changes nothing
 pub moves_nothing : {p q : PoolView} → Moves p [] q [] → q ≡ p

@@ -3,13 +3,13 @@ use Rattle.std.specs.Prelude.{option_to_list}
 use Rattle.std.proofs.lemmas.Option.{none-some}
 use Rattle.flat_model.specs.Weight.{nothing, ◌⊕◌}
 use Rattle.flat_model.specs.Arrival.{is_bad_fragment}
-use Rattle.mbuf_chain.specs.Chain.{ChainView, chain_of, entry_of, string}
+use Rattle.mbuf_chain.specs.Chain.{ChainView, PoolView, chain_of, entry_of, string}
 use Rattle.mbuf_chain.specs.Owners.{Moves}
 use Rattle.mbuf_chain.proofs.Laws.Owners.{moves_none, moves_trans, owned_after}
 use Rattle.chain_ops.specs.Trims.{without_first}
 use Rattle.ledger.specs.Accounts.{weight_at, weight_owned}
 use Rattle.ip_reass.specs.Arrivals.{flat_head, in_hand, IsPulled}
-use Rattle.ip_reass.specs.Table.{held_all}
+use Rattle.ip_reass.specs.Table.{TableView, held_all}
 use Rattle.ip_reass.proofs.Reserved.{stays, freed}
 use Rattle.ip_reass.proofs.Arriving.{accounts, one_weighs, same_weight, trimmed_off, arrives_bad, none_cluster, some_plain, some_cluster, carried_len, good_some, good_small, accounted_counters}
 use Rattle.ip_reass.proofs.table.Reass.arrive.Goals as goal
@@ -20,22 +20,24 @@ true_or_false false = inr refl
 
 pub returns-then-is_bad-clause-step : goal.returns-then-is_bad-clause-step
 returns-then-is_bad-clause-step c = λ rest held origin new distinct came acc is.
-    let fr = freed c.args.pool.now c.args.pool.now c.free_chain.new.self c.args.self.now c.args.self.now c.args.chain (stays c.args.pool.now c.args.pool.now c.args.self.now c.args.self.now c.args.chain c.requires.owned (moves_none _ _)) c.requires.table c.free_chain.ensures in
-    arrives_bad rest held new c.args.head c.args.pool.now c.args.self.now c.args.counters.now c.args.chain (c.len-len.result - 20) (omega (arith, c.len-len.ensures, c.requires.total, c.requires.header)) origin
+    let fr = freed c.args.pool.now c.args.pool.now c.free_chain.new.self c.args.self.now.datagrams c.args.self.now.datagrams c.args.chain (stays c.args.pool.now c.args.pool.now c.args.self.now.datagrams c.args.self.now.datagrams c.args.chain c.requires.owned (moves_none _ _)) c.requires.ready.table c.free_chain.ensures in
+    arrives_bad rest held new c.args.head c.args.pool.now c.args.self.now.datagrams c.args.counters.now c.args.chain (c.len-len.result - 20) (omega (arith, c.len-len.ensures, c.requires.total, c.requires.header)) origin
     (sym c.is_bad.ensures ∙ c.if-is_bad.true) (is ∙ (λ j. record rest { unfinished = fr.shows j; counters = c.count_ended.ensures j }))
 
 pub returns-then-is_bad-clause-accounts : goal.returns-then-is_bad-clause-accounts
 returns-then-is_bad-clause-accounts c = λ rest held acc.
-    let fr = freed c.args.pool.now c.args.pool.now c.free_chain.new.self c.args.self.now c.args.self.now c.args.chain (stays c.args.pool.now c.args.pool.now c.args.self.now c.args.self.now c.args.chain c.requires.owned (moves_none _ _)) c.requires.table c.free_chain.ensures in
-    accounts c.args.pool.now c.free_chain.new.self (c.args.chain ∷ []) [] rest held (weight_at c.args.pool.now c.args.chain) nothing c.args.self.now c.args.self.now c.args.counters.now c.count_ended.new.self acc fr.moves c.requires.owned c.requires.table fr.table (one_weighs c.args.pool.now c.args.chain) (same_weight nothing)
+    let fr = freed c.args.pool.now c.args.pool.now c.free_chain.new.self c.args.self.now.datagrams c.args.self.now.datagrams c.args.chain (stays c.args.pool.now c.args.pool.now c.args.self.now.datagrams c.args.self.now.datagrams c.args.chain c.requires.owned (moves_none _ _)) c.requires.ready.table c.free_chain.ensures in
+    accounts c.args.pool.now c.free_chain.new.self (c.args.chain ∷ []) [] rest held (weight_at c.args.pool.now c.args.chain) nothing c.args.self.now.datagrams c.args.self.now.datagrams c.args.counters.now c.count_ended.new.self acc fr.moves c.requires.owned c.requires.ready.table fr.table (one_weighs c.args.pool.now c.args.chain) (same_weight nothing)
 
-pub returns-then-is_bad-clause-table : goal.returns-then-is_bad-clause-table
-returns-then-is_bad-clause-table c =
-    (freed c.args.pool.now c.args.pool.now c.free_chain.new.self c.args.self.now c.args.self.now c.args.chain (stays c.args.pool.now c.args.pool.now c.args.self.now c.args.self.now c.args.chain c.requires.owned (moves_none _ _)) c.requires.table c.free_chain.ensures).table
+pub returns-then-is_bad-clause-ready : goal.returns-then-is_bad-clause-ready
+returns-then-is_bad-clause-ready c = record {
+  table = (freed c.args.pool.now c.args.pool.now c.free_chain.new.self c.args.self.now.datagrams c.args.self.now.datagrams c.args.chain (stays c.args.pool.now c.args.pool.now c.args.self.now.datagrams c.args.self.now.datagrams c.args.chain c.requires.owned (moves_none _ _)) c.requires.ready.table c.free_chain.ensures).table;
+  room = omega (arith, c.requires.ready.room, ap (λ (q : PoolView). q.mbufs) c.free_chain.ensures);
+}
 
 pub returns-then-is_bad-clause-moves : goal.returns-then-is_bad-clause-moves
 returns-then-is_bad-clause-moves c =
-    (freed c.args.pool.now c.args.pool.now c.free_chain.new.self c.args.self.now c.args.self.now c.args.chain (stays c.args.pool.now c.args.pool.now c.args.self.now c.args.self.now c.args.chain c.requires.owned (moves_none _ _)) c.requires.table c.free_chain.ensures).moves
+    (freed c.args.pool.now c.args.pool.now c.free_chain.new.self c.args.self.now.datagrams c.args.self.now.datagrams c.args.chain (stays c.args.pool.now c.args.pool.now c.args.self.now.datagrams c.args.self.now.datagrams c.args.chain c.requires.owned (moves_none _ _)) c.requires.ready.table c.free_chain.ensures).moves
 
 pub returns-in_default-clause-step : goal.returns-in_default-clause-step
 returns-in_default-clause-step c = λ rest held origin new distinct came acc is.
@@ -44,37 +46,37 @@ returns-in_default-clause-step c = λ rest held origin new distinct came acc is.
     elim (true_or_false (is_some (entry_of (chain_of c.args.pool.now c.args.chain) 0).cluster)) [
       | inr plain ↦ absurd (none-some c.args.chain (sym c.in_default.is ∙ (c.pull_up.ensures.plain plain).3))
       | inl cluster ↦
-          let tested = c.pull_up.ensures.tested cluster rest held (accounted_counters c.args.pool.now c.args.self.now c.args.counters.now c.count.new.self rest (held ⊕ weight_at c.args.pool.now c.args.chain) acc) in
-          none_cluster rest held new c.args.head c.args.pool.now c.pull_up.new.pool c.args.self.now c.pull_up.new.self c.args.counters.now c.count.new.self c.pull_up.new.counters c.args.chain (c.len-len.result - 20) (is_some c.pull_up.result) long good c.count.ensures origin came cluster tested (ap is_some c.in_default.is) is
+          let tested = c.pull_up.ensures.tested cluster rest held (accounted_counters c.args.pool.now c.args.self.now.datagrams c.args.counters.now c.count.new.self rest (held ⊕ weight_at c.args.pool.now c.args.chain) acc) in
+          none_cluster rest held new c.args.head c.args.pool.now c.pull_up.new.pool c.args.self.now.datagrams c.pull_up.new.self.datagrams c.args.counters.now c.count.new.self c.pull_up.new.counters c.args.chain (c.len-len.result - 20) (is_some c.pull_up.result) long good c.count.ensures origin came cluster tested (ap is_some c.in_default.is) is
     ]
 
 pub returns-in_default-clause-accounts : goal.returns-in_default-clause-accounts
 returns-in_default-clause-accounts c = λ rest held acc.
-    let m = subst (λ (o : Option ℕ). Moves c.args.pool.now (c.args.chain ∷ held_all c.args.pool.now c.args.self.now) c.pull_up.new.pool (option_to_list o ++ held_all c.pull_up.new.pool c.pull_up.new.self)) c.in_default.is c.pull_up.ensures.moves in
-    accounts c.args.pool.now c.pull_up.new.pool (c.args.chain ∷ []) [] rest held (weight_at c.args.pool.now c.args.chain) nothing c.args.self.now c.pull_up.new.self c.args.counters.now c.pull_up.new.counters acc m c.requires.owned c.requires.table c.pull_up.ensures.table (one_weighs c.args.pool.now c.args.chain) (same_weight nothing)
+    let m = subst (λ (o : Option ℕ). Moves c.args.pool.now (c.args.chain ∷ held_all c.args.pool.now c.args.self.now.datagrams) c.pull_up.new.pool (option_to_list o ++ held_all c.pull_up.new.pool c.pull_up.new.self.datagrams)) c.in_default.is c.pull_up.ensures.moves in
+    accounts c.args.pool.now c.pull_up.new.pool (c.args.chain ∷ []) [] rest held (weight_at c.args.pool.now c.args.chain) nothing c.args.self.now.datagrams c.pull_up.new.self.datagrams c.args.counters.now c.pull_up.new.counters acc m c.requires.owned c.requires.ready.table c.pull_up.ensures.ready.table (one_weighs c.args.pool.now c.args.chain) (same_weight nothing)
 
-pub join_others-requires-clause-table : goal.join_others-requires-clause-table
-join_others-requires-clause-table c =
-    let m = subst (λ (o : Option ℕ). Moves c.args.pool.now (c.args.chain ∷ held_all c.args.pool.now c.args.self.now) c.pull_up.new.pool (option_to_list o ++ held_all c.pull_up.new.pool c.pull_up.new.self)) c.in-Some.is c.pull_up.ensures.moves in
-    let t = trimmed_off c.pull_up.new.pool c.trim_front.new.pool c.pull_up.new.self c.in-Some.chain c.pull_up.ensures.table (owned_after m c.requires.owned) c.trim_front.ensures in
-    t.table
+pub join_others-requires-clause-ready : goal.join_others-requires-clause-ready
+join_others-requires-clause-ready c =
+    let m = subst (λ (o : Option ℕ). Moves c.args.pool.now (c.args.chain ∷ held_all c.args.pool.now c.args.self.now.datagrams) c.pull_up.new.pool (option_to_list o ++ held_all c.pull_up.new.pool c.pull_up.new.self.datagrams)) c.in-Some.is c.pull_up.ensures.moves in
+    let t = trimmed_off c.pull_up.new.pool c.trim_front.new.pool c.pull_up.new.self.datagrams c.in-Some.chain c.pull_up.ensures.ready.table (owned_after m c.requires.owned) c.trim_front.ensures in
+    record { table = t.table; room = omega (arith, c.pull_up.ensures.ready.room, t.moves.mbufs) }
 
 pub join_others-requires-clause-owned : goal.join_others-requires-clause-owned
 join_others-requires-clause-owned c =
-    let m = subst (λ (o : Option ℕ). Moves c.args.pool.now (c.args.chain ∷ held_all c.args.pool.now c.args.self.now) c.pull_up.new.pool (option_to_list o ++ held_all c.pull_up.new.pool c.pull_up.new.self)) c.in-Some.is c.pull_up.ensures.moves in
-    let t = trimmed_off c.pull_up.new.pool c.trim_front.new.pool c.pull_up.new.self c.in-Some.chain c.pull_up.ensures.table (owned_after m c.requires.owned) c.trim_front.ensures in
+    let m = subst (λ (o : Option ℕ). Moves c.args.pool.now (c.args.chain ∷ held_all c.args.pool.now c.args.self.now.datagrams) c.pull_up.new.pool (option_to_list o ++ held_all c.pull_up.new.pool c.pull_up.new.self.datagrams)) c.in-Some.is c.pull_up.ensures.moves in
+    let t = trimmed_off c.pull_up.new.pool c.trim_front.new.pool c.pull_up.new.self.datagrams c.in-Some.chain c.pull_up.ensures.ready.table (owned_after m c.requires.owned) c.trim_front.ensures in
     t.owned
 
 pub join_others-requires-clause-headed : goal.join_others-requires-clause-headed
 join_others-requires-clause-headed c =
-    let m = subst (λ (o : Option ℕ). Moves c.args.pool.now (c.args.chain ∷ held_all c.args.pool.now c.args.self.now) c.pull_up.new.pool (option_to_list o ++ held_all c.pull_up.new.pool c.pull_up.new.self)) c.in-Some.is c.pull_up.ensures.moves in
-    let t = trimmed_off c.pull_up.new.pool c.trim_front.new.pool c.pull_up.new.self c.in-Some.chain c.pull_up.ensures.table (owned_after m c.requires.owned) c.trim_front.ensures in
+    let m = subst (λ (o : Option ℕ). Moves c.args.pool.now (c.args.chain ∷ held_all c.args.pool.now c.args.self.now.datagrams) c.pull_up.new.pool (option_to_list o ++ held_all c.pull_up.new.pool c.pull_up.new.self.datagrams)) c.in-Some.is c.pull_up.ensures.moves in
+    let t = trimmed_off c.pull_up.new.pool c.trim_front.new.pool c.pull_up.new.self.datagrams c.in-Some.chain c.pull_up.ensures.ready.table (owned_after m c.requires.owned) c.trim_front.ensures in
     ap (λ (v : ChainView). v.front.header) t.chain ∙ c.in-Some.ensures.headed
 
 pub join_others-requires-clause-some : goal.join_others-requires-clause-some
 join_others-requires-clause-some c =
-    let m = subst (λ (o : Option ℕ). Moves c.args.pool.now (c.args.chain ∷ held_all c.args.pool.now c.args.self.now) c.pull_up.new.pool (option_to_list o ++ held_all c.pull_up.new.pool c.pull_up.new.self)) c.in-Some.is c.pull_up.ensures.moves in
-    let t = trimmed_off c.pull_up.new.pool c.trim_front.new.pool c.pull_up.new.self c.in-Some.chain c.pull_up.ensures.table (owned_after m c.requires.owned) c.trim_front.ensures in
+    let m = subst (λ (o : Option ℕ). Moves c.args.pool.now (c.args.chain ∷ held_all c.args.pool.now c.args.self.now.datagrams) c.pull_up.new.pool (option_to_list o ++ held_all c.pull_up.new.pool c.pull_up.new.self.datagrams)) c.in-Some.is c.pull_up.ensures.moves in
+    let t = trimmed_off c.pull_up.new.pool c.trim_front.new.pool c.pull_up.new.self.datagrams c.in-Some.chain c.pull_up.ensures.ready.table (owned_after m c.requires.owned) c.trim_front.ensures in
     let long : length (string (chain_of c.args.pool.now c.args.chain)) ≡ 20 + (c.len-len.result - 20) = omega (arith, c.len-len.ensures, c.requires.total, c.requires.header) in
     let good : is_bad_fragment (flat_head c.args.head) (c.len-len.result - 20) ≡ false = sym c.is_bad.ensures ∙ c.if-is_bad.false in
     let size = carried_len c.args.pool.now c.trim_front.new.pool c.args.chain c.in-Some.chain (c.len-len.result - 20) long (ap (λ (v : ChainView). v.entries) t.chain ∙ ap (without_first 20) c.in-Some.ensures.entries) in
@@ -83,8 +85,8 @@ join_others-requires-clause-some c =
 
 pub join_others-requires-clause-small : goal.join_others-requires-clause-small
 join_others-requires-clause-small c =
-    let m = subst (λ (o : Option ℕ). Moves c.args.pool.now (c.args.chain ∷ held_all c.args.pool.now c.args.self.now) c.pull_up.new.pool (option_to_list o ++ held_all c.pull_up.new.pool c.pull_up.new.self)) c.in-Some.is c.pull_up.ensures.moves in
-    let t = trimmed_off c.pull_up.new.pool c.trim_front.new.pool c.pull_up.new.self c.in-Some.chain c.pull_up.ensures.table (owned_after m c.requires.owned) c.trim_front.ensures in
+    let m = subst (λ (o : Option ℕ). Moves c.args.pool.now (c.args.chain ∷ held_all c.args.pool.now c.args.self.now.datagrams) c.pull_up.new.pool (option_to_list o ++ held_all c.pull_up.new.pool c.pull_up.new.self.datagrams)) c.in-Some.is c.pull_up.ensures.moves in
+    let t = trimmed_off c.pull_up.new.pool c.trim_front.new.pool c.pull_up.new.self.datagrams c.in-Some.chain c.pull_up.ensures.ready.table (owned_after m c.requires.owned) c.trim_front.ensures in
     let long : length (string (chain_of c.args.pool.now c.args.chain)) ≡ 20 + (c.len-len.result - 20) = omega (arith, c.len-len.ensures, c.requires.total, c.requires.header) in
     let good : is_bad_fragment (flat_head c.args.head) (c.len-len.result - 20) ≡ false = sym c.is_bad.ensures ∙ c.if-is_bad.false in
     let size = carried_len c.args.pool.now c.trim_front.new.pool c.args.chain c.in-Some.chain (c.len-len.result - 20) long (ap (λ (v : ChainView). v.entries) t.chain ∙ ap (without_first 20) c.in-Some.ensures.entries) in
@@ -93,36 +95,36 @@ join_others-requires-clause-small c =
 
 pub returns-clause-step : goal.returns-clause-step
 returns-clause-step c = λ rest held origin new distinct came acc goes.
-    let m = subst (λ (o : Option ℕ). Moves c.args.pool.now (c.args.chain ∷ held_all c.args.pool.now c.args.self.now) c.pull_up.new.pool (option_to_list o ++ held_all c.pull_up.new.pool c.pull_up.new.self)) c.in-Some.is c.pull_up.ensures.moves in
-    let t = trimmed_off c.pull_up.new.pool c.trim_front.new.pool c.pull_up.new.self c.in-Some.chain c.pull_up.ensures.table (owned_after m c.requires.owned) c.trim_front.ensures in
+    let m = subst (λ (o : Option ℕ). Moves c.args.pool.now (c.args.chain ∷ held_all c.args.pool.now c.args.self.now.datagrams) c.pull_up.new.pool (option_to_list o ++ held_all c.pull_up.new.pool c.pull_up.new.self.datagrams)) c.in-Some.is c.pull_up.ensures.moves in
+    let t = trimmed_off c.pull_up.new.pool c.trim_front.new.pool c.pull_up.new.self.datagrams c.in-Some.chain c.pull_up.ensures.ready.table (owned_after m c.requires.owned) c.trim_front.ensures in
     let long : length (string (chain_of c.args.pool.now c.args.chain)) ≡ 20 + (c.len-len.result - 20) = omega (arith, c.len-len.ensures, c.requires.total, c.requires.header) in
     let good : is_bad_fragment (flat_head c.args.head) (c.len-len.result - 20) ≡ false = sym c.is_bad.ensures ∙ c.if-is_bad.false in
-    let acc' = accounts c.args.pool.now c.trim_front.new.pool (c.args.chain ∷ []) (c.in-Some.chain ∷ []) rest held (weight_at c.args.pool.now c.args.chain) (weight_at c.trim_front.new.pool c.in-Some.chain) c.args.self.now c.pull_up.new.self c.args.counters.now c.pull_up.new.counters acc
-    (moves_trans m t.moves) c.requires.owned c.requires.table t.table (one_weighs c.args.pool.now c.args.chain) (one_weighs c.trim_front.new.pool c.in-Some.chain) in
+    let acc' = accounts c.args.pool.now c.trim_front.new.pool (c.args.chain ∷ []) (c.in-Some.chain ∷ []) rest held (weight_at c.args.pool.now c.args.chain) (weight_at c.trim_front.new.pool c.in-Some.chain) c.args.self.now.datagrams c.pull_up.new.self.datagrams c.args.counters.now c.pull_up.new.counters acc
+    (moves_trans m t.moves) c.requires.owned c.requires.ready.table t.table (one_weighs c.args.pool.now c.args.chain) (one_weighs c.trim_front.new.pool c.in-Some.chain) in
     elim (true_or_false (is_some (entry_of (chain_of c.args.pool.now c.args.chain) 0).cluster)) [
       | inr plain ↦
           let same = c.pull_up.ensures.plain plain in
-          some_plain rest held new c.args.head c.args.pool.now c.pull_up.new.pool c.trim_front.new.pool c.args.self.now c.pull_up.new.self c.args.counters.now c.count.new.self c.pull_up.new.counters c.args.chain c.in-Some.chain (c.len-len.result - 20) long good c.count.ensures c.in-Some.ensures.entries t distinct
-          (λ there. c.join_others.ensures.step rest held new there acc' goes) origin came plain same.0 same.1 same.2
+          some_plain rest held new c.args.head c.args.pool.now c.pull_up.new.pool c.trim_front.new.pool c.args.self.now.datagrams c.pull_up.new.self.datagrams c.args.counters.now c.count.new.self c.pull_up.new.counters c.args.chain c.in-Some.chain (c.len-len.result - 20) long good c.count.ensures c.in-Some.ensures.entries t distinct
+          (λ there. c.join_others.ensures.step rest held new there acc' goes) origin came plain same.0 (ap (λ (r : TableView). r.datagrams) same.1) same.2
       | inl cluster ↦
-          let tested = subst (λ (b : Bool). IsPulled c.args.pool.now c.args.self.now c.count.new.self (weight_at c.args.pool.now c.args.chain) b c.pull_up.new.pool c.pull_up.new.self c.pull_up.new.counters rest held) (ap is_some c.in-Some.is)
-          (c.pull_up.ensures.tested cluster rest held (accounted_counters c.args.pool.now c.args.self.now c.args.counters.now c.count.new.self rest (held ⊕ weight_at c.args.pool.now c.args.chain) acc)) in
-          some_cluster rest held new c.args.head c.args.pool.now c.pull_up.new.pool c.trim_front.new.pool c.args.self.now c.pull_up.new.self c.args.counters.now c.count.new.self c.pull_up.new.counters c.args.chain c.in-Some.chain (c.len-len.result - 20) long good c.count.ensures c.in-Some.ensures.entries t distinct
+          let tested = subst (λ (b : Bool). IsPulled c.args.pool.now c.args.self.now.datagrams c.count.new.self (weight_at c.args.pool.now c.args.chain) b c.pull_up.new.pool c.pull_up.new.self.datagrams c.pull_up.new.counters rest held) (ap is_some c.in-Some.is)
+          (c.pull_up.ensures.tested cluster rest held (accounted_counters c.args.pool.now c.args.self.now.datagrams c.args.counters.now c.count.new.self rest (held ⊕ weight_at c.args.pool.now c.args.chain) acc)) in
+          some_cluster rest held new c.args.head c.args.pool.now c.pull_up.new.pool c.trim_front.new.pool c.args.self.now.datagrams c.pull_up.new.self.datagrams c.args.counters.now c.count.new.self c.pull_up.new.counters c.args.chain c.in-Some.chain (c.len-len.result - 20) long good c.count.ensures c.in-Some.ensures.entries t distinct
           (λ there. c.join_others.ensures.step rest held new there acc' goes) origin came cluster tested
     ]
 
 pub returns-clause-moves : goal.returns-clause-moves
 returns-clause-moves c =
-    let m = subst (λ (o : Option ℕ). Moves c.args.pool.now (c.args.chain ∷ held_all c.args.pool.now c.args.self.now) c.pull_up.new.pool (option_to_list o ++ held_all c.pull_up.new.pool c.pull_up.new.self)) c.in-Some.is c.pull_up.ensures.moves in
-    let t = trimmed_off c.pull_up.new.pool c.trim_front.new.pool c.pull_up.new.self c.in-Some.chain c.pull_up.ensures.table (owned_after m c.requires.owned) c.trim_front.ensures in
+    let m = subst (λ (o : Option ℕ). Moves c.args.pool.now (c.args.chain ∷ held_all c.args.pool.now c.args.self.now.datagrams) c.pull_up.new.pool (option_to_list o ++ held_all c.pull_up.new.pool c.pull_up.new.self.datagrams)) c.in-Some.is c.pull_up.ensures.moves in
+    let t = trimmed_off c.pull_up.new.pool c.trim_front.new.pool c.pull_up.new.self.datagrams c.in-Some.chain c.pull_up.ensures.ready.table (owned_after m c.requires.owned) c.trim_front.ensures in
     moves_trans m (moves_trans t.moves c.join_others.ensures.moves)
 
 pub returns-clause-accounts : goal.returns-clause-accounts
 returns-clause-accounts c = λ rest held acc.
-    let m = subst (λ (o : Option ℕ). Moves c.args.pool.now (c.args.chain ∷ held_all c.args.pool.now c.args.self.now) c.pull_up.new.pool (option_to_list o ++ held_all c.pull_up.new.pool c.pull_up.new.self)) c.in-Some.is c.pull_up.ensures.moves in
-    let t = trimmed_off c.pull_up.new.pool c.trim_front.new.pool c.pull_up.new.self c.in-Some.chain c.pull_up.ensures.table (owned_after m c.requires.owned) c.trim_front.ensures in
-    accounts c.args.pool.now c.join_others.new.pool (c.args.chain ∷ []) (in_hand c.join_others.result) rest held (weight_at c.args.pool.now c.args.chain) (weight_owned c.join_others.new.pool (in_hand c.join_others.result)) c.args.self.now c.join_others.new.self c.args.counters.now c.join_others.new.counters acc
-    (moves_trans m (moves_trans t.moves c.join_others.ensures.moves)) c.requires.owned c.requires.table c.join_others.ensures.table (one_weighs c.args.pool.now c.args.chain) (same_weight _)
+    let m = subst (λ (o : Option ℕ). Moves c.args.pool.now (c.args.chain ∷ held_all c.args.pool.now c.args.self.now.datagrams) c.pull_up.new.pool (option_to_list o ++ held_all c.pull_up.new.pool c.pull_up.new.self.datagrams)) c.in-Some.is c.pull_up.ensures.moves in
+    let t = trimmed_off c.pull_up.new.pool c.trim_front.new.pool c.pull_up.new.self.datagrams c.in-Some.chain c.pull_up.ensures.ready.table (owned_after m c.requires.owned) c.trim_front.ensures in
+    accounts c.args.pool.now c.join_others.new.pool (c.args.chain ∷ []) (in_hand c.join_others.result) rest held (weight_at c.args.pool.now c.args.chain) (weight_owned c.join_others.new.pool (in_hand c.join_others.result)) c.args.self.now.datagrams c.join_others.new.self.datagrams c.args.counters.now c.join_others.new.counters acc
+    (moves_trans m (moves_trans t.moves c.join_others.ensures.moves)) c.requires.owned c.requires.ready.table c.join_others.ensures.ready.table (one_weighs c.args.pool.now c.args.chain) (same_weight _)
 
 pub returns-clause-whole : goal.returns-clause-whole
 returns-clause-whole c = c.join_others.ensures.whole

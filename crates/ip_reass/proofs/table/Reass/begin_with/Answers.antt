@@ -1,52 +1,57 @@
 use Rattle.std.proofs.Common.{◌≡◌, ◌+◌, ◌<◌, ◌≤◌, ◌++◌, ◌∷◌, [], List, length, refl, sym, ap, ◌∙◌, subst, arith}
 use Rattle.flat_model.specs.Weight.{◌⊕◌}
-use Rattle.mbuf_chain.specs.Chain.{ChainView, chain_of, string}
+use Rattle.mbuf_chain.specs.Chain.{ChainView, PoolView, chain_of, string}
+use Rattle.mbuf_chain.specs.Owners.{Moves}
 use Rattle.mbuf_chain.proofs.Laws.Owners.{moves_trans}
 use Rattle.ledger.specs.Accounts.{weight_at}
-use Rattle.ip_reass.specs.Arrivals.{key_in, machine}
+use Rattle.ip_reass.specs.Arrivals.{in_hand, key_in, machine}
 use Rattle.ip_reass.specs.Fragments.{fragment_of}
 use Rattle.ip_reass.specs.Inside.{arrived}
-use Rattle.ip_reass.specs.Table.{new_datagram}
+use Rattle.ip_reass.specs.Table.{held_all, new_datagram}
 use Rattle.ip_reass.specs.declared.datagram.Datagram.{Datagram}
+use Rattle.ip_reass.specs.Table.{TableView}
 use Rattle.ip_reass.proofs.Reserved.{stays, freed, lacking, Began, began, begins_here, room}
 use Rattle.ip_reass.proofs.table.Reass.begin_with.Goals as goal
 
 pub returns-then-not-reserve-clause-step : goal.returns-then-not-reserve-clause-step
 returns-then-not-reserve-clause-step c = λ rest held new none acc is.
-    let r = c.reserve.ensures.reserves (machine c.args.pool.now c.args.self.now c.args.counters.now rest) (held ⊕ weight_at c.args.pool.now c.args.chain) refl refl acc in
-    let fr = freed c.args.pool.now c.reserve.new.pool c.free_chain.new.self c.args.self.now c.reserve.new.waiting c.args.chain
-    (stays c.args.pool.now c.reserve.new.pool c.args.self.now c.reserve.new.waiting c.args.chain c.requires.owned c.reserve.ensures.moves) c.reserve.ensures.ready c.free_chain.ensures in
-    lacking rest held new (key_in c.args.head) (fragment_of (arrived c.args.pool.now c.args.chain c.args.head.offset c.args.head.more)) (weight_at c.args.pool.now c.args.chain) c.args.pool.now c.reserve.new.pool c.free_chain.new.self c.args.self.now c.reserve.new.waiting c.args.counters.now c.reserve.new.counters c.count_ended.new.self _ c.reserve.result c.if-not-reserve.true
+    let r = c.reserve.ensures.reserves (machine c.args.pool.now c.args.self.now.datagrams c.args.counters.now rest) (held ⊕ weight_at c.args.pool.now c.args.chain) refl refl acc in
+    let fr = freed c.args.pool.now c.reserve.new.pool c.free_chain.new.self c.args.self.now.datagrams c.reserve.new.waiting.datagrams c.args.chain
+    (stays c.args.pool.now c.reserve.new.pool c.args.self.now.datagrams c.reserve.new.waiting.datagrams c.args.chain c.requires.owned c.reserve.ensures.moves) c.reserve.ensures.ready.table c.free_chain.ensures in
+    lacking rest held new (key_in c.args.head) (fragment_of (arrived c.args.pool.now c.args.chain c.args.head.offset c.args.head.more)) (weight_at c.args.pool.now c.args.chain) c.args.pool.now c.reserve.new.pool c.free_chain.new.self c.args.self.now.datagrams c.reserve.new.waiting.datagrams c.args.counters.now c.reserve.new.counters c.count_ended.new.self _ c.reserve.result c.if-not-reserve.true
     r.affords fr.shows c.count_ended.ensures is
 
-pub returns-then-not-reserve-clause-table : goal.returns-then-not-reserve-clause-table
-returns-then-not-reserve-clause-table c =
-    (freed c.args.pool.now c.reserve.new.pool c.free_chain.new.self c.args.self.now c.reserve.new.waiting c.args.chain
-    (stays c.args.pool.now c.reserve.new.pool c.args.self.now c.reserve.new.waiting c.args.chain c.requires.owned c.reserve.ensures.moves) c.reserve.ensures.ready c.free_chain.ensures).table
+pub returns-then-not-reserve-clause-ready : goal.returns-then-not-reserve-clause-ready
+returns-then-not-reserve-clause-ready c = record {
+  table = (freed c.args.pool.now c.reserve.new.pool c.free_chain.new.self c.args.self.now.datagrams c.reserve.new.waiting.datagrams c.args.chain
+    (stays c.args.pool.now c.reserve.new.pool c.args.self.now.datagrams c.reserve.new.waiting.datagrams c.args.chain c.requires.owned c.reserve.ensures.moves) c.reserve.ensures.ready.table c.free_chain.ensures).table;
+  room = omega (arith, c.reserve.ensures.ready.room, ap (λ (q : PoolView). q.mbufs) c.free_chain.ensures);
+}
 
 pub returns-then-not-reserve-clause-moves : goal.returns-then-not-reserve-clause-moves
 returns-then-not-reserve-clause-moves c =
-    (freed c.args.pool.now c.reserve.new.pool c.free_chain.new.self c.args.self.now c.reserve.new.waiting c.args.chain
-    (stays c.args.pool.now c.reserve.new.pool c.args.self.now c.reserve.new.waiting c.args.chain c.requires.owned c.reserve.ensures.moves) c.reserve.ensures.ready c.free_chain.ensures).moves
+    (freed c.args.pool.now c.reserve.new.pool c.free_chain.new.self c.args.self.now.datagrams c.reserve.new.waiting.datagrams c.args.chain
+    (stays c.args.pool.now c.reserve.new.pool c.args.self.now.datagrams c.reserve.new.waiting.datagrams c.args.chain c.requires.owned c.reserve.ensures.moves) c.reserve.ensures.ready.table c.free_chain.ensures).moves
 
 pub begin-requires : goal.begin-requires
 begin-requires c =
-    let same : c.self.inside.datagrams.len ≡ length c.reserve.new.waiting = omega (arith, c.as_slice-i.ensures.len, ap (λ (ds : List Datagram). length ds) (c.as_slice-i.ensures.value ∙ c.self.view_is)) in
+    let same : c.self.inside.datagrams.len ≡ length c.reserve.new.waiting.datagrams = omega (arith, c.as_slice-i.ensures.len, ap (λ (ds : List Datagram). length ds) (c.as_slice-i.ensures.value ∙ (ap (λ (r : TableView). r.datagrams) c.self.view_is))) in
     omega (
       arith,
       same,
-      c.self.invariant,
-      room c.reserve.new.pool c.reserve.new.waiting c.args.chain c.laws.ensures (stays c.args.pool.now c.reserve.new.pool c.args.self.now c.reserve.new.waiting c.args.chain c.requires.owned c.reserve.ensures.moves).owned,
+      c.reserve.ensures.ready.room,
+      ap (λ (r : TableView). r.room) c.self.view_is,
+      room c.reserve.new.pool c.reserve.new.waiting.datagrams c.args.chain c.laws.ensures (stays c.args.pool.now c.reserve.new.pool c.args.self.now.datagrams c.reserve.new.waiting.datagrams c.args.chain c.requires.owned c.reserve.ensures.moves).owned,
     )
 
-begun : (c : goal.After-settle-arg-3-1) → Began c.reserve.new.pool c.reserve.new.waiting c.args.chain (key_in c.args.head) c.new_chain.new.self c.begin.new.table.items (length c.as_slice-i.result.now)
+begun : (c : goal.After-settle-arg-3-1) → Began c.reserve.new.pool c.reserve.new.waiting.datagrams c.args.chain (key_in c.args.head) c.new_chain.new.self c.begin.new.table.items (length c.as_slice-i.result.now)
 begun c =
-    began c.reserve.new.pool c.new_chain.new.self c.reserve.new.waiting c.begin.new.table.items c.args.chain c.in-Ok.holder (length c.as_slice-i.result.now) (key_in c.args.head) c.reserve.ensures.ready
-    (stays c.args.pool.now c.reserve.new.pool c.args.self.now c.reserve.new.waiting c.args.chain c.requires.owned c.reserve.ensures.moves).owned c.in-Ok.ensures.ok
-    (c.begin.ensures.items ∙ (λ j. (c.self.view_is j) ++ new_datagram (c.key_of.ensures j) c.in-Ok.holder ∷ [])) (ap (λ (ds : List Datagram). length ds) (c.as_slice-i.ensures.value ∙ c.self.view_is))
+    began c.reserve.new.pool c.new_chain.new.self c.reserve.new.waiting.datagrams c.begin.new.table.items c.args.chain c.in-Ok.holder (length c.as_slice-i.result.now) (key_in c.args.head) c.reserve.ensures.ready.table
+    (stays c.args.pool.now c.reserve.new.pool c.args.self.now.datagrams c.reserve.new.waiting.datagrams c.args.chain c.requires.owned c.reserve.ensures.moves).owned c.in-Ok.ensures.ok
+    (c.begin.ensures.items ∙ (λ j. ((ap (λ (r : TableView). r.datagrams) c.self.view_is) j) ++ new_datagram (c.key_of.ensures j) c.in-Ok.holder ∷ [])) (ap (λ (ds : List Datagram). length ds) (c.as_slice-i.ensures.value ∙ (ap (λ (r : TableView). r.datagrams) c.self.view_is)))
 
 same_chain : (c : goal.After-settle-arg-3-1) → chain_of c.new_chain.new.self c.args.chain ≡ chain_of c.args.pool.now c.args.chain
-same_chain c = (begun c).stays.chain ∙ (stays c.args.pool.now c.reserve.new.pool c.args.self.now c.reserve.new.waiting c.args.chain c.requires.owned c.reserve.ensures.moves).chain
+same_chain c = (begun c).stays.chain ∙ (stays c.args.pool.now c.reserve.new.pool c.args.self.now.datagrams c.reserve.new.waiting.datagrams c.args.chain c.requires.owned c.reserve.ensures.moves).chain
 
 pub settle-requires-clause-table : goal.settle-requires-clause-table
 settle-requires-clause-table c = (begun c).table
@@ -65,25 +70,42 @@ settle-requires-clause-small c = subst (λ (v : ChainView). c.args.head.offset +
 
 pub invariant_of-self : goal.invariant_of-self
 invariant_of-self c =
-    let few = room c.reserve.new.pool c.reserve.new.waiting c.args.chain c.laws.ensures (stays c.args.pool.now c.reserve.new.pool c.args.self.now c.reserve.new.waiting c.args.chain c.requires.owned c.reserve.ensures.moves).owned in
-    let same : c.self.inside.datagrams.len ≡ length c.reserve.new.waiting = omega (arith, c.as_slice-i.ensures.len, ap (λ (ds : List Datagram). length ds) (c.as_slice-i.ensures.value ∙ c.self.view_is)) in
-    (omega (arith, c.settle.ensures.capacity, c.begin.ensures.capacity, c.self.invariant), omega (arith, c.settle.ensures.len, c.begin.ensures.len, few, same))
+    let few = room c.reserve.new.pool c.reserve.new.waiting.datagrams c.args.chain c.laws.ensures (stays c.args.pool.now c.reserve.new.pool c.args.self.now.datagrams c.reserve.new.waiting.datagrams c.args.chain c.requires.owned c.reserve.ensures.moves).owned in
+    let same : c.self.inside.datagrams.len ≡ length c.reserve.new.waiting.datagrams = omega (arith, c.as_slice-i.ensures.len, ap (λ (ds : List Datagram). length ds) (c.as_slice-i.ensures.value ∙ (ap (λ (r : TableView). r.datagrams) c.self.view_is))) in
+    omega (arith, c.settle.ensures.len, c.begin.ensures.len, few, same, c.laws.ensures.small)
 
 pub returns-clause-step : goal.returns-clause-step
 returns-clause-step c = λ rest held new none acc goes.
-    let r = c.reserve.ensures.reserves (machine c.args.pool.now c.args.self.now c.args.counters.now rest) (held ⊕ weight_at c.args.pool.now c.args.chain) refl refl acc in
-    let st = stays c.args.pool.now c.reserve.new.pool c.args.self.now c.reserve.new.waiting c.args.chain c.requires.owned c.reserve.ensures.moves in
-    let b = began c.reserve.new.pool c.new_chain.new.self c.reserve.new.waiting c.begin.new.table.items c.args.chain c.in-Ok.holder (length c.as_slice-i.result.now) (key_in c.args.head) c.reserve.ensures.ready st.owned c.in-Ok.ensures.ok
-    (c.begin.ensures.items ∙ (λ j. (c.self.view_is j) ++ new_datagram (c.key_of.ensures j) c.in-Ok.holder ∷ [])) (ap (λ (ds : List Datagram). length ds) (c.as_slice-i.ensures.value ∙ c.self.view_is)) in
-    begins_here rest held new (key_in c.args.head) (weight_at c.args.pool.now c.args.chain) c.args.pool.now c.reserve.new.pool c.new_chain.new.self c.args.self.now c.reserve.new.waiting c.begin.new.table.items c.args.counters.now c.reserve.new.counters c.settle.new.counters c.args.chain (length c.as_slice-i.result.now) c.args.head.offset c.args.head.more c.settle.result c.settle.new.pool c.settle.new.table.items c.reserve.result c.if-not-reserve.false
+    let r = c.reserve.ensures.reserves (machine c.args.pool.now c.args.self.now.datagrams c.args.counters.now rest) (held ⊕ weight_at c.args.pool.now c.args.chain) refl refl acc in
+    let st = stays c.args.pool.now c.reserve.new.pool c.args.self.now.datagrams c.reserve.new.waiting.datagrams c.args.chain c.requires.owned c.reserve.ensures.moves in
+    let b = began c.reserve.new.pool c.new_chain.new.self c.reserve.new.waiting.datagrams c.begin.new.table.items c.args.chain c.in-Ok.holder (length c.as_slice-i.result.now) (key_in c.args.head) c.reserve.ensures.ready.table st.owned c.in-Ok.ensures.ok
+    (c.begin.ensures.items ∙ (λ j. ((ap (λ (r : TableView). r.datagrams) c.self.view_is) j) ++ new_datagram (c.key_of.ensures j) c.in-Ok.holder ∷ [])) (ap (λ (ds : List Datagram). length ds) (c.as_slice-i.ensures.value ∙ (ap (λ (r : TableView). r.datagrams) c.self.view_is))) in
+    begins_here rest held new (key_in c.args.head) (weight_at c.args.pool.now c.args.chain) c.args.pool.now c.reserve.new.pool c.new_chain.new.self c.args.self.now.datagrams c.reserve.new.waiting.datagrams c.begin.new.table.items c.args.counters.now c.reserve.new.counters c.settle.new.counters c.args.chain (length c.as_slice-i.result.now) c.args.head.offset c.args.head.more c.settle.result c.settle.new.pool c.settle.new.table.items c.reserve.result c.if-not-reserve.false
     none r.affords (b.stays.chain ∙ st.chain) b (λ here most. c.settle.ensures.step rest held new here most goes)
 
-pub returns-clause-moves : goal.returns-clause-moves
-returns-clause-moves c =
-    let st = stays c.args.pool.now c.reserve.new.pool c.args.self.now c.reserve.new.waiting c.args.chain c.requires.owned c.reserve.ensures.moves in
-    let b = began c.reserve.new.pool c.new_chain.new.self c.reserve.new.waiting c.begin.new.table.items c.args.chain c.in-Ok.holder (length c.as_slice-i.result.now) (key_in c.args.head) c.reserve.ensures.ready st.owned c.in-Ok.ensures.ok
-    (c.begin.ensures.items ∙ (λ j. (c.self.view_is j) ++ new_datagram (c.key_of.ensures j) c.in-Ok.holder ∷ [])) (ap (λ (ds : List Datagram). length ds) (c.as_slice-i.ensures.value ∙ c.self.view_is)) in
+moved : (c : goal.After-settle) → Moves c.args.pool.now (c.args.chain ∷ held_all c.args.pool.now c.args.self.now.datagrams) c.settle.new.pool (in_hand c.settle.result ++ held_all c.settle.new.pool c.settle.new.table.items)
+moved c =
+    let st = stays c.args.pool.now c.reserve.new.pool c.args.self.now.datagrams c.reserve.new.waiting.datagrams c.args.chain c.requires.owned c.reserve.ensures.moves in
+    let b = began c.reserve.new.pool c.new_chain.new.self c.reserve.new.waiting.datagrams c.begin.new.table.items c.args.chain c.in-Ok.holder (length c.as_slice-i.result.now) (key_in c.args.head) c.reserve.ensures.ready.table st.owned c.in-Ok.ensures.ok
+    (c.begin.ensures.items ∙ (λ j. ((ap (λ (r : TableView). r.datagrams) c.self.view_is) j) ++ new_datagram (c.key_of.ensures j) c.in-Ok.holder ∷ [])) (ap (λ (ds : List Datagram). length ds) (c.as_slice-i.ensures.value ∙ (ap (λ (r : TableView). r.datagrams) c.self.view_is))) in
     moves_trans st.moves (moves_trans b.stays.moves c.settle.ensures.moves)
+
+pub returns-clause-moves : goal.returns-clause-moves
+returns-clause-moves c = moved c
+
+pub returns-clause-ready : goal.returns-clause-ready
+returns-clause-ready c = record {
+  table = c.settle.ensures.table;
+  room = omega (
+        arith,
+        c.settle.ensures.capacity,
+        c.begin.ensures.capacity,
+        ap (λ (r : TableView). r.room) c.self.view_is,
+        c.reserve.ensures.ready.room,
+        c.reserve.ensures.moves.mbufs,
+        (moved c).mbufs,
+      );
+}
 
 pub returns-clause-whole : goal.returns-clause-whole
 returns-clause-whole c = c.settle.ensures.whole

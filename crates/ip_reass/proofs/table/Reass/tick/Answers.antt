@@ -3,22 +3,23 @@ use Rattle.ip_reass.specs.declared.datagram.Datagram.{Datagram}
 use Rattle.mbuf_chain.specs.Owners.{Moves}
 use Rattle.ip_reass.specs.Table.{aged, held_all, holds, AllUnfinished, IsTable}
 use Rattle.std.proofs.lemmas.List.{length-take-le}
+use Rattle.ip_reass.specs.Table.{TableView}
 use Rattle.ip_reass.proofs.Aging.{reordered, table_reordered, lent, tick_step}
 use Rattle.ip_reass.proofs.table.Reass.tick.Goals as goal
 
 pub free_beyond-requires-clause-table : goal.free_beyond-requires-clause-table
 free_beyond-requires-clause-table c =
     let long : length c.age-kept.new.table ≡ c.self.inside.datagrams.len = omega arith in
-    let was = c.as_mut_slice.ensures.value ∙ c.self.view_is in
+    let was = c.as_mut_slice.ensures.value ∙ (ap (λ (r : TableView). r.datagrams) c.self.view_is) in
     subst (IsTable c.args.pool.now) (sym (lent c.self.inside.datagrams.len c.self.inside.datagrams.items c.age-kept.new.table long))
-    (reordered c.args.pool.now c.args.self.now c.age-kept.new.table c.requires (λ k. c.age-kept.ensures.holds c.args.pool.now k ∙ ap (sum_by (holds c.args.pool.now k)) was)
-    (c.age-kept.ensures.each c.args.pool.now (subst (AllUnfinished c.args.pool.now) (sym was) c.requires.each)) (omega (arith, ap (λ (xs : List Datagram). length xs) was)))
+    (reordered c.args.pool.now c.args.self.now.datagrams c.age-kept.new.table c.requires.table (λ k. c.age-kept.ensures.holds c.args.pool.now k ∙ ap (sum_by (holds c.args.pool.now k)) was)
+    (c.age-kept.ensures.each c.args.pool.now (subst (AllUnfinished c.args.pool.now) (sym was) c.requires.table.each)) (omega (arith, ap (λ (xs : List Datagram). length xs) was)))
 
 pub returns-clause-moves : goal.returns-clause-moves
 returns-clause-moves c =
     let long : length c.age-kept.new.table ≡ c.self.inside.datagrams.len = omega arith in
-    let was = c.as_mut_slice.ensures.value ∙ c.self.view_is in
-    table_reordered c.args.pool.now c.free_beyond.new.pool c.args.self.now c.age-kept.new.table (held_all c.free_beyond.new.pool c.free_beyond.new.table.items)
+    let was = c.as_mut_slice.ensures.value ∙ (ap (λ (r : TableView). r.datagrams) c.self.view_is) in
+    table_reordered c.args.pool.now c.free_beyond.new.pool c.args.self.now.datagrams c.age-kept.new.table (held_all c.free_beyond.new.pool c.free_beyond.new.table.items)
     (λ k. c.age-kept.ensures.holds c.args.pool.now k ∙ ap (sum_by (holds c.args.pool.now k)) was)
     (subst (λ (ds : List Datagram). Moves c.args.pool.now (held_all c.args.pool.now ds) c.free_beyond.new.pool (held_all c.free_beyond.new.pool c.free_beyond.new.table.items)) (lent c.self.inside.datagrams.len c.self.inside.datagrams.items c.age-kept.new.table long)
     c.free_beyond.ensures.moves)
@@ -26,9 +27,15 @@ returns-clause-moves c =
 pub returns-clause-step : goal.returns-clause-step
 returns-clause-step c = λ rest d.
     let long : length c.age-kept.new.table ≡ c.self.inside.datagrams.len = omega arith in
-    let was = c.as_mut_slice.ensures.value ∙ c.self.view_is in
+    let was = c.as_mut_slice.ensures.value ∙ (ap (λ (r : TableView). r.datagrams) c.self.view_is) in
     let back = lent c.self.inside.datagrams.len c.self.inside.datagrams.items c.age-kept.new.table long in
-    let e : c.free_beyond.new.table.items ≡ aged c.args.self.now = c.free_beyond.ensures.items ∙ (ap (take c.age-kept.result) back ∙ (c.age-kept.ensures.kept ∙ ap aged was)) in
-    let kept : length (aged c.args.self.now) ≡ c.age-kept.result = ap (λ (xs : List Datagram). length xs) (sym (c.age-kept.ensures.kept ∙ ap aged was)) ∙ length-take-le c.age-kept.result c.age-kept.new.table c.age-kept.ensures.within in
-    let size : length c.args.self.now ≡ c.self.inside.datagrams.len = omega (arith, c.as_mut_slice.ensures.len, ap (λ (xs : List Datagram). length xs) was) in
-    tick_step rest d c.args.pool.now c.free_beyond.new.pool c.args.self.now c.free_beyond.new.table.items (c.len-before.result - c.age-kept.result) e c.free_beyond.ensures.same (omega (arith, kept, size, c.len-before.ensures, c.age-kept.ensures.within))
+    let e : c.free_beyond.new.table.items ≡ aged c.args.self.now.datagrams = c.free_beyond.ensures.items ∙ (ap (take c.age-kept.result) back ∙ (c.age-kept.ensures.kept ∙ ap aged was)) in
+    let kept : length (aged c.args.self.now.datagrams) ≡ c.age-kept.result = ap (λ (xs : List Datagram). length xs) (sym (c.age-kept.ensures.kept ∙ ap aged was)) ∙ length-take-le c.age-kept.result c.age-kept.new.table c.age-kept.ensures.within in
+    let size : length c.args.self.now.datagrams ≡ c.self.inside.datagrams.len = omega (arith, c.as_mut_slice.ensures.len, ap (λ (xs : List Datagram). length xs) was) in
+    tick_step rest d c.args.pool.now c.free_beyond.new.pool c.args.self.now.datagrams c.free_beyond.new.table.items (c.len-before.result - c.age-kept.result) e c.free_beyond.ensures.same (omega (arith, kept, size, c.len-before.ensures, c.age-kept.ensures.within))
+
+pub returns-clause-ready : goal.returns-clause-ready
+returns-clause-ready c = record {
+  table = c.free_beyond.ensures.table;
+  room = omega (arith, c.free_beyond.ensures.capacity, ap (λ (r : TableView). r.room) c.self.view_is, c.requires.room, c.free_beyond.ensures.moves.mbufs);
+}

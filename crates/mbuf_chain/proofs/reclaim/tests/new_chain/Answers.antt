@@ -1,8 +1,16 @@
-use Rattle.std.proofs.Common.{[], ◌∷◌, sym, ◌∙◌, subst}
+use Rattle.std.proofs.Common.{◌≡◌, ℕ, [], ◌∷◌, None, Result, Ok, Err, true, ap, sym, ◌∙◌, subst}
+use Rattle.std.specs.Prelude.{IfOk, OnErr}
+use Rattle.mbuf_chain.specs.Chain.{PoolView, Adds}
+use Rattle.mbuf_chain.specs.Steps.{one_mbuf, empty_entry}
 use Rattle.std.proofs.lemmas.Result.{IfOk-weaker}
 use Rattle.mbuf_chain.specs.Owners.{Moves}
 use Rattle.mbuf_chain.proofs.Laws.Owners.{moves_none, then_adds, same_adds, same_nothing}
 use Rattle.mbuf_chain.proofs.reclaim.tests.new_chain.Goals as goal
+
+-- the pool is as large as before, whatever came
+as_large : (p q : PoolView) {E : Type 0} (r : Result ℕ E) → IfOk r (λ c. Adds p q c (one_mbuf true (empty_entry 28 None) c)) → OnErr r (q ≡ p) → q.mbufs ≡ p.mbufs
+as_large p q (Ok c) adds same = ap (λ (s : PoolView). s.mbufs) adds.pool
+as_large p q (Err e) adds same = ap (λ (s : PoolView). s.mbufs) same
 
 -- what is there stays, and the new chain comes to it
 pub returns-in-Ok-clause-ready : goal.returns-in-Ok-clause-ready
@@ -25,13 +33,13 @@ returns-in-Err-clause-ready g c =
     let law = g.met.R.Reclaim in
     let none = law.owns_nothing c.reclaim-datagrams.new.pool c.reclaim-datagrams.new.self c.reclaim-datagrams.ensures.ready c.reclaim-datagrams.ensures.none in
     law.ready_same c.reclaim-datagrams.new.pool c.new_chain-in-Err.new.self c.reclaim-datagrams.new.self
-    (same_nothing c.reclaim-datagrams.new.pool c.new_chain-in-Err.new.self (g.R.Reclaim.owned c.reclaim-datagrams.new.pool c.reclaim-datagrams.new.self) none) c.reclaim-datagrams.ensures.ready
+    (same_nothing c.reclaim-datagrams.new.pool c.new_chain-in-Err.new.self (g.R.Reclaim.owned c.reclaim-datagrams.new.pool c.reclaim-datagrams.new.self) none (as_large c.reclaim-datagrams.new.pool c.new_chain-in-Err.new.self c.new_chain-in-Err.result c.new_chain-in-Err.ensures.ok c.new_chain-in-Err.ensures.same)) c.reclaim-datagrams.ensures.ready
 
 pub returns-in-Err-clause-ok : goal.returns-in-Err-clause-ok
 returns-in-Err-clause-ok g c =
     let law = g.met.R.Reclaim in
     let none = law.owns_nothing c.reclaim-datagrams.new.pool c.reclaim-datagrams.new.self c.reclaim-datagrams.ensures.ready c.reclaim-datagrams.ensures.none in
-    let same = same_nothing c.reclaim-datagrams.new.pool c.new_chain-in-Err.new.self (g.R.Reclaim.owned c.reclaim-datagrams.new.pool c.reclaim-datagrams.new.self) none in
+    let same = same_nothing c.reclaim-datagrams.new.pool c.new_chain-in-Err.new.self (g.R.Reclaim.owned c.reclaim-datagrams.new.pool c.reclaim-datagrams.new.self) none (as_large c.reclaim-datagrams.new.pool c.new_chain-in-Err.new.self c.new_chain-in-Err.result c.new_chain-in-Err.ensures.ok c.new_chain-in-Err.ensures.same) in
     let after = law.owned_same c.reclaim-datagrams.new.pool c.new_chain-in-Err.new.self c.reclaim-datagrams.new.self same ∙ none in
     let moves = subst (λ p. Moves p (g.R.Reclaim.owned p c.args.waiting.now) c.reclaim-datagrams.new.pool []) c.in-Err.ensures.same c.reclaim-datagrams.ensures.moves in
     IfOk-weaker c.new_chain-in-Err.result _ _
