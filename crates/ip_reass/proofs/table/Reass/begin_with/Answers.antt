@@ -24,7 +24,7 @@ returns-then-not-reserve-clause-step c = λ rest held new none acc is.
 pub returns-then-not-reserve-clause-ready : goal.returns-then-not-reserve-clause-ready
 returns-then-not-reserve-clause-ready c = record {
   table = (freed c.args.pool.now c.reserve.new.pool c.free_chain.new.self c.args.self.now.datagrams c.reserve.new.waiting.datagrams c.args.chain
-    (stays c.args.pool.now c.reserve.new.pool c.args.self.now.datagrams c.reserve.new.waiting.datagrams c.args.chain c.requires.owned c.reserve.ensures.moves) c.reserve.ensures.ready.table c.free_chain.ensures).table;
+      (stays c.args.pool.now c.reserve.new.pool c.args.self.now.datagrams c.reserve.new.waiting.datagrams c.args.chain c.requires.owned c.reserve.ensures.moves) c.reserve.ensures.ready.table c.free_chain.ensures).table;
   room = omega (arith, c.reserve.ensures.ready.room, ap (λ (q : PoolView). q.mbufs) c.free_chain.ensures);
 }
 
@@ -97,14 +97,14 @@ pub returns-clause-ready : goal.returns-clause-ready
 returns-clause-ready c = record {
   table = c.settle.ensures.table;
   room = omega (
-        arith,
-        c.settle.ensures.capacity,
-        c.begin.ensures.capacity,
-        ap (λ (r : TableView). r.room) c.self.view_is,
-        c.reserve.ensures.ready.room,
-        c.reserve.ensures.moves.mbufs,
-        (moved c).mbufs,
-      );
+    arith,
+    c.settle.ensures.capacity,
+    c.begin.ensures.capacity,
+    ap (λ (r : TableView). r.room) c.self.view_is,
+    c.reserve.ensures.ready.room,
+    c.reserve.ensures.moves.mbufs,
+    (moved c).mbufs,
+  );
 }
 
 pub returns-clause-whole : goal.returns-clause-whole

@@ -1,4 +1,4 @@
-use Rattle.std.proofs.Common.{ℕ, List, Some, ap, subst, sym, ◌∙◌, slice_get}
+use Rattle.std.proofs.Common.{ℕ, List, ap, ◌∙◌, slice_get}
 use Rattle.mbuf_chain.specs.Chain.{ChainView}
 use Rattle.mbuf_chain.proofs.Laws.Owners.{live_adds, shown_adds}
 use Rattle.mbuf_chain.proofs.Trains.{beside_adds, apart_adds}
