@@ -5,6 +5,7 @@
 mod answers;
 mod buffer;
 mod fault;
+mod rooms;
 mod serve;
 mod streams;
 mod text;
@@ -13,10 +14,11 @@ mod words;
 pub use answers::Answers;
 pub use buffer::Buffer;
 pub use fault::RunFault;
+pub use rooms::Rooms;
 pub use serve::{HELD, serve_script};
 pub use streams::{Sink, Source, Untold};
 pub use text::{put_hex, put_number};
-pub use words::{bytes, first_word, is_end, number, one, three, two};
+pub use words::{LONGEST_REQUEST, bytes, first_word, is_end, number, one, three, two};
 
 #[cfg(test)]
 mod tests;

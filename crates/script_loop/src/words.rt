@@ -5,6 +5,9 @@ ghost use Rattle.script_loop.specs.Left.{left};
 
 use std::str;
 
+/// The most bytes that a line may have to ask for something.
+pub const LONGEST_REQUEST: usize = 131_200;
+
 /// Where the first space is.
 fn space_at(text: &[u8]) -> Option<usize>
     ensures { result ≡ position (λ b. b == 32) text.now }

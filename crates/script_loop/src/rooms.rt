@@ -1,0 +1,34 @@
+ghost use Rattle.std.specs.Prelude.{◌≡◌, vec_len, IfOk};
+
+use std::alloc::{AllocError, Global};
+
+/// The most bytes that a line names.
+const MOST_BYTES: usize = 65_535;
+
+/// Memory for the work on one line, which is taken once for all lines.
+#[derive(Drop)]
+pub struct Rooms {
+    /// 65,535 bytes: those that a line names, or that are copied out for its answer.
+    pub bytes: Vec<u8>,
+    /// Room for their digits, two for each.
+    pub digits: Vec<u8>,
+    ghost bytes_len: { vec_len bytes ≡ 65535 },
+    ghost digits_len: { vec_len digits ≡ 131070 },
+}
+
+/// Memory of this many bytes.
+fn room(alloc: Global, len: usize) -> Result<Vec<u8>, AllocError>
+    ensures { IfOk result (λ bytes. vec_len bytes ≡ len) }
+{
+    vec![in alloc; 0; len]
+}
+
+impl Rooms {
+    /// All the memory, each byte of it 0. `AllocError` comes only where the host refuses a part of it.
+    pub fn new(alloc: Global) -> Result<Rooms, AllocError> {
+        Ok(Rooms {
+            bytes: room(alloc, MOST_BYTES)?,
+            digits: room(alloc, 2 * MOST_BYTES)?,
+        })
+    }
+}
