@@ -1,0 +1,10 @@
+pub mod SlotLemmas
+pub mod Accounts
+pub mod Faults
+pub mod Held
+pub mod Stores
+pub mod Forms
+pub mod Joined
+pub mod Signs
+pub mod Shown
+pub mod Booted

@@ -1,0 +1,79 @@
+-- The lines of the chain script, and what each asks for (this project's own).
+use Rattle.std.specs.Prelude.{◌≡◌, ℕ, suc, ℤ, pos, negsuc, ◌≤◌, List, [], ◌∷◌, ◌++◌, length, codes, decimal}
+use Rattle.flat_model.specs.Grammar.{words, IsNumber, IsHex}
+use Rattle.chain_ops.specs.declared.copym.Extent.{Extent}
+use Rattle.chain_ops.specs.declared.copym.Extent.TheVariants.{All, Part}
+
+-- what a line asks for; a slot is a number of 0 to 63
+pub data Request : Type 0 where
+  User : (slot : ℕ) (bytes : List ℕ) → Request
+  Wire : (slot : ℕ) (bytes : List ℕ) → Request
+  Copy : (to slot : ℕ) (extent : Extent) → Request  -- `copym`
+  Prepend : (slot : ℕ) (bytes : List ℕ) → Request
+  Pull_up : (slot n : ℕ) → Request
+  Adjust : (slot : ℕ) (n : ℤ) → Request
+  Split : (to slot at : ℕ) → Request
+  Join : (slot other : ℕ) → Request  -- `cat`
+  Write_over : (slot off : ℕ) (bytes : List ℕ) → Request  -- `copyback`
+  Read_out : (slot off len : ℕ) → Request  -- `copydata`
+  Show : (slot : ℕ) → Request
+  Free : (slot : ℕ) → Request
+  Ask_usage : Request  -- `mbstat`
+
+abbrev pub IsSlot : List ℕ → ℕ → Type 0
+IsSlot word slot = IsNumber 63 word slot
+
+abbrev pub IsOffset : List ℕ → ℕ → Type 0
+IsOffset word n = IsNumber 65535 word n
+
+-- a number with a `-` in front where it's below 0
+abbrev pub IsSigned : List ℕ → ℤ → Type 0
+IsSigned word (pos n) = IsOffset word n
+IsSigned word (negsuc n) = (suc n ≤ 65535) × (word ≡ codes "-" ++ decimal (suc n))
+
+-- the word that a line begins with
+abbrev pub keyword : Request → List ℕ
+keyword (User slot bytes) = codes "user"
+keyword (Wire slot bytes) = codes "wire"
+keyword (Copy to slot extent) = codes "copym"
+keyword (Prepend slot bytes) = codes "prepend"
+keyword (Pull_up slot n) = codes "pullup"
+keyword (Adjust slot n) = codes "adj"
+keyword (Split to slot at) = codes "split"
+keyword (Join slot other) = codes "cat"
+keyword (Write_over slot off bytes) = codes "copyback"
+keyword (Read_out slot off len) = codes "copydata"
+keyword (Show slot) = codes "show"
+keyword (Free slot) = codes "free"
+keyword Ask_usage = codes "mbstat"
+
+-- the words behind the slots of a copy
+abbrev pub IsExtentWords : List (List ℕ) → Extent → Type 0
+IsExtentWords args All = args ≡ codes "all" ∷ []
+IsExtentWords args (Part off len) = (o l : List ℕ) × (args ≡ o ∷ l ∷ []) × IsOffset o off × IsOffset l len
+
+-- the words behind that one
+abbrev pub HasWords : Request → List (List ℕ) → Type 0
+HasWords (User slot bytes) args = (s h : List ℕ) × (args ≡ s ∷ h ∷ []) × IsSlot s slot × IsHex h bytes
+HasWords (Wire slot bytes) args = (s h : List ℕ) × (args ≡ s ∷ h ∷ []) × IsSlot s slot × IsHex h bytes
+HasWords (Copy to slot extent) args =
+    (d s : List ℕ) × (rest : List (List ℕ)) × (args ≡ d ∷ s ∷ rest) × IsSlot d to × IsSlot s slot × IsExtentWords rest extent
+HasWords (Prepend slot bytes) args = (s h : List ℕ) × (args ≡ s ∷ h ∷ []) × IsSlot s slot × IsHex h bytes
+HasWords (Pull_up slot n) args = (s w : List ℕ) × (args ≡ s ∷ w ∷ []) × IsSlot s slot × IsOffset w n
+HasWords (Adjust slot n) args = (s w : List ℕ) × (args ≡ s ∷ w ∷ []) × IsSlot s slot × IsSigned w n
+HasWords (Split to slot at) args = (d s w : List ℕ) × (args ≡ d ∷ s ∷ w ∷ []) × IsSlot d to × IsSlot s slot × IsOffset w at
+HasWords (Join slot other) args = (s o : List ℕ) × (args ≡ s ∷ o ∷ []) × IsSlot s slot × IsSlot o other
+HasWords (Write_over slot off bytes) args =
+    (s o h : List ℕ) × (args ≡ s ∷ o ∷ h ∷ []) × IsSlot s slot × IsOffset o off × IsHex h bytes
+HasWords (Read_out slot off len) args =
+    (s o l : List ℕ) × (args ≡ s ∷ o ∷ l ∷ []) × IsSlot s slot × IsOffset o off × IsOffset l len
+HasWords (Show slot) args = (s : List ℕ) × (args ≡ s ∷ []) × IsSlot s slot
+HasWords (Free slot) args = (s : List ℕ) × (args ≡ s ∷ []) × IsSlot s slot
+HasWords Ask_usage args = args ≡ []
+
+-- the line asks for the request
+pub record IsRequest (line : List ℕ) (request : Request) : Type 0 where
+  pub short : length line ≤ 131200
+  pub args : List (List ℕ)
+  pub words_are : words line ≡ keyword request ∷ args
+  pub arguments : HasWords request args

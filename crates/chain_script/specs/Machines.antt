@@ -1,0 +1,153 @@
+-- The machine of the chain script: slots of chains over a pool, as lists (this project's own).
+use Rattle.std.specs.Prelude.{◌≡◌, ℕ, ◌+◌, ◌-◌, ◌<◌, ◌≤◌, ◌==◌, max, Bool, true, false, not, ◌&&◌, ◌||◌, nat_lt, nat_le, List, [], length, replicate, sum, sum_by, count_by, map, fold, is_some, Option, Some, None, slice_set, slice_index_or}
+use Rattle.std.specs.List.{AllByRecursion, range_with_len}
+use Rattle.flat_model.specs.Layout.{Room, user, wire, is_cluster}
+use Rattle.params.specs.declared.TheConstants.{MHLEN}
+use Rattle.flat_model.specs.declared.usage.Mbstat.{Mbstat}
+use Rattle.mbuf_chain.specs.Chain.{Entry, ChainView, alone, flat_bytes, refers}
+use Rattle.mbuf_chain.specs.Owners.{times}
+use Rattle.chain_ops.specs.declared.copym.Extent.{Extent}
+use Rattle.chain_ops.specs.declared.copym.Extent.TheVariants.{All, Part}
+use Rattle.chain_ops.specs.Extents.{extent_copied}
+use Rattle.chain_ops.specs.Pulls.{pull_need}
+use Rattle.chain_ops.specs.Prepends.{prepend_need}
+use Rattle.chain_ops.specs.Splits.{split_need}
+use Rattle.chain_ops.specs.Writes.{is_writable, copyback_need}
+use Rattle.chain_script.specs.Lines.{Request, User, Wire, Copy, Prepend, Pull_up, Adjust, Split, Join, Write_over, Read_out, Show, Free, Ask_usage}
+
+-- a chain in a slot; it's in no train
+pub record Slot : Type 0 where
+  pub header : Bool
+  pub entries : List Entry
+
+pub record Machine : Type 0 where
+  pub mbufs : ℕ
+  pub clusters : ℕ
+  pub slots : List (Option Slot)
+
+-- all slots are empty
+abbrev pub booted : ℕ → ℕ → Machine
+booted mbufs clusters = record { mbufs = mbufs; clusters = clusters; slots = replicate 64 None }
+
+-- ---- the slots
+abbrev pub slot_at : Machine → ℕ → Option Slot
+slot_at b i = slice_index_or b.slots i None
+
+abbrev pub entries_in : Option Slot → List Entry
+entries_in None = []
+entries_in (Some s) = s.entries
+
+abbrev pub entries_at : Machine → ℕ → List Entry
+entries_at b i = entries_in (slot_at b i)
+
+abbrev pub header_in : Option Slot → Bool
+header_in None = false
+header_in (Some s) = s.header
+
+abbrev pub header_at : Machine → ℕ → Bool
+header_at b i = header_in (slot_at b i)
+
+-- the chain in the words of `chain_ops`
+abbrev pub view_at : Machine → ℕ → ChainView
+view_at b i = record { front = alone (header_at b i); entries = entries_at b i; cells = [] }
+
+abbrev pub length_at : Machine → ℕ → ℕ
+length_at b i = length (flat_bytes (entries_at b i))
+
+abbrev pub put : Machine → ℕ → Bool → List Entry → Machine
+put b i header es = record b { slots = slice_set b.slots i (Some (record { header = header; entries = es })) }
+
+abbrev pub emptied : Machine → ℕ → Machine
+emptied b i = record b { slots = slice_set b.slots i None }
+
+-- ---- the pool
+abbrev pub mbufs_held : Machine → ℕ
+mbufs_held b = sum_by (λ s. length (entries_in s)) b.slots
+
+abbrev pub count : Machine → ℕ → ℕ
+count b c = sum_by (λ s. count_by (refers c) (entries_in s)) b.slots
+
+abbrev pub clusters_free : Machine → ℕ
+clusters_free b = count_by (λ c. count b c == 0) (range_with_len 0 b.clusters)
+
+-- so many mbufs and clusters aren't free
+abbrev pub lacks : Machine → ℕ → ℕ → Bool
+lacks b mbufs clusters = nat_lt b.mbufs (mbufs_held b + mbufs) || nat_lt (clusters_free b) clusters
+
+abbrev pub lacks_rooms : Machine → List Room → Bool
+lacks_rooms b rooms = lacks b (length rooms) (count_by is_cluster rooms)
+
+-- these clusters are free ones, each once
+pub record AreFreeIn (b : Machine) (cs : List ℕ) : Type 0 where
+  pub exist : AllByRecursion (λ c. c < b.clusters) cs
+  pub free : AllByRecursion (λ c. count b c ≡ 0) cs
+  pub once : (c : ℕ) → times c cs ≤ 1
+
+abbrev pub counts : Machine → List ℕ
+counts b = map (count b) (range_with_len 0 b.clusters)
+
+abbrev pub usage_of : Machine → Mbstat
+usage_of b = record {
+  free_mbufs = b.mbufs - mbufs_held b;
+  mbufs = b.mbufs;
+  free_clusters = clusters_free b;
+  clusters = b.clusters;
+  refs = sum (counts b);
+  most = fold max 0 (counts b);
+}
+
+-- ---- the faults, in their order
+abbrev pub is_held : Machine → ℕ → Bool
+is_held b i = is_some (slot_at b i)
+
+-- the slots are as they must be
+abbrev pub has_slots : Machine → Request → Bool
+has_slots b (User slot bytes) = not (is_held b slot)
+has_slots b (Wire slot bytes) = not (is_held b slot)
+has_slots b (Copy to slot extent) = is_held b slot && not (is_held b to)
+has_slots b (Prepend slot bytes) = is_held b slot
+has_slots b (Pull_up slot n) = is_held b slot
+has_slots b (Adjust slot n) = is_held b slot
+has_slots b (Split to slot at) = is_held b slot && not (is_held b to)
+has_slots b (Join slot other) = is_held b slot && (is_held b other && not (slot == other))
+has_slots b (Write_over slot off bytes) = is_held b slot
+has_slots b (Read_out slot off len) = is_held b slot
+has_slots b (Show slot) = is_held b slot
+has_slots b (Free slot) = is_held b slot
+has_slots b Ask_usage = true
+
+abbrev pub is_range : Extent → ℕ → Bool
+is_range All n = true
+is_range (Part off len) n = nat_lt 0 len && nat_le (off + len) n
+
+-- its condition holds
+abbrev pub is_in_range : Machine → Request → Bool
+is_in_range b (Copy to slot extent) = is_range extent (length_at b slot)
+is_in_range b (Prepend slot bytes) = nat_lt 0 (length bytes) && (nat_le (length bytes) MHLEN && nat_le (length bytes + length_at b slot) 65535)
+is_in_range b (Split to slot at) = nat_lt at (length_at b slot)
+is_in_range b (Join slot other) = nat_le (length_at b slot + length_at b other) 65535
+is_in_range b (Write_over slot off bytes) = nat_le (off + length bytes) 65535
+is_in_range b (Read_out slot off len) = nat_le (off + len) (length_at b slot)
+is_in_range b request = true
+
+abbrev pub hits_shared : Machine → Request → Bool
+hits_shared b (Write_over slot off bytes) = not (is_writable (count b) (entries_at b slot) off (length bytes))
+hits_shared b request = false
+
+abbrev pub is_too_long : Request → Bool
+is_too_long (Pull_up slot n) = nat_lt MHLEN n
+is_too_long request = false
+
+abbrev pub is_too_short : Machine → Request → Bool
+is_too_short b (Pull_up slot n) = nat_lt (length_at b slot) n
+is_too_short b request = false
+
+abbrev pub lacks_buffers : Machine → Request → Bool
+lacks_buffers b (User slot bytes) = lacks_rooms b (user (length bytes))
+lacks_buffers b (Wire slot bytes) = lacks_rooms b (wire (length bytes))
+lacks_buffers b (Copy to slot extent) = lacks b (length (extent_copied extent (header_at b slot) (entries_at b slot))) 0
+lacks_buffers b (Prepend slot bytes) = lacks b (prepend_need (view_at b slot) (length bytes)) 0
+lacks_buffers b (Pull_up slot n) = lacks b (pull_need (view_at b slot) n) 0
+lacks_buffers b (Split to slot at) = lacks b (split_need (header_at b slot) (entries_at b slot) at) 0
+lacks_buffers b (Write_over slot off bytes) = lacks b (copyback_need (entries_at b slot) off bytes) 0
+lacks_buffers b request = false

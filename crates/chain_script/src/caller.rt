@@ -1,0 +1,213 @@
+//! Slots of chains over a pool, whose calls are made by lines.
+ghost use Rattle.std.specs.Prelude.{◌≡◌, ◌≤◌, ◌<◌, ◌++◌, ℕ, List, Option, Some, Err, length, vec_len, IfOk, ◌↔◌, replicate, None, [], vec_capacity};
+ghost use Rattle.mbuf_pool.specs.Store.{IsBad};
+ghost use Rattle.mbuf_pool.specs.declared.fault.BootFault.TheVariants as boot_fault;
+ghost use Rattle.mbuf_chain.specs.Owners.{IsAll};
+ghost use Rattle.chain_script.specs.Calls.{request_of, IsCall};
+ghost use Rattle.chain_script.specs.Inside.{machine_of, Fits};
+ghost use Rattle.chain_script.specs.Lines.{Read_out};
+ghost use Rattle.chain_script.specs.Machines.{Machine, booted};
+ghost use Rattle.chain_script.specs.Steps.{Reply, Step, Says, answer_text};
+
+use crate::calls::{
+    adj, copyback, copydata, copym, free, join_slots, prepend, pullup, split, user, wire,
+};
+use crate::line::{Call, call_of};
+use crate::reply::{TEXT, put_done, put_held};
+use crate::show::{show, usage};
+use mbuf_chain::{Chain, Pool};
+use mbuf_pool::{BootFault, Sizes, Store};
+use script_loop::{Answers, Buffer, Rooms};
+use std::alloc::{AllocError, Global};
+
+/// How many slots there are.
+const SLOTS: usize = 64;
+
+/// Copies bytes out of a chain, and puts the line for them behind the text.
+fn read_out(
+    pool: &Pool,
+    chains: &[Option<Chain>],
+    bytes: &mut [u8],
+    digits: &mut [u8],
+    slot: usize,
+    off: u32,
+    len: usize,
+    text: &mut Buffer<TEXT>,
+)
+    requires slot { slot < length chains.now }
+    requires fits { Fits pool.now chains.now }
+    requires bytes { length bytes.old ≡ 65535 }
+    requires digits { length digits.old ≡ 131070 }
+    requires off { off ≤ 65535 }
+    requires len { len ≤ 65535 }
+    requires text { length text.old ≤ 65536 }
+    ensures { (reply : Reply)
+        × Step (machine_of pool.now chains.now) (Read_out slot off len) reply (machine_of pool.now chains.now)
+        × (text.new ≡ text.old ++ answer_text (Some reply)) }
+{
+    let to = &mut bytes[..len];
+    let outcome = copydata(pool, chains, slot, off, to);
+    put_held(text, digits, to, outcome);
+}
+
+/// Makes the call that a line asks for, and puts its reply behind the text.
+fn make_call(
+    pool: &mut Pool,
+    chains: &mut [Option<Chain>],
+    rooms: &mut Rooms,
+    call: Call,
+    text: &mut Buffer<TEXT>,
+)
+    requires slots { length chains.old ≡ 64 }
+    requires fits { Fits pool.old chains.old }
+    requires call { IsCall call }
+    requires text { length text.old ≤ 65536 }
+    ensures fits { Fits pool.new chains.new }
+    ensures slots { length chains.new ≡ 64 }
+    ensures step { (reply : Reply)
+        × Step (machine_of pool.old chains.old) (request_of call rooms.old.bytes.items) reply
+        (machine_of pool.new chains.new)
+        × (text.new ≡ text.old ++ answer_text (Some reply)) }
+{
+    let bytes = rooms.bytes.as_slice();
+    match call {
+        Call::User(slot, len) => put_done(text, user(pool, chains, slot as usize, &bytes[..len])),
+        Call::Wire(slot, len) => put_done(text, wire(pool, chains, slot as usize, &bytes[..len])),
+        Call::Copy(to, slot, extent) => put_done(
+            text,
+            copym(pool, chains, to as usize, slot as usize, extent),
+        ),
+        Call::Prepend(slot, len) => put_done(
+            text,
+            prepend(pool, chains, slot as usize, &bytes[..len]),
+        ),
+        Call::PullUp(slot, n) => put_done(text, pullup(pool, chains, slot as usize, n)),
+        Call::Adjust(slot, n) => put_done(text, adj(pool, chains, slot as usize, n)),
+        Call::Split(to, slot, at) => put_done(
+            text,
+            split(pool, chains, to as usize, slot as usize, at),
+        ),
+        Call::Join(slot, other) => put_done(
+            text,
+            join_slots(pool, chains, slot as usize, other as usize),
+        ),
+        Call::WriteOver(slot, off, len) => put_done(
+            text,
+            copyback(pool, chains, slot as usize, off, &bytes[..len]),
+        ),
+        Call::ReadOut(slot, off, len) => read_out(
+            pool,
+            chains,
+            rooms.bytes.as_mut_slice(),
+            rooms.digits.as_mut_slice(),
+            slot as usize,
+            off,
+            len as usize,
+            text,
+        ),
+        Call::Show(slot) => show(pool, chains, slot as usize, text),
+        Call::Free(slot) => put_done(text, free(pool, chains, slot as usize)),
+        Call::Usage => usage(pool, chains, text),
+    }
+}
+
+/// Puts the answer to a line behind the text.
+fn put_answer(
+    pool: &mut Pool,
+    chains: &mut [Option<Chain>],
+    rooms: &mut Rooms,
+    line: &[u8],
+    text: &mut Buffer<TEXT>,
+)
+    requires slots { length chains.old ≡ 64 }
+    requires fits { Fits pool.old chains.old }
+    requires text { length text.old ≤ 65536 }
+    ensures fits { Fits pool.new chains.new }
+    ensures slots { length chains.new ≡ 64 }
+    ensures says { (reply : List ℕ) × Says (machine_of pool.old chains.old) line.now reply (machine_of pool.new chains.new)
+        × (text.new ≡ text.old ++ reply) }
+{
+    match call_of(line, rooms.bytes.as_mut_slice()) {
+        Some(call) => make_call(pool, chains, rooms, call, text),
+        None => text.append(b"? line\n"),
+    }
+}
+
+/// A pool, 64 slots for chains of it, and the memory for the work on one line. It must be spent, by `end`.
+pub struct Caller {
+    pool: Pool,
+    chains: Vec<Option<Chain>>,
+    rooms: Rooms,
+    ghost slots: { vec_len chains ≡ 64 },
+    ghost fits: { Fits pool chains.items },
+}
+
+/// Slots that are all empty.
+fn empty_slots(alloc: Global) -> Result<Vec<Option<Chain>>, AllocError>
+    ensures items { IfOk result (λ chains. chains.items ≡ replicate 64 None) }
+    ensures len { IfOk result (λ chains. vec_len chains ≡ 64) }
+{
+    let mut chains = Vec::with_capacity(alloc, SLOTS)?;
+    'slots: for _ in 0..SLOTS {
+        chains.push_reserved(None);
+    }
+    Ok(chains)
+}
+
+impl Caller {
+    /// A pool without chains, and empty slots. `BadSizes` comes exactly where the sizes aren't those of a pool, and is
+    /// tested first; `Memory` where the host refuses memory. Nothing is left behind then.
+    pub fn boot(alloc: Global, sizes: Sizes) -> Result<Caller, BootFault>
+        ensures ok { IfOk result (λ c. machine_of c.pool c.chains.items ≡ booted sizes.mbufs sizes.clusters) }
+        ensures bad { (result ≡ Err boot_fault.BadSizes) ↔ IsBad sizes }
+    {
+        let store = Store::boot(alloc, sizes)?;
+        let Ok(rooms) = Rooms::new(alloc) else {
+            return Err(BootFault::Memory);
+        };
+        let Ok(chains) = empty_slots(alloc) else {
+            return Err(BootFault::Memory);
+        };
+        Ok(Caller {
+            pool: Pool::over(store),
+            chains,
+            rooms,
+        })
+    }
+
+    /// Frees all chains, and gives the pool back.
+    pub fn end(self) -> Pool
+        ensures { IsAll result [] }
+    {
+        let Caller {
+            mut pool,
+            mut chains,
+            rooms: _,
+        } = self;
+        'slots: while let Some(slot) = chains.pop() {
+            if let Some(chain) = slot {
+                pool.free_chain(chain);
+            }
+        }
+        chains.destroy_empty();
+        pool
+    }
+}
+
+impl Answers<TEXT> for Caller {
+    ghost State = { Machine };
+
+    ghost state = { λ c. machine_of c.pool c.chains.items };
+
+    ghost may_answer = { Says };
+
+    fn answer(&mut self, line: &[u8], text: &mut Buffer<TEXT>) {
+        put_answer(
+            &mut self.pool,
+            self.chains.as_mut_slice(),
+            &mut self.rooms,
+            line,
+            text,
+        );
+    }
+}

@@ -1,0 +1,18 @@
+//! The script of chain calls: slots of chains over a pool, and what each line asks of them.
+#![tactic(auto)]
+
+mod caller;
+mod calls;
+mod fault;
+mod line;
+mod reply;
+mod runs;
+mod show;
+mod slots;
+
+pub use mbuf_pool::Sizes;
+pub use runs::run_chains;
+pub use script_loop::{RunFault, Sink, Source, Untold};
+
+#[cfg(test)]
+mod tests;

@@ -1,0 +1,244 @@
+//! What a line asks for.
+ghost use Rattle.std.specs.Prelude.{◌≡◌, ◌≤◌, ℕ, ℤ, List, [], ◌∷◌, length, codes, MatchOption, IfSome};
+ghost use Rattle.chain_ops.specs.declared.copym.Extent.{Extent};
+ghost use Rattle.script_loop.specs.Left.{left};
+ghost use Rattle.chain_script.specs.Lines.{Request, IsRequest, IsExtentWords, IsSigned};
+ghost use Rattle.chain_script.specs.Calls.{request_of, IsCall, ReadsForm};
+
+use chain_ops::Extent;
+use script_loop::{LONGEST_REQUEST, bytes, first_word, is_end, number, one, three, two};
+
+/// The last slot.
+const LAST_SLOT: u32 = 63;
+
+/// The greatest offset, length and number of a line.
+const MOST: u32 = 65_535;
+
+/// What a line asks for. Where it has bytes, they stand in a room beside it, and the call tells how many they are.
+#[derive(Clone, Copy)]
+pub enum Call {
+    User(u32, usize),
+    Wire(u32, usize),
+    Copy(u32, u32, Extent),
+    Prepend(u32, usize),
+    PullUp(u32, u32),
+    Adjust(u32, i32),
+    Split(u32, u32, u32),
+    Join(u32, u32),
+    WriteOver(u32, u32, usize),
+    ReadOut(u32, u32, u32),
+    Show(u32),
+    Free(u32),
+    Usage,
+}
+
+/// A number of -65535 to 65535, with a `-` in front where it is below 0.
+fn signed(word: &[u8]) -> Option<i32>
+    ensures { MatchOption result ((n : ℤ) → IsSigned word.now n → ⊥) (λ n. IsSigned word.now n) }
+{
+    if let Some(n) = number(word, MOST) {
+        return Some(n as i32);
+    }
+    let (sign, digits) = word.split_first()?;
+    if *sign != b'-' {
+        return None;
+    }
+    let n = number(digits, MOST)?;
+    if n == 0 {
+        return None;
+    }
+    Some(-(n as i32))
+}
+
+/// The part of a chain that is copied: `all`, or an offset and a length.
+fn extent_of(rest: Option<&[u8]>) -> Option<Extent>
+    ensures { MatchOption result ((extent : Extent) → IsExtentWords (left rest.entry) extent → ⊥)
+        (λ extent. IsExtentWords (left rest.entry) extent) }
+{
+    if let Some(word) = one(rest) {
+        if word == b"all".as_slice() {
+            return Some(Extent::All);
+        }
+        return None;
+    }
+    let (off, len) = two(rest)?;
+    let off = number(off, MOST)?;
+    let len = number(len, MOST)?;
+    Some(Extent::Part(off, len))
+}
+
+fn user_of(rest: Option<&[u8]>, room: &mut [u8]) -> Option<Call>
+    requires { length room.old ≡ 65535 }
+    ensures { ReadsForm (codes "user") (left rest.entry) room.new result }
+{
+    let (slot, word) = two(rest)?;
+    let slot = number(slot, LAST_SLOT)?;
+    let len = bytes(word, room)?;
+    Some(Call::User(slot, len))
+}
+
+fn wire_of(rest: Option<&[u8]>, room: &mut [u8]) -> Option<Call>
+    requires { length room.old ≡ 65535 }
+    ensures { ReadsForm (codes "wire") (left rest.entry) room.new result }
+{
+    let (slot, word) = two(rest)?;
+    let slot = number(slot, LAST_SLOT)?;
+    let len = bytes(word, room)?;
+    Some(Call::Wire(slot, len))
+}
+
+fn copy_of(rest: Option<&[u8]>) -> Option<Call>
+    ensures { (room : List ℕ) → ReadsForm (codes "copym") (left rest.entry) room result }
+{
+    let (to, rest) = first_word(rest?);
+    let (slot, rest) = first_word(rest?);
+    let to = number(to, LAST_SLOT)?;
+    let slot = number(slot, LAST_SLOT)?;
+    let extent = extent_of(rest)?;
+    Some(Call::Copy(to, slot, extent))
+}
+
+fn prepend_of(rest: Option<&[u8]>, room: &mut [u8]) -> Option<Call>
+    requires { length room.old ≡ 65535 }
+    ensures { ReadsForm (codes "prepend") (left rest.entry) room.new result }
+{
+    let (slot, word) = two(rest)?;
+    let slot = number(slot, LAST_SLOT)?;
+    let len = bytes(word, room)?;
+    Some(Call::Prepend(slot, len))
+}
+
+fn pullup_of(rest: Option<&[u8]>) -> Option<Call>
+    ensures { (room : List ℕ) → ReadsForm (codes "pullup") (left rest.entry) room result }
+{
+    let (slot, n) = two(rest)?;
+    let slot = number(slot, LAST_SLOT)?;
+    let n = number(n, MOST)?;
+    Some(Call::PullUp(slot, n))
+}
+
+fn adj_of(rest: Option<&[u8]>) -> Option<Call>
+    ensures { (room : List ℕ) → ReadsForm (codes "adj") (left rest.entry) room result }
+{
+    let (slot, n) = two(rest)?;
+    let slot = number(slot, LAST_SLOT)?;
+    let n = signed(n)?;
+    Some(Call::Adjust(slot, n))
+}
+
+fn split_of(rest: Option<&[u8]>) -> Option<Call>
+    ensures { (room : List ℕ) → ReadsForm (codes "split") (left rest.entry) room result }
+{
+    let (to, slot, at) = three(rest)?;
+    let to = number(to, LAST_SLOT)?;
+    let slot = number(slot, LAST_SLOT)?;
+    let at = number(at, MOST)?;
+    Some(Call::Split(to, slot, at))
+}
+
+fn cat_of(rest: Option<&[u8]>) -> Option<Call>
+    ensures { (room : List ℕ) → ReadsForm (codes "cat") (left rest.entry) room result }
+{
+    let (slot, other) = two(rest)?;
+    let slot = number(slot, LAST_SLOT)?;
+    let other = number(other, LAST_SLOT)?;
+    Some(Call::Join(slot, other))
+}
+
+fn copyback_of(rest: Option<&[u8]>, room: &mut [u8]) -> Option<Call>
+    requires { length room.old ≡ 65535 }
+    ensures { ReadsForm (codes "copyback") (left rest.entry) room.new result }
+{
+    let (slot, off, word) = three(rest)?;
+    let slot = number(slot, LAST_SLOT)?;
+    let off = number(off, MOST)?;
+    let len = bytes(word, room)?;
+    Some(Call::WriteOver(slot, off, len))
+}
+
+fn copydata_of(rest: Option<&[u8]>) -> Option<Call>
+    ensures { (room : List ℕ) → ReadsForm (codes "copydata") (left rest.entry) room result }
+{
+    let (slot, off, len) = three(rest)?;
+    let slot = number(slot, LAST_SLOT)?;
+    let off = number(off, MOST)?;
+    let len = number(len, MOST)?;
+    Some(Call::ReadOut(slot, off, len))
+}
+
+fn show_of(rest: Option<&[u8]>) -> Option<Call>
+    ensures { (room : List ℕ) → ReadsForm (codes "show") (left rest.entry) room result }
+{
+    let slot = number(one(rest)?, LAST_SLOT)?;
+    Some(Call::Show(slot))
+}
+
+fn free_of(rest: Option<&[u8]>) -> Option<Call>
+    ensures { (room : List ℕ) → ReadsForm (codes "free") (left rest.entry) room result }
+{
+    let slot = number(one(rest)?, LAST_SLOT)?;
+    Some(Call::Free(slot))
+}
+
+fn usage_of(rest: Option<&[u8]>) -> Option<Call>
+    ensures { (room : List ℕ) → ReadsForm (codes "mbstat") (left rest.entry) room result }
+{
+    if is_end(rest) {
+        Some(Call::Usage)
+    } else {
+        None
+    }
+}
+
+/// What the line asks for, where it is of a form.
+pub fn call_of(line: &[u8], room: &mut [u8]) -> Option<Call>
+    requires { length room.old ≡ 65535 }
+    ensures call { MatchOption result ((request : Request) → IsRequest line.now request → ⊥)
+        (λ call. IsRequest line.now (request_of call room.new)) }
+    ensures fits { IfSome result (λ call. IsCall call) }
+{
+    if line.len() > LONGEST_REQUEST {
+        return None;
+    }
+    let (name, rest) = first_word(line);
+    if name == b"user".as_slice() {
+        return user_of(rest, room);
+    }
+    if name == b"wire".as_slice() {
+        return wire_of(rest, room);
+    }
+    if name == b"copym".as_slice() {
+        return copy_of(rest);
+    }
+    if name == b"prepend".as_slice() {
+        return prepend_of(rest, room);
+    }
+    if name == b"pullup".as_slice() {
+        return pullup_of(rest);
+    }
+    if name == b"adj".as_slice() {
+        return adj_of(rest);
+    }
+    if name == b"split".as_slice() {
+        return split_of(rest);
+    }
+    if name == b"cat".as_slice() {
+        return cat_of(rest);
+    }
+    if name == b"copyback".as_slice() {
+        return copyback_of(rest, room);
+    }
+    if name == b"copydata".as_slice() {
+        return copydata_of(rest);
+    }
+    if name == b"show".as_slice() {
+        return show_of(rest);
+    }
+    if name == b"free".as_slice() {
+        return free_of(rest);
+    }
+    if name == b"mbstat".as_slice() {
+        return usage_of(rest);
+    }
+    None
+}

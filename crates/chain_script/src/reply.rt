@@ -1,0 +1,110 @@
+//! The lines that replies are printed as.
+ghost use Rattle.std.specs.Prelude.{◌≡◌, ◌+◌, ◌≤◌, ◌++◌, length, Some, codes, decimal};
+ghost use Rattle.flat_model.specs.Texts.{share_text};
+ghost use Rattle.chain_script.specs.Steps.{Shown, reply_text, answer_text, mbuf_text};
+ghost use Rattle.chain_script.specs.Replies.{fault_reply, done_reply, held_reply};
+
+use crate::fault::Fault;
+use mbuf_chain::Usage;
+use script_loop::{Buffer, HELD, put_hex, put_number};
+
+/// Room for the longest reply behind those that are held: the layout of a chain of 65,535 mbufs, of which each takes 23
+/// bytes at most.
+pub const TEXT: usize = HELD + 1_507_328;
+
+fn put_fault(text: &mut Buffer<TEXT>, fault: Fault)
+    requires { length text.old + 8 ≤ 1572864 }
+    ensures items { text.new ≡ text.old ++ reply_text (fault_reply fault) }
+    ensures len { length text.new ≤ length text.old + 8 }
+{
+    match fault {
+        Fault::Chain => text.append(b"? chain"),
+        Fault::Range => text.append(b"? range"),
+        Fault::Shared => text.append(b"shared"),
+        Fault::TooLong => text.append(b"toolong"),
+        Fault::TooShort => text.append(b"tooshort"),
+        Fault::NoBufs => text.append(b"nobufs"),
+    }
+}
+
+/// The line for a request that answers nothing else.
+pub fn put_done(text: &mut Buffer<TEXT>, outcome: Result<(), Fault>)
+    requires { length text.old ≤ 65536 }
+    ensures { text.new ≡ text.old ++ answer_text (Some (done_reply outcome)) }
+{
+    match outcome {
+        Ok(()) => text.append(b"ok"),
+        Err(fault) => put_fault(text, fault),
+    }
+    text.append(b"\n");
+}
+
+/// The line for bytes that were copied out into the room.
+pub fn put_held(text: &mut Buffer<TEXT>, digits: &mut [u8], room: &[u8], outcome: Result<(), Fault>)
+    requires text { length text.old ≤ 65536 }
+    requires room { length room.now ≤ 65535 }
+    requires digits { length digits.old ≡ 131070 }
+    ensures { text.new ≡ text.old ++ answer_text (Some (held_reply outcome room.now)) }
+{
+    match outcome {
+        Ok(()) => {
+            text.append(b"data ");
+            put_hex(text, digits, room);
+        }
+        Err(fault) => put_fault(text, fault),
+    }
+    text.append(b"\n");
+}
+
+fn put_share(text: &mut Buffer<TEXT>, free: u32, all: u32)
+    requires { length text.old + 21 ≤ 1572864 }
+    ensures items { text.new ≡ text.old ++ share_text free all }
+    ensures len { length text.new ≤ length text.old + 21 }
+{
+    put_number(text, free);
+    text.append(b"/");
+    put_number(text, all);
+}
+
+/// The line for how much of a pool is in use.
+pub fn put_usage(text: &mut Buffer<TEXT>, usage: Usage)
+    requires { length text.old ≤ 65536 }
+    ensures { text.new ≡ text.old ++ answer_text (Some (Shown (record {
+      free_mbufs = usage.free_mbufs;
+      mbufs = usage.mbufs;
+      free_clusters = usage.free_clusters;
+      clusters = usage.clusters;
+      refs = usage.references;
+      most = usage.greatest_count;
+    }))) }
+{
+    text.append(b"mbufs ");
+    put_share(text, usage.free_mbufs, usage.mbufs);
+    text.append(b" clusters ");
+    put_share(text, usage.free_clusters, usage.clusters);
+    text.append(b" refs ");
+    put_number(text, usage.references);
+    text.append(b" most ");
+    put_number(text, usage.greatest_count);
+    text.append(b"\n");
+}
+
+/// An mbuf of a layout: its length, and where it has a cluster the count of that.
+pub fn put_mbuf(text: &mut Buffer<TEXT>, len: u32, count: Option<u32>)
+    requires { length text.old + 23 ≤ 1572864 }
+    ensures items { text.new ≡ text.old ++ mbuf_text len count }
+    ensures len { length text.new ≤ length text.old + 23 }
+{
+    match count {
+        None => {
+            text.append(b" P");
+            put_number(text, len);
+        }
+        Some(count) => {
+            text.append(b" C");
+            put_number(text, len);
+            text.append(b"x");
+            put_number(text, count);
+        }
+    }
+}

@@ -1,0 +1,79 @@
+//! What is shown: the layout of a chain, and how much of the pool is in use.
+ghost use Rattle.std.specs.Prelude.{◌≡◌, ℕ, ◌+◌, ◌*◌, ◌<◌, ◌≤◌, ◌++◌, length, flat_map, Some, Option};
+ghost use Rattle.mbuf_chain.specs.Chain.{IsLive, chain_of, references, string};
+ghost use Rattle.chain_script.specs.Lines.{Show, Ask_usage};
+ghost use Rattle.chain_script.specs.Steps.{Reply, Laid, Step, answer_text, shape_text, shapes_of, count_in};
+ghost use Rattle.chain_script.specs.Inside.{machine_of, Fits};
+
+use crate::fault::Fault;
+use crate::reply::{TEXT, put_done, put_mbuf, put_usage};
+use mbuf_chain::{Chain, Pool};
+use script_loop::{Buffer, put_number};
+
+/// The count of a cluster, where there is one.
+fn count_of(pool: &Pool, cluster: Option<u32>) -> Option<u32>
+    requires { (c : ℕ) → cluster ≡ Some c → c < pool.now.clusters }
+    ensures { result ≡ count_in (references pool.now) cluster }
+{
+    match cluster {
+        Some(cluster) => Some(pool.count(cluster)),
+        None => None,
+    }
+}
+
+/// All mbufs of a chain, in their order.
+fn put_mbufs(text: &mut Buffer<TEXT>, pool: &Pool, chain: &Chain)
+    requires live { IsLive pool.now chain.now }
+    requires text { length text.old + 23 * length (chain_of pool.now chain.now).entries ≤ 1572864 }
+    ensures items { text.new ≡ text.old
+        ++ flat_map shape_text (shapes_of (references pool.now) (chain_of pool.now chain.now).entries) }
+    ensures len { length text.new ≤ length text.old + 23 * length (chain_of pool.now chain.now).entries }
+{
+    let mut at = pool.first(chain);
+    'mbufs: loop {
+        let segment = pool.segment(chain, at);
+        put_mbuf(text, segment.len, count_of(pool, segment.cluster));
+        let Some(place) = pool.next(chain, at) else {
+            return;
+        };
+        at = place;
+    }
+}
+
+/// The line for the layout of a chain.
+fn put_layout(text: &mut Buffer<TEXT>, pool: &Pool, chain: &Chain)
+    requires live { IsLive pool.now chain.now }
+    requires text { length text.old ≤ 65536 }
+    ensures { text.new ≡ text.old ++ answer_text (Some (Laid (length (string (chain_of pool.now chain.now)))
+        (shapes_of (references pool.now) (chain_of pool.now chain.now).entries))) }
+{
+    pool.laws();
+    text.append(b"len ");
+    put_number(text, pool.len(chain));
+    put_mbufs(text, pool, chain);
+    text.append(b"\n");
+}
+
+/// Shows the layout of a slot's chain.
+pub fn show(pool: &Pool, chains: &[Option<Chain>], slot: usize, text: &mut Buffer<TEXT>)
+    requires slot { slot < length chains.now }
+    requires fits { Fits pool.now chains.now }
+    requires text { length text.old ≤ 65536 }
+    ensures { (reply : Reply) × Step (machine_of pool.now chains.now) (Show slot) reply (machine_of pool.now chains.now)
+        × (text.new ≡ text.old ++ answer_text (Some reply)) }
+{
+    match &chains[slot] {
+        Some(chain) => put_layout(text, pool, chain),
+        None => put_done(text, Err(Fault::Chain)),
+    }
+}
+
+/// Shows how much of the pool is in use.
+pub fn usage(pool: &Pool, chains: &[Option<Chain>], text: &mut Buffer<TEXT>)
+    requires fits { Fits pool.now chains.now }
+    requires text { length text.old ≤ 65536 }
+    ensures { (reply : Reply) × Step (machine_of pool.now chains.now) Ask_usage reply (machine_of pool.now chains.now)
+        × (text.new ≡ text.old ++ answer_text (Some reply)) }
+{
+    put_usage(text, pool.usage());
+}
