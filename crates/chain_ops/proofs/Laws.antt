@@ -4,5 +4,6 @@ pub mod Makes
 pub mod Rooms
 pub mod Steps
 pub mod Strings
+pub mod Stored
 pub mod Joins
 pub mod Weights
