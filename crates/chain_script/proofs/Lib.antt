@@ -8,3 +8,4 @@ pub mod Joined
 pub mod Signs
 pub mod Shown
 pub mod Booted
+pub mod Told

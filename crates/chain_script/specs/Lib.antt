@@ -5,3 +5,4 @@ pub mod Replies
 pub mod Calls
 pub mod Inside
 pub mod Boots
+pub mod Strings

@@ -4,12 +4,14 @@
 mod caller;
 mod calls;
 mod fault;
+mod laws;
 mod line;
 mod reply;
 mod runs;
 mod show;
 mod slots;
 
+pub use laws::strings_law;
 pub use mbuf_pool::Sizes;
 pub use runs::run_chains;
 pub use script_loop::{RunFault, Sink, Source, Untold};

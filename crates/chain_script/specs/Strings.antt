@@ -1,0 +1,107 @@
+-- The machine of the chain script by the strings of its slots alone (this project's own): what its answers say of bytes, whatever the layouts are.
+use Rattle.std.specs.Prelude.{◌≡◌, ℕ, ◌+◌, ◌==◌, ◌⊎◌, Bool, true, false, not, ◌&&◌, nat_lt, nat_le, List, [], ◌∷◌, ◌++◌, length, take, drop, map, is_some, unwrap_or, Option, Some, None, slice_set, slice_index_or}
+use Rattle.params.specs.declared.TheConstants.{MHLEN}
+use Rattle.flat_model.specs.declared.usage.Mbstat.{Mbstat}
+use Rattle.mbuf_chain.specs.Chain.{flat_bytes}
+use Rattle.chain_ops.specs.Extents.{extent_bytes}
+use Rattle.chain_ops.specs.Trims.{adjusted_bytes}
+use Rattle.chain_ops.specs.Writes.{written_bytes}
+use Rattle.chain_script.specs.Lines.{Request, IsRequest, User, Wire, Copy, Prepend, Pull_up, Adjust, Split, Join, Write_over, Read_out, Show, Free, Ask_usage}
+use Rattle.chain_script.specs.Machines.{Machine, Slot, is_range, is_too_long}
+use Rattle.chain_script.specs.Steps.{Shape, Reply, Ready, Held, Laid, Shown, Wrong_chain, Wrong_range, Shared, Too_long, Too_short, No_buffers, first_true, answer_text}
+
+-- ---- the strings of a machine
+abbrev pub string_in : Option Slot → Option (List ℕ)
+string_in None = None
+string_in (Some s) = Some (flat_bytes s.entries)
+
+abbrev pub strings_of : Machine → List (Option (List ℕ))
+strings_of b = map string_in b.slots
+
+abbrev pub string_at : List (Option (List ℕ)) → ℕ → Option (List ℕ)
+string_at ss i = slice_index_or ss i None
+
+-- no bytes where the slot is empty
+abbrev pub bytes_at : List (Option (List ℕ)) → ℕ → List ℕ
+bytes_at ss i = unwrap_or (string_at ss i) []
+
+abbrev pub has_string : List (Option (List ℕ)) → ℕ → Bool
+has_string ss i = is_some (string_at ss i)
+
+-- ---- the faults that strings tell, in their order
+abbrev pub has_strings : List (Option (List ℕ)) → Request → Bool
+has_strings ss (User slot bytes) = not (has_string ss slot)
+has_strings ss (Wire slot bytes) = not (has_string ss slot)
+has_strings ss (Copy to slot extent) = has_string ss slot && not (has_string ss to)
+has_strings ss (Prepend slot bytes) = has_string ss slot
+has_strings ss (Pull_up slot n) = has_string ss slot
+has_strings ss (Adjust slot n) = has_string ss slot
+has_strings ss (Split to slot at) = has_string ss slot && not (has_string ss to)
+has_strings ss (Join slot other) = has_string ss slot && (has_string ss other && not (slot == other))
+has_strings ss (Write_over slot off bytes) = has_string ss slot
+has_strings ss (Read_out slot off len) = has_string ss slot
+has_strings ss (Show slot) = has_string ss slot
+has_strings ss (Free slot) = has_string ss slot
+has_strings ss Ask_usage = true
+
+abbrev pub is_in_strings : List (Option (List ℕ)) → Request → Bool
+is_in_strings ss (Copy to slot extent) = is_range extent (length (bytes_at ss slot))
+is_in_strings ss (Prepend slot bytes) = nat_lt 0 (length bytes) && (nat_le (length bytes) MHLEN && nat_le (length bytes + length (bytes_at ss slot)) 65535)
+is_in_strings ss (Split to slot at) = nat_lt at (length (bytes_at ss slot))
+is_in_strings ss (Join slot other) = nat_le (length (bytes_at ss slot) + length (bytes_at ss other)) 65535
+is_in_strings ss (Write_over slot off bytes) = nat_le (off + length bytes) 65535
+is_in_strings ss (Read_out slot off len) = nat_le (off + len) (length (bytes_at ss slot))
+is_in_strings ss request = true
+
+abbrev pub is_string_short : List (Option (List ℕ)) → Request → Bool
+is_string_short ss (Pull_up slot n) = nat_lt (length (bytes_at ss slot)) n
+is_string_short ss request = false
+
+-- the first one that fits
+abbrev pub string_fault : List (Option (List ℕ)) → Request → Option Reply
+string_fault ss request = first_true (
+    (not (has_strings ss request), Wrong_chain)
+    ∷ (not (is_in_strings ss request), Wrong_range)
+    ∷ (is_too_long request, Too_long)
+    ∷ (is_string_short ss request, Too_short)
+    ∷ [])
+
+-- ---- what a request makes of the strings
+abbrev pub strings_after : List (Option (List ℕ)) → Request → List (Option (List ℕ))
+strings_after ss (User slot bytes) = slice_set ss slot (Some bytes)
+strings_after ss (Wire slot bytes) = slice_set ss slot (Some bytes)
+strings_after ss (Copy to slot extent) = slice_set ss to (Some (extent_bytes extent (bytes_at ss slot)))
+strings_after ss (Prepend slot bytes) = slice_set ss slot (Some (bytes ++ bytes_at ss slot))
+strings_after ss (Adjust slot n) = slice_set ss slot (Some (adjusted_bytes n (bytes_at ss slot)))
+strings_after ss (Split to slot at) = slice_set (slice_set ss slot (Some (take at (bytes_at ss slot)))) to (Some (drop at (bytes_at ss slot)))
+strings_after ss (Join slot other) = slice_set (slice_set ss other None) slot (Some (bytes_at ss slot ++ bytes_at ss other))
+strings_after ss (Write_over slot off bytes) = slice_set ss slot (Some (written_bytes (bytes_at ss slot) off bytes))
+strings_after ss (Free slot) = slice_set ss slot None
+strings_after ss request = ss
+
+-- the reply of a request that is done; of layouts and of the pool strings tell nothing
+abbrev pub TellsDone : List (Option (List ℕ)) → Request → Reply → Type 0
+TellsDone ss (Read_out slot off len) reply = reply ≡ Held (take len (drop off (bytes_at ss slot)))
+TellsDone ss (Show slot) reply = (shapes : List Shape) × (reply ≡ Laid (length (bytes_at ss slot)) shapes)
+TellsDone ss Ask_usage reply = (usage : Mbstat) × (reply ≡ Shown usage)
+TellsDone ss request reply = reply ≡ Ready
+
+-- it was refused for want of buffers or for a shared cluster, which strings don't tell, and nothing has changed
+abbrev pub IsUntold : List (Option (List ℕ)) → Reply → List (Option (List ℕ)) → Type 0
+IsUntold old reply new = ((reply ≡ No_buffers) ⊎ (reply ≡ Shared)) × (new ≡ old)
+
+abbrev pub TellsUnless : Option Reply → List (Option (List ℕ)) → Request → Reply → List (Option (List ℕ)) → Type 0
+TellsUnless (Some fault) old request reply new = (reply ≡ fault) × (new ≡ old)
+TellsUnless None old request reply new = IsUntold old reply new ⊎ (TellsDone old request reply × (new ≡ strings_after old request))
+
+-- from the strings old a request may have this reply and lead to the strings new
+abbrev pub StringStep : List (Option (List ℕ)) → Request → Reply → List (Option (List ℕ)) → Type 0
+StringStep old request reply new = TellsUnless (string_fault old request) old request reply new
+
+-- ---- lines
+abbrev pub StringAnswers : List (Option (List ℕ)) → List ℕ → Option Reply → List (Option (List ℕ)) → Type 0
+StringAnswers old line (Some reply) new = (request : Request) × IsRequest line request × StringStep old request reply new
+StringAnswers old line None new = ((request : Request) → ¬ IsRequest line request) × (new ≡ old)
+
+abbrev pub StringSays : List (Option (List ℕ)) → List ℕ → List ℕ → List (Option (List ℕ)) → Type 0
+StringSays old line text new = (answer : Option Reply) × StringAnswers old line answer new × (text ≡ answer_text answer)
