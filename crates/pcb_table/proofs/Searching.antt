@@ -1,13 +1,12 @@
 -- The youngest and the best block of a list, one block further on.
-use Rattle.std.proofs.Common.{◌≡◌, ◌≢◌, ℕ, zero, suc, ◌+◌, ◌<◌, ◌≤◌, Bool, true, false, ◌&&◌, ◌==◌, cond, List, [], ◌∷◌, ◌++◌, take, drop, length, get_or, Option, Some, None, is_some, find, count_by, refl, sym, ap, ◌∙◌, subst, arith, ◌⊎◌, inl, inr}
+use Rattle.std.proofs.Common.{◌≡◌, ◌≢◌, ℕ, zero, suc, ◌+◌, ◌<◌, ◌≤◌, Bool, true, false, ◌&&◌, ◌==◌, cond, List, [], ◌∷◌, ◌++◌, take, take_all, ◌-◌, drop, length, get_or, Option, Some, None, is_some, find, count_by, refl, sym, ap, ◌∙◌, subst, arith, ◌⊎◌, inl, inr, append_assoc, append-nil}
 use Rattle.std.specs.Option.{option_or}
 use Rattle.std.proofs.lemmas.List.Folds.{find-append}
-use Rattle.std.proofs.lemmas.List.{take_more, take-append-drop}
 use Rattle.std.proofs.lemmas.List.Sums.{sum_by-cons}
 use Rattle.std.proofs.lemmas.Bool.{and_parts, false≢true}
-use Rattle.flat_model.specs.Lookup.{Sought, wildcards, one_sided}
+use Rattle.flat_model.specs.Lookup.{Sought, agree, are_same, is_addr, wildcards, one_sided}
 use Rattle.pcb_table.specs.declared.block.Block.{Block}
-use Rattle.pcb_table.specs.Search.{plain, does_match, has_score, youngest_block, best_block}
+use Rattle.pcb_table.specs.Search.{plain, does_agree, does_match, from_port, has_port, has_score, youngest_block, best_block}
 
 -- ---- one block further on
 
@@ -126,36 +125,127 @@ seen_stays q xs x found fewest met some no_fewer s = elim (wildcards_cases q x s
 
 -- ---- the walk through a list
 
+abbrev pub FirstHas : ℕ → List Block → Type 0
+FirstHas port [] = Unit {0}
+FirstHas port (b ∷ bs) = has_port port b ≡ true
+
+-- where a walk stands: what lies behind it, and what it has seen before that
+pub record Walked (q : Sought) (whole rest : List Block) (found : Option Block) (fewest : ℕ) : Type 0 where
+  pub done : List Block
+  pub cut : done ++ rest ≡ whole
+  pub seen : Seen q done found fewest
+
+-- the same at a block that has the port, or at the end
+record Reached (q : Sought) (port : ℕ) (whole rest : List Block) (found : Option Block) (fewest : ℕ) : Type 0 where
+  pub done : List Block
+  pub cut : done ++ rest ≡ whole
+  pub first : FirstHas port rest
+  pub seen : Seen q done found fewest
+
+both : (a b c : Bool) → ((a && b) && c) ≡ (a && (b && c))
+both true b c = refl
+both false b c = refl
+
+matches_both : (q : Sought) (x : Block) → does_match q x ≡ (are_same x.port q.port && does_agree q x)
+matches_both q x = both (are_same x.port q.port) (agree ◌==◌ x.local q.local) (agree is_addr x.peer q.peer)
+
+match_by_parts : (q : Sought) (port : ℕ) (x : Block) (p a : Bool) → q.port ≡ Some port → has_port port x ≡ p → does_agree q x ≡ a → does_match q x ≡ (p && a)
+match_by_parts q port x p a is has agrees = matches_both q x ∙ ap (λ o. are_same x.port o && does_agree q x) is ∙ (λ i. has i && agrees i)
+
+-- a block with another port doesn't match
+missed_by_port : (q : Sought) (port : ℕ) (x : Block) → q.port ≡ Some port → has_port port x ≡ false → does_match q x ≡ false
+missed_by_port q port x is has = match_by_parts q port x false (does_agree q x) is has refl
+
+reached_from : (q : Sought) (port : ℕ) (done behind : List Block) (found : Option Block) (fewest : ℕ) → q.port ≡ Some port → Seen q done found fewest → Reached q port (done ++ behind) (from_port port behind) found fewest
+reached_from q port done [] found fewest is s = record { done = done; cut = refl; first = tt; seen = s }
+reached_from q port done (b ∷ bs) found fewest is s =
+    go (λ lacks. reached_from q port (done ++ b ∷ []) bs found fewest is (seen_skips q done b found fewest (missed_by_port q port b is lacks) s)) (has_port port b) refl
+  where
+    go : (has_port port b ≡ false → Reached q port ((done ++ b ∷ []) ++ bs) (from_port port bs) found fewest) → (t : Bool) → has_port port b ≡ t → Reached q port (done ++ b ∷ bs) (cond t (b ∷ bs) (from_port port bs)) found fewest
+    go later true has = record { done = done; cut = refl; first = has; seen = s }
+    go later false lacks = let more = later lacks in record { done = more.done; cut = more.cut ∙ append_assoc done (b ∷ []) bs; first = more.first; seen = more.seen }
+
+reached : (q : Sought) (port : ℕ) (whole behind rest : List Block) (found : Option Block) (fewest : ℕ) → q.port ≡ Some port → rest ≡ from_port port behind → Walked q whole behind found fewest → Reached q port whole rest found fewest
+reached q port whole behind rest found fewest is e w =
+    subst (λ (ys : List Block). Reached q port whole ys found fewest) (sym e) (subst (λ (ys : List Block). Reached q port ys (from_port port behind) found fewest) w.cut (reached_from q port w.done behind found fewest is w.seen))
+
+pub walk_begins : (q : Sought) (bs : List Block) → Walked q bs bs None 3
+walk_begins q bs = record { done = []; cut = refl; seen = record { exact = refl; found_is = refl; fewest_is = refl } }
+
+-- behind a block that has the port, whatever was made of it
+walk_on : (q : Sought) (port : ℕ) (whole behind rest next : List Block) (d : Block) (found now : Option Block) (fewest later : ℕ) → q.port ≡ Some port → rest ≡ from_port port behind → 1 ≤ length rest → next ≡ take (length rest - 1) (drop 1 rest)
+    → Walked q whole behind found fewest
+    → ((done : List Block) → FirstHas port rest → Seen q done found fewest → Seen q (done ++ get_or rest 0 d ∷ []) now later)
+    → Walked q whole next now later
+walk_on q port whole behind [] next d found now fewest later is at long e w step = absurd (omega arith)
+walk_on q port whole behind (b ∷ bs) next d found now fewest later is at long e w step =
+    let r = reached q port whole behind (b ∷ bs) found fewest is at w in
+    subst (λ (ys : List Block). Walked q whole ys now later) (sym (e ∙ take_all (suc (length bs) - 1) bs (omega arith)))
+    (record { done = r.done ++ b ∷ []; cut = append_assoc r.done (b ∷ []) bs ∙ r.cut; seen = step r.done r.first r.seen })
+
+first_matches : (q : Sought) (port : ℕ) (rest : List Block) (d : Block) (a : Bool) → q.port ≡ Some port → 1 ≤ length rest → FirstHas port rest → does_agree q (get_or rest 0 d) ≡ a → does_match q (get_or rest 0 d) ≡ a
+first_matches q port [] d a is long has agrees = absurd (omega arith)
+first_matches q port (b ∷ bs) d a is long has agrees = match_by_parts q port b true a is has agrees
+
+pub walk_gets : (q : Sought) (port : ℕ) (whole behind rest next : List Block) (d : Block) (found now : Option Block) (fewest later w : ℕ) → q.port ≡ Some port → rest ≡ from_port port behind → 1 ≤ length rest → next ≡ take (length rest - 1) (drop 1 rest) → does_agree q (get_or rest 0 d) ≡ true
+    → w ≡ wildcards q (plain (get_or rest 0 d)) → w ≢ 0 → w < fewest → now ≡ Some (get_or rest 0 d) → later ≡ w → Walked q whole behind found fewest → Walked q whole next now later
+walk_gets q port whole behind rest next d found now fewest later w is e long f agrees count some fewer n l at =
+    walk_on q port whole behind rest next d found now fewest later is e long f at (λ done has s.
+    subst (λ (k : ℕ). Seen q (done ++ get_or rest 0 d ∷ []) now k) (sym (l ∙ count))
+    (subst (λ (o : Option Block). Seen q (done ++ get_or rest 0 d ∷ []) o (wildcards q (plain (get_or rest 0 d)))) (sym n)
+    (seen_gets q done (get_or rest 0 d) found fewest (first_matches q port rest d true is long has agrees) (λ e. some (count ∙ e)) (subst (λ (k : ℕ). k < fewest) count fewer) s)))
+
+seen_same : (q : Sought) (xs : List Block) (found now : Option Block) (fewest later : ℕ) → now ≡ found → later ≡ fewest → Seen q xs found fewest → Seen q xs now later
+seen_same q xs found now fewest later n l s = record { exact = s.exact; found_is = n ∙ s.found_is; fewest_is = l ∙ s.fewest_is }
+
+pub walk_stays : (q : Sought) (port : ℕ) (whole behind rest next : List Block) (d : Block) (found now : Option Block) (fewest later w : ℕ) → q.port ≡ Some port → rest ≡ from_port port behind → 1 ≤ length rest → next ≡ take (length rest - 1) (drop 1 rest) → does_agree q (get_or rest 0 d) ≡ true
+    → w ≡ wildcards q (plain (get_or rest 0 d)) → w ≢ 0 → fewest ≤ w → now ≡ found → later ≡ fewest → Walked q whole behind found fewest → Walked q whole next now later
+walk_stays q port whole behind rest next d found now fewest later w is e long f agrees count some no_fewer n l at =
+    walk_on q port whole behind rest next d found now fewest later is e long f at (λ done has s.
+    seen_same q (done ++ get_or rest 0 d ∷ []) found now fewest later n l
+    (seen_stays q done (get_or rest 0 d) found fewest (first_matches q port rest d true is long has agrees) (λ e. some (count ∙ e)) (subst (λ (k : ℕ). fewest ≤ k) count no_fewer) s))
+
+pub walk_skips : (q : Sought) (port : ℕ) (whole behind rest next : List Block) (d : Block) (found now : Option Block) (fewest later : ℕ) → q.port ≡ Some port → rest ≡ from_port port behind → 1 ≤ length rest → next ≡ take (length rest - 1) (drop 1 rest) → does_agree q (get_or rest 0 d) ≡ false
+    → now ≡ found → later ≡ fewest → Walked q whole behind found fewest → Walked q whole next now later
+walk_skips q port whole behind rest next d found now fewest later is e long f differs n l at =
+    walk_on q port whole behind rest next d found now fewest later is e long f at (λ done has s.
+    seen_same q (done ++ get_or rest 0 d ∷ []) found now fewest later n l
+    (seen_skips q done (get_or rest 0 d) found fewest (first_matches q port rest d false is long has differs) s))
+
 -- a block without a wildcard, none before it having been so, is the best
-pub best_here : (q : Sought) (xs : List Block) (i : ℕ) (d : Block) (found : Option Block) (fewest : ℕ) → i < length xs → does_match q (get_or xs i d) ≡ true → wildcards q (plain (get_or xs i d)) ≡ 0 → Seen q (take i xs) found fewest → Some (get_or xs i d) ≡ best_block q xs
-best_here q xs i d found fewest lt met none s =
-    let x = get_or xs i d in
-    let here : youngest_block 0 q (take (i + 1) xs) ≡ Some (get_or xs i d) =
-    ap (youngest_block 0 q) (take_more xs i d lt) ∙ youngest_gets 0 q (take i xs) x (score_is q x 0 0 met none) s.exact in
-    let all : youngest_block 0 q xs ≡ Some (get_or xs i d) =
-    ap (youngest_block 0 q) (sym (take-append-drop (i + 1) xs)) ∙ youngest_stays 0 q (take (i + 1) xs) (drop (i + 1) xs) x here in
-    sym (ap (λ o. option_or o (option_or (youngest_block 1 q xs) (youngest_block 2 q xs))) all)
+pub best_here : (q : Sought) (port : ℕ) (whole behind rest : List Block) (d : Block) (found : Option Block) (fewest : ℕ) → q.port ≡ Some port → rest ≡ from_port port behind → 1 ≤ length rest → does_agree q (get_or rest 0 d) ≡ true
+    → wildcards q (plain (get_or rest 0 d)) ≡ 0 → Walked q whole behind found fewest → Some (get_or rest 0 d) ≡ best_block q whole
+best_here q port whole behind [] d found fewest is e long agrees none w = absurd (omega arith)
+best_here q port whole behind (b ∷ bs) d found fewest is e long agrees none w =
+    let at = reached q port whole behind (b ∷ bs) found fewest is e w in
+    let here : youngest_block 0 q (at.done ++ b ∷ []) ≡ Some b =
+    youngest_gets 0 q at.done b (score_is q b 0 0 (match_by_parts q port b true true is at.first agrees) none) at.seen.exact in
+    let all : youngest_block 0 q whole ≡ Some b =
+    ap (youngest_block 0 q) (sym (append_assoc at.done (b ∷ []) bs ∙ at.cut)) ∙ youngest_stays 0 q (at.done ++ b ∷ []) bs b here in
+    sym (ap (λ o. option_or o (option_or (youngest_block 1 q whole) (youngest_block 2 q whole))) all)
 
-pub walk_gets : (q : Sought) (xs : List Block) (i : ℕ) (d : Block) (found now : Option Block) (fewest later w : ℕ) → i < length xs → does_match q (get_or xs i d) ≡ true → w ≡ wildcards q (plain (get_or xs i d)) → w ≢ 0 → w < fewest → now ≡ Some (get_or xs i d) → later ≡ w → Seen q (take i xs) found fewest → Seen q (take (i + 1) xs) now later
-walk_gets q xs i d found now fewest later w lt met is some fewer n l s =
-    let more = seen_gets q (take i xs) (get_or xs i d) found fewest met (λ e. some (is ∙ e)) (subst (λ (k : ℕ). k < fewest) is fewer) s in
-    subst (λ (ys : List Block). Seen q ys now later) (sym (take_more xs i d lt))
-    (subst (λ (k : ℕ). Seen q (take i xs ++ get_or xs i d ∷ []) now k) (sym (l ∙ is))
-    (subst (λ (o : Option Block). Seen q (take i xs ++ get_or xs i d ∷ []) o (wildcards q (plain (get_or xs i d)))) (sym n) more))
+-- the walk is over
+pub best_seen : (q : Sought) (port : ℕ) (whole behind rest : List Block) (found : Option Block) (fewest : ℕ) → q.port ≡ Some port → rest ≡ from_port port behind → length rest < 1 → Walked q whole behind found fewest → found ≡ best_block q whole
+best_seen q port whole behind (b ∷ bs) found fewest is e short w = absurd (omega arith)
+best_seen q port whole behind [] found fewest is e short w =
+    let at = reached q port whole behind [] found fewest is e w in
+    let all : at.done ≡ whole = sym (append-nil at.done) ∙ at.cut in
+    at.seen.found_is ∙ sym (ap (λ o. option_or o (option_or (youngest_block 1 q at.done) (youngest_block 2 q at.done))) at.seen.exact) ∙ ap (best_block q) all
 
-walk_on : (q : Sought) (xs : List Block) (i : ℕ) (d : Block) (found now : Option Block) (fewest later : ℕ) → i < length xs → now ≡ found → later ≡ fewest → Seen q (take i xs ++ get_or xs i d ∷ []) found fewest → Seen q (take (i + 1) xs) now later
-walk_on q xs i d found now fewest later lt n l more =
-    subst (λ (ys : List Block). Seen q ys now later) (sym (take_more xs i d lt))
-    (subst (λ (k : ℕ). Seen q (take i xs ++ get_or xs i d ∷ []) now k) (sym l)
-    (subst (λ (o : Option Block). Seen q (take i xs ++ get_or xs i d ∷ []) o fewest) (sym n) more))
+-- nothing is found for want of a port
+no_port_meets : (q : Sought) (x : Block) → q.port ≡ None → does_match q x ≡ false
+no_port_meets q x is = matches_both q x ∙ ap (λ o. are_same x.port o && does_agree q x) is ∙ unset x.port
+  where
+    unset : (o : Option ℕ) → (are_same o None && does_agree q x) ≡ false
+    unset None = refl
+    unset (Some p) = refl
 
-pub walk_stays : (q : Sought) (xs : List Block) (i : ℕ) (d : Block) (found now : Option Block) (fewest later w : ℕ) → i < length xs → does_match q (get_or xs i d) ≡ true → w ≡ wildcards q (plain (get_or xs i d)) → w ≢ 0 → fewest ≤ w → now ≡ found → later ≡ fewest → Seen q (take i xs) found fewest → Seen q (take (i + 1) xs) now later
-walk_stays q xs i d found now fewest later w lt met is some no_fewer n l s =
-    walk_on q xs i d found now fewest later lt n l (seen_stays q (take i xs) (get_or xs i d) found fewest met (λ e. some (is ∙ e)) (subst (λ (k : ℕ). fewest ≤ k) is no_fewer) s)
+none_youngest : (k : ℕ) (q : Sought) (xs : List Block) → q.port ≡ None → youngest_block k q xs ≡ None
+none_youngest k q [] is = refl
+none_youngest k q (x ∷ xs) is = ap (λ t. cond (t && (wildcards q (plain x) == k)) (Some x) (youngest_block k q xs)) (no_port_meets q x is) ∙ none_youngest k q xs is
 
-pub walk_skips : (q : Sought) (xs : List Block) (i : ℕ) (d : Block) (found now : Option Block) (fewest later : ℕ) → i < length xs → does_match q (get_or xs i d) ≡ false → now ≡ found → later ≡ fewest → Seen q (take i xs) found fewest → Seen q (take (i + 1) xs) now later
-walk_skips q xs i d found now fewest later lt missed n l s =
-    walk_on q xs i d found now fewest later lt n l (seen_skips q (take i xs) (get_or xs i d) found fewest missed s)
+pub none_best : (q : Sought) (xs : List Block) → q.port ≡ None → None ≡ best_block q xs
+none_best q xs is = sym (λ i. option_or (none_youngest 0 q xs is i) (option_or (none_youngest 1 q xs is i) (none_youngest 2 q xs is i)))
 
 -- ---- a block that is found is there
 
@@ -181,3 +271,17 @@ best_counts q bs e = go (youngest_block 0 q bs) (youngest_block 1 q bs) refl ref
     go (Some x) b e f g = found_counts (has_score 0 q) (does_match q) (follows 0) bs (ap is_some e)
     go None (Some x) e f g = found_counts (has_score 1 q) (does_match q) (follows 1) bs (ap is_some f)
     go None None e f g = found_counts (has_score 2 q) (does_match q) (follows 2) bs g
+
+-- ---- a walk ends
+
+from_port_most : (port : ℕ) (bs : List Block) → length (from_port port bs) ≤ length bs
+from_port_most port [] = omega arith
+from_port_most port (b ∷ bs) = go (from_port_most port bs) (has_port port b)
+  where
+    go : length (from_port port bs) ≤ length bs → (t : Bool) → length (cond t (b ∷ bs) (from_port port bs)) ≤ length (b ∷ bs)
+    go rest true = omega arith
+    go rest false = omega arith
+
+pub walk_shortens : (port : ℕ) (behind rest next : List Block) → rest ≡ from_port port behind → 1 ≤ length rest → next ≡ take (length rest - 1) (drop 1 rest) → length next < length behind
+walk_shortens port behind [] next e long f = absurd (omega arith)
+walk_shortens port behind (b ∷ bs) next e long f = omega (arith, ap length (f ∙ take_all (suc (length bs) - 1) bs (omega arith)), ap length e, from_port_most port behind)

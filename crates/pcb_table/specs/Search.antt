@@ -3,7 +3,7 @@
 use Rattle.std.specs.Prelude.{◌≡◌, ℕ, ◌<◌, Bool, true, false, ◌==◌, ◌&&◌, ◌||◌, not, if◌then◌else◌, List, [], ◌∷◌, filter, find, Option, Some, None, is_some}
 use Rattle.std.specs.Option.{option_or}
 use Rattle.flat_model.specs.State.{Socket}
-use Rattle.flat_model.specs.Lookup.{Sought, matches, wildcards, up_to_first}
+use Rattle.flat_model.specs.Lookup.{Sought, agree, are_same, is_addr, matches, wildcards, up_to_first}
 use Rattle.flat_model.specs.Calls.{port_behind, is_ours, is_reached, source_for, unless_zero}
 use Rattle.flat_model.specs.declared.address.Addr.{Addr}
 use Rattle.flat_model.specs.declared.config.Config.{Config}
@@ -19,6 +19,18 @@ plain b = socket_with (λ _. []) b
 
 abbrev pub does_match : Sought → Block → Bool
 does_match q b = matches q (plain b)
+
+-- the two parts of that: the port, and the addresses
+abbrev pub has_port : ℕ → Block → Bool
+has_port port b = are_same b.port (Some port)
+
+abbrev pub does_agree : Sought → Block → Bool
+does_agree q b = agree ◌==◌ b.local q.local && agree is_addr b.peer q.peer
+
+-- the blocks from the first one that has the port on
+abbrev pub from_port : ℕ → List Block → List Block
+from_port port [] = []
+from_port port (b ∷ bs) = if has_port port b then b ∷ bs else from_port port bs
 
 abbrev pub has_score : ℕ → Sought → Block → Bool
 has_score k q b = does_match q b && (wildcards q (plain b) == k)

@@ -3,7 +3,7 @@ ghost use Rattle.flat_model.specs.Lookup as flat;
 ghost use Rattle.flat_model.specs.Lookup.{agree, is_addr, one_sided, wildcards};
 ghost use Rattle.pcb_table.specs.Table.{packet_sought};
 ghost use Rattle.pcb_table.specs.Changed.{block_with_option, bound_block, connected_block, connection_of, disconnected_block, unbound_block};
-ghost use Rattle.pcb_table.specs.Search.{does_match, has_score, plain};
+ghost use Rattle.pcb_table.specs.Search.{does_agree, does_match, has_port, has_score, plain};
 
 use flat_model::{Addr, LookupKey, Opt};
 
@@ -112,13 +112,28 @@ impl Block {
         }
     }
 
+    /// Whether the block has this port.
+    pub(crate) fn has_port(&self, port: u16) -> bool
+        ensures { result ≡ has_port port self.now }
+    {
+        match self.port {
+            Some(own) => own == port,
+            None => false,
+        }
+    }
+
+    /// Whether the block differs in no address that both have set.
+    pub(crate) fn agrees(&self, key: &LookupKey) -> bool
+        ensures { result ≡ does_agree key.now self.now }
+    {
+        address_agrees(self.local, key.local) && peer_agrees(self.peer, key.peer)
+    }
+
     /// Whether the block has the port that is looked for, and differs in no address that both have set.
     pub(crate) fn meets(&self, key: &LookupKey) -> bool
         ensures { result ≡ does_match key.now self.now }
     {
-        are_same(self.port, key.port)
-            && address_agrees(self.local, key.local)
-            && peer_agrees(self.peer, key.peer)
+        are_same(self.port, key.port) && self.agrees(key)
     }
 
     /// How many of the two sides, local and foreign, one alone has set.

@@ -1,6 +1,6 @@
-ghost use Rattle.std.specs.Prelude.{◌≡◌, ℕ, ◌==◌, ◌+◌, ◌<◌, ◌≤◌, length, map, find, position, IsSome, slice_set};
+ghost use Rattle.std.specs.Prelude.{◌≡◌, ℕ, ◌==◌, ◌+◌, ◌<◌, ◌≤◌, length, map, find, option_copied, position, IsSome, slice_set};
 ghost use Rattle.arrayvec.specs.ArrayVec.{array_vec_len};
-ghost use Rattle.pcb_table.specs.Search.{best_block, hearing_blocks, youngest_block};
+ghost use Rattle.pcb_table.specs.Search.{best_block, from_port, hearing_blocks, youngest_block};
 ghost use Rattle.pcb_table.specs.Sound.{IsLocated, Locates, has_fd};
 
 use crate::block::Block;
@@ -57,35 +57,69 @@ pub(crate) fn block_of(blocks: &[Block], fd: u32) -> Option<Block>
     blocks.iter().copied().find(|block| block.fd == fd)
 }
 
-/// The youngest of the blocks that meet the key with the fewest wildcards.
-pub(crate) fn best(blocks: &[Block], key: LookupKey) -> Option<Block>
-    ensures { result ≡ best_block key blocks.now }
+/// The blocks from the first one that has the port on.
+// Four at a time, since a walk's time goes by the blocks that have another port.
+fn from_port(blocks: &[Block], port: u16) -> &[Block]
+    ensures { result.now ≡ from_port port blocks.now }
 {
-    let mut found: Option<Block> = None;
+    let mut rest = blocks;
+    while let [first, second, third, fourth, after @ ..] = rest {
+        if first.has_port(port) {
+            return rest;
+        }
+        if second.has_port(port) {
+            return &rest[1..];
+        }
+        if third.has_port(port) {
+            return &rest[2..];
+        }
+        if fourth.has_port(port) {
+            return &rest[3..];
+        }
+        rest = after;
+    }
+    while let [block, after @ ..] = rest {
+        if block.has_port(port) {
+            return rest;
+        }
+        rest = after;
+    }
+    rest
+}
+
+/// The youngest of the blocks that meet the key with the fewest wildcards.
+// Inlined, so that what a caller's key has set isn't asked at each block.
+#[inline(always)]
+pub(crate) fn best(blocks: &[Block], key: LookupKey) -> Option<&Block>
+    ensures { option_copied result ≡ best_block key blocks.now }
+{
+    let Some(port) = key.port else {
+        return None;
+    };
+    let mut found: Option<&Block> = None;
     let mut fewest = 3;
-    for block in blocks {
-        if block.meets(&key) {
+    let mut rest = blocks;
+    while let [block, after @ ..] = from_port(rest, port) {
+        if block.agrees(&key) {
             let wildcards = block.wildcards(&key);
             if wildcards == 0 {
-                return Some(*block);
+                return Some(block);
             }
             if wildcards < fewest {
                 fewest = wildcards;
-                found = Some(*block);
+                found = Some(block);
             }
         }
+        rest = after;
     }
     found
 }
 
 /// The youngest of the blocks that meet the key without a wildcard.
-pub(crate) fn exact(blocks: &[Block], key: LookupKey) -> Option<Block>
-    ensures { result ≡ youngest_block 0 key blocks.now }
+pub(crate) fn exact(blocks: &[Block], key: LookupKey) -> Option<&Block>
+    ensures { option_copied result ≡ youngest_block 0 key blocks.now }
 {
-    blocks
-        .iter()
-        .copied()
-        .find(|block| block.meets_exactly(&key))
+    blocks.iter().find(|block| block.meets_exactly(&key))
 }
 
 /// The descriptors of the blocks that meet the key, the youngest first, up to and with the first one

@@ -1,18 +1,37 @@
-use Rattle.std.proofs.Common.{◌∙◌, sym}
-use Rattle.pcb_table.proofs.Searching.{best_here, walk_gets, walk_stays, walk_skips}
+use Rattle.std.proofs.Common.{◌∙◌, refl, sym}
+use Rattle.pcb_table.proofs.Searching.{best_here, best_seen, none_best, walk_begins, walk_gets, walk_shortens, walk_skips, walk_stays}
 use Rattle.pcb_table.proofs.search.best.Goals as goal
-use Rattle.pcb_table.proofs.search.best.Goals.{then-meets+else-wildcards-eq0+then-wildcards-fewest, then-meets+else-wildcards-eq0+else-wildcards-fewest, else-meets}
+
+pub returns-in_default : goal.returns-in_default
+returns-in_default c = none_best c.args.key c.args.blocks.now c.in_default.is
+
+pub loop-key-init : goal.loop-key-init
+loop-key-init c = walk_begins _ _
 
 pub returns-then-wildcards-eq0 : goal.returns-then-wildcards-eq0
 returns-then-wildcards-eq0 c =
-    best_here _ _ _ _ _ _ c.loop-block-test.true (sym c.meets.ensures ∙ c.if-meets.true) (sym c.wildcards-wildcards.ensures ∙ c.if-wildcards-eq0.true) c.loop-block.invariant
+    best_here _ _ _ _ _ _ _ _ c.in-Some.is c.from_port.ensures c.in-len1-up.len_at_least (sym c.agrees.ensures ∙ c.if-agrees.true) (sym c.wildcards-wildcards.ensures ∙ c.if-wildcards-eq0.true) c.loop-key.invariant
 
-pub loop-block-preserved : goal.loop-block-preserved
-loop-block-preserved c = elim c.if-meets.branch [
-  | then-meets+else-wildcards-eq0+then-wildcards-fewest w ↦
-      walk_gets _ _ _ _ _ _ _ _ _ c.loop-block-test.true (sym c.meets.ensures ∙ w.if-meets.true) w.wildcards-wildcards.ensures w.if-wildcards-eq0.false w.if-wildcards-fewest.true w.found-is w.fewest-is c.loop-block.invariant
-  | then-meets+else-wildcards-eq0+else-wildcards-fewest w ↦
-      walk_stays _ _ _ _ _ _ _ _ _ c.loop-block-test.true (sym c.meets.ensures ∙ w.if-meets.true) w.wildcards-wildcards.ensures w.if-wildcards-eq0.false w.if-wildcards-fewest.false w.found-is w.fewest-is c.loop-block.invariant
-  | else-meets w ↦
-      walk_skips _ _ _ _ _ _ _ _ c.loop-block-test.true (sym c.meets.ensures ∙ w.if-meets.false) w.found-is w.fewest-is c.loop-block.invariant
-]
+pub loop-key-smaller-then-wildcards-fewest : goal.loop-key-smaller-then-wildcards-fewest
+loop-key-smaller-then-wildcards-fewest c = walk_shortens _ _ _ _ c.from_port.ensures c.in-len1-up.len_at_least refl
+
+pub loop-key-smaller-else-wildcards-fewest : goal.loop-key-smaller-else-wildcards-fewest
+loop-key-smaller-else-wildcards-fewest c = walk_shortens _ _ _ _ c.from_port.ensures c.in-len1-up.len_at_least refl
+
+pub loop-key-smaller : goal.loop-key-smaller
+loop-key-smaller c = walk_shortens _ _ _ _ c.from_port.ensures c.in-len1-up.len_at_least refl
+
+pub loop-key-preserved-then-wildcards-fewest : goal.loop-key-preserved-then-wildcards-fewest
+loop-key-preserved-then-wildcards-fewest c =
+    walk_gets _ _ _ _ _ _ _ _ _ _ _ _ c.in-Some.is c.from_port.ensures c.in-len1-up.len_at_least refl (sym c.agrees.ensures ∙ c.if-agrees.true) c.wildcards-wildcards.ensures c.if-wildcards-eq0.false c.if-wildcards-fewest.true refl refl c.loop-key.invariant
+
+pub loop-key-preserved-else-wildcards-fewest : goal.loop-key-preserved-else-wildcards-fewest
+loop-key-preserved-else-wildcards-fewest c =
+    walk_stays _ _ _ _ _ _ _ _ _ _ _ _ c.in-Some.is c.from_port.ensures c.in-len1-up.len_at_least refl (sym c.agrees.ensures ∙ c.if-agrees.true) c.wildcards-wildcards.ensures c.if-wildcards-eq0.false c.if-wildcards-fewest.false refl refl c.loop-key.invariant
+
+pub loop-key-preserved : goal.loop-key-preserved
+loop-key-preserved c =
+    walk_skips _ _ _ _ _ _ _ _ _ _ _ c.in-Some.is c.from_port.ensures c.in-len1-up.len_at_least refl (sym c.agrees.ensures ∙ c.if-agrees.false) refl refl c.loop-key.invariant
+
+pub returns : goal.returns
+returns c = best_seen _ _ _ _ _ _ _ c.in-Some.is c.from_port.ensures c.in_default-from_port.len_below c.loop-key.invariant

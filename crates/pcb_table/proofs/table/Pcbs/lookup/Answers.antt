@@ -1,4 +1,5 @@
 use Rattle.std.proofs.Common.{ℕ, Some, None, ap, sym, subst, ◌∙◌}
+use Rattle.std.specs.Prelude.{option_copied}
 use Rattle.pcb_table.specs.Table.{Table, IsDescriptor, packet_sought}
 use Rattle.pcb_table.specs.Search.{best_block}
 use Rattle.pcb_table.specs.Sound.{IsCached}
@@ -29,8 +30,8 @@ returns-then-has_ends-clause-range c =
 pub invariant_of-self : goal.invariant_of-self
 invariant_of-self c =
     let q = packet_sought c.args.destination c.args.port c.args.source in
-    let cached = cached_by_best q c.self.inside.blocks.items c.in-Some-best.block (ap (best_block (packet_sought c.args.destination c.args.port c.args.source)) (sym c.as_slice.ensures.value)
-    ∙ ap (λ q. best_block q c.as_slice.result.now) (sym c.key_of_packet.ensures) ∙ sym c.best.ensures ∙ c.in-Some-best.is) in
+    let cached = cached_by_best q c.self.inside.blocks.items c.in-Some-best.block.now (ap (best_block (packet_sought c.args.destination c.args.port c.args.source)) (sym c.as_slice.ensures.value)
+    ∙ ap (λ q. best_block q c.as_slice.result.now) (sym c.key_of_packet.ensures) ∙ sym c.best.ensures ∙ ap option_copied c.in-Some-best.is) in
     (c.self.invariant.0, subst (IsCached c.self.inside.blocks.items) (sym c.connection-self-inside.ensures) cached, c.self.invariant.2)
 
 pub returns-in-None-clause-found : goal.returns-in-None-clause-found
@@ -38,17 +39,17 @@ returns-in-None-clause-found c =
     let q = packet_sought c.args.destination c.args.port c.args.source in
     subst (λ (t : Table). Finds (flat.best q) t None) c.self.view_is
     (best_none c.self.inside.interface c.self.inside.blocks.items c.self.inside.last_port q (ap (best_block (packet_sought c.args.destination c.args.port c.args.source)) (sym c.as_slice.ensures.value)
-    ∙ ap (λ q. best_block q c.as_slice.result.now) (sym c.key_of_packet.ensures) ∙ sym c.best.ensures ∙ c.in-None.is))
+    ∙ ap (λ q. best_block q c.as_slice.result.now) (sym c.key_of_packet.ensures) ∙ sym c.best.ensures ∙ ap option_copied c.in-None.is))
 
 pub returns-in-Some-best-clause-found : goal.returns-in-Some-best-clause-found
 returns-in-Some-best-clause-found c =
     let q = packet_sought c.args.destination c.args.port c.args.source in
-    subst (λ (t : Table). Finds (flat.best q) t (Some c.in-Some-best.block.fd)) c.self.view_is
-    (best_some c.self.inside.interface c.self.inside.blocks.items c.self.inside.last_port q c.in-Some-best.block c.self.invariant.0 (ap (best_block (packet_sought c.args.destination c.args.port c.args.source)) (sym c.as_slice.ensures.value)
-    ∙ ap (λ q. best_block q c.as_slice.result.now) (sym c.key_of_packet.ensures) ∙ sym c.best.ensures ∙ c.in-Some-best.is))
+    subst (λ (t : Table). Finds (flat.best q) t (Some c.in-Some-best.block.now.fd)) c.self.view_is
+    (best_some c.self.inside.interface c.self.inside.blocks.items c.self.inside.last_port q c.in-Some-best.block.now c.self.invariant.0 (ap (best_block (packet_sought c.args.destination c.args.port c.args.source)) (sym c.as_slice.ensures.value)
+    ∙ ap (λ q. best_block q c.as_slice.result.now) (sym c.key_of_packet.ensures) ∙ sym c.best.ensures ∙ ap option_copied c.in-Some-best.is))
 
 pub returns-in-Some-best-clause-range : goal.returns-in-Some-best-clause-range
 returns-in-Some-best-clause-range c =
     let q = packet_sought c.args.destination c.args.port c.args.source in
-    best_range q c.self.inside.blocks.items c.in-Some-best.block c.self.invariant.0 (ap (best_block (packet_sought c.args.destination c.args.port c.args.source)) (sym c.as_slice.ensures.value)
-    ∙ ap (λ q. best_block q c.as_slice.result.now) (sym c.key_of_packet.ensures) ∙ sym c.best.ensures ∙ c.in-Some-best.is)
+    best_range q c.self.inside.blocks.items c.in-Some-best.block.now c.self.invariant.0 (ap (best_block (packet_sought c.args.destination c.args.port c.args.source)) (sym c.as_slice.ensures.value)
+    ∙ ap (λ q. best_block q c.as_slice.result.now) (sym c.key_of_packet.ensures) ∙ sym c.best.ensures ∙ ap option_copied c.in-Some-best.is)
