@@ -1,6 +1,6 @@
-//! The words of one part of the bytes, as they lie in memory: by lanes, and the rest four bytes at a time.
+//! The words of one part of the bytes, as they lie in memory: by lanes, and the rest by words of 8 bytes.
 ghost use Rattle.std.specs.Prelude.{◌≡◌, ◌+◌, ◌<◌, ◌≤◌, ◌^◌, length};
-ghost use Rattle.in_cksum.specs.Swapped.{lanes_total, swapped_sum};
+ghost use Rattle.in_cksum.specs.Swapped.{CountsAs, IsAdded, IsLeft, lanes_total, swapped_sum};
 
 use std::simd::prelude::*;
 
@@ -33,32 +33,65 @@ fn sum_lanes(all: u32x8, high: u32x8) -> u32
     low.strict_reduce_sum() + high.strict_reduce_sum()
 }
 
-// The words of fewer bytes than a block has.
+// Adds the next 8 bytes, where there are so many, as two words of 32 bits: the high half of each counts
+// 65,536 times, which a fold makes 1.
 #[inline(always)]
-fn sum_rest(bytes: &[u8]) -> u32
-    requires { length bytes.now < BLOCK_LEN }
-    ensures { result ≡ swapped_sum bytes.now }
+fn add_eight(sum: u64, bytes: &[u8]) -> (u64, &[u8])
+    requires { sum < 2 ^ 40 }
+    ensures added { IsAdded sum bytes.now result.0 result.1.now }
+    ensures left { IsLeft 8 bytes.now result.1.now }
+    ensures small { result.0 < sum + 2 ^ 33 }
 {
-    let mut sum = 0u32;
-    let mut rest = bytes;
-    while let [a, b, c, d, after @ ..] = rest {
-        let word = u32::from_le_bytes([*a, *b, *c, *d]);
-        sum += (word & 0xffff) + (word >> 16);
-        rest = after;
-    }
-    match rest {
-        [] => sum,
-        [a] => sum + *a as u32,
-        [a, b] => sum + u16::from_le_bytes([*a, *b]) as u32,
-        [a, b, c, ..] => sum + u16::from_le_bytes([*a, *b]) as u32 + *c as u32,
+    match bytes {
+        [a, b, c, d, e, f, g, h, after @ ..] => {
+            let words = u64::from_le_bytes([*a, *b, *c, *d, *e, *f, *g, *h]);
+            (sum + (words & 0xffff_ffff) + (words >> 32), after)
+        }
+        _ => (sum, bytes),
     }
 }
 
-/// The sum of the words as they lie in memory, an odd last byte being the low half of one.
 #[inline(always)]
-pub(crate) fn sum_part(bytes: &[u8]) -> u32
+fn add_four(sum: u64, bytes: &[u8]) -> (u64, &[u8])
+    requires { sum < 2 ^ 40 }
+    ensures added { IsAdded sum bytes.now result.0 result.1.now }
+    ensures left { IsLeft 4 bytes.now result.1.now }
+    ensures small { result.0 < sum + 2 ^ 33 }
+{
+    match bytes {
+        [a, b, c, d, after @ ..] => {
+            let word = u32::from_le_bytes([*a, *b, *c, *d]);
+            (sum + word as u64, after)
+        }
+        _ => (sum, bytes),
+    }
+}
+
+// The words of fewer bytes than a block has. No loop, since headers are so short that one costs more.
+#[inline(always)]
+fn sum_rest(bytes: &[u8]) -> u64
+    requires { length bytes.now < BLOCK_LEN }
+    ensures { CountsAs result (swapped_sum bytes.now) }
+{
+    let (sum, rest) = add_eight(0, bytes);
+    let (sum, rest) = add_eight(sum, rest);
+    let (sum, rest) = add_eight(sum, rest);
+    let (sum, rest) = add_four(sum, rest);
+    match rest {
+        [] => sum,
+        [a] => sum + *a as u64,
+        [a, b] => sum + u16::from_le_bytes([*a, *b]) as u64,
+        [a, b, c, ..] => sum + u16::from_le_bytes([*a, *b]) as u64 + *c as u64,
+    }
+}
+
+/// The sum of the words as they lie in memory, an odd last byte being the low half of one, but for what a fold
+/// makes the same.
+#[inline(always)]
+pub(crate) fn sum_part(bytes: &[u8]) -> u64
     requires { length bytes.now ≤ PART_LEN }
-    ensures { result ≡ swapped_sum bytes.now }
+    ensures counts { CountsAs result (swapped_sum bytes.now) }
+    ensures small { result < 2 ^ 50 }
 {
     if bytes.len() < BLOCK_LEN {
         return sum_rest(bytes);
@@ -71,5 +104,5 @@ pub(crate) fn sum_part(bytes: &[u8]) -> u32
         (all, high) = add_block(all, high, block);
         rest = after;
     }
-    sum_lanes(all, high) + sum_rest(rest)
+    sum_lanes(all, high) as u64 + sum_rest(rest)
 }

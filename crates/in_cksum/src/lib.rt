@@ -41,10 +41,10 @@ pub fn sum_slice(bytes: &[u8]) -> u16
     let mut rest = bytes;
     while rest.len() > PART_LEN {
         let (part, after) = rest.split_at(PART_LEN);
-        total = fold(total as u64 + sum_part(part) as u64);
+        total = fold(total as u64 + sum_part(part));
         rest = after;
     }
-    fold(total as u64 + sum_part(rest) as u64).swap_bytes()
+    fold(total as u64 + sum_part(rest)).swap_bytes()
 }
 
 // A piece's sum as it counts after an even or an odd number of bytes: after an odd number each of its

@@ -1,4 +1,5 @@
 use Rattle.std.proofs.Common.{arith}
+use Rattle.in_cksum.proofs.Rests.{counts_below, counts_more}
 use Rattle.in_cksum.proofs.Words.{swapped_sum_bound, swapped_sum_cut}
 use Rattle.in_cksum.proofs.lanes.sum_part.Goals as goal
 
@@ -14,6 +15,17 @@ pub sum_lanes-requires : goal.sum_lanes-requires
 sum_lanes-requires c =
     omega (arith, c.loop-rest.invariant, swapped_sum_bound c.args.bytes.now c.type_inv.bytes, c.requires)
 
+pub returns-then-bytes-lt-BLOCK_LEN-clause-small : goal.returns-then-bytes-lt-BLOCK_LEN-clause-small
+returns-then-bytes-lt-BLOCK_LEN-clause-small c =
+    omega (arith, counts_below _ _ c.sum_rest.ensures, swapped_sum_bound c.args.bytes.now c.type_inv.bytes, c.requires)
+
 pub overflow_add-result : goal.overflow_add-result
 overflow_add-result c =
-    record { fits = omega (arith, c.sum_lanes.ensures, c.sum_rest-2.ensures, c.loop-rest.invariant, swapped_sum_bound c.args.bytes.now c.type_inv.bytes, c.requires) }
+    record { fits = omega (arith, c.sum_lanes.ensures, counts_below _ _ c.sum_rest-2.ensures, c.loop-rest.invariant, swapped_sum_bound c.args.bytes.now c.type_inv.bytes, c.requires) }
+
+pub returns-clause-counts : goal.returns-clause-counts
+returns-clause-counts c = counts_more _ _ _ _ (omega (arith, c.sum_lanes.ensures, c.loop-rest.invariant)) c.sum_rest-2.ensures
+
+pub returns-clause-small : goal.returns-clause-small
+returns-clause-small c =
+    omega (arith, c.sum_lanes.ensures, counts_below _ _ c.sum_rest-2.ensures, c.loop-rest.invariant, swapped_sum_bound c.args.bytes.now c.type_inv.bytes, c.requires)

@@ -1,24 +1,19 @@
-use Rattle.std.proofs.Common.{arith}
-use Rattle.std.proofs.lemmas.Nat.{and_le_r}
-use Rattle.in_cksum.proofs.Words.{swapped_sum_bound, swapped_sum_one, swapped_sum_three}
+use Rattle.in_cksum.proofs.Rests.{last_none, last_one, last_three, last_two, left_last, rest_counts}
 use Rattle.in_cksum.proofs.lanes.sum_rest.Goals as goal
 
-pub overflow_add-sum-in-len4-up : goal.overflow_add-sum-in-len4-up
-overflow_add-sum-in-len4-up c =
-    record { fits = omega (arith, c.loop-rest.invariant, swapped_sum_bound c.args.bytes.now c.type_inv.bytes, c.requires, c.from_le_bytes-word.type_inv, and_le_r c.from_le_bytes-word.result 65535) }
+pub returns-in-empty : goal.returns-in-empty
+returns-in-empty c =
+    rest_counts _ _ _ _ _ _ _ _ _ _ c.add_eight-sum.ensures.added c.add_eight-sum-2.ensures.added c.add_eight-sum-3.ensures.added c.add_four-sum.ensures.added (last_none c.add_four-sum.result.1.now _ c.in-empty.len_below)
 
-pub overflow_add-result : goal.overflow_add-result
-overflow_add-result c =
-    record { fits = omega (arith, c.loop-rest.invariant, swapped_sum_bound c.args.bytes.now c.type_inv.bytes, c.requires, swapped_sum_one c.loop-rest.rest.now c.in-len1.len_at_least) }
+pub returns-in-len1 : goal.returns-in-len1
+returns-in-len1 c =
+    rest_counts _ _ _ _ _ _ _ _ _ _ c.add_eight-sum.ensures.added c.add_eight-sum-2.ensures.added c.add_eight-sum-3.ensures.added c.add_four-sum.ensures.added (last_one c.add_four-sum.result.1.now _ c.in-len1.len_at_least c.in-len1.len_below)
 
-pub overflow_add-result-in-len2 : goal.overflow_add-result-in-len2
-overflow_add-result-in-len2 c =
-    record { fits = omega (arith, c.loop-rest.invariant, swapped_sum_bound c.args.bytes.now c.type_inv.bytes, c.requires, c.from_le_bytes.type_inv) }
+pub returns-in-len2 : goal.returns-in-len2
+returns-in-len2 c =
+    rest_counts _ _ _ _ _ _ _ _ _ _ c.add_eight-sum.ensures.added c.add_eight-sum-2.ensures.added c.add_eight-sum-3.ensures.added c.add_four-sum.ensures.added (last_two c.add_four-sum.result.1.now _ _ c.in-len2.len_at_least c.in-len2.len_below c.from_le_bytes.ensures)
 
-pub overflow_add-result-in-len3-up : goal.overflow_add-result-in-len3-up
-overflow_add-result-in-len3-up c =
-    record { fits = omega (arith, c.loop-rest.invariant, swapped_sum_bound c.args.bytes.now c.type_inv.bytes, c.requires, c.from_le_bytes-in-len3-up.type_inv) }
-
-pub overflow_add-result-in-len3-up-2 : goal.overflow_add-result-in-len3-up-2
-overflow_add-result-in-len3-up-2 c =
-    record { fits = omega (arith, c.loop-rest.invariant, swapped_sum_bound c.args.bytes.now c.type_inv.bytes, c.requires, c.from_le_bytes-in-len3-up.type_inv, swapped_sum_three c.loop-rest.rest.now c.in-len3-up.len_at_least) }
+pub returns-in-len3-up : goal.returns-in-len3-up
+returns-in-len3-up c =
+    rest_counts _ _ _ _ _ _ _ _ _ _ c.add_eight-sum.ensures.added c.add_eight-sum-2.ensures.added c.add_eight-sum-3.ensures.added c.add_four-sum.ensures.added (last_three c.add_four-sum.result.1.now _ _ c.in-len3-up.len_at_least
+    (left_last _ _ _ _ _ c.requires c.add_eight-sum.ensures.left c.add_eight-sum-2.ensures.left c.add_eight-sum-3.ensures.left c.add_four-sum.ensures.left) c.from_le_bytes-in-len3-up.ensures)
