@@ -11,4 +11,5 @@ pub mod CountLemmas
 pub mod WireLemmas
 pub mod BindLemmas
 pub mod ProgramLemmas
+mod OptionLemmas
 pub mod EventLemmas

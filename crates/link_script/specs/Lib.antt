@@ -3,6 +3,7 @@ pub mod Requests
 pub mod Parts
 pub mod Says
 pub mod Boots
+pub mod Options
 pub mod Program
 pub mod Datagrams
 pub mod Hosts

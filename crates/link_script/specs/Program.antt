@@ -1,5 +1,5 @@
 -- What the program does, by its status (this project's own).
-use Rattle.std.specs.Prelude.{◌≡◌, ℕ, List, [], Option, Result, Ok, Err}
+use Rattle.std.specs.Prelude.{◌≡◌, ◌⊎◌, ℕ, List, [], Option, Result, Ok, Err}
 use Rattle.flat_model.specs.State.{State, boot}
 use Rattle.flat_model.specs.declared.config.Config.{Config}
 use Rattle.script_loop.specs.Serves.{Serves, Moves}
@@ -28,15 +28,19 @@ status_of (Ok done) = 0
 status_of (Err Usage) = 2
 status_of (Err (Run fault)) = fault_status fault
 
--- there are no words, or they are no command
-abbrev pub IsWordsFault : Failure → Type 0
-IsWordsFault Usage = Unit {0}
-IsWordsFault (Run fault) = fault ≡ Memory
+-- why words ask for nothing: they name no configuration, or host memory was lacking
+abbrev pub IsWordsFault : (Config → Type 0) → Failure → Type 0
+IsWordsFault asks Usage = (config : Config) → ¬ asks config
+IsWordsFault asks (Run fault) = fault ≡ Memory
 
--- The words asked for nothing, and nothing was read or written; or the machine that they ask for was run.
-abbrev pub Ran : Config → Option (List ℕ) → Option (List ℕ) → Option (List ℕ) → Option (List ℕ) → Result Unit Failure → Type 0
-Ran config unread rest before after (Err Usage) = Moves unread rest [] before after []
-Ran config unread rest before after (Err (Run fault)) =
-    Boots config (Err fault) × (new : State) × Serves (Says is_served OneSocket) (boot config) new unread rest before after (Err fault)
-Ran config unread rest before after (Ok done) =
-    Boots config (Ok done) × (new : State) × Serves (Says is_served OneSocket) (boot config) new unread rest before after (Ok done)
+-- What was done by words that ask for these configurations. They ask for none, or memory was lacking to read them, and nothing was
+-- read or written; or the machine that they ask for was run.
+abbrev pub Ran : (Config → Type 0) → Option (List ℕ) → Option (List ℕ) → Option (List ℕ) → Option (List ℕ) → Result Unit Failure → Type 0
+Ran asks unread rest before after (Err Usage) = ((config : Config) → ¬ asks config) × Moves unread rest [] before after []
+Ran asks unread rest before after (Err (Run fault)) =
+    ((fault ≡ Memory) × Moves unread rest [] before after [])
+    ⊎ ((config : Config) × asks config × Boots config (Err fault)
+    × (new : State) × Serves (Says is_served OneSocket) (boot config) new unread rest before after (Err fault))
+Ran asks unread rest before after (Ok done) =
+    (config : Config) × asks config × Boots config (Ok done)
+    × (new : State) × Serves (Says is_served OneSocket) (boot config) new unread rest before after (Ok done)

@@ -8,6 +8,7 @@ mod counting;
 mod host;
 mod laws;
 mod machine;
+mod options;
 mod packet;
 mod queue;
 mod reply;

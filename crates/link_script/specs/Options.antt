@@ -1,0 +1,74 @@
+-- The words of the command line (this project's own). How they're cut into options and values is told by crate clap: `fault_of` has
+-- the faults that it finds in words, and `subcommand_of` what the words behind a subcommand give.
+use Rattle.std.specs.Prelude.{◌≡◌, ◌≢◌, ◌⊎◌, ℕ, ◌-◌, true, List, [], length, slice_get, codes, Option, Some, None, option_map, Result, Ok, Err}
+use Rattle.clap.specs.Words.{App, Rule, Row, new_app, new_rule, with_rule, with_subcommand, first_of, subcommand_of, fault_of}
+use Rattle.flat_model.specs.Grammar.{IsNumber, IsAddress}
+use Rattle.flat_model.specs.declared.config.Config.{Config}
+
+-- ---- the command
+
+-- an option with a value: `--name`
+abbrev pub option_rule : List ℕ → Rule
+option_rule name = record (new_rule name) { long = Some name }
+
+-- a command that has neither help nor version of its own
+abbrev pub bare_app : List ℕ → App
+bare_app name = record (new_app name) { top = record (new_app name).top { disable_help_flag = true; disable_version_flag = true } }
+
+-- `run` with its six options
+abbrev pub run_app : App
+run_app =
+    with_rule (with_rule (with_rule (with_rule (with_rule (with_rule (bare_app (codes "run"))
+    (option_rule (codes "addr")))
+    (option_rule (codes "bcast")))
+    (option_rule (codes "mtu")))
+    (option_rule (codes "mbufs")))
+    (option_rule (codes "clusters")))
+    (option_rule (codes "id"))
+
+-- `bsdudp`, which wants a subcommand
+abbrev pub top_app : App
+top_app = record (bare_app (codes "bsdudp")) {
+  top = record (bare_app (codes "bsdudp")).top { disable_help_subcommand = true; subcommand_required = true };
+}
+
+abbrev pub whole_app : App
+whole_app = with_subcommand top_app run_app.top
+
+-- ---- what the options name
+
+-- a number of at most `most`, written as in scripts, or the default where there is none
+abbrev pub HasNumber : ℕ → ℕ → Option (List ℕ) → ℕ → Type 0
+HasNumber most default None n = n ≡ default
+HasNumber most default (Some text) n = IsNumber most text n
+
+-- an address, written as in scripts; a text that is none counts as 0.0.0.0
+abbrev pub HasAddress : ℕ → Option (List ℕ) → ℕ → Type 0
+HasAddress default None ip = ip ≡ default
+HasAddress default (Some text) ip = IsAddress text ip ⊎ (((a : ℕ) → ¬ IsAddress text a) × (ip ≡ 0))
+
+-- The configuration whose parts are named by these texts of options, and the others by defaults.
+pub record Names (defaults : Config) (text : List ℕ → Option (List ℕ)) (c : Config) : Type 0 where
+  pub addr : HasAddress defaults.addr (text (codes "addr")) c.addr
+  pub bcast : HasAddress defaults.bcast (text (codes "bcast")) c.bcast
+  pub mtu : HasNumber 65535 defaults.mtu (text (codes "mtu")) c.mtu
+  pub mbufs : HasNumber 4294967295 defaults.mbufs (text (codes "mbufs")) c.mbufs
+  pub clusters : HasNumber 4294967295 defaults.clusters (text (codes "clusters")) c.clusters
+  pub first_id : HasNumber 65535 defaults.first_id (text (codes "id")) c.first_id
+
+-- The words, the program's name first, are `run` with options that name this configuration.
+pub record Gives (defaults : Config) (words : List (List ℕ)) (c : Config) : Type 0 where
+  pub taken : fault_of whole_app words ≡ []
+  pub rows : List Row
+  pub found : option_map (λ p. p.1) (subcommand_of whole_app words) ≡ Some rows
+  pub names : Names defaults (λ id. first_of id rows) c
+
+-- So do the words of a command line, which `--` doesn't end.
+pub record IsRun (defaults : Config) (words : List (List ℕ)) (c : Config) : Type 0 where
+  pub gives : Gives defaults words c
+  pub ended : slice_get words (length words - 1) ≢ Some (codes "--")
+
+-- The words ask for this configuration, where they could be had. `texts` are their bytes.
+abbrev pub IsAskedBy : {W E : Type 0} → (W → List (List ℕ)) → Config → Result W E → Config → Type 0
+IsAskedBy texts defaults (Ok words) c = IsRun defaults (texts words) c
+IsAskedBy texts defaults (Err e) c = ⊥

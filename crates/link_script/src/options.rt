@@ -1,0 +1,128 @@
+//! The words of the command line, and the configuration that they name.
+ghost use Rattle.std.specs.Prelude.{◌≡◌, ◌≢◌, ◌⊎◌, ◌↔◌, ◌-◌, ℕ, [], length, slice_get, Some, codes, false, map, option_map, IsTrue, MatchOption, MatchResult, IfOk};
+ghost use Rattle.std.specs.String.{string_bytes};
+ghost use Rattle.clap.specs.Words.{app_of, rule_of, rows_of, found_of, first_value, fault_of, kind_of};
+ghost use Rattle.clap.specs.declared.error.kind.ErrorKind.TheVariants.{OutOfMemory};
+ghost use Rattle.flat_model.specs.declared.config.Config.{Config};
+ghost use Rattle.link_script.specs.Options.{option_rule, whole_app, HasNumber, HasAddress, Names, Gives, IsRun};
+ghost use Rattle.link_script.specs.Program.{defaults, IsWordsFault};
+
+use crate::address::address;
+use crate::command_line::{DEFAULTS, Failure};
+use clap::error::ErrorKind;
+use clap::{Arg, ArgMatches, Command, Error as ClapError};
+use flat_model::Config;
+use script_loop::{RunFault, number};
+use std::alloc::{AllocError, Global};
+
+/// The number that an option names, or the default where it isn't given.
+fn number_or(text: Option<&str>, most: u32, default: u32) -> Option<u32>
+    ensures { MatchOption result ((n : ℕ) → HasNumber most default (option_map (λ s. s.now) text.entry) n → ⊥)
+        (λ n. HasNumber most default (option_map (λ s. s.now) text.entry) n) }
+{
+    match text {
+        Some(text) => number(text.as_bytes(), most),
+        None => Some(default),
+    }
+}
+
+/// The address that an option names, 0.0.0.0 where its text is none, or the default where it isn't given.
+fn address_or(text: Option<&str>, default: u32) -> u32
+    ensures { HasAddress default (option_map (λ s. s.now) text.entry) result }
+{
+    match text {
+        Some(text) => address(text.as_bytes()).unwrap_or(0),
+        None => default,
+    }
+}
+
+/// The configuration that the options of `run` name.
+fn config_of(found: &ArgMatches<'_>) -> Option<Config>
+    ensures { MatchOption result ((c : Config) → Names defaults (first_value (found_of found.now)) c → ⊥)
+        (Names defaults (first_value (found_of found.now))) }
+{
+    let mtu = number_or(found.get_str("mtu"), 65_535, u32::from(DEFAULTS.mtu))?;
+    let mbufs = number_or(found.get_str("mbufs"), u32::MAX, DEFAULTS.mbufs)?;
+    let clusters = number_or(found.get_str("clusters"), u32::MAX, DEFAULTS.clusters)?;
+    let first_id = number_or(found.get_str("id"), 65_535, u32::from(DEFAULTS.first_id))?;
+    Some(Config {
+        addr: address_or(found.get_str("addr"), DEFAULTS.addr),
+        bcast: address_or(found.get_str("bcast"), DEFAULTS.bcast),
+        mtu: mtu as u16,
+        mbufs,
+        clusters,
+        first_id: first_id as u16,
+    })
+}
+
+/// An option with a value.
+fn option<'a>(alloc: Global, name: &'a str) -> Arg<'a>
+    ensures rule { rule_of result ≡ option_rule name.entry.now }
+    ensures local { result.global ≡ false }
+{
+    Arg::new(alloc, name).long(name)
+}
+
+/// The command, with `run` and its options. Neither has help or a version of its own.
+fn command<'a>(alloc: Global) -> Result<Command<'a>, AllocError>
+    ensures { IfOk result (λ r. app_of r ≡ whole_app) }
+{
+    let run = Command::new(alloc, "run")
+        .disable_help_flag(true)
+        .disable_version_flag(true)
+        .arg(option(alloc, "addr"))?
+        .arg(option(alloc, "bcast"))?
+        .arg(option(alloc, "mtu"))?
+        .arg(option(alloc, "mbufs"))?
+        .arg(option(alloc, "clusters"))?
+        .arg(option(alloc, "id"))?;
+    Command::new(alloc, "bsdudp")
+        .disable_help_flag(true)
+        .disable_version_flag(true)
+        .disable_help_subcommand(true)
+        .subcommand_required(true)
+        .subcommand(run)
+}
+
+/// The configuration that the words name, where they are the command, by crate clap's reading of them.
+fn named(alloc: Global, words: &[String]) -> Result<Option<Config>, ClapError>
+    ensures { MatchResult result
+        (λ r. MatchOption r ((c : Config) → Gives defaults (map string_bytes words.now) c → ⊥) (Gives defaults (map string_bytes words.now)))
+        (λ e. (kind_of e ≡ OutOfMemory) ⊎ (fault_of whole_app (map string_bytes words.now) ≢ [])) }
+{
+    let matches = command(alloc)?.try_get_matches_from(words)?;
+    match matches.subcommand() {
+        Some((_, found)) => Ok(config_of(found)),
+        None => Ok(None),
+    }
+}
+
+/// Whether the last word is `--`.
+fn ends_in_dashes(words: &[String]) -> bool
+    ensures { IsTrue result ↔ (slice_get (map string_bytes words.now) (length (map string_bytes words.now) - 1) ≡ Some (codes "--")) }
+{
+    match words.last() {
+        Some(last) => last.as_str() == "--",
+        None => false,
+    }
+}
+
+/// Reads the words, of which the first is the program's name.
+///
+/// # Errors
+///
+/// `Usage` where they aren't `run` with options, each at most once, or a number isn't one or is out of its range; `--`
+/// ends no command. `Memory` where host memory is lacking.
+pub fn read_words(alloc: Global, words: &[String]) -> Result<Config, Failure>
+    ensures { MatchResult result (IsRun defaults (map string_bytes words.now)) (IsWordsFault (IsRun defaults (map string_bytes words.now))) }
+{
+    if ends_in_dashes(words) {
+        return Err(Failure::Usage);
+    }
+    match named(alloc, words) {
+        Ok(Some(config)) => Ok(config),
+        Ok(None) => Err(Failure::Usage),
+        Err(error) if error.kind() == ErrorKind::OutOfMemory => Err(Failure::Run(RunFault::Memory)),
+        Err(_) => Err(Failure::Usage),
+    }
+}
