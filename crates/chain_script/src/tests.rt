@@ -4,6 +4,8 @@ use std::process::Abort;
 use std::str;
 use std::test::Fail;
 
+mod borders;
+
 const SIZES: Sizes = Sizes {
     mbufs: 512,
     clusters: 64,

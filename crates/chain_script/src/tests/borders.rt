@@ -1,0 +1,272 @@
+//! Each call at the borders of its rule. The replies were worked out from the rules by hand.
+use super::{SIZES, check};
+use crate::Sizes;
+use std::test::Fail;
+
+/// Bytes put in front: into the room there, or into an mbuf of their own, filled at its end.
+#[test]
+fn prepends(rt: HostRuntime) -> Result<(), Fail> {
+    check(
+        &rt,
+        rt.alloc(),
+        SIZES,
+        &[
+            ("user 0 -", "ok"),
+            ("prepend 0 {100 62}", "ok"),
+            ("show 0", "len 100 P100"),
+            ("free 0", "ok"),
+            ("user 0 61", "ok"),
+            ("prepend 0 {96 62}", "ok"),
+            ("show 0", "len 97 P97"),
+            ("prepend 0 62", "ok"),
+            ("show 0", "len 98 P1 P97"),
+            ("prepend 0 {96 62}", "ok"),
+            ("show 0", "len 194 P97 P97"),
+            ("free 0", "ok"),
+            ("user 0 61", "ok"),
+            ("prepend 0 {97 62}", "ok"),
+            ("show 0", "len 98 P97 P1"),
+            ("free 0", "ok"),
+            ("user 0 {96 61}", "ok"),
+            ("prepend 0 {5 62}", "ok"),
+            ("show 0", "len 101 P5 P96"),
+            ("free 0", "ok"),
+            ("user 0 {96 61}", "ok"),
+            ("prepend 0 {4 62}", "ok"),
+            ("show 0", "len 100 P100"),
+            ("free 0", "ok"),
+            ("wire 0 61", "ok"),
+            ("prepend 0 {100 62}", "ok"),
+            ("show 0", "len 101 P100 P1"),
+            ("prepend 0 {101 62}", "? range"),
+            ("wire 1 {208 61}", "ok"),
+            ("prepend 1 62", "ok"),
+            ("show 1", "len 209 P1 C208x1"),
+        ],
+    )
+}
+
+/// The first bytes in one mbuf: in place up to its last byte, else 40 or more in a new one.
+#[test]
+fn pull_ups(rt: HostRuntime) -> Result<(), Fail> {
+    check(
+        &rt,
+        rt.alloc(),
+        SIZES,
+        &[
+            ("wire 0 {150 61}", "ok"),
+            ("show 0", "len 150 P100 P50"),
+            ("pullup 0 100", "ok"),
+            ("show 0", "len 150 P100 P50"),
+            ("free 0", "ok"),
+            ("user 0 61", "ok"),
+            ("user 1 {100 62}", "ok"),
+            ("cat 0 1", "ok"),
+            ("show 0", "len 101 P1 P100"),
+            ("pullup 0 0", "ok"),
+            ("pullup 0 1", "ok"),
+            ("show 0", "len 101 P1 P100"),
+            ("copym 1 0 all", "ok"),
+            ("copym 2 0 all", "ok"),
+            ("pullup 0 4", "ok"),
+            ("show 0", "len 101 P4 P97"),
+            ("pullup 0 5", "ok"),
+            ("show 0", "len 101 P40 P61"),
+            ("pullup 0 41", "ok"),
+            ("show 0", "len 101 P41 P60"),
+            ("pullup 0 100", "ok"),
+            ("show 0", "len 101 P100 P1"),
+            ("pullup 0 101", "toolong"),
+            ("copydata 0 0 2", "data 6162"),
+            ("free 0", "ok"),
+            ("user 0 61", "ok"),
+            ("user 3 626262", "ok"),
+            ("cat 0 3", "ok"),
+            ("show 0", "len 4 P1 P3"),
+            ("pullup 0 4", "ok"),
+            ("show 0", "len 4 P4"),
+            ("pullup 0 5", "tooshort"),
+            ("wire 4 {208 61}", "ok"),
+            ("pullup 4 0", "ok"),
+            ("show 4", "len 208 P40 C168x1"),
+            ("adj 4 -168", "ok"),
+            ("show 4", "len 40 P40 C0x1"),
+            ("wire 5 {208 61}", "ok"),
+            ("adj 5 -168", "ok"),
+            ("pullup 5 40", "ok"),
+            ("show 5", "len 40 P40"),
+            ("wire 6 {208 61}", "ok"),
+            ("adj 6 -208", "ok"),
+            ("pullup 6 0", "ok"),
+            ("show 6", "len 0 P0 C0x1"),
+            ("pullup 6 1", "tooshort"),
+        ],
+    )
+}
+
+/// Chains cut at the first byte, at a border between mbufs, and where the rest has no room beside a packet header.
+#[test]
+fn splits(rt: HostRuntime) -> Result<(), Fail> {
+    check(
+        &rt,
+        rt.alloc(),
+        SIZES,
+        &[
+            ("user 0 {300 61}", "ok"),
+            ("split 1 0 0", "ok"),
+            ("show 0", "len 0 C0x2"),
+            ("show 1", "len 300 C300x2"),
+            ("split 2 1 299", "ok"),
+            ("show 1", "len 299 C299x3"),
+            ("show 2", "len 1 C1x3"),
+            ("split 3 1 299", "? range"),
+            ("free 0", "ok"),
+            ("free 1", "ok"),
+            ("free 2", "ok"),
+            ("wire 0 {100 61}", "ok"),
+            ("split 1 0 99", "ok"),
+            ("show 0", "len 99 P99"),
+            ("show 1", "len 1 P1"),
+            ("prepend 1 {96 62}", "ok"),
+            ("show 1", "len 97 P97"),
+            ("free 0", "ok"),
+            ("free 1", "ok"),
+            ("wire 0 {150 61}", "ok"),
+            ("split 1 0 100", "ok"),
+            ("show 0", "len 100 P100"),
+            ("show 1", "len 50 P0 P50"),
+            ("free 0", "ok"),
+            ("free 1", "ok"),
+            ("wire 0 {207 61}", "ok"),
+            ("show 0", "len 207 P100 P107"),
+            ("split 1 0 101", "ok"),
+            ("show 0", "len 101 P100 P1"),
+            ("show 1", "len 106 P0 P106"),
+            ("free 0", "ok"),
+            ("free 1", "ok"),
+            ("wire 0 {207 61}", "ok"),
+            ("split 1 0 106", "ok"),
+            ("show 1", "len 101 P0 P101"),
+            ("free 0", "ok"),
+            ("free 1", "ok"),
+            ("wire 0 {207 61}", "ok"),
+            ("split 1 0 107", "ok"),
+            ("show 1", "len 100 P100"),
+            ("free 0", "ok"),
+            ("free 1", "ok"),
+            ("wire 0 {207 61}", "ok"),
+            ("copym 1 0 100 107", "ok"),
+            ("show 1", "len 107 P107"),
+            ("split 2 1 3", "ok"),
+            ("show 1", "len 3 P3"),
+            ("show 2", "len 104 P104"),
+            ("copym 3 0 50 100", "ok"),
+            ("show 3", "len 100 P50 P50"),
+            ("split 4 3 50", "ok"),
+            ("show 3", "len 50 P50"),
+            ("show 4", "len 50 P50"),
+        ],
+    )
+}
+
+/// Writes inside, at the end and behind it: new mbufs of 108 bytes, and zeros in between.
+#[test]
+fn writes_over(rt: HostRuntime) -> Result<(), Fail> {
+    check(
+        &rt,
+        rt.alloc(),
+        SIZES,
+        &[
+            ("wire 0 {100 61}", "ok"),
+            ("copyback 0 99 62", "ok"),
+            ("show 0", "len 100 P100"),
+            ("copydata 0 98 2", "data 6162"),
+            ("copyback 0 100 63", "ok"),
+            ("show 0", "len 101 P100 P1"),
+            ("copyback 0 99 6465", "ok"),
+            ("show 0", "len 101 P100 P1"),
+            ("copydata 0 98 3", "data 616465"),
+            ("copyback 0 50 -", "ok"),
+            ("show 0", "len 101 P100 P1"),
+            ("copyback 0 103 -", "ok"),
+            ("show 0", "len 103 P100 P1 P2"),
+            ("copydata 0 100 3", "data 650000"),
+            ("free 0", "ok"),
+            ("wire 0 61", "ok"),
+            ("copyback 0 1 {108 62}", "ok"),
+            ("show 0", "len 109 P1 P108"),
+            ("free 0", "ok"),
+            ("wire 0 61", "ok"),
+            ("copyback 0 1 {109 62}", "ok"),
+            ("show 0", "len 110 P1 P108 P1"),
+            ("free 0", "ok"),
+            ("wire 0 61", "ok"),
+            ("copyback 0 109 62", "ok"),
+            ("show 0", "len 110 P1 P108 P1"),
+            ("copydata 0 107 3", "data 000062"),
+        ],
+    )
+}
+
+/// 65,535 bytes are the most: in clusters with room in front of the first, and without.
+#[test]
+fn longest_chains(rt: HostRuntime) -> Result<(), Fail> {
+    check(
+        &rt,
+        rt.alloc(),
+        SIZES,
+        &[
+            ("user 0 {65535 61}", "ok"),
+            ("show 0", "len 65535 C1992x1{31  C2048x1} P55"),
+            ("mbstat", "mbufs 479/512 clusters 32/64 refs 32 most 1"),
+            ("prepend 0 61", "? range"),
+            ("copyback 0 65535 61", "? range"),
+            ("copyback 0 65535 -", "ok"),
+            ("copyback 0 65534 62", "ok"),
+            ("copydata 0 65533 2", "data 6162"),
+            ("split 1 0 65534", "ok"),
+            ("show 1", "len 1 P1"),
+            ("cat 0 1", "ok"),
+            ("wire 1 61", "ok"),
+            ("cat 0 1", "? range"),
+            ("adj 0 -1", "ok"),
+            ("cat 0 1", "ok"),
+            ("free 0", "ok"),
+            ("wire 0 {65535 61}", "ok"),
+            ("show 0", "len 65535{31  C2048x1} C2047x1"),
+            ("mbstat", "mbufs 480/512 clusters 32/64 refs 32 most 1"),
+        ],
+    )
+}
+
+/// A pool of two mbufs: each call is refused where it takes one more than are free.
+#[test]
+fn two_mbufs(rt: HostRuntime) -> Result<(), Fail> {
+    check(
+        &rt,
+        rt.alloc(),
+        Sizes {
+            mbufs: 2,
+            clusters: 1,
+        },
+        &[
+            ("wire 0 {208 61}", "ok"),
+            ("pullup 0 1", "ok"),
+            ("show 0", "len 208 P40 C168x1"),
+            ("pullup 0 41", "ok"),
+            ("show 0", "len 208 P41 C167x1"),
+            ("copym 1 0 0 1", "nobufs"),
+            ("split 1 0 5", "nobufs"),
+            ("copyback 0 208 62", "nobufs"),
+            ("copyback 0 207 62", "ok"),
+            ("wire 1 -", "nobufs"),
+            ("prepend 0 62", "nobufs"),
+            ("free 0", "ok"),
+            ("user 0 {208 61}", "ok"),
+            ("user 1 {208 61}", "nobufs"),
+            ("wire 1 {101 61}", "nobufs"),
+            ("wire 1 {100 61}", "ok"),
+            ("mbstat", "mbufs 0/2 clusters 0/1 refs 1 most 1"),
+        ],
+    )
+}
