@@ -36,7 +36,8 @@ use Rattle.ip_reass.specs.Fragments.{fragment_of}
 use Rattle.ip_reass.specs.Inside.{arrived}
 use Rattle.ip_reass.specs.Table.{has_key, held_all, IsTable, unfinished, unfinished_of}
 use Rattle.ip_reass.specs.Steps.{datagram_at}
-use Rattle.ip_reass.specs.Same.{held_all_same, table_same, unfinished_same, table_weighs}
+use Rattle.ip_reass.specs.Same.{held_all_same, table_same, unfinished_same, queues_same, table_weighs}
+use Rattle.ip_reass.specs.Layouts.{queues}
 use Rattle.ip_reass.specs.Arrivals.{AreDistinct, machine, flat_head, key_in, carried_at, CameBy, IsPulled, pulled_entries, carried_entries}
 use Rattle.ip_reass.specs.declared.datagram.Datagram.{Datagram}
 use Rattle.ip_reass.proofs.Edits.{weight_trimmed}
@@ -88,6 +89,7 @@ same_weight a = record { mbufs = refl; bag = λ k. refl }
 pub record Trimmed (q : PoolView) (es : List Datagram) (n : ℕ) (r : PoolView) : Type 0 where
   pub table : IsTable r es
   pub shows : unfinished r es ≡ unfinished q es
+  pub rows : queues r es ≡ queues q es
   pub chain : chain_of r n ≡ record (chain_of q n) { entries = without_first 20 (chain_of q n).entries }
   pub owned : IsOwned r (n ∷ held_all r es)
   pub moves : Moves q (n ∷ held_all q es) r (n ∷ held_all r es)
@@ -102,6 +104,7 @@ trimmed_off q r es n is owns gone =
     record {
       table = table_same q r es same is;
       shows = unfinished_same q r es same;
+      rows = queues_same q r es same;
       chain = shown_with q r n (record (chain_of q n) { entries = without_first 20 (chain_of q n).entries }) gone;
       owned = owned_after m owns;
       moves = m;
@@ -274,7 +277,7 @@ joins_some rest held new k f p ds c d found lays = record {
     or_d None = unfinished_of p d
     or_d (Some u) = u
 
-slice_at : (ds : List Datagram) (i : ℕ) → i < length ds → slice_get ds i ≡ Some (datagram_at ds i)
+pub slice_at : (ds : List Datagram) (i : ℕ) → i < length ds → slice_get ds i ≡ Some (datagram_at ds i)
 slice_at [] i l = absurd (omega arith)
 slice_at (d ∷ ds) zero l = refl
 slice_at (d ∷ ds) (suc i) l = slice_at ds i (omega arith)
@@ -319,6 +322,7 @@ pulled_done rest held w p q r ds es c mid answer agrees af shows = record {
 pub record Pulled (p : PoolView) (ds : List Datagram) (c : ℕ) (q r : PoolView) (es : List Datagram) (d : ℕ) : Type 0 where
   pub table : IsTable r es
   pub shows : unfinished r es ≡ unfinished q es
+  pub rows : queues r es ≡ queues q es
   pub moves : Moves p (c ∷ held_all p ds) r (d ∷ held_all r es)
 
 pub pulled : (p q r : PoolView) (ds es : List Datagram) (c d : ℕ) (f : Front) (entries : List Entry) → Stays p ds c q es → IsTable q es → Makes (without q c) r d f entries → Pulled p ds c q r es d
@@ -329,6 +333,7 @@ pulled p q r ds es c d f entries st is made =
     record {
       table = table_same q r es same is;
       shows = unfinished_same q r es same;
+      rows = queues_same q r es same;
       moves = moves_trans st.moves (moves_beside (c ∷ held_all q es) (d ∷ held_all r es) (held_all q es) step (λ k. omega arith) (λ k. omega (arith, ap (owners.times k) all)));
     }
 

@@ -12,10 +12,11 @@ use Rattle.mbuf_chain.proofs.Laws.Owners.{times_same, chain_same, moves_trans, m
 use Rattle.ledger.specs.Accounts.{weight_of}
 use Rattle.ip_reass.specs.Fragments.{QueuedFragment, fragment_of, fragments, queued, laid, joined, map_of, IsQueue}
 use Rattle.ip_reass.specs.Table.{held, held_all, IsUnfinished, IsTable, unfinished, unfinished_of}
+use Rattle.ip_reass.specs.Layouts.{queue_of, queues}
 use Rattle.ip_reass.specs.Steps.{datagram_at, no_datagram, LaysIn, TakesOut}
 use Rattle.ip_reass.specs.declared.datagram.Datagram.{Datagram}
 use Rattle.ip_reass.proofs.Steps.{fragments_are}
-use Rattle.ip_reass.proofs.Places.{held_at, each_at, each_put, others_each, put_moves, put_shows, gone_moves, gone_shows}
+use Rattle.ip_reass.proofs.Places.{held_at, each_at, each_put, others_each, put_moves, put_shows, put_queues, gone_moves, gone_shows, gone_queues}
 use Rattle.ip_reass.proofs.Tables.{Emptied, emptied}
 
 set_same : {X : Type 0} (xs : List X) (i : ℕ) (y d : X) → i < length xs → get_or xs i d ≡ y → set xs i y ≡ xs
@@ -51,6 +52,8 @@ in_place p q ds i c f answer t is l owns b =
     put_moves p q ds i no_datagram (c ∷ []) (held q (record (datagram_at ds i) { fragments = t })) l owns is m (record (datagram_at ds i) { fragments = t }) [] (λ k. omega arith) in
     let shows : unfinished q (set ds i (record (datagram_at ds i) { fragments = t })) ≡ set (unfinished p ds) i (unfinished_of q (record (datagram_at ds i) { fragments = t })) =
     put_shows p q ds i no_datagram (c ∷ []) (held q (record (datagram_at ds i) { fragments = t })) l owns is m (record (datagram_at ds i) { fragments = t }) in
+    let all : queues q (set ds i (record (datagram_at ds i) { fragments = t })) ≡ set (queues p ds) i (queue_of q (record (datagram_at ds i) { fragments = t })) =
+    put_queues p q ds i no_datagram (c ∷ []) (held q (record (datagram_at ds i) { fragments = t })) l owns is m (record (datagram_at ds i) { fragments = t }) in
     record {
       train = t;
       change = refl;
@@ -63,6 +66,10 @@ in_place p q ds i c f answer t is l owns b =
           ap map_of (fragments_are q t ∙ (ap (map fragment_of) (OnFalse_at no b.none) ∙ sym (fragments_are p (datagram_at ds i).fragments))) in
           shows ∙ (ap (λ (bytes : Map). set (unfinished p ds) i (record { key = (datagram_at ds i).key; ticks = (datagram_at ds i).ticks; bytes = bytes })) maps
           ∙ set_same (unfinished p ds) i (unfinished_of p (datagram_at ds i)) (unfinished_of p no_datagram) (omega (arith, length-map ds (unfinished_of p))) (get_or-map (unfinished_of p) ds i no_datagram (unfinished_of p no_datagram) l)));
+      rows = OnTrue_from answer _ (λ yes. all ∙ ap (λ (fs : List QueuedFragment). set (queues p ds) i (record { key = (datagram_at ds i).key; fragments = fs })) (OnTrue_at yes b.laid));
+      rows_same = OnFalse_from answer _ (λ no.
+          all ∙ (ap (λ (fs : List QueuedFragment). set (queues p ds) i (record { key = (datagram_at ds i).key; fragments = fs })) (OnFalse_at no b.none)
+          ∙ set_same (queues p ds) i (queue_of p (datagram_at ds i)) (queue_of p no_datagram) (omega (arith, length-map ds (queue_of p))) (get_or-map (queue_of p) ds i no_datagram (queue_of p no_datagram) l)));
       table = record {
         owned = owned_after moves owns;
         each = each_put q ds i (record (datagram_at ds i) { fragments = t }) l (others_each p q ds i no_datagram (c ∷ []) (held q (record (datagram_at ds i) { fragments = t })) l owns is m) mine;
@@ -95,6 +102,7 @@ taken_out p r q ds i c d is l e gone entries front joins =
       entries = entries ∙ ap joined queue;
       front = front;
       shows = gone_shows p q ds i d [] (c ∷ []) l is.owned is m;
+      rows = gone_queues p q ds i d [] (c ∷ []) l is.owned is m;
       table = record { owned = λ k. omega (arith, owned_after moves is.owned k); each = others_each p q ds i d [] (c ∷ []) l is.owned is m };
       moves = moves;
     }

@@ -13,3 +13,4 @@ mod Settled
 mod Fitting
 mod Reserved
 mod Arriving
+mod Queues

@@ -9,7 +9,8 @@ use Rattle.mbuf_chain.specs.Owners.{times, IsOwned, Moves}
 use Rattle.mbuf_chain.specs.Frames.{SameAt}
 use Rattle.mbuf_chain.proofs.Laws.Owners.{times-append, same_beside, moves_beside, live_at_most}
 use Rattle.ip_reass.specs.Table.{held, held_all, IsUnfinished, AllUnfinished, IsTable, unfinished_of, unfinished}
-use Rattle.ip_reass.specs.Same.{held_all_same, each_same, unfinished_same}
+use Rattle.ip_reass.specs.Same.{held_all_same, each_same, unfinished_same, queues_same}
+use Rattle.ip_reass.specs.Layouts.{KeyedQueue, queue_of, queues}
 use Rattle.ip_reass.specs.declared.datagram.Datagram.{Datagram}
 use Rattle.ip_reass.proofs.Edits.{insert_remove, map-remove, map-insert}
 
@@ -61,6 +62,12 @@ module _ (p q : PoolView) (ds : List Datagram) (i : ℕ) (x : Datagram) (xs zs :
       ∙ (ap (λ (us : List Unfinished). insert us i (unfinished_of q y)) (unfinished_same p q (remove ds i) others_same ∙ map-remove (unfinished_of p) ds i)
       ∙ insert_remove (unfinished p ds) i (unfinished_of q y) (omega (arith, Rattle.std.proofs.lemmas.List.length-map ds (unfinished_of p)))))
 
+  pub put_queues : (y : Datagram) → queues q (set ds i y) ≡ set (queues p ds) i (queue_of q y)
+  put_queues y =
+      ap (queues q) (sym (insert_remove ds i y l)) ∙ (map-insert (queue_of q) (remove ds i) i y
+      ∙ (ap (λ (us : List KeyedQueue). insert us i (queue_of q y)) (queues_same p q (remove ds i) others_same ∙ map-remove (queue_of p) ds i)
+      ∙ insert_remove (queues p ds) i (queue_of q y) (omega (arith, Rattle.std.proofs.lemmas.List.length-map ds (queue_of p)))))
+
   -- it is gone from the table
   pub gone_moves : Moves p (xs ++ held_all p ds) q (zs ++ held_all q (remove ds i))
   gone_moves =
@@ -69,6 +76,9 @@ module _ (p q : PoolView) (ds : List Datagram) (i : ℕ) (x : Datagram) (xs zs :
 
   pub gone_shows : unfinished q (remove ds i) ≡ remove (unfinished p ds) i
   gone_shows = unfinished_same p q (remove ds i) others_same ∙ map-remove (unfinished_of p) ds i
+
+  pub gone_queues : queues q (remove ds i) ≡ remove (queues p ds) i
+  gone_queues = queues_same p q (remove ds i) others_same ∙ map-remove (queue_of p) ds i
 
 -- ---- what is found by a test that no two pass
 true_or_false : (b : Bool) → (b ≡ true) ⊎ (b ≡ false)

@@ -20,7 +20,8 @@ use Rattle.mbuf_chain.proofs.Laws.Accounts.{owned_at_most}
 use Rattle.ip_reass.specs.Fragments.{fragment_of}
 use Rattle.ip_reass.specs.Inside.{arrived}
 use Rattle.ip_reass.specs.Table.{held, held_all, new_datagram, IsTable, unfinished, unfinished_of}
-use Rattle.ip_reass.specs.Same.{held_all_same, table_same, unfinished_same}
+use Rattle.ip_reass.specs.Same.{held_all_same, table_same, unfinished_same, queues_same}
+use Rattle.ip_reass.specs.Layouts.{queues}
 use Rattle.ip_reass.specs.Steps.{datagram_at, no_datagram}
 use Rattle.ip_reass.specs.Arrivals.{machine, BeginsAt}
 use Rattle.ip_reass.specs.declared.datagram.Datagram.{Datagram}
@@ -50,6 +51,7 @@ stays p q ds es c owns m =
 pub record Freed (p : PoolView) (ds : List Datagram) (c : ℕ) (q r : PoolView) (es : List Datagram) : Type 0 where
   pub table : IsTable r es
   pub shows : unfinished r es ≡ unfinished q es
+  pub rows : queues r es ≡ queues q es
   pub moves : Moves p (c ∷ held_all p ds) r (held_all r es)
 
 pub freed : (p q r : PoolView) (ds es : List Datagram) (c : ℕ) → Stays p ds c q es → IsTable q es → r ≡ without q c → Freed p ds c q r es
@@ -59,6 +61,7 @@ freed p q r ds es c st is gone =
     record {
       table = table_same q r es same is;
       shows = unfinished_same q r es same;
+      rows = queues_same q r es same;
       moves = moves_trans st.moves (moves_beside (c ∷ held_all q es) (held_all r es) (held_all q es) (moves_without q r c st.live gone) (λ k. omega arith) (λ k. omega (arith, ap (times k) all)));
     }
 
@@ -97,6 +100,7 @@ pub record Began (p : PoolView) (ds : List Datagram) (n : ℕ) (k : Key) (q : Po
   pub stays : Stays p ds n q es
   pub at : unfinished_of q (datagram_at es i) ≡ begun k
   pub shows : unfinished q es ≡ unfinished p ds ++ begun k ∷ []
+  pub rows : queues q es ≡ queues p ds ++ record { key = k; fragments = [] } ∷ []
 
 pub began : (p q : PoolView) (ds es : List Datagram) (n h i : ℕ) (k : Key) → IsTable p ds → IsOwned p (n ∷ held_all p ds) → Adds p q h (one_mbuf true (empty_entry 28 None) h) → es ≡ ds ++ new_datagram k h ∷ [] → i ≡ length ds → Began p ds n k q es i
 began p q ds es n h i k is owns adds e i_is =
@@ -106,6 +110,7 @@ began p q ds es n h i k is owns adds e i_is =
       stays = stays p q ds es n owns b.moves;
       at = ap (λ (d : Datagram). unfinished_of q d) ((λ j. get_or (e j) (i_is j) no_datagram) ∙ get_or-end ds (new_datagram k h) no_datagram);
       shows = b.shows k h e;
+      rows = b.rows k h e;
     }
 
 pub begins_here : (rest : State) (held : Weight) (new : State) (k : Key) (w : Weight) (p q r : PoolView) (ds es hs : List Datagram) (c mid d : Counters) (n i offset : ℕ) (more : Bool) (result : Arrival) (t : PoolView) (ts : List Datagram) (answer : Bool) → answer ≡ true

@@ -15,7 +15,8 @@ use Rattle.flat_model.specs.declared.counters.Why.TheVariants.{FragmentDropped}
 use Rattle.mbuf_chain.specs.Chain.{Entry, PoolView, chain_of, flat_bytes, string}
 use Rattle.mbuf_chain.specs.Train.{TrainView}
 use Rattle.ledger.specs.Accounts.{item_of, item_at, weight_of}
-use Rattle.ip_reass.specs.Fragments.{QueuedFragment, fragment_of, fragments, map_of, queued, joined, IsQueue}
+use Rattle.ip_reass.specs.Fragments.{QueuedFragment, fragment_of, fragments, map_of, queued, laid, joined, IsQueue}
+use Rattle.ip_reass.specs.Layouts.{KeyedQueue, queue_of, queues, no_queue, queue_at}
 use Rattle.ip_reass.specs.Table.{unfinished, unfinished_of}
 use Rattle.ip_reass.specs.Steps.{datagram_at, no_datagram, LaysIn, TakesOut}
 use Rattle.ip_reass.specs.Arrivals.{machine}
@@ -30,7 +31,7 @@ use Rattle.ip_reass.proofs.Joined.{join_is, joined_bytes, joined_len}
 use Rattle.ip_reass.proofs.Places.{each_at, map_one, filter_one}
 use Rattle.ip_reass.proofs.Whole.{whole_most}
 
-remove-set : {X : Type 0} (xs : List X) (i : ℕ) (y : X) → remove (set xs i y) i ≡ remove xs i
+pub remove-set : {X : Type 0} (xs : List X) (i : ℕ) (y : X) → remove (set xs i y) i ≡ remove xs i
 remove-set [] zero y = refl
 remove-set [] (suc i) y = refl
 remove-set (x ∷ xs) zero y = refl
@@ -151,6 +152,11 @@ module _ (p q : PoolView) (ds es back : List Datagram) (i n : ℕ) (f : QueuedFr
         let whole : IsWhole (map_of (fragments q e.lays.train)) m = whole_here m w in
         settles_whole rest held k p q r ds es hs c d i n out m f new l here most e.lays taken whole (join_is q e.lays.train m e.queue (all_some q e.lays.train bounded e.queue.held) (all_fit q e.lays.train bounded e.queue.held) whole)
         (joined_bytes q e.lays.train m e.queue whole) lent_entries counts goes
+
+    pub lent_leaves : ((chain_of r out).entries ≡ joined (laid f (queue_at (queues p ds) i).fragments)) × (queues r hs ≡ remove (queues p ds) i)
+    lent_leaves =
+        let here : queue_at (queues p ds) i ≡ queue_of p (datagram_at ds i) = get_or-map (queue_of p) ds i no_datagram no_queue l in
+        (lent_entries ∙ (ap joined e.lays.queue ∙ ap (λ (y : KeyedQueue). joined (laid f y.fragments)) (sym here)), taken.rows ∙ (ap (λ (ys : List KeyedQueue). remove ys i) e.lays.rows ∙ remove-set (queues p ds) i _))
 
     pub lent_len : m ≡ length (string (chain_of r out))
     lent_len = joined_len q e.lays.train m e.queue (whole_here m w) ∙ ap (λ (xs : List Entry). length (flat_bytes xs)) (sym lent_entries)

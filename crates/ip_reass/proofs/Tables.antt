@@ -1,5 +1,5 @@
 -- Steps over the table of unfinished datagrams.
-use Rattle.std.proofs.Common.{◌≡◌, ℕ, zero, suc, ◌+◌, ◌<◌, Bool, true, List, [], ◌∷◌, ◌++◌, length, map, get_or, drop, refl, sym, ap, ◌∙◌, subst, arith}
+use Rattle.std.proofs.Common.{◌≡◌, ◌⊎◌, ℕ, zero, suc, ◌+◌, ◌<◌, Bool, true, false, List, [], ◌∷◌, ◌++◌, length, map, get_or, take, drop, refl, sym, ap, ◌∙◌, subst, inl, inr, arith}
 use Rattle.std.proofs.lemmas.List.{map-append}
 use Rattle.flat_model.specs.State.{Unfinished, begun}
 use Rattle.mbuf_chain.specs.Chain.{PoolView, without}
@@ -15,12 +15,14 @@ use Rattle.ip_reass.specs.declared.datagram.Datagram.{Datagram}
 use Rattle.flat_model.specs.State.{Key}
 use Rattle.std.specs.Prelude.{find, slice_get}
 use Rattle.std.proofs.Common.{None}
-use Rattle.std.proofs.lemmas.Bool.{cond-true}
+use Rattle.std.proofs.lemmas.Bool.{cond-true, cond-false}
+use Rattle.std.proofs.lemmas.Option.{none-some}
 use Rattle.mbuf_chain.specs.Chain.{Adds}
 use Rattle.mbuf_chain.specs.Steps.{one_mbuf, empty_entry}
 use Rattle.mbuf_chain.proofs.Laws.Owners.{same_adds, moves_adds, shown_adds}
 use Rattle.mbuf_chain.proofs.Laws.Trains.{held_none}
-use Rattle.ip_reass.specs.Same.{held_all_same, each_same, unfinished_same}
+use Rattle.ip_reass.specs.Same.{held_all_same, each_same, unfinished_same, queues_same}
+use Rattle.ip_reass.specs.Layouts.{KeyedQueue, queue_of, queues}
 
 -- ---- datagrams freed
 pub held_all-append : (p : PoolView) (k : ℕ) (xs ys : List Datagram) → times k (held_all p (xs ++ ys)) ≡ times k (held_all p xs) + times k (held_all p ys)
@@ -88,10 +90,33 @@ pub same_none : (p : PoolView) (xs : List ℕ) → SameAt p p xs
 same_none p xs = record { mbufs = refl; same = λ k h. refl }
 
 -- ---- a look-up
+true_or_false : (b : Bool) → (b ≡ true) ⊎ (b ≡ false)
+true_or_false true = inl refl
+true_or_false false = inr refl
+
 pub find_at : (test : Datagram → Bool) (xs : List Datagram) (i : ℕ) (d : Datagram) → i < length xs → test (get_or xs i d) ≡ true → find test (drop i xs) ≡ slice_get xs i
 find_at test [] i d l e = absurd (omega arith)
 find_at test (x ∷ xs) zero d l e = cond-true _ _ _ e
 find_at test (x ∷ xs) (suc i) d l e = find_at test xs i d (omega arith) e
+
+pub find_past : (test : Datagram → Bool) (xs : List Datagram) (i : ℕ) (d : Datagram) → i < length xs → test (get_or xs i d) ≡ false → find test (drop (i + 1) xs) ≡ find test (drop i xs)
+find_past test xs i d l e = (let e' : i + 1 ≡ suc i = omega arith in ap (λ (n : ℕ). find test (drop n xs)) e') ∙ go xs i l e
+  where
+    go : (ys : List Datagram) (j : ℕ) → j < length ys → test (get_or ys j d) ≡ false → find test (drop (suc j) ys) ≡ find test (drop j ys)
+    go [] j m f = absurd (omega arith)
+    go (y ∷ ys) zero m f = sym (cond-false _ _ _ f)
+    go (y ∷ ys) (suc j) m f = go ys j (omega arith) f
+
+pub find_none_more : (test : Datagram → Bool) (xs : List Datagram) (i : ℕ) (d : Datagram) → i < length xs → find test (take i xs) ≡ None → test (get_or xs i d) ≡ false → find test (take (i + 1) xs) ≡ None
+find_none_more test xs i d l none e = (let e' : i + 1 ≡ suc i = omega arith in ap (λ (n : ℕ). find test (take n xs)) e') ∙ go xs i l none e
+  where
+    go : (ys : List Datagram) (j : ℕ) → j < length ys → find test (take j ys) ≡ None → test (get_or ys j d) ≡ false → find test (take (suc j) ys) ≡ None
+    go [] j m n f = refl
+    go (y ∷ ys) zero m n f = cond-false _ _ _ f
+    go (y ∷ ys) (suc j) m n f = elim (true_or_false (test y)) [
+      | inl is ↦ absurd (none-some y (sym n ∙ cond-true _ _ _ is))
+      | inr is ↦ cond-false _ _ _ is ∙ go ys j (omega arith) (sym (cond-false _ _ _ is) ∙ n) f
+    ]
 
 -- ---- a new datagram
 pub record Begins (p : PoolView) (ds : List Datagram) (q : PoolView) (es : List Datagram) : Type 0 where
@@ -99,6 +124,7 @@ pub record Begins (p : PoolView) (ds : List Datagram) (q : PoolView) (es : List 
   pub same : SameAt p q (held_all p ds)
   pub moves : Moves p (held_all p ds) q (held_all q es)
   pub shows : (k : Key) (c : ℕ) → es ≡ ds ++ new_datagram k c ∷ [] → unfinished q es ≡ unfinished p ds ++ begun k ∷ []
+  pub rows : (k : Key) (c : ℕ) → es ≡ ds ++ new_datagram k c ∷ [] → queues q es ≡ queues p ds ++ record { key = k; fragments = [] } ∷ []
 
 pub begins : (p q : PoolView) (ds es : List Datagram) (k : Key) (c : ℕ) → IsTable p ds → Adds p q c (one_mbuf true (empty_entry 28 None) c)
     → es ≡ ds ++ new_datagram k c ∷ [] → Begins p ds q es
@@ -117,6 +143,7 @@ begins p q ds es k c is a e =
       same = same;
       moves = moves;
       shows = λ j b f. ap (unfinished q) f ∙ (map-append (unfinished_of q) ds (new_datagram j b ∷ []) ∙ ap (λ (us : List Unfinished). us ++ begun j ∷ []) (unfinished_same p q ds same));
+      rows = λ j b f. ap (queues q) f ∙ (map-append (queue_of q) ds (new_datagram j b ∷ []) ∙ ap (λ (us : List KeyedQueue). us ++ record { key = j; fragments = [] } ∷ []) (queues_same p q ds same));
     }
   where
     each_end : (q : PoolView) (xs : List Datagram) (x : Datagram) → AllUnfinished q xs → IsUnfinished q x → AllUnfinished q (xs ++ x ∷ [])

@@ -4,5 +4,6 @@ pub mod Known
 pub mod Weighs
 pub mod Table
 pub mod Same
-pub mod Steps
 pub mod Arrivals
+pub mod Layouts
+pub mod Steps

@@ -14,7 +14,8 @@ use Rattle.mbuf_chain.specs.Kept.{numbers_same, cars_same, held_same}
 use Rattle.ledger.specs.Accounts.{weight_of, weight_at, weight_owned}
 use Rattle.flat_model.proofs.Laws.{times-both, all_of-append}
 use Rattle.flat_model.specs.Overlay.{Fragment}
-use Rattle.ip_reass.specs.Fragments.{fragment_in, fragments, map_of, Apart, AllEnd, IsQueue}
+use Rattle.ip_reass.specs.Fragments.{queued_of, fragment_in, fragments, map_of, Apart, AllEnd, IsQueue}
+use Rattle.ip_reass.specs.Layouts.{queues}
 use Rattle.ip_reass.specs.Table.{held, held_all, IsUnfinished, AllUnfinished, IsTable, TableView, IsReady, unfinished_of, unfinished}
 use Rattle.ip_reass.specs.declared.datagram.Datagram.{Datagram}
 use Rattle.ip_reass.specs.Weighs.{weight_is}
@@ -71,6 +72,12 @@ unfinished_same p q [] s = refl
 unfinished_same p q (d ∷ ds) s =
     let one : cars q d.fragments ≡ cars p d.fragments = cars_same p q d.fragments (train_same p q d (first_same p q d ds s)) in
     λ j. record { key = (unfinished_of p d).key; ticks = d.ticks; bytes = map_of (map fragment_in (one j)) } ∷ unfinished_same p q ds (rest_same p q d ds s) j
+
+pub queues_same : (p q : PoolView) (ds : List Datagram) → SameAt p q (held_all p ds) → queues q ds ≡ queues p ds
+queues_same p q [] s = refl
+queues_same p q (d ∷ ds) s =
+    let one : cars q d.fragments ≡ cars p d.fragments = cars_same p q d.fragments (train_same p q d (first_same p q d ds s)) in
+    λ j. record { key = d.key; fragments = map queued_of (one j) } ∷ queues_same p q ds (rest_same p q d ds s) j
 
 -- ---- what they weigh
 cars_weigh : (p : PoolView) (xs : List ℕ) → all_of (λ (q : Fragment). q.weight) (map fragment_in (map (car_of p) xs)) ≡ weight_owned p xs

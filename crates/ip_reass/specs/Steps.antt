@@ -6,6 +6,7 @@ use Rattle.mbuf_chain.specs.Chain.{PoolView, chain_of, alone}
 use Rattle.mbuf_chain.specs.Owners.{Moves}
 use Rattle.mbuf_chain.specs.Train.{TrainView}
 use Rattle.ip_reass.specs.Fragments.{QueuedFragment, fragment_of, fragments, map_of, queued, laid, joined}
+use Rattle.ip_reass.specs.Layouts.{queue_of, queues, with_laid}
 use Rattle.ip_reass.specs.Table.{IsTable, held_all, unfinished, unfinished_of}
 use Rattle.ip_reass.specs.declared.datagram.Datagram.{Datagram}
 
@@ -26,6 +27,8 @@ pub record LaysIn (p : PoolView) (ds : List Datagram) (i c : ℕ) (f : QueuedFra
   pub map : OnTrue answer (map_of (fragments q train) ≡ overlay (map_of (fragments p (datagram_at ds i).fragments)) (fragment_of f))
   pub queue : OnTrue answer (queued q train ≡ laid f (queued p (datagram_at ds i).fragments))
   pub same : OnFalse answer (unfinished q es ≡ unfinished p ds)
+  pub rows : OnTrue answer (queues q es ≡ slice_set (queues p ds) i (with_laid f (queue_of p (datagram_at ds i))))
+  pub rows_same : OnFalse answer (queues q es ≡ queues p ds)
   pub table : IsTable q es
   pub moves : Moves p (c ∷ held_all p ds) q (held_all q es)
 
@@ -35,5 +38,6 @@ pub record TakesOut (p : PoolView) (ds : List Datagram) (i c : ℕ) (q : PoolVie
   pub entries : (chain_of q c).entries ≡ joined (queued p (datagram_at ds i).fragments)
   pub front : (chain_of q c).front ≡ alone true
   pub shows : unfinished q es ≡ remove (unfinished p ds) i
+  pub rows : queues q es ≡ remove (queues p ds) i
   pub table : IsTable q es
   pub moves : Moves p (held_all p ds) q (c ∷ held_all q es)

@@ -9,7 +9,8 @@ ghost use Rattle.mbuf_chain.specs.Owners.{IsOwned, Moves};
 ghost use Rattle.ledger.specs.Accounts.{IsAccounted, weight_at, weight_owned};
 ghost use Rattle.ip_reass.specs.Arrivals.{AreDistinct, BeginsAt, CameBy, GoesOn, HasWhole, IsPulled, carried_at, flat_head, in_hand, key_in, machine, pulled_entries};
 ghost use Rattle.ip_reass.specs.Fragments.{fragment_of};
-ghost use Rattle.ip_reass.specs.Table.{IsReady, held_all, unfinished};
+ghost use Rattle.ip_reass.specs.Layouts.{HasLayout, WaitOrNone, fragment_carried, queues};
+ghost use Rattle.ip_reass.specs.Table.{IsReady, has_key, held_all, unfinished};
 ghost use Rattle.ip_reass.specs.Inside.{arrived};
 
 use crate::arrival::Arrival;
@@ -65,6 +66,9 @@ impl Reass {
             BeginsAt pool.old self.old.datagrams counters.old (key_in head) (fragment_of (arrived pool.old chain head.offset head.more))
             (weight_at pool.old chain) result pool.new self.new.datagrams counters.new rest held new }
         ensures whole { HasWhole pool.new head result }
+        ensures layout { find (has_key (key_in head)) self.old.datagrams ≡ None →
+            HasLayout pool.old self.old.datagrams (key_in head) (arrived pool.old chain head.offset head.more) result
+            pool.new self.new.datagrams }
         ensures ready { IsReady pool.new self.new }
         ensures moves { Moves pool.old (chain ∷ held_all pool.old self.old.datagrams) pool.new
             (in_hand result ++ held_all pool.new self.new.datagrams) }
@@ -102,6 +106,8 @@ impl Reass {
             Joins exact_ledger held (key_in head) (fragment_of (arrived pool.old chain head.offset head.more))
             (machine pool.old self.old.datagrams counters.old rest) new }
         ensures whole { HasWhole pool.new head result }
+        ensures layout { HasLayout pool.old self.old.datagrams (key_in head)
+            (arrived pool.old chain head.offset head.more) result pool.new self.new.datagrams }
         ensures ready { IsReady pool.new self.new }
         ensures moves { Moves pool.old (chain ∷ held_all pool.old self.old.datagrams) pool.new
             (in_hand result ++ held_all pool.new self.new.datagrams) }
@@ -130,6 +136,7 @@ impl Reass {
             IsAccounted pool.old (machine pool.old self.old.datagrams counters.old rest) (held ⊕ weight_at pool.old chain) →
             IsPulled pool.old self.old.datagrams counters.old (weight_at pool.old chain) (is_some result) pool.new self.new.datagrams counters.new
             rest held }
+        ensures waits { WaitOrNone (queues pool.old self.old.datagrams) (queues pool.new self.new.datagrams) }
         ensures entries { IfSome result (λ d. (chain_of pool.new d).entries ≡ pulled_entries (chain_of pool.old chain)) }
         ensures headed { IfSome result (λ d. (chain_of pool.new d).front.header ≡ true) }
         ensures ready { IsReady pool.new self.new }
@@ -185,6 +192,8 @@ impl Reass {
             IsAccounted pool.new (machine pool.new self.new.datagrams counters.new rest)
             (held ⊕ weight_owned pool.new (in_hand result)) }
         ensures whole { HasWhole pool.new head result }
+        ensures layout { HasLayout pool.old self.old.datagrams (key_in head)
+            (fragment_carried (chain_of pool.old chain) head) result pool.new self.new.datagrams }
         ensures ready { IsReady pool.new self.new }
         ensures moves { Moves pool.old (chain ∷ held_all pool.old self.old.datagrams) pool.new
             (in_hand result ++ held_all pool.new self.new.datagrams) }

@@ -8,6 +8,7 @@ ghost use Rattle.mbuf_chain.specs.Chain.{PoolView, IsLive, chain_of, string, alo
 ghost use Rattle.mbuf_chain.specs.Owners.{IsOwned, Moves};
 ghost use Rattle.ip_reass.specs.Arrivals.{GoesOn, HasWhole, in_hand, key_in, machine};
 ghost use Rattle.ip_reass.specs.Fragments.{fragment_of};
+ghost use Rattle.ip_reass.specs.Layouts.{LeavesAt, queues};
 ghost use Rattle.ip_reass.specs.Table.{IsTable, held_all, unfinished, unfinished_of};
 ghost use Rattle.ip_reass.specs.Inside.{arrived};
 ghost use Rattle.ip_reass.specs.Steps.{LaysIn, TakesOut, datagram_at};
@@ -82,6 +83,8 @@ pub(crate) fn settle(
         Lays exact_ledger held (key_in head) (fragment_of (arrived pool.old chain head.offset head.more))
         (unfinished_of pool.old (datagram_at table.old.items i)) (machine pool.old table.old.items counters.old rest) new }
     ensures whole { HasWhole pool.new head result }
+    ensures layout { LeavesAt i (arrived pool.old chain head.offset head.more) (queues pool.old table.old.items)
+        pool.new result (queues pool.new table.new.items) }
     ensures table { IsTable pool.new table.new.items }
     ensures moves { Moves pool.old (chain ∷ held_all pool.old table.old.items) pool.new
         (in_hand result ++ held_all pool.new table.new.items) }

@@ -139,7 +139,8 @@ fn age(table: &mut [Datagram]) -> usize
 /// place under the same contract.
 pub(crate) fn find(table: &[Datagram], key: FragmentKey) -> Option<usize>
     ensures { MatchOption result (find (has_key key) table.now ≡ None)
-        (λ i. (i < length table.now) × (find (has_key key) table.now ≡ slice_get table.now i)) }
+        (λ i. (i < length table.now) × (find (has_key key) table.now ≡ slice_get table.now i)
+        × (find (has_key key) (take i table.now) ≡ None)) }
 {
     'table: for i in 0..table.len() {
         if table[i].key == key {

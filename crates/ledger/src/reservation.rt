@@ -1,6 +1,6 @@
 //! The test of the pool, and what is given back where it fails.
 
-ghost use Rattle.std.specs.Prelude.{◌≡◌};
+ghost use Rattle.std.specs.Prelude.{◌≡◌, true, false};
 ghost use Rattle.flat_model.specs.State.{State};
 ghost use Rattle.flat_model.specs.Weight.{Weight};
 ghost use Rattle.mbuf_chain.specs.Owners.{Moves};
@@ -44,6 +44,9 @@ pub fn reserve<R: Waiting>(
     ensures moves { Moves pool.old (R.owned pool.old waiting.old) pool.new (R.owned pool.new waiting.new) }
     ensures ready { R.is_ready pool.new waiting.new }
     ensures answer { result ≡ are_free pool.new mbufs clusters }
+    ensures kept { are_free pool.old mbufs clusters ≡ true →
+        (pool.new ≡ pool.old) × (waiting.new ≡ waiting.old) × (counters.new ≡ counters.old) }
+    ensures none { are_free pool.old mbufs clusters ≡ false → R.datagrams waiting.new ≡ 0 }
 {
     if are_free(pool, mbufs, clusters) {
         return true;

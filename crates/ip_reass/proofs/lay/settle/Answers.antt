@@ -2,7 +2,8 @@ use Rattle.std.proofs.Common.{◌++◌, ◌+◌, ◌≤◌, List, length, take, 
 use Rattle.ip_reass.specs.Inside.{arrived}
 use Rattle.ip_reass.specs.Arrivals.{key_in}
 use Rattle.ip_reass.specs.declared.datagram.Datagram.{Datagram}
-use Rattle.ip_reass.proofs.Settled.{Lent, lent_table, lent_kept, lent_whole, lent_len, lent_moves, whole_short}
+use Rattle.ip_reass.proofs.Settled.{Lent, lent_table, lent_kept, lent_whole, lent_len, lent_moves, lent_leaves, whole_short}
+use Rattle.ip_reass.proofs.Queues.{covered_layout}
 use Rattle.ip_reass.proofs.lay.settle.Goals as goal
 
 -- the table after the fragment was laid
@@ -49,3 +50,13 @@ returns-clause-whole c =
       front = c.take_out-chain.ensures.takes.front;
       head = λ j. record (c.args.head) { total = 20 + size j; more = false; offset = 0 };
     }
+
+pub returns-then-not-lay_in-clause-layout : goal.returns-then-not-lay_in-clause-layout
+returns-then-not-lay_in-clause-layout c =
+    covered_layout c.args.pool.now c.lay_in.new.pool c.args.table.now.items c.as_mut_slice.result.now c.lay_in.new.table _ c.args.i c.args.chain c.args.table.now.len (arrived c.args.pool.now c.args.chain c.args.head.offset c.args.head.more) c.lay_in.result
+    c.requires.place (omega (arith, c.as_mut_slice.ensures.len, ap (λ (ds : List Datagram). length ds) c.as_mut_slice.ensures.value)) c.as_mut_slice.ensures.value c.if-not-lay_in.true c.lay_in.ensures refl
+
+pub returns-clause-layout : goal.returns-clause-layout
+returns-clause-layout c =
+    lent_leaves c.args.pool.now c.lay_in.new.pool c.args.table.now.items c.lay_in.new.table _ c.args.i c.args.chain (arrived c.args.pool.now c.args.chain c.args.head.offset c.args.head.more) c.index.result.now (whole c)
+    c.requires.place c.take_out-chain.new.pool c.take_out-chain.new.table.items c.take_out-chain.result c.in-Some.len c.laws.ensures c.in-Some.ensures c.take_out-chain.ensures.takes

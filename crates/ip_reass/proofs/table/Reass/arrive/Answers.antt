@@ -10,6 +10,8 @@ use Rattle.chain_ops.specs.Trims.{without_first}
 use Rattle.ledger.specs.Accounts.{weight_at, weight_owned}
 use Rattle.ip_reass.specs.Arrivals.{flat_head, in_hand, IsPulled}
 use Rattle.ip_reass.specs.Table.{TableView, held_all}
+use Rattle.ip_reass.specs.Layouts.{queues}
+use Rattle.ip_reass.proofs.Queues.{arrived_layout}
 use Rattle.ip_reass.proofs.Reserved.{stays, freed}
 use Rattle.ip_reass.proofs.Arriving.{accounts, one_weighs, same_weight, trimmed_off, arrives_bad, none_cluster, some_plain, some_cluster, carried_len, good_some, good_small, accounted_counters}
 use Rattle.ip_reass.proofs.table.Reass.arrive.Goals as goal
@@ -128,3 +130,17 @@ returns-clause-accounts c = λ rest held acc.
 
 pub returns-clause-whole : goal.returns-clause-whole
 returns-clause-whole c = c.join_others.ensures.whole
+
+pub returns-then-is_bad-clause-layout : goal.returns-then-is_bad-clause-layout
+returns-then-is_bad-clause-layout c = record {
+  waited = queues c.args.pool.now c.args.self.now.datagrams;
+  before = inl refl;
+  leaves = (freed c.args.pool.now c.args.pool.now c.free_chain.new.self c.args.self.now.datagrams c.args.self.now.datagrams c.args.chain (stays c.args.pool.now c.args.pool.now c.args.self.now.datagrams c.args.self.now.datagrams c.args.chain c.requires.owned (moves_none _ _)) c.requires.ready.table c.free_chain.ensures).rows;
+}
+
+pub returns-clause-layout : goal.returns-clause-layout
+returns-clause-layout c =
+    let m = subst (λ (o : Option ℕ). Moves c.args.pool.now (c.args.chain ∷ held_all c.args.pool.now c.args.self.now.datagrams) c.pull_up.new.pool (option_to_list o ++ held_all c.pull_up.new.pool c.pull_up.new.self.datagrams)) c.in-Some.is c.pull_up.ensures.moves in
+    let t = trimmed_off c.pull_up.new.pool c.trim_front.new.pool c.pull_up.new.self.datagrams c.in-Some.chain c.pull_up.ensures.ready.table (owned_after m c.requires.owned) c.trim_front.ensures in
+    arrived_layout c.args.pool.now c.pull_up.new.pool c.trim_front.new.pool c.join_others.new.pool c.args.self.now.datagrams c.pull_up.new.self.datagrams c.join_others.new.self.datagrams c.args.chain c.in-Some.chain c.args.head c.join_others.result
+    c.pull_up.ensures.waits t.rows (ap (λ (v : ChainView). v.entries) t.chain ∙ ap (without_first 20) c.in-Some.ensures.entries) c.join_others.ensures.layout

@@ -10,6 +10,7 @@ use Rattle.ip_reass.specs.Inside.{arrived}
 use Rattle.ip_reass.specs.Table.{held_all, new_datagram}
 use Rattle.ip_reass.specs.declared.datagram.Datagram.{Datagram}
 use Rattle.ip_reass.specs.Table.{TableView}
+use Rattle.ip_reass.proofs.Queues.{begins_layout, wait_reserved}
 use Rattle.ip_reass.proofs.Reserved.{stays, freed, lacking, Began, began, begins_here, room}
 use Rattle.ip_reass.proofs.table.Reass.begin_with.Goals as goal
 
@@ -109,3 +110,12 @@ returns-clause-ready c = record {
 
 pub returns-clause-whole : goal.returns-clause-whole
 returns-clause-whole c = c.settle.ensures.whole
+
+pub returns-clause-layout : goal.returns-clause-layout
+returns-clause-layout c = λ none.
+    let st = stays c.args.pool.now c.reserve.new.pool c.args.self.now.datagrams c.reserve.new.waiting.datagrams c.args.chain c.requires.owned c.reserve.ensures.moves in
+    let b = began c.reserve.new.pool c.new_chain.new.self c.reserve.new.waiting.datagrams c.begin.new.table.items c.args.chain c.in-Ok.holder (length c.as_slice-i.result.now) (key_in c.args.head) c.reserve.ensures.ready.table st.owned c.in-Ok.ensures.ok
+    (c.begin.ensures.items ∙ (λ j. ((ap (λ (r : TableView). r.datagrams) c.self.view_is) j) ++ new_datagram (c.key_of.ensures j) c.in-Ok.holder ∷ [])) (ap (λ (ds : List Datagram). length ds) (c.as_slice-i.ensures.value ∙ (ap (λ (r : TableView). r.datagrams) c.self.view_is))) in
+    begins_layout c.args.pool.now c.reserve.new.pool c.new_chain.new.self c.settle.new.pool c.args.self.now.datagrams c.reserve.new.waiting.datagrams c.begin.new.table.items c.settle.new.table.items (key_in c.args.head) c.args.chain (length c.as_slice-i.result.now) c.args.head.offset c.args.head.more c.settle.result
+    (wait_reserved c.args.pool.now c.reserve.new.pool c.args.self.now c.reserve.new.waiting c.args.counters.now c.reserve.new.counters _ c.reserve.ensures.kept c.reserve.ensures.none)
+    none c.requires.some (b.stays.chain ∙ st.chain) b.rows (ap (λ (ds : List Datagram). length ds) (c.as_slice-i.ensures.value ∙ (ap (λ (r : TableView). r.datagrams) c.self.view_is))) c.settle.ensures.layout

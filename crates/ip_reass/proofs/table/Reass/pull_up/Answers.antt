@@ -3,6 +3,7 @@ use Rattle.mbuf_chain.specs.Chain.{PoolView}
 use Rattle.flat_model.specs.Weight.{◌⊕◌}
 use Rattle.ledger.specs.Accounts.{weight_at}
 use Rattle.ip_reass.specs.Arrivals.{machine}
+use Rattle.ip_reass.proofs.Queues.{wait_then, wait_reserved}
 use Rattle.ip_reass.proofs.Reserved.{stays, freed}
 use Rattle.ip_reass.proofs.Arriving.{pulled, pulled_done, pulled_lacking}
 use Rattle.ip_reass.proofs.table.Reass.pull_up.Goals as goal
@@ -43,3 +44,10 @@ pub returns-clause-moves : goal.returns-clause-moves
 returns-clause-moves c =
     (pulled c.args.pool.now c.reserve.new.pool c.m_pullup.new.pool c.args.self.now.datagrams c.reserve.new.waiting.datagrams c.args.chain c.m_pullup.new.chain _ _
     (stays c.args.pool.now c.reserve.new.pool c.args.self.now.datagrams c.reserve.new.waiting.datagrams c.args.chain c.requires.owned c.reserve.ensures.moves) c.reserve.ensures.ready.table c.in-Ok.ensures.ok).moves
+
+pub returns-clause-waits : goal.returns-clause-waits
+returns-clause-waits c =
+    wait_then _ _ _
+    (wait_reserved c.args.pool.now c.reserve.new.pool c.args.self.now c.reserve.new.waiting c.args.counters.now c.reserve.new.counters _ c.reserve.ensures.kept c.reserve.ensures.none)
+    (pulled c.args.pool.now c.reserve.new.pool c.m_pullup.new.pool c.args.self.now.datagrams c.reserve.new.waiting.datagrams c.args.chain c.m_pullup.new.chain _ _
+    (stays c.args.pool.now c.reserve.new.pool c.args.self.now.datagrams c.reserve.new.waiting.datagrams c.args.chain c.requires.owned c.reserve.ensures.moves) c.reserve.ensures.ready.table c.in-Ok.ensures.ok).rows

@@ -1,0 +1,197 @@
+-- The queues of the table's fragments, with their mbufs, at an arrival.
+use Rattle.std.proofs.Common.{◌≡◌, ◌⊎◌, ℕ, zero, suc, ◌<◌, Bool, true, false, List, [], ◌∷◌, ◌++◌, length, map, find, get_or, set, remove, take, drop, Option, None, Some, refl, sym, ap, ◌∙◌, subst, arith, inl, inr}
+use Rattle.std.specs.Prelude.{slice_get}
+use Rattle.std.proofs.lemmas.Bool.{false≢true, cond-true, cond-false}
+use Rattle.std.proofs.lemmas.List.{get_or-map, length-map, length-set, take-map}
+use Rattle.std.proofs.lemmas.Option.{none-some}
+use Rattle.flat_model.specs.Overlay.{Fragment, is_covered}
+use Rattle.flat_model.specs.State.{Key}
+use Rattle.flat_model.specs.declared.counters.Counters.{Counters}
+use Rattle.mbuf_chain.specs.Chain.{Entry, ChainView, PoolView, chain_of, string}
+use Rattle.ip_out.specs.declared.head.IpHead.{IpHead}
+use Rattle.ip_reass.specs.Arrivals.{carried_entries, key_in}
+use Rattle.ip_reass.specs.Fragments.{QueuedFragment, queued, laid, joined, fragment_of, fragments, map_of}
+use Rattle.ip_reass.specs.Inside.{arrived}
+use Rattle.ip_reass.specs.Table.{TableView, has_key}
+use Rattle.ip_reass.specs.Steps.{datagram_at, no_datagram, LaysIn}
+use Rattle.ip_reass.specs.Layouts.{KeyedQueue, queue_of, queues, goes_by, with_laid, laid_under, under, without_key, Leaves, WaitOrNone, HasLayout, fragment_carried, no_queue, queue_at, LeavesAt}
+use Rattle.ip_reass.specs.declared.datagram.Datagram.{Datagram}
+use Rattle.ip_reass.specs.declared.arrival.Arrival.{Arrival}
+use Rattle.ip_reass.specs.declared.arrival.Arrival.TheVariants.{Kept, Whole, Dropped}
+use Rattle.ip_reass.proofs.Laid.{Around, covered_no}
+use Rattle.ip_reass.proofs.Places.{found_passes}
+use Rattle.ip_reass.proofs.Steps.{fragments_are}
+use Rattle.ip_reass.proofs.Aging.{lent}
+use Rattle.ip_reass.proofs.Arriving.{slice_at}
+
+true_or_false : (b : Bool) → (b ≡ true) ⊎ (b ≡ false)
+true_or_false true = inl refl
+true_or_false false = inr refl
+
+-- ---- by key and by place
+none_in : (p : PoolView) (k : Key) (ds : List Datagram) → find (has_key k) ds ≡ None → find (goes_by k) (queues p ds) ≡ None
+none_in p k [] e = refl
+none_in p k (d ∷ ds) e = elim (true_or_false (has_key k d)) [
+  | inl is ↦ absurd (none-some d (sym e ∙ cond-true _ _ _ is))
+  | inr is ↦ cond-false _ _ _ is ∙ none_in p k ds (sym (cond-false _ _ _ is) ∙ e)
+]
+
+module _ (k : Key) (f : QueuedFragment) where
+  laid_none : (qs : List KeyedQueue) → find (goes_by k) qs ≡ None → laid_under k f qs ≡ qs ++ with_laid f (record { key = k; fragments = [] }) ∷ []
+  laid_none [] e = refl
+  laid_none (q ∷ qs) e = elim (true_or_false (goes_by k q)) [
+    | inl is ↦ absurd (none-some q (sym e ∙ cond-true _ _ _ is))
+    | inr is ↦ cond-false _ _ _ is ∙ ap (λ (rs : List KeyedQueue). q ∷ rs) (laid_none qs (sym (cond-false _ _ _ is) ∙ e))
+  ]
+
+  under_none : (qs : List KeyedQueue) → find (goes_by k) qs ≡ None → under k qs ≡ []
+  under_none [] e = refl
+  under_none (q ∷ qs) e = elim (true_or_false (goes_by k q)) [
+    | inl is ↦ absurd (none-some q (sym e ∙ cond-true _ _ _ is))
+    | inr is ↦ cond-false _ _ _ is ∙ under_none qs (sym (cond-false _ _ _ is) ∙ e)
+  ]
+
+  without_none : (qs : List KeyedQueue) → find (goes_by k) qs ≡ None → without_key k qs ≡ qs
+  without_none [] e = refl
+  without_none (q ∷ qs) e = elim (true_or_false (goes_by k q)) [
+    | inl is ↦ absurd (none-some q (sym e ∙ cond-true _ _ _ is))
+    | inr is ↦ cond-false _ _ _ is ∙ ap (λ (rs : List KeyedQueue). q ∷ rs) (without_none qs (sym (cond-false _ _ _ is) ∙ e))
+  ]
+
+  laid_here : (qs : List KeyedQueue) (i : ℕ) → i < length qs → find (goes_by k) (take i qs) ≡ None → goes_by k (queue_at qs i) ≡ true → laid_under k f qs ≡ set qs i (with_laid f (queue_at qs i))
+  laid_here [] i l n e = absurd (omega arith)
+  laid_here (q ∷ qs) zero l n e = cond-true _ _ _ e
+  laid_here (q ∷ qs) (suc i) l n e = elim (true_or_false (goes_by k q)) [
+    | inl is ↦ absurd (none-some q (sym n ∙ cond-true _ _ _ is))
+    | inr is ↦ cond-false _ _ _ is ∙ ap (λ (rs : List KeyedQueue). q ∷ rs) (laid_here qs i (omega arith) (sym (cond-false _ _ _ is) ∙ n) e)
+  ]
+
+  under_here : (qs : List KeyedQueue) (i : ℕ) → i < length qs → find (goes_by k) (take i qs) ≡ None → goes_by k (queue_at qs i) ≡ true → under k qs ≡ (queue_at qs i).fragments
+  under_here [] i l n e = absurd (omega arith)
+  under_here (q ∷ qs) zero l n e = cond-true _ _ _ e
+  under_here (q ∷ qs) (suc i) l n e = elim (true_or_false (goes_by k q)) [
+    | inl is ↦ absurd (none-some q (sym n ∙ cond-true _ _ _ is))
+    | inr is ↦ cond-false _ _ _ is ∙ under_here qs i (omega arith) (sym (cond-false _ _ _ is) ∙ n) e
+  ]
+
+  without_here : (qs : List KeyedQueue) (i : ℕ) → i < length qs → find (goes_by k) (take i qs) ≡ None → goes_by k (queue_at qs i) ≡ true → without_key k qs ≡ remove qs i
+  without_here [] i l n e = absurd (omega arith)
+  without_here (q ∷ qs) zero l n e = cond-true _ _ _ e
+  without_here (q ∷ qs) (suc i) l n e = elim (true_or_false (goes_by k q)) [
+    | inl is ↦ absurd (none-some q (sym n ∙ cond-true _ _ _ is))
+    | inr is ↦ cond-false _ _ _ is ∙ ap (λ (rs : List KeyedQueue). q ∷ rs) (without_here qs i (omega arith) (sym (cond-false _ _ _ is) ∙ n) e)
+  ]
+
+-- what is left by place is what is left by key, where the first queue with the key stands there
+leaves_here : (k : Key) (f : QueuedFragment) (qs : List KeyedQueue) (i : ℕ) (q : PoolView) (result : Arrival) (now : List KeyedQueue) → i < length qs → find (goes_by k) (take i qs) ≡ None → goes_by k (queue_at qs i) ≡ true → LeavesAt i f qs q result now → Leaves k f qs q result now
+leaves_here k f qs i q Kept now l n e h = h ∙ sym (laid_here k f qs i l n e)
+leaves_here k f qs i q (Whole c x) now l n e h = (h.0 ∙ ap (λ (fs : List QueuedFragment). joined (laid f fs)) (sym (under_here k f qs i l n e)), h.1 ∙ sym (without_here k f qs i l n e))
+leaves_here k f qs i q (Dropped why) now l n e h = h.0
+
+-- and where a new one stands behind the others
+set_end : {X : Type 0} (xs : List X) (x y : X) → set (xs ++ x ∷ []) (length xs) y ≡ xs ++ y ∷ []
+set_end [] x y = refl
+set_end (z ∷ zs) x y = ap (λ ws. z ∷ ws) (set_end zs x y)
+
+at_end : {X : Type 0} (xs : List X) (x d : X) → get_or (xs ++ x ∷ []) (length xs) d ≡ x
+at_end [] x d = refl
+at_end (z ∷ zs) x d = at_end zs x d
+
+gone_end : {X : Type 0} (xs : List X) (x : X) → remove (xs ++ x ∷ []) (length xs) ≡ xs
+gone_end [] x = refl
+gone_end (z ∷ zs) x = ap (λ ws. z ∷ ws) (gone_end zs x)
+
+none_covers : (f : QueuedFragment) → 0 < length (fragment_of f).bytes → is_covered (map_of []) (fragment_of f) ≡ false
+none_covers f l = covered_no (fragment_of f) [] [] (record { before = tt; after = tt; upto = tt; above = tt }) (omega arith)
+
+leaves_new : (k : Key) (f : QueuedFragment) (qs : List KeyedQueue) (q : PoolView) (result : Arrival) (now : List KeyedQueue) → 0 < length (fragment_of f).bytes → find (goes_by k) qs ≡ None
+    → LeavesAt (length qs) f (qs ++ record { key = k; fragments = [] } ∷ []) q result now → Leaves k f qs q result now
+leaves_new k f qs q Kept now l n h =
+    h ∙ ((λ j. set (qs ++ record { key = k; fragments = [] } ∷ []) (length qs) (with_laid f (at_end qs (record { key = k; fragments = [] }) no_queue j)))
+    ∙ (set_end qs (record { key = k; fragments = [] }) (with_laid f (record { key = k; fragments = [] })) ∙ sym (laid_none k f qs n)))
+leaves_new k f qs q (Whole c x) now l n h =
+    (h.0 ∙ ((λ j. joined (laid f (at_end qs (record { key = k; fragments = [] }) no_queue j).fragments)) ∙ ap (λ (fs : List QueuedFragment). joined (laid f fs)) (sym (under_none k f qs n))),
+    h.1 ∙ (gone_end qs (record { key = k; fragments = [] }) ∙ sym (without_none k f qs n)))
+leaves_new k f qs q (Dropped why) now l n h =
+    absurd (false≢true (sym (none_covers f l) ∙ (λ j. is_covered (map_of (map fragment_of (sym (at_end qs (record { key = k; fragments = [] }) no_queue) j).fragments)) (fragment_of f)) ∙ h.1))
+
+-- ---- a step in between
+pub wait_same : (qs rs : List KeyedQueue) → rs ≡ qs → WaitOrNone qs rs
+wait_same qs rs e = inl e
+
+pub wait_then : (qs rs ts : List KeyedQueue) → WaitOrNone qs rs → ts ≡ rs → WaitOrNone qs ts
+wait_then qs rs ts (inl a) e = inl (e ∙ a)
+wait_then qs rs ts (inr a) e = inr (e ∙ a)
+
+wait_trans : (qs rs ts : List KeyedQueue) → WaitOrNone qs rs → WaitOrNone rs ts → WaitOrNone qs ts
+wait_trans qs rs ts w (inl a) = wait_then qs rs ts w a
+wait_trans qs rs ts w (inr a) = inr a
+
+-- the test of the pool
+pub wait_tested : (p q : PoolView) (ds es : List Datagram) (b : Bool) → (b ≡ true → queues q es ≡ queues p ds) → (b ≡ false → length es ≡ 0) → WaitOrNone (queues p ds) (queues q es)
+wait_tested p q ds es true a n = inl (a refl)
+wait_tested p q ds es false a n = inr (none_left es (n refl))
+  where
+    none_left : (xs : List Datagram) → length xs ≡ 0 → queues q xs ≡ []
+    none_left [] e = refl
+    none_left (x ∷ xs) e = absurd (omega arith)
+
+pub wait_reserved : (p q : PoolView) (r s : TableView) (c d : Counters) (b : Bool) → (b ≡ true → (q ≡ p) × (s ≡ r) × (d ≡ c)) → (b ≡ false → length s.datagrams ≡ 0) → WaitOrNone (queues p r.datagrams) (queues q s.datagrams)
+wait_reserved p q r s c d b kept none = wait_tested p q r.datagrams s.datagrams b (λ e. let a = kept e in λ j. queues (a.0 j) (a.1 j).datagrams) none
+
+none_then : (k : Key) (qs rs : List KeyedQueue) → WaitOrNone qs rs → find (goes_by k) qs ≡ None → find (goes_by k) rs ≡ None
+none_then k qs rs (inl a) n = ap (find (goes_by k)) a ∙ n
+none_then k qs rs (inr a) n = ap (find (goes_by k)) a
+
+-- **a fragment that begins its datagram**
+pub begins_layout : (p q r t : PoolView) (ds es hs ts : List Datagram) (k : Key) (n i offset : ℕ) (more : Bool) (result : Arrival) → WaitOrNone (queues p ds) (queues q es) → find (has_key k) ds ≡ None → 0 < length (string (chain_of p n)) → chain_of r n ≡ chain_of p n
+    → queues r hs ≡ queues q es ++ record { key = k; fragments = [] } ∷ [] → i ≡ length es → LeavesAt i (arrived r n offset more) (queues r hs) t result (queues t ts) → HasLayout p ds k (arrived p n offset more) result t ts
+begins_layout p q r t ds es hs ts k n i offset more result wait none some chain rows i_is leaves =
+    let size : i ≡ length (queues q es) = omega (arith, i_is, length-map es (queue_of q)) in
+    let f : QueuedFragment = arrived p n offset more in
+    let here : LeavesAt (length (queues q es)) (arrived p n offset more) (queues q es ++ record { key = k; fragments = [] } ∷ []) t result (queues t ts) =
+    subst (λ (v : ChainView). LeavesAt (length (queues q es)) (record { offset = offset; more = more; entries = v.entries }) (queues q es ++ record { key = k; fragments = [] } ∷ []) t result (queues t ts)) chain
+    (subst (λ (qs : List KeyedQueue). LeavesAt (length (queues q es)) (arrived r n offset more) qs t result (queues t ts)) rows
+    (subst (λ (j : ℕ). LeavesAt j (arrived r n offset more) (queues r hs) t result (queues t ts)) size leaves)) in
+    record {
+      waited = queues q es;
+      before = wait;
+      leaves = leaves_new k (arrived p n offset more) (queues q es) t result (queues t ts) some (none_then k (queues p ds) (queues q es) wait (none_in p k ds none)) here;
+    }
+
+-- **a fragment that joins the others of its datagram**
+pub found_layout : (p t : PoolView) (slice items ds ts : List Datagram) (k k' : Key) (f : QueuedFragment) (i : ℕ) (result : Arrival) → slice ≡ items → items ≡ ds → k' ≡ k → i < length slice → find (has_key k') slice ≡ slice_get slice i → find (has_key k') (take i slice) ≡ None
+    → LeavesAt i f (queues p items) t result (queues t ts) → HasLayout p ds k f result t ts
+found_layout p t slice items ds ts k k' f i result a b e l found none leaves =
+    let same : slice ≡ ds = a ∙ b in
+    let at : find (has_key k) ds ≡ slice_get ds i = subst (λ (zs : List Datagram). find (has_key k) zs ≡ slice_get zs i) same (subst (λ (j : Key). find (has_key j) slice ≡ slice_get slice i) e found) in
+    let front : find (has_key k) (take i ds) ≡ None = subst (λ (zs : List Datagram). find (has_key k) (take i zs) ≡ None) same (subst (λ (j : Key). find (has_key j) (take i slice) ≡ None) e none) in
+    let within : i < length ds = omega (arith, ap (λ (zs : List Datagram). length zs) same) in
+    let passes : has_key k (datagram_at ds i) ≡ true = found_passes (has_key k) ds (datagram_at ds i) (at ∙ slice_at ds i within) in
+    let here : queue_at (queues p ds) i ≡ queue_of p (datagram_at ds i) = get_or-map (queue_of p) ds i no_datagram no_queue within in
+    record {
+      waited = queues p ds;
+      before = inl refl;
+      leaves = leaves_here k f (queues p ds) i t result (queues t ts) (omega (arith, within, length-map ds (queue_of p))) (ap (find (goes_by k)) (take-map (queue_of p) i ds) ∙ none_in p k (take i ds) front) (ap (goes_by k) here ∙ passes)
+          (subst (λ (zs : List Datagram). LeavesAt i f (queues p zs) t result (queues t ts)) b leaves);
+    }
+
+-- **the header was pulled up and cut off before**
+pub arrived_layout : (p q r t : PoolView) (ds es ts : List Datagram) (n n' : ℕ) (h : IpHead) (result : Arrival) → WaitOrNone (queues p ds) (queues q es) → queues r es ≡ queues q es → (chain_of r n').entries ≡ carried_entries (chain_of p n)
+    → HasLayout r es (key_in h) (arrived r n' h.offset h.more) result t ts → HasLayout p ds (key_in h) (fragment_carried (chain_of p n) h) result t ts
+arrived_layout p q r t ds es ts n n' h result wait rows entries x = record {
+  waited = x.waited;
+  before = wait_trans (queues p ds) (queues r es) x.waited (wait_then (queues p ds) (queues q es) (queues r es) wait rows) x.before;
+  leaves = subst (λ (xs : List Entry). Leaves (key_in h) (record { offset = h.offset; more = h.more; entries = xs }) x.waited t result (queues t ts)) entries x.leaves;
+}
+
+-- **a fragment of which nothing is left**
+pub covered_layout : (p q : PoolView) (ds slice es back : List Datagram) (i c n : ℕ) (f : QueuedFragment) (answer : Bool) → i < length ds → n ≡ length ds → slice ≡ ds → answer ≡ false → LaysIn p slice i c f answer q es → back ≡ take n (es ++ drop (length es) ds)
+    → (queues q back ≡ queues p ds) × (is_covered (map_of (map fragment_of (queue_at (queues p ds) i).fragments)) (fragment_of f) ≡ true)
+covered_layout p q ds slice es back i c n f answer l n_is was refused la back_is =
+    let here : LaysIn p ds i c f false q es = subst (λ (zs : List Datagram). LaysIn p zs i c f false q es) was (subst (λ (b : Bool). LaysIn p slice i c f b q es) refused la) in
+    let long : length es ≡ n = omega (arith, ap (λ (zs : List Datagram). length zs) here.change, length-set ds i (record (datagram_at ds i) { fragments = here.train }), n_is) in
+    let same : back ≡ es = back_is ∙ lent n ds es long in
+    let at : map fragment_of (queue_at (queues p ds) i).fragments ≡ fragments p (datagram_at ds i).fragments =
+    ap (λ (q : KeyedQueue). map fragment_of q.fragments) (get_or-map (queue_of p) ds i no_datagram no_queue l) ∙ sym (fragments_are p (datagram_at ds i).fragments) in
+    (ap (queues q) same ∙ here.rows_same, ap (λ (fs : List Fragment). is_covered (map_of fs) (fragment_of f)) at ∙ here.covered)

@@ -1,0 +1,81 @@
+-- The layout of what waits and of what is handed out: the mbufs that fragments have, where their bytes begin, and which clusters
+-- they refer to (`ip_reass` of TCP/IP Illustrated, volume 2, chapter 10, with `m_pullup`, `m_adj` and `m_cat` of chapter 2).
+use Rattle.std.specs.Prelude.{◌≡◌, ◌⊎◌, ℕ, Bool, true, ◌==◌, ◌&&◌, if◌then◌else◌, List, [], ◌∷◌, map, slice_index_or, slice_set, remove}
+use Rattle.flat_model.specs.Overlay.{is_covered}
+use Rattle.flat_model.specs.State.{Key}
+use Rattle.mbuf_chain.specs.Chain.{ChainView, PoolView, chain_of}
+use Rattle.ip_out.specs.declared.head.IpHead.{IpHead}
+use Rattle.ip_reass.specs.Arrivals.{carried_entries}
+use Rattle.ip_reass.specs.Fragments.{QueuedFragment, queued, laid, joined, fragment_of, map_of}
+use Rattle.ip_reass.specs.declared.datagram.Datagram.{Datagram}
+use Rattle.ip_reass.specs.declared.arrival.Arrival.{Arrival}
+use Rattle.ip_reass.specs.declared.arrival.Arrival.TheVariants.{Kept, Whole, Dropped}
+
+-- the fragments of a datagram, with their mbufs
+pub record KeyedQueue : Type 0 where
+  pub key : Key
+  pub fragments : List QueuedFragment
+
+abbrev pub queue_of : PoolView → Datagram → KeyedQueue
+queue_of p d = record { key = d.key; fragments = queued p d.fragments }
+
+-- those of all datagrams, in the order of their beginning
+abbrev pub queues : PoolView → List Datagram → List KeyedQueue
+queues p ds = map (queue_of p) ds
+
+-- the queue goes by this key
+abbrev pub goes_by : Key → KeyedQueue → Bool
+goes_by k q = (q.key.source == k.source) && (q.key.destination == k.destination) && (q.key.id == k.id) && (q.key.protocol == k.protocol)
+
+-- a fragment laid in a queue
+abbrev pub with_laid : QueuedFragment → KeyedQueue → KeyedQueue
+with_laid f q = record { key = q.key; fragments = laid f q.fragments }
+
+-- a fragment laid in the queue with its key, or in a new one behind the others
+abbrev pub laid_under : Key → QueuedFragment → List KeyedQueue → List KeyedQueue
+laid_under k f [] = with_laid f (record { key = k; fragments = [] }) ∷ []
+laid_under k f (q ∷ qs) = if goes_by k q then with_laid f q ∷ qs else q ∷ laid_under k f qs
+
+-- the fragments with a key
+abbrev pub under : Key → List KeyedQueue → List QueuedFragment
+under k [] = []
+under k (q ∷ qs) = if goes_by k q then q.fragments else under k qs
+
+-- the queues without the one that goes by a key
+abbrev pub without_key : Key → List KeyedQueue → List KeyedQueue
+without_key k [] = []
+without_key k (q ∷ qs) = if goes_by k q then qs else q ∷ without_key k qs
+
+-- what a packet carries as a fragment: its header is pulled up where its first mbuf is a cluster, and cut off
+abbrev pub fragment_carried : ChainView → IpHead → QueuedFragment
+fragment_carried v h = record { offset = h.offset; more = h.more; entries = carried_entries v }
+
+-- what an arrival of the fragment f leaves, where the queues `qs` waited
+abbrev pub Leaves : Key → QueuedFragment → List KeyedQueue → PoolView → Arrival → List KeyedQueue → Type 0
+Leaves k f qs q Kept now = now ≡ laid_under k f qs
+Leaves k f qs q (Whole c h) now = ((chain_of q c).entries ≡ joined (laid f (under k qs))) × (now ≡ without_key k qs)
+Leaves k f qs q (Dropped why) now = now ≡ qs
+
+-- what waited in p and ds waits in q and es, or all of it was dropped for want of an mbuf
+abbrev pub WaitOrNone : List KeyedQueue → List KeyedQueue → Type 0
+WaitOrNone before now = (now ≡ before) ⊎ (now ≡ [])
+
+-- From p and ds to q and es the fragment f arrived under the key k: it was laid among what waited before, or among nothing,
+-- where all was dropped for want of an mbuf.
+pub record HasLayout (p : PoolView) (ds : List Datagram) (k : Key) (f : QueuedFragment) (result : Arrival) (q : PoolView) (es : List Datagram) : Type 0 where
+  pub waited : List KeyedQueue
+  pub before : WaitOrNone (queues p ds) waited
+  pub leaves : Leaves k f waited q result (queues q es)
+
+-- ---- by place
+abbrev pub no_queue : KeyedQueue
+no_queue = record { key = record { source = 0; destination = 0; id = 0; protocol = 0 }; fragments = [] }
+
+abbrev pub queue_at : List KeyedQueue → ℕ → KeyedQueue
+queue_at qs i = slice_index_or qs i no_queue
+
+-- what a fragment leaves that is laid in the queue at a place
+abbrev pub LeavesAt : ℕ → QueuedFragment → List KeyedQueue → PoolView → Arrival → List KeyedQueue → Type 0
+LeavesAt i f qs q Kept now = now ≡ slice_set qs i (with_laid f (queue_at qs i))
+LeavesAt i f qs q (Whole c h) now = ((chain_of q c).entries ≡ joined (laid f (queue_at qs i).fragments)) × (now ≡ remove qs i)
+LeavesAt i f qs q (Dropped why) now = (now ≡ qs) × (is_covered (map_of (map fragment_of (queue_at qs i).fragments)) (fragment_of f) ≡ true)
