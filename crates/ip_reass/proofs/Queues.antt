@@ -109,9 +109,10 @@ leaves_new : (k : Key) (f : QueuedFragment) (qs : List KeyedQueue) (q : PoolView
 leaves_new k f qs q Kept now l n h =
     h ∙ ((λ j. set (qs ++ record { key = k; fragments = [] } ∷ []) (length qs) (with_laid f (at_end qs (record { key = k; fragments = [] }) no_queue j)))
     ∙ (set_end qs (record { key = k; fragments = [] }) (with_laid f (record { key = k; fragments = [] })) ∙ sym (laid_none k f qs n)))
-leaves_new k f qs q (Whole c x) now l n h =
-    (h.0 ∙ ((λ j. joined (laid f (at_end qs (record { key = k; fragments = [] }) no_queue j).fragments)) ∙ ap (λ (fs : List QueuedFragment). joined (laid f fs)) (sym (under_none k f qs n))),
-    h.1 ∙ (gone_end qs (record { key = k; fragments = [] }) ∙ sym (without_none k f qs n)))
+leaves_new k f qs q (Whole c x) now l n h = (
+  h.0 ∙ ((λ j. joined (laid f (at_end qs (record { key = k; fragments = [] }) no_queue j).fragments)) ∙ ap (λ (fs : List QueuedFragment). joined (laid f fs)) (sym (under_none k f qs n))),
+  h.1 ∙ (gone_end qs (record { key = k; fragments = [] }) ∙ sym (without_none k f qs n)),
+)
 leaves_new k f qs q (Dropped why) now l n h =
     absurd (false≢true (sym (none_covers f l) ∙ (λ j. is_covered (map_of (map fragment_of (sym (at_end qs (record { key = k; fragments = [] }) no_queue) j).fragments)) (fragment_of f)) ∙ h.1))
 

@@ -1,6 +1,7 @@
 -- An arrival beside that of the flat machine (`ip_reass` of TCP/IP Illustrated, volume 2, chapter 10): the clauses hold for
 -- every rest of the machine.
 use Rattle.std.specs.Prelude.{◌≡◌, ◌⊎◌, ℕ, ◌+◌, ◌<◌, ◌≤◌, Bool, true, false, is_some, nat_le, if◌then◌else◌, List, [], ◌∷◌, length, drop, count_by, None}
+use Rattle.params.specs.declared.TheConstants.{IP_HEADER, MINCLSIZE, MAX_PROTOCOL_HEADER}
 use Rattle.flat_model.specs.Weight.{Weight, Item, ◌⊕◌}
 use Rattle.flat_model.specs.Header.{Head}
 use Rattle.flat_model.specs.Overlay.{Fragment}
@@ -33,7 +34,7 @@ key_in h = record { source = h.src; destination = h.dst; id = h.id; protocol = h
 
 -- what a packet carries behind its IP header, with the weight of its chain
 abbrev pub carried_at : PoolView → ℕ → Item
-carried_at p c = record { bytes = drop 20 (string (chain_of p c)); weight = weight_at p c }
+carried_at p c = record { bytes = drop IP_HEADER (string (chain_of p c)); weight = weight_at p c }
 
 -- no two unfinished datagrams go by one key
 abbrev pub AreDistinct : PoolView → List Datagram → Type 0
@@ -42,8 +43,8 @@ AreDistinct p ds = (k : Key) → count_by (is_key k) (unfinished p ds) ≤ 1
 -- How a packet came shows in its first mbuf: by loopback in a plain one; from the wire in a cluster where 208 bytes or
 -- more were received, which then holds more than 40 bytes of the packet, or all.
 pub record CameByWire (received : ℕ) (v : ChainView) : Type 0 where
-  pub cluster : is_some (entry_of v 0).cluster ≡ nat_le 208 received
-  pub holds : (length (string v) ≤ length (entry_of v 0).bytes) ⊎ (40 < length (entry_of v 0).bytes)
+  pub cluster : is_some (entry_of v 0).cluster ≡ nat_le MINCLSIZE received
+  pub holds : (length (string v) ≤ length (entry_of v 0).bytes) ⊎ (MAX_PROTOCOL_HEADER < length (entry_of v 0).bytes)
 
 abbrev pub CameBy : Origin → ChainView → Type 0
 CameBy (By_wire received) v = CameByWire received v
@@ -59,7 +60,7 @@ in_hand (Dropped why) = []
 -- fragment that came last, with the total length of the whole, without offset and with no more after it
 pub record IsWholeOf (q : PoolView) (c : ℕ) (h last : IpHead) : Type 0 where
   pub front : (chain_of q c).front ≡ alone true
-  pub head : h ≡ record last { total = 20 + length (string (chain_of q c)); more = false; offset = 0 }
+  pub head : h ≡ record last { total = IP_HEADER + length (string (chain_of q c)); more = false; offset = 0 }
 
 abbrev pub HasWhole : PoolView → IpHead → Arrival → Type 0
 HasWhole q last Kept = Unit {0}
@@ -87,8 +88,8 @@ pub record IsPulled (p : PoolView) (ds : List Datagram) (c : Counters) (w : Weig
 
 -- the mbufs of a packet once its header is pulled up, where its first mbuf is a cluster
 abbrev pub pulled_entries : ChainView → List Entry
-pulled_entries v = if is_some (entry_of v 0).cluster then pulled_up v 20 else v.entries
+pulled_entries v = if is_some (entry_of v 0).cluster then pulled_up v IP_HEADER else v.entries
 
 -- the same once the header is taken off, which leaves all mbufs
 abbrev pub carried_entries : ChainView → List Entry
-carried_entries v = without_first 20 (pulled_entries v)
+carried_entries v = without_first IP_HEADER (pulled_entries v)

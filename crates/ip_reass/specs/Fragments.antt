@@ -1,6 +1,7 @@
 -- The fragments of an unfinished datagram that are held, in order of offset and apart from one another, and what the
 -- flat machine sees of them (TCP/IP Illustrated, volume 2, chapter 10).
 use Rattle.std.specs.Prelude.{ℕ, ◌+◌, ◌-◌, ◌/◌, ◌%◌, ◌<◌, ◌≤◌, Bool, ◌&&◌, ◌==◌, nat_le, nat_lt, if◌then◌else◌, List, [], ◌∷◌, length, slice_index, map, None, Some}
+use Rattle.params.specs.declared.TheConstants.{IP_MAX_DATA}
 use Rattle.chain_ops.specs.Trims.{without_first}
 use Rattle.chain_ops.specs.Joins.{cat}
 use Rattle.flat_model.specs.Overlay.{Piece, Held, Map, Fragment}
@@ -105,4 +106,4 @@ AllEnd n (f ∷ fs) = (end_of f ≤ n) × AllEnd n fs
 pub record IsQueue (p : PoolView) (t : TrainView) : Type 0 where
   pub held : IsHeld p t
   pub apart : Apart 0 (fragments p t)
-  pub small : AllEnd 65515 (fragments p t)
+  pub small : AllEnd IP_MAX_DATA (fragments p t)

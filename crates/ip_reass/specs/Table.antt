@@ -1,6 +1,7 @@
 -- The table of unfinished datagrams, and what the flat machine sees of it (TCP/IP Illustrated, volume 2, chapter 10).
 use Rattle.std.specs.Prelude.{◌≡◌, ℕ, ◌-◌, ◌≤◌, nat_lt, Bool, ◌==◌, ◌&&◌, if◌then◌else◌, List, [], ◌∷◌, ◌++◌, map, None}
 use Rattle.std.specs.List.{AllByRecursion}
+use Rattle.params.specs.declared.TheConstants.{FRAGMENT_TICKS}
 use Rattle.flat_model.specs.Weight.{mbuf}
 use Rattle.flat_model.specs.State.{Key, Unfinished}
 use Rattle.mbuf_chain.specs.Chain.{PoolView}
@@ -48,7 +49,7 @@ has_key k d = (d.key.source == k.source) && (d.key.destination == k.destination)
 
 -- one that has just begun, with the mbuf of its key
 abbrev pub new_datagram : Key → ℕ → Datagram
-new_datagram k c = record { key = k; holder = c; ticks = 60; fragments = record { first = None; last = None; len = 0 } }
+new_datagram k c = record { key = k; holder = c; ticks = FRAGMENT_TICKS; fragments = record { first = None; last = None; len = 0 } }
 
 -- the chains are the pool's, once each, and the fragments are in order
 pub record IsTable (p : PoolView) (ds : List Datagram) : Type 0 where

@@ -21,7 +21,7 @@ use flat_model::{Counter, Counters, FragmentKey, Why};
 use ip_out::IpHead;
 use ledger::reserve;
 use mbuf_chain::{Chain, Pool};
-use params::{FRAGMENT_UNIT, IP_HEADER, IP_MAX_DATA};
+use params::{FRAGMENT_UNIT, IP_HEADER, IP_MAX_DATA, IP_MAX_PACKET};
 
 /// The key that a fragment goes by.
 fn key_of(head: &IpHead) -> FragmentKey
@@ -38,8 +38,8 @@ fn key_of(head: &IpHead) -> FragmentKey
 /// Whether a fragment of `len` bytes is one that none can be: without a byte, one with others after it that is no
 /// multiple of 8, or one that reaches past the longest datagram.
 fn is_bad(head: &IpHead, len: u32) -> bool
-    requires offset { head.now.offset ≤ 65528 }
-    requires len { len ≤ 65535 }
+    requires offset { head.now.offset ≤ IP_MAX_PACKET }
+    requires len { len ≤ IP_MAX_PACKET }
     ensures { result ≡ is_bad_fragment (flat_head head.now) len }
 {
     len == 0 || (head.more && len % FRAGMENT_UNIT != 0) || head.offset + len > IP_MAX_DATA
@@ -58,7 +58,7 @@ impl Reass {
         requires owned { IsOwned pool.old (chain ∷ held_all pool.old self.old.datagrams) }
         requires headed { (chain_of pool.old chain).front.header ≡ true }
         requires some { 0 < length (string (chain_of pool.old chain)) }
-        requires small { head.offset + length (string (chain_of pool.old chain)) ≤ 65515 }
+        requires small { head.offset + length (string (chain_of pool.old chain)) ≤ IP_MAX_DATA }
         ensures step { (rest : State) (held : Weight) (new : State) →
             find (is_key (key_in head)) (unfinished pool.old self.old.datagrams) ≡ None →
             IsAccounted pool.old (machine pool.old self.old.datagrams counters.old rest) (held ⊕ weight_at pool.old chain) →
@@ -99,7 +99,7 @@ impl Reass {
         requires owned { IsOwned pool.old (chain ∷ held_all pool.old self.old.datagrams) }
         requires headed { (chain_of pool.old chain).front.header ≡ true }
         requires some { 0 < length (string (chain_of pool.old chain)) }
-        requires small { head.offset + length (string (chain_of pool.old chain)) ≤ 65515 }
+        requires small { head.offset + length (string (chain_of pool.old chain)) ≤ IP_MAX_DATA }
         ensures step { (rest : State) (held : Weight) (new : State) → AreDistinct pool.old self.old.datagrams →
             IsAccounted pool.old (machine pool.old self.old.datagrams counters.old rest) (held ⊕ weight_at pool.old chain) →
             GoesOn held pool.new result (machine pool.new self.new.datagrams counters.new rest) new →
@@ -129,7 +129,7 @@ impl Reass {
         requires ready { IsReady pool.old self.old }
         requires owned { IsOwned pool.old (chain ∷ held_all pool.old self.old.datagrams) }
         requires headed { (chain_of pool.old chain).front.header ≡ true }
-        requires len { 20 ≤ length (string (chain_of pool.old chain)) }
+        requires len { IP_HEADER ≤ length (string (chain_of pool.old chain)) }
         ensures plain { is_some (entry_of (chain_of pool.old chain) 0).cluster ≡ false → (pool.new ≡ pool.old)
             × (self.new ≡ self.old) × (counters.new ≡ counters.old) × (result ≡ Some chain) }
         ensures tested { is_some (entry_of (chain_of pool.old chain) 0).cluster ≡ true → (rest : State) (held : Weight) →
@@ -179,8 +179,8 @@ impl Reass {
         requires owned { IsOwned pool.old (chain ∷ held_all pool.old self.old.datagrams) }
         requires headed { (chain_of pool.old chain).front.header ≡ true }
         requires total { length (string (chain_of pool.old chain)) ≡ head.total }
-        requires header { 20 ≤ head.total }
-        requires offset { head.offset ≤ 65528 }
+        requires header { IP_HEADER ≤ head.total }
+        requires offset { head.offset ≤ IP_MAX_PACKET }
         ensures step { (rest : State) (held : Weight) (origin : Origin) (new : State) → AreDistinct pool.old self.old.datagrams →
             CameBy origin (chain_of pool.old chain) →
             IsAccounted pool.old (machine pool.old self.old.datagrams counters.old rest) (held ⊕ weight_at pool.old chain) →

@@ -19,7 +19,7 @@ use crate::queue::{join, lay, whole};
 use flat_model::{Counter, Counters, Why};
 use ip_out::IpHead;
 use mbuf_chain::{Chain, Pool};
-use params::IP_HEADER;
+use params::{IP_HEADER, IP_MAX_DATA};
 
 /// Lays a fragment among those of the datagram at a place. The answer is whether something of it was left.
 pub(crate) fn lay_in(
@@ -35,7 +35,7 @@ pub(crate) fn lay_in(
     requires owned { IsOwned pool.old (chain ∷ held_all pool.old table.old) }
     requires headed { (chain_of pool.old chain).front.header ≡ true }
     requires some { 0 < length (string (chain_of pool.old chain)) }
-    requires small { offset + length (string (chain_of pool.old chain)) ≤ 65515 }
+    requires small { offset + length (string (chain_of pool.old chain)) ≤ IP_MAX_DATA }
     ensures { LaysIn pool.old table.old i chain (arrived pool.old chain offset more) result pool.new table.new }
 {
     let datagram = &mut table[i];
@@ -75,7 +75,7 @@ pub(crate) fn settle(
     requires owned { IsOwned pool.old (chain ∷ held_all pool.old table.old.items) }
     requires headed { (chain_of pool.old chain).front.header ≡ true }
     requires some { 0 < length (string (chain_of pool.old chain)) }
-    requires small { head.offset + length (string (chain_of pool.old chain)) ≤ 65515 }
+    requires small { head.offset + length (string (chain_of pool.old chain)) ≤ IP_MAX_DATA }
     ensures step { (rest : State) (held : Weight) (new : State) →
         is_key (key_in head) (unfinished_of pool.old (datagram_at table.old.items i)) ≡ true →
         count_by (is_key (key_in head)) (unfinished pool.old table.old.items) ≤ 1 →

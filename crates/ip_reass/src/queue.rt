@@ -11,6 +11,7 @@ ghost use Rattle.ip_reass.specs.Inside.{AllAbove, AllUpto, arrived, queued_at, r
 
 use chain_ops::{cat_behind, trim_front};
 use mbuf_chain::{Chain, Pool, Train};
+use params::{IP_MAX_DATA, IP_MAX_PACKET};
 
 /// The place of the first fragment that begins above an offset, and where those in front of it end.
 fn find(pool: &Pool, train: &Train, offset: u32) -> (u32, u32)
@@ -50,7 +51,7 @@ fn begins(pool: &Pool, train: &Train, i: u32) -> u32
 fn ends(pool: &Pool, train: &Train, i: u32) -> u32
     requires place { i < train.now.len }
     requires held { IsHeld pool.now train.now }
-    requires small { AllEnd 65515 (fragments pool.now train.now) }
+    requires small { AllEnd IP_MAX_DATA (fragments pool.now train.now) }
     ensures { result ≡ queued_end (queued_at (queued pool.now train.now) i) }
 {
     begins(pool, train, i) + train.chain_len(pool, i)
@@ -73,7 +74,7 @@ fn free_at(pool: &mut Pool, train: &mut Train, i: u32)
 fn trim_at(pool: &mut Pool, train: &mut Train, i: u32, n: u32)
     requires place { i < train.old.len }
     requires held { IsHeld pool.old train.old }
-    requires small { AllEnd 65515 (fragments pool.old train.old) }
+    requires small { AllEnd IP_MAX_DATA (fragments pool.old train.old) }
     requires within { n ≤ length (flat_bytes (queued_at (queued pool.old train.old) i).entries) }
     ensures queue { queued pool.new train.new ≡
         slice_set (queued pool.old train.old) i (cut n (queued_at (queued pool.old train.old) i)) }
@@ -91,7 +92,7 @@ fn trim_at(pool: &mut Pool, train: &mut Train, i: u32, n: u32)
 fn clear(pool: &mut Pool, train: &mut Train, i: u32, end: u32)
     requires place { i ≤ train.old.len }
     requires held { IsHeld pool.old train.old }
-    requires small { AllEnd 65515 (fragments pool.old train.old) }
+    requires small { AllEnd IP_MAX_DATA (fragments pool.old train.old) }
     ensures queue { queued pool.new train.new ≡
         take i (queued pool.old train.old) ++ cut_to end (drop i (queued pool.old train.old)) }
     ensures held { IsHeld pool.new train.new }
@@ -113,7 +114,7 @@ fn clear(pool: &mut Pool, train: &mut Train, i: u32, end: u32)
 
 /// The tag of a fragment: its offset times 2, plus 1 where more come after it.
 fn tag_of(offset: u32, more: bool) -> u32
-    requires { offset ≤ 65535 }
+    requires { offset ≤ IP_MAX_PACKET }
     ensures half { result / 2 ≡ offset }
     ensures odd { (result % 2 == 1) ≡ more }
 {
@@ -133,13 +134,13 @@ fn settle(
 )
     requires place { i ≤ train.old.len }
     requires held { IsHeld pool.old train.old }
-    requires small { AllEnd 65515 (fragments pool.old train.old) }
+    requires small { AllEnd IP_MAX_DATA (fragments pool.old train.old) }
     requires live { IsLive pool.old chain }
     requires headed { (chain_of pool.old chain).front.header ≡ true }
     requires apart { times chain (numbers pool.old train.old) ≡ 0 }
     requires len { len ≡ length (string (chain_of pool.old chain)) }
     requires left { skip < len }
-    requires within { offset + len ≤ 65515 }
+    requires within { offset + len ≤ IP_MAX_DATA }
     ensures queue { let f = arrived pool.old chain offset more in
         queued pool.new train.new ≡ take i (queued pool.old train.old)
         ++ cut skip f ∷ cut_to (queued_end f) (drop i (queued pool.old train.old)) }
@@ -160,7 +161,7 @@ pub(crate) fn lay(pool: &mut Pool, train: &mut Train, chain: Chain, offset: u32,
     requires headed { (chain_of pool.old chain).front.header ≡ true }
     requires apart { times chain (numbers pool.old train.old) ≡ 0 }
     requires some { 0 < length (string (chain_of pool.old chain)) }
-    requires small { offset + length (string (chain_of pool.old chain)) ≤ 65515 }
+    requires small { offset + length (string (chain_of pool.old chain)) ≤ IP_MAX_DATA }
     ensures covered { is_covered (map_of (fragments pool.old train.old))
         (fragment_of (arrived pool.old chain offset more)) ≡ not result }
     ensures map { OnTrue result (map_of (fragments pool.new train.new)

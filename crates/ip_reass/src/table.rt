@@ -32,13 +32,14 @@ pub struct Reass {
 
 impl Model for Reass {
     ghost use Rattle.std.specs.Prelude.{◌≤◌, vec_len, vec_capacity};
+    ghost use Rattle.params.specs.declared.TheConstants.{MAX_MBUFS};
     ghost use Rattle.ip_reass.specs.Table.{TableView};
 
     ghost Value = { TableView };
 
     ghost view = { λ r. record { datagrams = r.datagrams.items; room = vec_capacity r.datagrams } };
 
-    ghost invariant = { λ r. vec_len r.datagrams ≤ 65535 };
+    ghost invariant = { λ r. vec_len r.datagrams ≤ MAX_MBUFS };
 }
 
 impl Reass {
@@ -55,12 +56,12 @@ impl Reass {
     }
 
     /// Frees all datagrams, with all their mbufs and references.
-    pub fn end(mut self, pool: &mut Pool)
+    pub fn end(self, pool: &mut Pool)
         requires { IsTable pool.old self.datagrams }
         ensures { Moves pool.old (held_all pool.old self.datagrams) pool.new [] }
     {
-        free_beyond(pool, &mut self.datagrams, 0);
-        let Reass { datagrams } = self;
+        let Reass { mut datagrams } = self;
+        free_beyond(pool, &mut datagrams, 0);
         datagrams.destroy_empty();
     }
 
@@ -184,7 +185,7 @@ impl Reclaim for Reass {
     ghost ready_same = { λ p q r h is. ready_same p q r h is };
 
     fn reclaim(&mut self, pool: &mut Pool) -> u32 {
-        let before = self.datagrams.len() as u32;
+        let before = self.len();
         free_beyond(pool, &mut self.datagrams, 0);
         before
     }
@@ -197,7 +198,7 @@ impl Waiting for Reass {
     ghost unfinished = { λ p r. unfinished p r.datagrams };
 
     fn count(&self) -> u32 {
-        self.len()
+        Reass::len(self)
     }
 
     ghost counts = { λ p r h. length-unfinished p r.datagrams };
