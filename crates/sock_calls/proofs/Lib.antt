@@ -1,0 +1,17 @@
+mod Weights
+mod Keeping
+mod Frames
+mod Copied
+mod Received
+mod Accounts
+pub mod Laws
+mod Delivered
+mod Hearing
+mod Arriving
+mod Places
+mod SentRooms
+mod Making
+mod Made
+mod Queueing
+mod Going
+mod Tested

@@ -1,0 +1,17 @@
+use Rattle.std.proofs.Common.{◌≤◌, ◌-◌}
+use Rattle.sock_calls.specs.Sockets.{from_three}
+use Rattle.sock_calls.specs.Delivery.{seen, IsUnderWay}
+use Rattle.sock_calls.proofs.delivery.deliver_all.Given as goal
+
+abbrev pub invariant-receivers : goal.invariant-receivers
+invariant-receivers g l = record {
+  way : IsUnderWay
+      (seen l.fn.pool (record { pcbs = l.pcbs; queues = from_three l.fn.queues }) (g.R.Waiting.unfinished l.fn.pool l.fn.waiting) (g.R.Reclaim.owned l.fn.pool l.fn.waiting) l.fn.counters)
+      l.chain l.fds l.sender l.i
+      (seen l.pool (record { pcbs = l.pcbs; queues = from_three l.queues }) (g.R.Waiting.unfinished l.pool l.waiting) (g.R.Reclaim.owned l.pool l.waiting) l.counters);
+  within : l.i ≤ l.last;
+  waits : g.R.Reclaim.is_ready l.pool l.waiting;
+}
+
+abbrev pub decreases-receivers : goal.decreases-receivers
+decreases-receivers g l = l.last - l.i

@@ -1,0 +1,68 @@
+use Rattle.std.proofs.Common.{◌≤◌, ◌∷◌, ◌++◌, ℕ, List, All, sym, subst}
+use Rattle.flat_model.specs.Weight.{times}
+use Rattle.mbuf_chain.specs.Owners.{IsOwned}
+use Rattle.pcb_table.specs.Table.{Table, IsOpen}
+use Rattle.sock_calls.specs.Sockets.{from_three, IsSocks, queued_chains}
+use Rattle.sock_calls.proofs.Delivered.{freed}
+use Rattle.sock_calls.proofs.Arriving.{all_open, reached, delivered_to, dropped_to}
+use Rattle.sock_calls.proofs.input.input.Goals as goal
+
+pub deliver_all-requires-clause-socks : goal.deliver_all-requires-clause-socks
+deliver_all-requires-clause-socks g c =
+    let p = c.args.pool.now in
+    let q = c.input.new.pool in
+    let w = c.args.waiting.now in
+    let xs = g.R.Reclaim.owned p w in
+    let x = reached p q c.args.chain c.in-Deliver.chain xs _ c.requires.owned c.requires.socks c.in-Deliver.ensures.moves in
+    subst (λ (t : Table). IsSocks q (record { pcbs = t; queues = (from_three c.args.queues.now) })) (sym c.input.ensures.blocks) x.socks.ready
+
+pub deliver_all-requires-clause-opened : goal.deliver_all-requires-clause-opened
+deliver_all-requires-clause-opened g c =
+    subst (λ (l : List ℕ). All (λ (fd : ℕ). IsOpen fd c.input.new.pcbs) l) (sym c.as_slice.ensures.value)
+    (subst (λ (t : Table). All (λ (fd : ℕ). IsOpen fd t) c.in-Deliver.to.items) (sym c.input.ensures.blocks) (all_open c.args.pcbs.now _ _ c.in-Deliver.to.items c.in-Deliver.ensures.answer.heard))
+
+pub deliver_all-requires-clause-distinct : goal.deliver_all-requires-clause-distinct
+deliver_all-requires-clause-distinct g c =
+    λ fd. subst (λ (l : List ℕ). times fd l ≤ 1) (sym c.as_slice.ensures.value) (c.in-Deliver.ensures.answer.heard.once fd)
+
+pub deliver_all-requires-clause-waits : goal.deliver_all-requires-clause-waits
+deliver_all-requires-clause-waits g c =
+    let p = c.args.pool.now in
+    let q = c.input.new.pool in
+    let w = c.args.waiting.now in
+    let xs = g.R.Reclaim.owned p w in
+    let x = reached p q c.args.chain c.in-Deliver.chain xs _ c.requires.owned c.requires.socks c.in-Deliver.ensures.moves in
+    g.met.R.Reclaim.ready_same p q w x.same c.requires.waits
+
+pub deliver_all-requires-clause-owned : goal.deliver_all-requires-clause-owned
+deliver_all-requires-clause-owned g c =
+    let p = c.args.pool.now in
+    let q = c.input.new.pool in
+    let w = c.args.waiting.now in
+    let xs = g.R.Reclaim.owned p w in
+    let x = reached p q c.args.chain c.in-Deliver.chain xs _ c.requires.owned c.requires.socks c.in-Deliver.ensures.moves in
+    subst (λ (zs : List ℕ). IsOwned q (c.in-Deliver.chain ∷ (zs ++ queued_chains q (from_three c.args.queues.now)))) (sym (g.met.R.Reclaim.owned_same p q w x.same)) x.owned
+
+pub returns-in-Deliver-clause-input : goal.returns-in-Deliver-clause-input
+returns-in-Deliver-clause-input g c =
+    let p = c.args.pool.now in
+    let q = c.input.new.pool in
+    let w = c.args.waiting.now in
+    let xs = g.R.Reclaim.owned p w in
+    let x = reached p q c.args.chain c.in-Deliver.chain xs _ c.requires.owned c.requires.socks c.in-Deliver.ensures.moves in
+    delivered_to {h = c.args.head} c.requires.socks c.requires.owned c.in-Deliver.ensures.answer c.in-Deliver.ensures.moves (g.met.R.Waiting.unfinished_same p q w x.same) (g.met.R.Reclaim.owned_same p q w x.same) c.input.ensures.blocks c.as_slice.ensures.value c.deliver_all.ensures.delivered
+
+pub returns-in-Drop-clause-input : goal.returns-in-Drop-clause-input
+returns-in-Drop-clause-input g c =
+    let p = c.args.pool.now in
+    let q = c.input.new.pool in
+    let w = c.args.waiting.now in
+    dropped_to {h = c.args.head} c.in-Drop.why c.requires.socks c.requires.owned c.in-Drop.ensures.answer (λ s. g.met.R.Waiting.unfinished_same p q w s) (λ s. g.met.R.Reclaim.owned_same p q w s) c.input.ensures.blocks c.count_ended.ensures
+
+pub returns-in-Drop-clause-waits : goal.returns-in-Drop-clause-waits
+returns-in-Drop-clause-waits g c =
+    let p = c.args.pool.now in
+    let q = c.input.new.pool in
+    let w = c.args.waiting.now in
+    let gone = freed p q c.args.chain (g.R.Reclaim.owned p w) _ c.requires.owned c.requires.socks c.in-Drop.ensures.answer.freed in
+    g.met.R.Reclaim.ready_same p q w gone.same c.requires.waits

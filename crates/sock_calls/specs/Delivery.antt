@@ -1,0 +1,114 @@
+-- Delivery of a datagram to those who hear it, for every rest of the machine (`udp_input` and `sbappendaddr` of volume
+-- 2, chapters 23 and 16; to say it by what a pool shows is this project's own).
+use Rattle.std.specs.Prelude.{◌≡◌, ℕ, ◌<◌, List, ◌∷◌, ◌++◌, drop, map, Some, None, unwrap_or, false}
+use Rattle.flat_model.specs.Weight.{Weight, Item, ◌⊕◌}
+use Rattle.flat_model.specs.State.{State, Socket, Unfinished}
+use Rattle.flat_model.specs.Ledger.{exact_ledger}
+use Rattle.flat_model.specs.Arrival.{Tests, Appends, Delivers, WholeArrives}
+use Rattle.flat_model.specs.declared.counters.Counters.{Counters}
+use Rattle.flat_model.specs.declared.address.Addr.{Addr}
+use Rattle.mbuf_chain.specs.Chain.{PoolView, chain_of}
+use Rattle.mbuf_chain.specs.Owners.{times, Moves}
+use Rattle.pcb_table.specs.declared.block.Block.{Block}
+use Rattle.pcb_table.specs.Table.{Table, Queues, block_at, socket_with}
+use Rattle.ledger.specs.Accounts.{item_at, weight_at, IsAccounted}
+use Rattle.sock_calls.specs.Sockets.{SocksView, IsSocks, queues_of, queued_chains, with_net}
+
+-- what a delivery sees and changes: the pool, the sockets, the unfinished datagrams with their chains, and the counters
+pub record NetView : Type 0 where
+  pub pool : PoolView
+  pub socks : SocksView
+  pub unfinished : List Unfinished
+  pub waiting : List ℕ
+  pub counters : Counters
+
+abbrev pub seen : PoolView → SocksView → List Unfinished → List ℕ → Counters → NetView
+seen p s us xs c = record { pool = p; socks = s; unfinished = us; waiting = xs; counters = c }
+
+-- the machine that has all this, in all else `rest`
+abbrev pub state_at : NetView → State → State
+state_at v rest = with_net v.pool v.socks v.unfinished v.counters rest
+
+-- the numbers of all its chains
+abbrev pub chains_at : NetView → List ℕ
+chains_at v = v.waiting ++ queued_chains v.pool v.socks.queues
+
+abbrev pub queues_at : NetView → Queues
+queues_at v = queues_of v.pool v.socks.queues
+
+-- ---- one receiver
+
+-- Chain c was put into the queue of socket fd, or ended there.
+pub record IsAppended (v : NetView) (c : ℕ) (fd : ℕ) (sender : Addr) (u : NetView) : Type 0 where
+  pub step : (rest : State) (held : Weight) (b : Block) → block_at fd v.socks.pcbs ≡ Some b → IsAccounted v.pool (state_at v rest) (held ⊕ weight_at v.pool c)
+      → Appends exact_ledger held sender (item_at v.pool c) (socket_with (queues_at v) b) (state_at v rest) (state_at u rest)
+  pub accounts : (rest : State) (held : Weight) → IsAccounted v.pool (state_at v rest) (held ⊕ weight_at v.pool c) → IsAccounted u.pool (state_at u rest) held
+  pub others : (k : ℕ) → (k ≡ fd → ⊥) → queues_at u k ≡ queues_at v k
+  pub ready : IsSocks u.pool u.socks
+  pub pcbs : u.socks.pcbs ≡ v.socks.pcbs
+  pub moves : Moves v.pool (c ∷ chains_at v) u.pool (chains_at u)
+
+-- ---- one receiver of several
+
+-- a copy of the item is made, and put at the end of the socket's queue: the part of `Delivers` of all but the last
+abbrev pub Offers : Weight → Addr → Item → Socket → State → State → Type 0
+Offers held sender item to old after =
+    Tests exact_ledger old (held ⊕ item.weight) item.weight.mbufs after (λ mid. Appends exact_ledger (held ⊕ item.weight) sender item to mid after)
+
+-- a copy of chain c was offered to socket fd, and c is as it was
+pub record IsOffered (v : NetView) (c : ℕ) (fd : ℕ) (sender : Addr) (u : NetView) : Type 0 where
+  pub step : (rest : State) (held : Weight) (b : Block) → block_at fd v.socks.pcbs ≡ Some b → IsAccounted v.pool (state_at v rest) (held ⊕ weight_at v.pool c)
+      → Offers held sender (item_at v.pool c) (socket_with (queues_at v) b) (state_at v rest) (state_at u rest)
+  pub accounts : (rest : State) (held : Weight) → IsAccounted v.pool (state_at v rest) (held ⊕ weight_at v.pool c) → IsAccounted u.pool (state_at u rest) (held ⊕ weight_at v.pool c)
+  pub others : (k : ℕ) → (k ≡ fd → ⊥) → queues_at u k ≡ queues_at v k
+  pub ready : IsSocks u.pool u.socks
+  pub pcbs : u.socks.pcbs ≡ v.socks.pcbs
+  pub chain : chain_of u.pool c ≡ chain_of v.pool c
+  pub moves : Moves v.pool (c ∷ chains_at v) u.pool (c ∷ chains_at u)
+
+-- ---- all receivers
+
+abbrev pub no_block : Block
+no_block = record { fd = 0; local = None; port = None; peer = None; broadcast = false; reuse_port = false }
+
+-- the socket of a descriptor that is open
+abbrev pub socket_named : Queues → Table → ℕ → Socket
+socket_named f t fd = socket_with f (unwrap_or (block_at fd t) no_block)
+
+-- the sockets of these descriptors, in order
+abbrev pub sockets_named : Queues → Table → List ℕ → List Socket
+sockets_named f t fds = map (socket_named f t) fds
+
+-- Chain c was delivered to all these sockets: a copy to each but the last, itself to that.
+pub record IsDelivered (v : NetView) (c : ℕ) (fds : List ℕ) (sender : Addr) (u : NetView) : Type 0 where
+  pub step : (rest : State) (held : Weight) → IsAccounted v.pool (state_at v rest) (held ⊕ weight_at v.pool c)
+      → Delivers exact_ledger held sender (item_at v.pool c) (sockets_named (queues_at v) v.socks.pcbs fds) (state_at v rest) (state_at u rest)
+  pub accounts : (rest : State) (held : Weight) → IsAccounted v.pool (state_at v rest) (held ⊕ weight_at v.pool c) → IsAccounted u.pool (state_at u rest) held
+  pub ready : IsSocks u.pool u.socks
+  pub pcbs : u.socks.pcbs ≡ v.socks.pcbs
+  pub moves : Moves v.pool (c ∷ chains_at v) u.pool (chains_at u)
+
+-- ---- the loop
+
+-- From v on, chain c was offered to the first i of the receivers: whatever becomes of the others makes a delivery to all.
+pub record IsUnderWay (v : NetView) (c : ℕ) (fds : List ℕ) (sender : Addr) (i : ℕ) (u : NetView) : Type 0 where
+  pub goes : (rest : State) (held : Weight) (new : State) → IsAccounted v.pool (state_at v rest) (held ⊕ weight_at v.pool c)
+      → Delivers exact_ledger held sender (item_at v.pool c) (sockets_named (queues_at v) v.socks.pcbs (drop i fds)) (state_at u rest) new
+      → Delivers exact_ledger held sender (item_at v.pool c) (sockets_named (queues_at v) v.socks.pcbs fds) (state_at v rest) new
+  pub accounts : (rest : State) (held : Weight) → IsAccounted v.pool (state_at v rest) (held ⊕ weight_at v.pool c) → IsAccounted u.pool (state_at u rest) (held ⊕ weight_at v.pool c)
+  pub untouched : (k : ℕ) → 0 < times k (drop i fds) → queues_at u k ≡ queues_at v k
+  pub ready : IsSocks u.pool u.socks
+  pub chain : chain_of u.pool c ≡ chain_of v.pool c
+  pub moves : Moves v.pool (c ∷ chains_at v) u.pool (c ∷ chains_at u)
+  pub pcbs : u.socks.pcbs ≡ v.socks.pcbs
+
+-- ---- a whole datagram
+
+-- Chain c, a whole datagram without its IP header, arrived from `source` for `destination`, of this protocol.
+pub record IsInput (v : NetView) (c : ℕ) (source destination protocol : ℕ) (u : NetView) : Type 0 where
+  pub step : (rest : State) (held : Weight) → IsAccounted v.pool (state_at v rest) (held ⊕ weight_at v.pool c)
+      → WholeArrives exact_ledger held source destination protocol (item_at v.pool c) (state_at v rest) (state_at u rest)
+  pub accounts : (rest : State) (held : Weight) → IsAccounted v.pool (state_at v rest) (held ⊕ weight_at v.pool c) → IsAccounted u.pool (state_at u rest) held
+  pub ready : IsSocks u.pool u.socks
+  pub pcbs : u.socks.pcbs ≡ v.socks.pcbs
+  pub moves : Moves v.pool (c ∷ chains_at v) u.pool (chains_at u)

@@ -1,0 +1,69 @@
+-- What a send asks for and leaves, for every rest of the machine (`sosend`, `udp_output` and `ip_output` of volume 2,
+-- chapters 16, 23 and 8; to say it by what a pool shows is this project's own).
+use Rattle.std.specs.Prelude.{◌≡◌, ◌≢◌, ◌⊎◌, ℕ, ◌≤◌, List, ◌++◌, Option, Result, IfErr}
+use Rattle.params.specs.declared.TheConstants.{MIN_MTU, LOOPBACK}
+use Rattle.flat_model.specs.Weight.{Weight, Item, nothing, all_of}
+use Rattle.flat_model.specs.State.{State}
+use Rattle.flat_model.specs.Ledger.{exact_ledger}
+use Rattle.flat_model.specs.Replies.{sent_reply}
+use Rattle.flat_model.specs.declared.address.Addr.{Addr}
+use Rattle.flat_model.specs.declared.errno.Errno.{Errno}
+use Rattle.flat_model.specs.declared.errno.Errno.TheVariants.{NoBufs}
+use Rattle.flat_model.specs.declared.errno.Lack.TheVariants.{Queue}
+use Rattle.mbuf_chain.specs.Chain.{PoolView}
+use Rattle.mbuf_chain.specs.Owners.{IsOwned, Moves}
+use Rattle.mbuf_chain.specs.Train.{IsHeld, numbers}
+use Rattle.ledger.specs.Accounts.{IsAccounted}
+use Rattle.ip_out.specs.Packets.{packets, BeginPlain}
+use Rattle.ip_out.specs.Queues.{IsQueue}
+use Rattle.sock_calls.specs.declared.net.Net.{Net}
+use Rattle.sock_calls.specs.Sockets.{SocksView, IsSocks, queued_chains, with_sockets}
+use Rattle.sock_calls.specs.Sends.{SendsOnce}
+
+-- what a send sees and changes
+pub record SendView : Type 0 where
+  pub pool : PoolView
+  pub socks : SocksView
+  pub net : Net
+
+abbrev pub sending : PoolView → SocksView → Net → SendView
+sending p s n = record { pool = p; socks = s; net = n }
+
+-- the machine that has this output queue, next identification and these counters, in all else `rest`
+abbrev pub with_output : PoolView → Net → State → State
+with_output p n rest = record rest { output = packets p n.out; next_id = n.next_id; counters = n.counters }
+
+-- the machine that has all this, in all else `rest`
+abbrev pub state_in : SendView → State → State
+state_in v rest = with_sockets v.pool v.socks (with_output v.pool v.net rest)
+
+-- what packets weigh together
+abbrev pub weight_of_all : List Item → Weight
+weight_of_all items = all_of (λ item. item.weight) items
+
+-- What a send asks for: its parts fit the pool, nothing is left that was to come back, and the machine's two addresses
+-- differ, of which the broadcast address isn't 127.0.0.1.
+pub record CanSend (v : SendView) : Type 0 where
+  pub socks : IsSocks v.pool v.socks
+  pub out : IsQueue v.pool v.net.out
+  pub owned : IsOwned v.pool (numbers v.pool v.net.out ++ queued_chains v.pool v.socks.queues)
+  pub looped : IsHeld v.pool v.net.looped
+  pub none : v.net.looped.len ≡ 0
+  pub mtu : MIN_MTU ≤ v.net.mtu
+  pub apart : v.socks.pcbs.bcast ≢ v.socks.pcbs.addr
+  pub outside : v.socks.pcbs.bcast ≢ LOOPBACK
+
+-- A send of these bytes through a descriptor. `looped` has the packets that are to come back, which the step still holds
+-- beside the state. A refusal leaves all as it was, but for that of the output queue.
+pub record IsSent (fd : ℕ) (to : Option Addr) (bytes : List ℕ) (v : SendView) (result : Result ℕ Errno) (u : SendView) : Type 0 where
+  pub step : (rest : State) → rest.config.mtu ≡ v.net.mtu → IsAccounted v.pool (state_in v rest) nothing
+      → SendsOnce exact_ledger fd to bytes (state_in v rest) (sent_reply result) (packets u.pool u.net.looped) (state_in u rest)
+  pub accounts : (rest : State) → IsAccounted v.pool (state_in v rest) nothing → IsAccounted u.pool (state_in u rest) (weight_of_all (packets u.pool u.net.looped))
+  pub refused : IfErr result (λ errno. (errno ≡ NoBufs Queue) ⊎ (u ≡ v))
+  pub socks : IsSocks u.pool u.socks
+  pub out : IsQueue u.pool u.net.out
+  pub looped : IsHeld u.pool u.net.looped
+  pub plain : BeginPlain u.pool u.net.looped
+  pub mtu : u.net.mtu ≡ v.net.mtu
+  pub moves : Moves v.pool (numbers v.pool v.net.out ++ queued_chains v.pool v.socks.queues)
+      u.pool (numbers u.pool u.net.looped ++ (numbers u.pool u.net.out ++ queued_chains u.pool u.socks.queues))

@@ -1,0 +1,22 @@
+//! The socket calls over the pool: control blocks with a receive queue each, sends, and the delivery of what came
+//! (TCP/IP Illustrated volume 2, chapters 15, 16, 22 and 23).
+//!
+//! Each call is one step of the flat machine, whatever else that machine holds. A send is tested once: who has
+//! unfinished datagrams gives them back and sends again.
+#![tactic(auto)]
+
+mod delivery;
+mod destination;
+mod ending;
+mod input;
+mod net;
+mod packets;
+mod receive;
+mod send;
+mod sockets;
+#[cfg(test)]
+mod tests;
+
+pub use destination::send_target;
+pub use net::Net;
+pub use sockets::Socks;

@@ -1,0 +1,135 @@
+//! The packets of a send that has its buffers.
+ghost use Rattle.std.specs.Prelude.{◌≡◌, ◌+◌, ◌≤◌, length};
+ghost use Rattle.flat_model.specs.Layout.{sent};
+ghost use Rattle.flat_model.specs.Send.{need_to};
+ghost use Rattle.flat_model.specs.Sending.{is_looped, mtu_to};
+ghost use Rattle.chain_ops.specs.Stored.{Has};
+ghost use Rattle.sock_calls.specs.Putting.{config_of, head_as, sent_as, AreMade, IsBuilt, IsFreeFor, IsRouted, IsStored, way_of};
+
+use chain_ops::theorems::sent_layout;
+use chain_ops::{from_user, m_prepend};
+use flat_model::{Addr, Need};
+use ip_out::{IpHead, Packets, Way, make_packets, need, need_bcast};
+use mbuf_chain::{Chain, Pool};
+use params::{
+    IP_DEFAULT_TTL, IP_UDP_HEADERS, LOOPBACK, LOOPBACK_MTU, MIN_MTU, PROTOCOL_UDP, UDP_SEND_SPACE,
+};
+use pcb_table::Pcbs;
+use udp::build;
+
+/// What the headers of a send say.
+#[derive(Clone, Copy, Debug, PartialEq, Eq)]
+pub(crate) struct Heading {
+    /// The identification.
+    pub(crate) id: u16,
+    /// The source address.
+    pub(crate) source: u32,
+    /// The source port.
+    pub(crate) port: u16,
+    /// The destination.
+    pub(crate) to: Addr,
+}
+
+/// Whether packets to an address come back and stay off the link.
+fn is_looped(pcbs: &Pcbs, ip: u32) -> bool
+    ensures { result ≡ is_looped (config_of pcbs.now 0) ip }
+{
+    ip == pcbs.addr() || ip == LOOPBACK
+}
+
+/// Where packets to an address go, and how long the longest of them is.
+fn way_to(pcbs: &Pcbs, mtu: u16, ip: u32) -> (Way, u16)
+    ensures way { result.0 ≡ way_of (config_of pcbs.now mtu) ip }
+    ensures mtu { result.1 ≡ mtu_to (config_of pcbs.now mtu) ip }
+{
+    if is_looped(pcbs, ip) {
+        (Way::Loopback, LOOPBACK_MTU)
+    } else if ip == pcbs.bcast() {
+        (Way::Both, mtu)
+    } else {
+        (Way::Link, mtu)
+    }
+}
+
+/// How many free buffers a send of `len` bytes takes: those of its packets, and of a copy of a broadcast.
+pub(crate) fn need_to(pcbs: &Pcbs, mtu: u16, ip: u32, len: u32) -> Need
+    requires most { len ≤ UDP_SEND_SPACE }
+    requires mtu { MIN_MTU ≤ mtu }
+    ensures { result ≡ need_to (config_of pcbs.now mtu) ip len }
+{
+    if ip == pcbs.bcast() {
+        return need_bcast(len);
+    }
+    let (_, mtu) = way_to(pcbs, mtu, ip);
+    need(len, mtu)
+}
+
+/// A chain of the bytes behind 28 bytes for the headers.
+fn with_headers(pool: &mut Pool, bytes: &[u8]) -> Chain
+    requires most { length bytes.now ≤ UDP_SEND_SPACE }
+    requires free { Has pool.old (sent (length bytes.now)) }
+    ensures { IsStored pool.old bytes.now pool.new result }
+{
+    sent_layout();
+    let Ok(mut chain) = from_user(pool, bytes) else {
+        unreachable!()
+    };
+    let headers = [0; IP_UDP_HEADERS as usize];
+    match m_prepend(pool, &mut chain, &headers) {
+        Ok(()) => {}
+        Err(_) => unreachable!(),
+    }
+    chain
+}
+
+/// The datagram, with its header, behind 20 bytes for that of IP.
+fn datagram(pool: &mut Pool, heading: Heading, bytes: &[u8]) -> Chain
+    requires most { length bytes.now ≤ UDP_SEND_SPACE }
+    requires free { Has pool.old (sent (length bytes.now)) }
+    ensures { IsBuilt pool.old (sent_as heading bytes.now) pool.new result }
+{
+    let chain = with_headers(pool, bytes);
+    let Addr { ip, port } = heading.to;
+    build(pool, &chain, heading.source, ip, heading.port, port);
+    chain
+}
+
+/// The IP header of all its packets, but for their lengths and offsets.
+fn ip_head(heading: Heading) -> IpHead
+    ensures { result ≡ head_as heading }
+{
+    IpHead {
+        tos: 0,
+        total: 0,
+        id: heading.id,
+        dont: false,
+        more: false,
+        offset: 0,
+        ttl: IP_DEFAULT_TTL,
+        proto: PROTOCOL_UDP,
+        src: heading.source,
+        dst: heading.to.ip,
+    }
+}
+
+/// The packets of a send, whose buffers have to be free. A broadcast isn't cut.
+pub(crate) fn packets(
+    pool: &mut Pool,
+    pcbs: &Pcbs,
+    mtu: u16,
+    heading: Heading,
+    bytes: &[u8],
+) -> Packets
+    requires most { length bytes.now ≤ UDP_SEND_SPACE }
+    requires routed { IsRouted (config_of pcbs.now mtu) }
+    requires uncut { heading.to.ip ≡ pcbs.now.bcast → length bytes.now + IP_UDP_HEADERS ≤ mtu }
+    requires free { IsFreeFor pool.old (config_of pcbs.now mtu) heading.to.ip (length bytes.now) }
+    ensures { AreMade pool.old (config_of pcbs.now mtu) (sent_as heading bytes.now) pool.new result }
+{
+    let chain = datagram(pool, heading, bytes);
+    let (way, mtu) = way_to(pcbs, mtu, heading.to.ip);
+    match make_packets(pool, chain, ip_head(heading), mtu, way) {
+        Ok(packets) => packets,
+        Err(_) => unreachable!(),
+    }
+}

@@ -1,0 +1,59 @@
+//! The oldest datagram of a receive queue, copied out.
+ghost use Rattle.std.specs.Prelude.{◌≡◌, ◌<◌, ◌≤◌, ◌∷◌, [], length, take, MatchOption, ℕ};
+ghost use Rattle.flat_model.specs.State.{Datagram};
+ghost use Rattle.mbuf_chain.specs.Owners.{IsOwned, Moves};
+ghost use Rattle.sockbuf.specs.SockBuf.{IsSockBuf, chains_of, datagrams};
+ghost use Rattle.sock_calls.specs.Sockets.{TakesAt, queue_at, queues_of, queued_chains};
+
+use chain_ops::m_copydata;
+use flat_model::Addr;
+use mbuf_chain::Pool;
+use sockbuf::SockBuf;
+
+/// Takes the oldest datagram of a queue, and copies as many of its bytes as there is room for; the others are lost. It
+/// answers the sender, and how many were copied; `None` where none waits.
+fn take_oldest(pool: &mut Pool, queue: &mut SockBuf, room: &mut [u8]) -> Option<(Addr, usize)>
+    requires ready { IsSockBuf pool.old queue.old }
+    ensures taken { MatchOption result ((datagrams pool.old queue.old ≡ []) × (datagrams pool.new queue.new ≡ []))
+        (λ found. (d : Datagram) × (datagrams pool.old queue.old ≡ d ∷ datagrams pool.new queue.new)
+        × (found.0 ≡ d.sender) × (take found.1 room.new ≡ take (length room.old) d.item.bytes)) }
+    ensures within { MatchOption result (Unit {0}) (λ found. found.1 ≤ length room.new) }
+    ensures ready { IsSockBuf pool.new queue.new }
+    ensures moves { Moves pool.old (chains_of pool.old queue.old) pool.new (chains_of pool.new queue.new) }
+{
+    let (sender, chain) = queue.take(pool)?;
+    let len = (pool.len(&chain) as usize).min(room.len());
+    m_copydata(pool, &chain, 0, &mut room[..len]);
+    pool.free_chain(chain);
+    Some((sender, len))
+}
+
+/// The same of the queue at a place.
+pub(crate) fn take_at(
+    pool: &mut Pool,
+    queues: &mut [SockBuf],
+    fd: usize,
+    room: &mut [u8],
+) -> Option<(Addr, usize)>
+    requires each { (k : ℕ) → IsSockBuf pool.old (queue_at queues.old k) }
+    requires owned { IsOwned pool.old (queued_chains pool.old queues.old) }
+    requires place { fd < length queues.old }
+    ensures takes { TakesAt pool.old queues.old fd pool.new queues.new }
+    ensures taken { MatchOption result ((queues_of pool.old queues.old fd ≡ []) × (queues_of pool.new queues.new fd ≡ []))
+        (λ found. (d : Datagram) × (queues_of pool.old queues.old fd ≡ d ∷ queues_of pool.new queues.new fd)
+        × (found.0 ≡ d.sender) × (take found.1 room.new ≡ take (length room.old) d.item.bytes)) }
+    ensures within { MatchOption result (Unit {0}) (λ found. found.1 ≤ length room.new) }
+{
+    take_oldest(pool, &mut queues[fd], room)
+}
+
+/// Frees all that waits in the queue at a place.
+pub(crate) fn flush_at(pool: &mut Pool, queues: &mut [SockBuf], fd: usize)
+    requires each { (k : ℕ) → IsSockBuf pool.old (queue_at queues.old k) }
+    requires owned { IsOwned pool.old (queued_chains pool.old queues.old) }
+    requires place { fd < length queues.old }
+    ensures takes { TakesAt pool.old queues.old fd pool.new queues.new }
+    ensures empty { queues_of pool.new queues.new fd ≡ [] }
+{
+    queues[fd].flush(pool);
+}

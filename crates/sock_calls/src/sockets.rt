@@ -1,0 +1,246 @@
+//! Sockets: control blocks and receive queues.
+ghost use Rattle.std.specs.Prelude.{◌≡◌, ◌<◌, ◌≤◌, ◌+◌, ◌∷◌, ◌++◌, ℕ, [], None, length};
+ghost use Rattle.flat_model.specs.Event.{Open, Bind, Close, Connect, Receive, Set_option};
+ghost use Rattle.flat_model.specs.State.{State};
+ghost use Rattle.flat_model.specs.Step.{Step};
+ghost use Rattle.flat_model.specs.Replies.{opened_reply, done_reply, received_reply, FitsRoom};
+ghost use Rattle.mbuf_chain.specs.Chain.{PoolView, chain_of, string};
+ghost use Rattle.mbuf_chain.specs.Owners.{IsOwned, Moves};
+ghost use Rattle.pcb_table.specs.Table.{IsDescriptor};
+ghost use Rattle.sockbuf.specs.SockBuf.{no_datagrams};
+ghost use Rattle.sock_calls.specs.Delivery.{seen, IsInput};
+ghost use Rattle.sock_calls.specs.Outgoing.{sending, CanSend, IsSent};
+ghost use Rattle.sock_calls.specs.Sockets.{IsSocks, IsCalled, queue_at, queued_chains, with_sockets};
+
+use crate::ending::{end_empty, flush_all};
+use crate::input::input;
+use crate::net::Net;
+use crate::receive::{flush_at, take_at};
+use crate::send::send;
+use flat_model::{Addr, Counters, Errno, Opt};
+use ip_out::IpHead;
+use ledger::Waiting;
+use mbuf_chain::{Chain, Pool};
+use params::{FIRST_DESCRIPTOR, IP_MAX_PACKET, MAX_SOCKETS};
+use pcb_table::Pcbs;
+use sockbuf::SockBuf;
+use std::array;
+use std::marker::Model;
+
+/// How many receive queues there are.
+pub(crate) const QUEUES: usize = MAX_SOCKETS as usize;
+
+/// A queue for each socket, in which nothing waits.
+fn no_queues() -> [SockBuf; QUEUES]
+    ensures empty { (fd : ℕ) → queue_at result fd ≡ no_datagrams }
+    ensures places { length result ≡ 64 }
+{
+    array::from_fn(
+        |_| -> SockBuf
+            ensures { result ≡ no_datagrams }
+        { SockBuf::new() },
+    )
+}
+
+/// The place of a descriptor's queue.
+pub(crate) fn place_of(fd: u32) -> usize
+    requires { IsDescriptor fd }
+    ensures value { result + 3 ≡ fd }
+    ensures within { result < 64 }
+{
+    (fd - FIRST_DESCRIPTOR) as usize
+}
+
+/// Up to 64 sockets: their control blocks, and for each descriptor its receive queue. It must be spent, by `end`.
+pub struct Socks {
+    pcbs: Pcbs,
+    // by descriptor, from 3 on
+    queues: [SockBuf; QUEUES],
+}
+
+impl Model for Socks {
+    ghost use Rattle.sock_calls.specs.Sockets.{SocksView, from_three};
+
+    ghost Value = { SocksView };
+
+    ghost view = { λ s. record { pcbs = s.pcbs; queues = from_three s.queues } };
+}
+
+impl Socks {
+    /// No socket, of a machine with this address and broadcast address.
+    pub fn new(addr: u32, bcast: u32) -> Socks
+        ensures blocks { result.pcbs ≡ record { addr = addr; bcast = bcast; blocks = []; last_port = None } }
+        ensures ready { (p : PoolView) → IsSocks p result }
+    {
+        Socks {
+            pcbs: Pcbs::new(addr, bcast),
+            queues: no_queues(),
+        }
+    }
+
+    /// The machine's address.
+    pub fn addr(&self) -> u32
+        ensures { result ≡ self.now.pcbs.addr }
+    {
+        self.pcbs.addr()
+    }
+
+    /// The machine's broadcast address.
+    pub fn bcast(&self) -> u32
+        ensures { result ≡ self.now.pcbs.bcast }
+    {
+        self.pcbs.bcast()
+    }
+
+    /// Opens a socket, with the lowest free descriptor of 3 to 66 (volume 2 chapter 15). Refused, and then nothing
+    /// changes: `TooManyFiles` where 64 are open.
+    pub fn socket(&mut self) -> Result<u32, Errno>
+        ensures { (p : PoolView) → IsSocks p self.old → IsCalled p self.old Open (opened_reply result) self.new }
+    {
+        let opened = self.pcbs.open();
+        self.pcbs.laws();
+        opened
+    }
+
+    /// Gives an unbound socket its local address, unless that is 0.0.0.0, and its port, where that is 0 an ephemeral
+    /// one (volume 2 chapter 22). Refused, and then nothing changes, in this order: `BadDescriptor`; `Invalid` where
+    /// the socket has a port or a local address; `AddressNotAvailable` where the address isn't 0.0.0.0 or one of the
+    /// machine; `AddressInUse` where the port isn't 0 and another socket stands in the way.
+    pub fn bind(&mut self, fd: u32, local: Addr) -> Result<(), Errno>
+        ensures { (p : PoolView) → IsSocks p self.old → IsCalled p self.old (Bind fd local) (done_reply result) self.new }
+    {
+        let done = self.pcbs.bind(fd, local);
+        self.pcbs.laws();
+        done
+    }
+
+    /// Connects a socket; one that is connected is disconnected first, and stays so where the call is refused (volume 2
+    /// chapter 22). Refused, in this order: `BadDescriptor`; `AddressNotAvailable` where the port is 0;
+    /// `HostUnreachable`; `AddressInUse` where another socket has the same four values.
+    pub fn connect(&mut self, fd: u32, to: Addr) -> Result<(), Errno>
+        ensures { (p : PoolView) → IsSocks p self.old → IsCalled p self.old (Connect fd to) (done_reply result) self.new }
+    {
+        let done = self.pcbs.connect(fd, to);
+        self.pcbs.laws();
+        done
+    }
+
+    /// Sets or clears an option (volume 2 chapter 17). Refused, and then nothing changes: `BadDescriptor`.
+    pub fn setsockopt(&mut self, fd: u32, option: Opt, on: bool) -> Result<(), Errno>
+        ensures { (p : PoolView) → IsSocks p self.old → IsCalled p self.old (Set_option fd option on) (done_reply result) self.new }
+    {
+        let done = self.pcbs.set_option(fd, option, on);
+        self.pcbs.laws();
+        done
+    }
+
+    /// Sends bytes to an address, or without one to the socket's peer, and answers how many they were. Where the machine
+    /// hears the packets too, they're put into `net.looped`, which has to be empty before. The bytes are copied once.
+    ///
+    /// Refused, and then nothing changes, in this order: `BadDescriptor`; `DestinationRequired` without an address and
+    /// a peer; `MessageSize` above 9,216 bytes; of an address that was given `IsConnected`, `AddressNotAvailable` for
+    /// port 0, `HostUnreachable`, and `AddressInUse` where another socket has the same four values; `Access` for the
+    /// broadcast address without the option; `MessageSize` for a broadcast that the link would have to cut; `NoBufs`
+    /// of the pool where it has too few buffers now for all packets. Nothing is given back for them.
+    ///
+    /// Else a missing port is chosen, the identification is spent, and the send is counted; `NoBufs` of the queue says
+    /// that the output queue had no room for all packets: the first of them wait for the link, and what comes back does
+    /// come (`sosend`, `udp_output` and `ip_output` of volume 2, chapters 16, 23 and 8).
+    pub fn sendto(
+        &mut self,
+        pool: &mut Pool,
+        net: &mut Net,
+        fd: u32,
+        to: Option<Addr>,
+        bytes: &[u8],
+    ) -> Result<usize, Errno>
+        requires { CanSend (sending pool.old self.old net.old) }
+        ensures { IsSent fd to bytes.now (sending pool.old self.old net.old) result (sending pool.new self.new net.new) }
+    {
+        send(pool, &mut self.pcbs, &self.queues, net, fd, to, bytes)
+    }
+
+    /// Takes the oldest datagram that waits in a socket, copies as many of its bytes as there is room for, and answers
+    /// its sender and how many were copied; the others are lost, and all its buffers are freed (`soreceive` of volume
+    /// 2, chapter 16). It never blocks. Refused, and then nothing changes: `BadDescriptor`; `WouldBlock` where none waits.
+    pub fn recvfrom(
+        &mut self,
+        pool: &mut Pool,
+        fd: u32,
+        room: &mut [u8],
+    ) -> Result<(Addr, usize), Errno>
+        requires ready { IsSocks pool.old self.old }
+        ensures step { (rest : State) → Step (with_sockets pool.old self.old rest) (Receive fd (length room.old)) (received_reply result room.new) (with_sockets pool.new self.new rest) }
+        ensures fits { FitsRoom result room.new }
+        ensures ready { IsSocks pool.new self.new }
+        ensures moves { Moves pool.old (queued_chains pool.old self.old.queues) pool.new (queued_chains pool.new self.new.queues) }
+    {
+        self.pcbs.laws();
+        if self.pcbs.block(fd).is_none() {
+            return Err(Errno::BadDescriptor);
+        }
+        take_at(pool, &mut self.queues, place_of(fd), room).ok_or(Errno::WouldBlock)
+    }
+
+    /// Closes a socket, and frees all that waits in it; packets that it sent stay where they are (volume 2 chapter 15).
+    /// Refused, and then nothing changes: `BadDescriptor`.
+    pub fn close(&mut self, pool: &mut Pool, fd: u32) -> Result<(), Errno>
+        requires ready { IsSocks pool.old self.old }
+        ensures step { (rest : State) → Step (with_sockets pool.old self.old rest) (Close fd) (done_reply result) (with_sockets pool.new self.new rest) }
+        ensures ready { IsSocks pool.new self.new }
+        ensures moves { Moves pool.old (queued_chains pool.old self.old.queues) pool.new (queued_chains pool.new self.new.queues) }
+    {
+        let _ = self.pcbs.block(fd);
+        if let Err(errno) = self.pcbs.close(fd) {
+            return Err(errno);
+        }
+        self.pcbs.laws();
+        flush_at(pool, &mut self.queues, place_of(fd));
+        Ok(())
+    }
+
+    /// A whole datagram without its IP header, which said `head`: it's put into the queues of all sockets that hear it, a
+    /// copy into each but the last, or it ends and is counted (`udp_input` of volume 2, chapter 23). Where a buffer is
+    /// wanted and none is free, all that waits for fragments is given back first. The chain has at most 65,535 bytes.
+    pub fn input<R: Waiting>(
+        &mut self,
+        pool: &mut Pool,
+        waiting: &mut R,
+        counters: &mut Counters,
+        chain: Chain,
+        head: IpHead,
+    )
+        requires ready { IsSocks pool.old self.old }
+        requires waits { R.is_ready pool.old waiting.old }
+        requires owned { IsOwned pool.old (chain ∷ (R.owned pool.old waiting.old ++ queued_chains pool.old self.old.queues)) }
+        requires most { length (string (chain_of pool.old chain)) ≤ IP_MAX_PACKET }
+        ensures input { IsInput
+            (seen pool.old self.old (R.unfinished pool.old waiting.old) (R.owned pool.old waiting.old) counters.old)
+            chain head.src head.dst head.proto
+            (seen pool.new self.new (R.unfinished pool.new waiting.new) (R.owned pool.new waiting.new) counters.new) }
+        ensures waits { R.is_ready pool.new waiting.new }
+    {
+        input(
+            pool,
+            &mut self.pcbs,
+            &mut self.queues,
+            waiting,
+            counters,
+            chain,
+            head,
+        );
+    }
+
+    /// Ends all sockets, and frees all that waits in them.
+    pub fn end(self, pool: &mut Pool)
+        requires { IsSocks pool.old self }
+        ensures { Moves pool.old (queued_chains pool.old self.queues) pool.new [] }
+    {
+        let Socks {
+            pcbs: _,
+            mut queues,
+        } = self;
+        flush_all(pool, &mut queues);
+        end_empty(queues);
+    }
+}
