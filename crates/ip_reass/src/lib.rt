@@ -10,6 +10,8 @@ mod datagram;
 mod lay;
 mod queue;
 mod table;
+#[cfg(test)]
+mod tests;
 
 pub use arrival::Arrival;
 pub use datagram::Datagram;

@@ -1,0 +1,122 @@
+//! Steps that check their own conditions, for the tests.
+
+ghost use Rattle.std.specs.Prelude.{◌≡◌, ◌∷◌, ◌<◌, length, true};
+ghost use Rattle.mbuf_chain.specs.Chain.{chain_of, string};
+ghost use Rattle.mbuf_chain.specs.Owners.{IsOwned};
+ghost use Rattle.ip_reass.specs.Table.{IsReady, held_all};
+
+use crate::{Arrival, Reass};
+use chain_ops::{from_wire, m_copydata};
+use flat_model::{Counters, Why};
+use ip_out::IpHead;
+use ledger::reserve;
+use mbuf_chain::{Chain, Pool};
+use mbuf_pool::NoBufs;
+use std::process::Abort;
+
+/// The header of a fragment from 10.0.0.2 to 10.0.0.1. Its lengths and its place are set for each.
+pub(super) const HEAD: IpHead = IpHead {
+    tos: 0,
+    total: 0,
+    id: 5,
+    dont: false,
+    more: false,
+    offset: 0,
+    ttl: 64,
+    proto: 17,
+    src: 0x0a00_0002,
+    dst: 0x0a00_0001,
+};
+
+/// A fragment: where it begins, whether more come after it, a byte, and how often.
+pub(super) type Piece = (u32, bool, u8, u32);
+
+/// What became of a fragment; of a whole datagram its length.
+#[derive(Clone, Copy, Debug, PartialEq, Eq)]
+pub(super) enum Became {
+    Kept,
+    Whole(u32),
+    Dropped(Why),
+}
+
+/// A packet received into the pool, beside a table.
+fn received(rt: &impl Abort, pool: &mut Pool, table: &Reass, bytes: &[u8]) -> Chain
+    requires ready { IsReady pool.old table.now }
+    requires short { length bytes.now < 65536 }
+    ensures ready { IsReady pool.new table.now }
+    ensures owned { IsOwned pool.new (result ∷ held_all pool.new table.now.datagrams) }
+    ensures headed { (chain_of pool.new result).front.header ≡ true }
+    ensures string { string (chain_of pool.new result) ≡ bytes.now }
+{
+    match from_wire(pool, bytes) {
+        Ok(chain) => chain,
+        Err(NoBufs) => panic!(rt; "no buffer is free"),
+    }
+}
+
+/// Reads a whole datagram's bytes and frees it: its length.
+fn read_whole(rt: &impl Abort, pool: &mut Pool, table: &Reass, chain: Chain, to: &mut [u8]) -> u32
+    requires owned { IsOwned pool.old (chain ∷ held_all pool.old table.now.datagrams) }
+    requires ready { IsReady pool.old table.now }
+    ensures { IsReady pool.new table.now }
+{
+    let len = pool.len(&chain);
+    assert!(rt; len as usize <= to.len());
+    m_copydata(pool, &chain, 0, &mut to[..len as usize]);
+    pool.free_chain(chain);
+    len
+}
+
+/// Lets a fragment of a datagram arrive, in an mbuf or in a cluster; `to` gets the bytes of the whole.
+pub(super) fn arrives(
+    rt: &impl Abort,
+    pool: &mut Pool,
+    table: &mut Reass,
+    counters: &mut Counters,
+    head: IpHead,
+    piece: Piece,
+    to: &mut [u8],
+) -> Became
+    requires { IsReady pool.old table.old }
+    ensures { IsReady pool.new table.new }
+{
+    let (offset, more, byte, len) = piece;
+    assert!(rt; len <= 300 && offset <= 65_528);
+    let bytes = [byte; 320];
+    let total = 20 + len;
+    let chain = received(rt, pool, table, &bytes[..total as usize]);
+    let head = IpHead {
+        total: total as u16,
+        more,
+        offset,
+        ..head
+    };
+    match table.arrive(pool, counters, chain, head) {
+        Arrival::Kept => Became::Kept,
+        Arrival::Dropped(why) => Became::Dropped(why),
+        Arrival::Whole(chain, _) => Became::Whole(read_whole(rt, pool, table, chain, to)),
+    }
+}
+
+/// The test for a packet that comes by the wire in one mbuf.
+pub(super) fn reserve_one(pool: &mut Pool, table: &mut Reass, counters: &mut Counters) -> bool
+    requires { IsReady pool.old table.old }
+    ensures { IsReady pool.new table.new }
+{
+    reserve(pool, table, counters, 1, 0)
+}
+
+/// So many ticks: how many datagrams were dropped at all of them but the last, and at the last.
+pub(super) fn ticks(rt: &impl Abort, pool: &mut Pool, table: &mut Reass, n: u32) -> (u32, u32)
+    requires { IsReady pool.old table.old }
+    ensures { IsReady pool.new table.new }
+{
+    let mut before = 0;
+    let mut last = 0;
+    'ticks: for _ in 0..n {
+        assert!(rt; before <= 65_535 && last <= 65_535);
+        before += last;
+        last = table.tick(pool);
+    }
+    (before, last)
+}
