@@ -1,5 +1,5 @@
 -- The queues of the table's fragments, with their mbufs, at an arrival.
-use Rattle.std.proofs.Common.{◌≡◌, ◌⊎◌, ℕ, zero, suc, ◌<◌, Bool, true, false, List, [], ◌∷◌, ◌++◌, length, map, find, get_or, set, remove, take, drop, Option, None, Some, refl, sym, ap, ◌∙◌, subst, arith, inl, inr}
+use Rattle.std.proofs.Common.{◌≡◌, ◌⊎◌, ℕ, zero, suc, ◌<◌, Bool, true, false, List, [], ◌∷◌, ◌++◌, length, map, find, get_or, set, remove, take, drop, None, refl, sym, ap, ◌∙◌, subst, arith, inl, inr}
 use Rattle.std.specs.Prelude.{slice_get}
 use Rattle.std.proofs.lemmas.Bool.{false≢true, cond-true, cond-false}
 use Rattle.std.proofs.lemmas.List.{get_or-map, length-map, length-set, take-map}
@@ -10,7 +10,7 @@ use Rattle.flat_model.specs.declared.counters.Counters.{Counters}
 use Rattle.mbuf_chain.specs.Chain.{Entry, ChainView, PoolView, chain_of, string}
 use Rattle.ip_out.specs.declared.head.IpHead.{IpHead}
 use Rattle.ip_reass.specs.Arrivals.{carried_entries, key_in}
-use Rattle.ip_reass.specs.Fragments.{QueuedFragment, queued, laid, joined, fragment_of, fragments, map_of}
+use Rattle.ip_reass.specs.Fragments.{QueuedFragment, laid, joined, fragment_of, fragments, map_of}
 use Rattle.ip_reass.specs.Inside.{arrived}
 use Rattle.ip_reass.specs.Table.{TableView, has_key}
 use Rattle.ip_reass.specs.Steps.{datagram_at, no_datagram, LaysIn}
@@ -18,7 +18,7 @@ use Rattle.ip_reass.specs.Layouts.{KeyedQueue, queue_of, queues, goes_by, with_l
 use Rattle.ip_reass.specs.declared.datagram.Datagram.{Datagram}
 use Rattle.ip_reass.specs.declared.arrival.Arrival.{Arrival}
 use Rattle.ip_reass.specs.declared.arrival.Arrival.TheVariants.{Kept, Whole, Dropped}
-use Rattle.ip_reass.proofs.Laid.{Around, covered_no}
+use Rattle.ip_reass.proofs.Laid.{covered_no}
 use Rattle.ip_reass.proofs.Places.{found_passes}
 use Rattle.ip_reass.proofs.Steps.{fragments_are}
 use Rattle.ip_reass.proofs.Aging.{lent}
