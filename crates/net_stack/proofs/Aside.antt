@@ -1,0 +1,106 @@
+-- Sockets and unfinished datagrams beside a step of what is in hand.
+use Rattle.std.proofs.Common.{◌≡◌, ℕ, ◌+◌, ◌<◌, ◌≤◌, List, [], ◌∷◌, ◌++◌, refl, sym, ap, ◌∙◌, subst, arith}
+use Rattle.flat_model.specs.Weight.{Weight, nothing, ◌⊕◌, times as bag_times}
+use Rattle.flat_model.specs.State.{State}
+use Rattle.flat_model.specs.Ledger.{weight_of_state}
+use Rattle.flat_model.specs.declared.config.Config.{Config}
+use Rattle.flat_model.specs.declared.counters.Counters.{Counters}
+use Rattle.flat_model.proofs.Laws.{times-both, both-nothing}
+use Rattle.mbuf_chain.specs.Chain.{PoolView}
+use Rattle.mbuf_chain.specs.Owners.{times, IsOwned, Moves}
+use Rattle.mbuf_chain.specs.Frames.{SameAt}
+use Rattle.mbuf_chain.proofs.Laws.Owners.{times-append, live_at_most, same_beside, same_part, moves_beside, owned_after}
+use Rattle.ledger.specs.Accounts.{weight_at, weight_owned, IsAccounted}
+use Rattle.ledger.proofs.Laws.{accounted_after}
+use Rattle.pcb_table.specs.Table.{machine}
+use Rattle.ip_reass.specs.Table.{TableView, IsReady, held_all, unfinished}
+use Rattle.sock_calls.specs.Sockets.{SocksView, IsSocks, queued_chains, with_net}
+use Rattle.sock_calls.proofs.Laws.{Kept, kept}
+use Rattle.net_stack.proofs.Lifted.{ReassKept, reass_kept}
+
+-- the weight of one chain
+pub one_weighs : (p : PoolView) (c : ℕ) → weight_owned p (c ∷ []) ≡ weight_at p c
+one_weighs p c = both-nothing (weight_at p c)
+
+-- the accounts follow what is in hand
+pub hand_accounts : {p q : PoolView} {xs ys : List ℕ} (s : State) (held : Weight) → IsAccounted p s (held ⊕ weight_owned p xs) → IsOwned p xs → Moves p xs q ys → IsAccounted q s (held ⊕ weight_owned q ys)
+hand_accounts {p} {q} {xs} {ys} s held a owned m =
+    accounted_after a m owned refl (record {
+      mbufs = omega arith;
+      bag = λ k. omega (
+        arith,
+        times-both k (weight_of_state s) (held ⊕ weight_owned p xs),
+        times-both k held (weight_owned p xs),
+        times-both k (weight_of_state s) (held ⊕ weight_owned q ys),
+        times-both k held (weight_owned q ys),
+      );
+    })
+
+-- the counters say nothing of what is held
+pub counters_accounts : {p : PoolView} {s : State} {held : Weight} (c : Counters) → IsAccounted p s held → IsAccounted p (record s { counters = c }) held
+counters_accounts c a = record { mbufs = a.mbufs; clusters = a.clusters; total = a.total; references = a.references }
+
+pub record Aside (p : PoolView) (ds : TableView) (s : SocksView) (ins : List ℕ) (q : PoolView) (outs : List ℕ) : Type 0 where
+  pub reass : ReassKept p q ds
+  pub socks : Kept p q s
+  pub shows : (c : Counters) (rest : State) → with_net q s (unfinished q ds.datagrams) c rest ≡ with_net p s (unfinished p ds.datagrams) c rest
+  pub owned : IsOwned q (outs ++ (held_all q ds.datagrams ++ queued_chains q s.queues))
+  pub moves : Moves p (ins ++ (held_all p ds.datagrams ++ queued_chains p s.queues)) q (outs ++ (held_all q ds.datagrams ++ queued_chains q s.queues))
+  pub accounts : (c d : Counters) (rest : State) (held : Weight) → IsAccounted p (with_net p s (unfinished p ds.datagrams) c rest) (held ⊕ weight_owned p ins)
+      → IsAccounted q (with_net q s (unfinished q ds.datagrams) d rest) (held ⊕ weight_owned q outs)
+
+pub aside : {p q : PoolView} {ds : TableView} {s : SocksView} (ins outs : List ℕ) → IsOwned p (ins ++ (held_all p ds.datagrams ++ queued_chains p s.queues)) → IsReady p ds → IsSocks p s → Moves p ins q outs → Aside p ds s ins q outs
+aside {p} {q} {ds} {s} ins outs owned table socks m =
+    let xs : List ℕ = held_all p ds.datagrams in
+    let ys : List ℕ = queued_chains p s.queues in
+    let split : (k : ℕ) → times k (ins ++ (xs ++ ys)) ≡ times k ins + (times k xs + times k ys) = λ k. omega (arith, times-append k ins (xs ++ ys), times-append k xs ys) in
+    let same : SameAt p q (xs ++ ys) =
+    same_beside (xs ++ ys) m (λ k. omega (arith, owned k, split k, times-append k xs ys)) (λ k h. omega (arith, h, owned k, split k, times-append k xs ys, live_at_most p k)) in
+    let r : ReassKept p q ds = reass_kept p q ds (same_part p q (xs ++ ys) xs same (λ k. omega (arith, times-append k xs ys))) table in
+    let v : Kept p q s = kept p q s (same_part p q (xs ++ ys) ys same (λ k. omega (arith, times-append k xs ys))) socks in
+    let now : (c : Counters) (rest : State) → with_net q s (unfinished q ds.datagrams) c rest ≡ with_net p s (unfinished p ds.datagrams) c rest =
+    λ c rest i. machine (record rest { unfinished = r.shows i; counters = c }) (λ fd. v.shows fd i) s.pcbs in
+    let all : Moves p (ins ++ (xs ++ ys)) q (outs ++ (held_all q ds.datagrams ++ queued_chains q s.queues)) =
+    moves_beside (ins ++ (xs ++ ys)) (outs ++ (held_all q ds.datagrams ++ queued_chains q s.queues)) (xs ++ ys) m
+    (λ k. omega (arith, split k, times-append k xs ys))
+    (λ k. omega (
+      arith,
+      times-append k outs (held_all q ds.datagrams ++ queued_chains q s.queues),
+      times-append k (held_all q ds.datagrams) (queued_chains q s.queues),
+      times-append k xs ys,
+      ap (times k) r.chains,
+      ap (times k) v.chains,
+    )) in
+    record {
+      reass = r;
+      socks = v;
+      shows = now;
+      owned = owned_after all owned;
+      moves = all;
+      accounts = λ c d rest held a.
+          subst (λ (t : State). IsAccounted q t (held ⊕ weight_owned q outs)) (sym (now d rest))
+          (counters_accounts d (hand_accounts (with_net p s (unfinished p ds.datagrams) c rest) held a (λ k. omega (arith, owned k, split k)) m));
+    }
+
+-- ---- the sockets beside a step of the unfinished datagrams and of what is in hand
+pub record BesideSocks (p : PoolView) (s : SocksView) (before : List ℕ) (q : PoolView) (hand after : List ℕ) : Type 0 where
+  pub socks : Kept p q s
+  pub moves : Moves p (before ++ queued_chains p s.queues) q (hand ++ (after ++ queued_chains q s.queues))
+
+pub beside_socks : {p q : PoolView} {s : SocksView} (before hand after : List ℕ) → IsOwned p (before ++ queued_chains p s.queues) → IsSocks p s → Moves p before q (hand ++ after) → BesideSocks p s before q hand after
+beside_socks {p} {q} {s} before hand after owned socks m =
+    let ys : List ℕ = queued_chains p s.queues in
+    let same : SameAt p q ys = same_beside ys m (λ k. omega (arith, owned k, times-append k before ys)) (λ k h. omega (arith, h, owned k, times-append k before ys, live_at_most p k)) in
+    let v : Kept p q s = kept p q s same socks in
+    record {
+      socks = v;
+      moves = moves_beside (before ++ ys) (hand ++ (after ++ queued_chains q s.queues)) ys m
+          (λ k. omega (arith, times-append k before ys))
+          (λ k. omega (
+            arith,
+            times-append k hand (after ++ queued_chains q s.queues),
+            times-append k after (queued_chains q s.queues),
+            times-append k hand after,
+            ap (times k) v.chains,
+          ));
+    }

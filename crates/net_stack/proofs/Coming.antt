@@ -1,0 +1,233 @@
+-- A packet from the wire: what it takes, how it lies in its chain, and its arrival.
+use Rattle.std.proofs.Common.{◌≡◌, ◌⊎◌, ℕ, zero, suc, ◌+◌, ◌-◌, ◌<◌, ◌≤◌, min, max, Bool, true, false, cond, List, [], ◌∷◌, ◌++◌, length, take, Option, None, Some, is_some, refl, sym, ap, ◌∙◌, subst, arith, inl, inr}
+use Rattle.std.specs.Prelude.{◌==◌, All, count_by, nat_le, slice_index_or}
+use Rattle.std.specs.List.{AllByRecursion as Each}
+use Rattle.std.proofs.lemmas.Bool.{true≢false, cases_lt, leb-true, leb-false}
+use Rattle.std.proofs.lemmas.List.{length-take}
+use Rattle.std.proofs.lemmas.List.Elements.{All-from_recursion}
+use Rattle.flat_model.specs.Weight.{Weight, Item, nothing, ◌⊕◌, times as bag_times}
+use Rattle.flat_model.specs.Layout as flat
+use Rattle.flat_model.specs.Layout.{Need, Room, Plain, Cluster, filled, is_cluster, laid_on, need_of, next_room, or_empty, size_of, wire}
+use Rattle.flat_model.specs.Count.{counted}
+use Rattle.flat_model.specs.State.{State, ends}
+use Rattle.flat_model.specs.Ledger.{Affords, AreTaken, IsFree, count_of, exact_ledger}
+use Rattle.flat_model.specs.Arrival.{Arrives, By_wire}
+use Rattle.flat_model.specs.declared.counters.Counters.{Counters}
+use Rattle.flat_model.specs.declared.counters.Why.TheVariants.{NoBufs}
+use Rattle.flat_model.proofs.Laws.{count_cons}
+use Rattle.mbuf_chain.specs.Chain.{ChainView, Entry, PoolView, chain_of, entry_of, flat_bytes, no_entry, references, string, held_mbufs, free_clusters}
+use Rattle.mbuf_chain.specs.Owners.{times, IsOwned, Moves}
+use Rattle.mbuf_chain.proofs.Laws.Owners.{moves_adds, moves_trans, owned_after}
+use Rattle.chain_ops.specs.Makes.{Makes}
+use Rattle.chain_ops.specs.Stored.{AreFree, Has, Lacks, stored_first}
+use Rattle.chain_ops.specs.Weights.{laid}
+use Rattle.chain_ops.proofs.Laws.Rooms.{next_some, next_most, rest_rooms, rooms_step, rest_none}
+use Rattle.ledger.specs.Accounts.{item_at, weight_of, weight_at, weight_owned, IsAccounted}
+use Rattle.ledger.specs.Reserve.{Reserves, are_free}
+use Rattle.ledger.proofs.Laws.{enough_mbufs, enough_clusters}
+use Rattle.pcb_table.specs.Table.{machine}
+use Rattle.ip_reass.specs.Arrivals.{CameByWire}
+use Rattle.ip_reass.specs.Table.{TableView, IsReady, held_all, unfinished}
+use Rattle.sock_calls.specs.Sockets.{SocksView, IsSocks, queued_chains, with_net}
+use Rattle.sock_calls.specs.Delivery.{NetView, seen, state_at}
+use Rattle.net_stack.specs.Arrivals.{HaveApartKeys, HasCome, IsArrived, IsLaidOut}
+use Rattle.net_stack.proofs.Keys.{afforded}
+use Rattle.net_stack.proofs.Aside.{Aside, aside, BesideSocks, beside_socks}
+use Rattle.net_stack.proofs.Arriving.{from_one}
+
+-- ---- how many buffers it takes
+
+pub none_left : (small : ℕ) → filled 0 2048 small 0 ≡ []
+unfolding filled
+none_left small = refl
+
+-- of an empty packet one mbuf
+pub need_is : (n : ℕ) → need_of (wire n) ≡ record { mbufs = max (length (filled n 2048 100 n)) 1; clusters = count_by is_cluster (filled n 2048 100 n) }
+need_is n = go (filled n 2048 100 n)
+  where
+    go : (rooms : List Room) → need_of (or_empty rooms) ≡ record { mbufs = max (length rooms) 1; clusters = count_by is_cluster rooms }
+    go [] = refl
+    go (room ∷ rooms) = let m : length (room ∷ rooms) ≡ max (length (room ∷ rooms)) 1 = omega arith in λ i. record { mbufs = m i; clusters = count_by is_cluster (room ∷ rooms) }
+
+pub wire_some : (n : ℕ) → 0 < length (wire n)
+wire_some n = omega (arith, ap (λ (x : Need). x.mbufs) (need_is n))
+
+pub record IsNext (small left size cluster : ℕ) : Type 0 where
+  pub some : 0 < size
+  pub most : size ≤ left
+  pub one : cluster ≤ 1
+  pub mbufs : length (filled left 2048 small left) ≡ 1 + length (filled (left - size) 2048 108 (left - size))
+  pub clusters : count_by is_cluster (filled left 2048 small left) ≡ cluster + count_by is_cluster (filled (left - size) 2048 108 (left - size))
+
+pub next_is : (small left size cluster : ℕ) → 0 < small → 0 < left → size ≡ size_of (next_room 2048 small left) → cluster ≡ cond (is_cluster (next_room 2048 small left)) 1 0 → IsNext small left size cluster
+next_is small left size cluster s l is_size is_one =
+    let rooms : filled left 2048 small left ≡ next_room 2048 small left ∷ filled (left - size) 2048 108 (left - size) =
+    rooms_step 2048 small left (omega arith) s l ∙ ap (λ (k : ℕ). next_room 2048 small left ∷ rest_rooms (left - k)) (sym is_size) in
+    record {
+      some = omega (arith, is_size, next_some 2048 small left (omega arith) s l);
+      most = omega (arith, is_size, next_most 2048 small left);
+      one = omega (arith, is_one, at_most (is_cluster (next_room 2048 small left)));
+      mbufs = omega (arith, ap (λ (x : List Room). length x) rooms);
+      clusters = omega (arith, is_one, ap (count_by is_cluster) rooms, count_cons is_cluster (next_room 2048 small left) (filled (left - size) 2048 108 (left - size)));
+    }
+  where
+    at_most : (b : Bool) → cond {A = ℕ} b 1 0 ≤ 1
+    at_most true = omega arith
+    at_most false = omega arith
+
+-- ---- it's put into free buffers
+
+pub no_lack : (p : PoolView) (rooms : List Room) → Has p rooms → Lacks p rooms → ⊥
+no_lack p rooms has (inl lacks) = omega (arith, has.0, lacks)
+no_lack p rooms has (inr lacks) = omega (arith, has.1, lacks)
+
+pub has_room : (p : PoolView) (n : ℕ) (need : Need) → need ≡ need_of (wire n) → are_free p need.mbufs need.clusters ≡ true → Has p (wire n)
+has_room p n need is free =
+    let mbufs : need.mbufs ≡ length (wire n) = ap (λ (x : Need). x.mbufs) is in
+    let clusters : need.clusters ≡ count_by is_cluster (wire n) = ap (λ (x : Need). x.clusters) is in
+    (omega (arith, mbufs, enough_mbufs p need.mbufs need.clusters free (omega (arith, mbufs, wire_some n))), omega (arith, clusters, enough_clusters p need.mbufs need.clusters free))
+
+-- ---- how it came shows in its first mbuf
+
+first_room : (n : ℕ) → (rooms : List Room) × (wire n ≡ next_room 2048 100 n ∷ rooms)
+unfolding filled
+first_room zero = ([], refl)
+first_room (suc n) = (filled n 2048 108 (suc n - size_of (next_room 2048 100 (suc n))), refl)
+
+record IsFirst (n : ℕ) (e : Entry) : Type 0 where
+  cluster : is_some e.cluster ≡ nat_le 208 n
+  size : length e.bytes ≡ cond (nat_le 208 n) (min n 2048) (min n 100)
+
+first_is : (n : ℕ) (cs : List ℕ) (rooms : List Room) (xs : List ℕ) → length xs ≡ n → length cs ≡ count_by is_cluster (next_room 2048 100 n ∷ rooms) → IsFirst n (slice_index_or (stored_first 0 false cs (next_room 2048 100 n ∷ rooms) xs) 0 no_entry)
+first_is n cs rooms xs len number = let r = go (nat_le 208 n) cs number in record { cluster = r.0; size = r.1 }
+  where
+    go : (b : Bool) (cs : List ℕ) → length cs ≡ count_by is_cluster (cond b (Cluster (min n 2048)) (Plain (min n 100)) ∷ rooms)
+        → (is_some (slice_index_or (stored_first 0 false cs (cond b (Cluster (min n 2048)) (Plain (min n 100)) ∷ rooms) xs) 0 no_entry).cluster ≡ b)
+        × (length (slice_index_or (stored_first 0 false cs (cond b (Cluster (min n 2048)) (Plain (min n 100)) ∷ rooms) xs) 0 no_entry).bytes ≡ cond b (min n 2048) (min n 100))
+    go true [] h = absurd (omega (arith, h, count_cons is_cluster (Cluster (min n 2048)) rooms))
+    go true (c ∷ cs) h = (refl, omega (arith, len, length-take (min n 2048) xs))
+    go false cs h = (refl, omega (arith, len, length-take (min n 100) xs))
+
+pub came_by_wire : (v : ChainView) (cs xs : List ℕ) → v.entries ≡ stored_first 0 false cs (wire (length xs)) xs → length cs ≡ count_by is_cluster (wire (length xs)) → string v ≡ xs → CameByWire (length xs) v
+came_by_wire v cs xs entries number bytes =
+    let n : ℕ = length xs in
+    let r = first_room n in
+    let f : IsFirst n (entry_of v 0) = subst (λ (es : List Entry). IsFirst n (slice_index_or es 0 no_entry)) (sym (entries ∙ ap (λ (rooms : List Room). stored_first 0 false cs rooms xs) r.1))
+    (first_is n cs r.0 xs refl (number ∙ ap (count_by is_cluster) r.1)) in
+    record { cluster = f.cluster; holds = go (nat_le 208 n) refl f.size (cases_lt 2048 n) (cases_lt 100 n) }
+  where
+    go : (b : Bool) → nat_le 208 (length xs) ≡ b → length (entry_of v 0).bytes ≡ cond b (min (length xs) 2048) (min (length xs) 100) → (2048 < length xs) ⊎ (length xs ≤ 2048) → (100 < length xs) ⊎ (length xs ≤ 100)
+        → (length (string v) ≤ length (entry_of v 0).bytes) ⊎ (40 < length (entry_of v 0).bytes)
+    go true e size (inl l) m = inr (omega (arith, size, l))
+    go true e size (inr l) m = inl (omega (arith, size, l, ap (λ (ys : List ℕ). length ys) bytes))
+    go false e size l (inl m) = inr (omega (arith, size, m))
+    go false e size l (inr m) = inl (omega (arith, size, m, ap (λ (ys : List ℕ). length ys) bytes))
+
+-- ---- weights and clusters
+
+laid_weight : (es : List Entry) → flat.weight_of (laid es) ≡ weight_of es
+laid_weight [] = refl
+laid_weight (e ∷ es) = go e.cluster (laid_weight es)
+  where
+    go : (o : Option ℕ) → flat.weight_of (laid es) ≡ weight_of es → flat.weight_of (laid (record { bytes = e.bytes; start = e.start; cluster = o } ∷ es)) ≡ weight_of (record { bytes = e.bytes; start = e.start; cluster = o } ∷ es)
+    go None later = λ i. record { mbufs = suc (later i).mbufs; bag = (later i).bag }
+    go (Some k) later = λ i. record { mbufs = suc (later i).mbufs; bag = k ∷ (later i).bag }
+
+same_times : (c : ℕ) (xs : List ℕ) → bag_times c xs ≡ times c xs
+same_times c [] = refl
+same_times c (x ∷ xs) = omega (arith, same_times c xs, count_cons (λ (k : ℕ). k == c) x xs)
+
+all_free : (p : PoolView) (s : State) (cs : List ℕ) → IsAccounted p s nothing → Each (λ c. c < p.clusters) cs → Each (λ c. references p c ≡ 0) cs → Each (IsFree s nothing) cs
+all_free p s [] acc exist free = tt
+all_free p s (c ∷ cs) acc exist free = (record { exists = omega (arith, acc.clusters, exist.0); free = sym (acc.references c) ∙ free.0 }, all_free p s cs acc exist.1 free.1)
+
+-- ---- the event
+
+-- the pool was asked for the packet's buffers
+pub record IsAsked (p : PoolView) (r : TableView) (a : Counters) (need : Need) (answer : Bool) (q : PoolView) (t : TableView) (b : Counters) : Type 0 where
+  pub reserves : (s : State) (held : Weight) → s.unfinished ≡ unfinished p r.datagrams → s.counters ≡ a → IsAccounted p s held
+      → Reserves s held need answer (record s { unfinished = unfinished q t.datagrams; counters = b }) q
+  pub moves : Moves p (held_all p r.datagrams) q (held_all q t.datagrams)
+
+-- the sockets then
+pub asked_socks : {p q : PoolView} {s : SocksView} {r t : TableView} {a b : Counters} {need : Need} {answer : Bool} → IsSocks p s → IsOwned p (held_all p r.datagrams ++ queued_chains p s.queues) → IsAsked p r a need answer q t b
+    → BesideSocks p s (held_all p r.datagrams) q [] (held_all q t.datagrams)
+asked_socks {p} {q} {s} {r} {t} socks owned is = beside_socks (held_all p r.datagrams) [] (held_all q t.datagrams) owned socks is.moves
+
+pub lost : {p q : PoolView} {s : SocksView} {r t : TableView} {a b d : Counters} {need : Need} {answer : Bool} (packet : List ℕ) → IsSocks p s → IsOwned p (held_all p r.datagrams ++ queued_chains p s.queues) → IsAsked p r a need answer q t b
+    → need ≡ need_of (wire (length packet)) → answer ≡ false → d ≡ counted NoBufs b
+    → HasCome (seen p s (unfinished p r.datagrams) (held_all p r.datagrams) a) packet (seen q s (unfinished q t.datagrams) (held_all q t.datagrams) d)
+lost {p} {q} {s} {r} {t} {a} {b} {d} {need} {answer} packet socks owned is is_need no_answer is_d =
+    let beside = asked_socks socks owned is in
+    let mid : State → State = λ rest. record (with_net p s (unfinished p r.datagrams) a rest) { unfinished = unfinished q t.datagrams; counters = b } in
+    let now : (rest : State) → with_net q s (unfinished q t.datagrams) d rest ≡ ends NoBufs (mid rest) =
+    λ rest i. machine (record rest { unfinished = unfinished q t.datagrams; counters = is_d i }) (λ fd. beside.socks.shows fd i) s.pcbs in
+    record {
+      step = λ rest keys acc. (
+        answer,
+        mid rest,
+        subst (λ (n : Need). Affords exact_ledger (with_net p s (unfinished p r.datagrams) a rest) nothing n answer (mid rest)) is_need (is.reserves (with_net p s (unfinished p r.datagrams) a rest) nothing refl refl acc).affords,
+        record { yes = λ e. absurd (true≢false (sym e ∙ no_answer)); no = λ e. now rest },
+      );
+      ready = beside.socks.ready;
+      pcbs = refl;
+      moves = beside.moves;
+    }
+
+-- what is asked for before it arrives
+pub record IsReadyToArrive (q : PoolView) (s : SocksView) (t : TableView) (q1 : PoolView) (c : ℕ) : Type 0 where
+  pub beside : Aside q t s [] q1 (c ∷ [])
+  pub header : (chain_of q1 c).front.header ≡ true
+
+pub laid_ready : {p q q1 : PoolView} {s : SocksView} {r t : TableView} {a b : Counters} {need : Need} {answer : Bool} {packet : List ℕ} {c : ℕ} → IsSocks p s → IsOwned p (held_all p r.datagrams ++ queued_chains p s.queues)
+    → IsAsked p r a need answer q t b → IsReady q t → IsLaidOut q packet q1 c → IsReadyToArrive q s t q1 c
+laid_ready {c = c} socks owned is ready laid =
+    let beside = asked_socks socks owned is in
+    record {
+      beside = aside [] (c ∷ []) (owned_after beside.moves owned) ready beside.socks.ready (moves_adds laid.made.adds);
+      header = ap (λ f. f.header) laid.made.front;
+    }
+
+pub came : {p q q1 : PoolView} {s : SocksView} {r t : TableView} {a b : Counters} {need : Need} {answer : Bool} {c : ℕ} {u : NetView} (packet : List ℕ) → IsSocks p s → IsOwned p (held_all p r.datagrams ++ queued_chains p s.queues)
+    → IsAsked p r a need answer q t b → need ≡ need_of (wire (length packet)) → answer ≡ true → IsReady q t → IsLaidOut q packet q1 c
+    → IsArrived (seen q1 s (unfinished q1 t.datagrams) (held_all q1 t.datagrams) b) c u
+    → HasCome (seen p s (unfinished p r.datagrams) (held_all p r.datagrams) a) packet u
+came {p} {q} {q1} {s} {r} {t} {a} {b} {need} {answer} {c} {u} packet socks owned is is_need yes_answer ready laid arrived =
+    let beside = asked_socks socks owned is in
+    let x : Aside q t s [] q1 (c ∷ []) = (laid_ready socks owned is ready laid).beside in
+    let old : State → State = λ rest. with_net p s (unfinished p r.datagrams) a rest in
+    let mid : State → State = λ rest. record (old rest) { unfinished = unfinished q t.datagrams; counters = b } in
+    let now : (rest : State) → with_net q s (unfinished q t.datagrams) b rest ≡ mid rest =
+    λ rest i. machine (record rest { unfinished = unfinished q t.datagrams; counters = b }) (λ fd. beside.socks.shows fd i) s.pcbs in
+    let asked : (rest : State) → IsAccounted p (old rest) nothing → Reserves (old rest) nothing need answer (mid rest) q = λ rest acc. is.reserves (old rest) nothing refl refl acc in
+    let accounts : (rest : State) → IsAccounted p (old rest) nothing → IsAccounted q1 (with_net q1 s (unfinished q1 t.datagrams) b rest) (nothing ⊕ weight_at q1 c) =
+    λ rest acc. from_one nothing c (x.accounts b b rest nothing (subst (λ (m : State). IsAccounted q m nothing) (sym (now rest)) (asked rest acc).accounted)) in
+    let item : item_at q1 c ≡ record { bytes = packet; weight = flat.weight_of (laid_on laid.clusters (wire (length packet))) } =
+    λ i. record { bytes = laid.bytes_are i; weight = (ap weight_of laid.made.entries ∙ sym (laid_weight _) ∙ ap flat.weight_of laid.layout) i } in
+    record {
+      step = λ rest keys acc. (
+        answer,
+        mid rest,
+        subst (λ (n : Need). Affords exact_ledger (old rest) nothing n answer (mid rest)) is_need (asked rest acc).affords,
+        record {
+          yes = λ e. (
+            laid.clusters,
+            record {
+              number = laid.number;
+              distinct = λ k. omega (arith, same_times k laid.clusters, laid.free.once k);
+              free = All-from_recursion (IsFree (mid rest) nothing) laid.clusters (all_free q (mid rest) laid.clusters (asked rest acc).accounted laid.free.exist laid.free.free);
+            },
+            subst (λ (i : Item). Arrives exact_ledger (By_wire (length packet)) nothing i (mid rest) (state_at u rest)) item
+                (subst (λ (m : State). Arrives exact_ledger (By_wire (length packet)) nothing (item_at q1 c) m (state_at u rest)) (x.shows b rest ∙ now rest)
+                (arrived.step rest nothing (By_wire (length packet))
+                (subst HaveApartKeys (sym x.reass.shows) (afforded (old rest) (mid rest) nothing need answer (asked rest acc).affords keys).keys)
+                (came_by_wire (chain_of q1 c) laid.clusters packet laid.made.entries laid.number laid.bytes_are)
+                (accounts rest acc))),
+          );
+          no = λ e. absurd (true≢false (sym yes_answer ∙ e));
+        },
+      );
+      ready = arrived.spent.ready;
+      pcbs = arrived.spent.pcbs;
+      moves = moves_trans beside.moves (moves_trans x.moves arrived.spent.moves);
+    }

@@ -1,0 +1,101 @@
+-- A packet from the wire, and a send, as steps of the stack.
+use Rattle.std.proofs.Common.{◌≡◌, ◌≢◌, ◌<◌, ℕ, suc, [], ◌∷◌, get_or, Fits, w8, ◌+◌, ◌/◌, ◌^◌, ◌≤◌, List, ◌++◌, Option, refl, sym, ap, ◌∙◌, subst, arith}
+use Rattle.std.specs.Prelude.{Result}
+use Rattle.std.specs.List.{AllByRecursion as Each}
+use Rattle.std.proofs.lemmas.List.Elements.{All-from_recursion}
+use Rattle.flat_model.specs.Step.{Step}
+use Rattle.flat_model.specs.State.{boot}
+use Rattle.flat_model.specs.Event.{Comes, Done, IsBytes, IsEvent, Send}
+use Rattle.flat_model.specs.Replies.{sent_reply}
+use Rattle.flat_model.specs.declared.address.Addr.{Addr}
+use Rattle.flat_model.specs.declared.config.Config.{Config}
+use Rattle.flat_model.specs.declared.counters.Counters.{Counters}
+use Rattle.flat_model.specs.declared.errno.Errno.{Errno}
+use Rattle.mbuf_chain.specs.Chain.{PoolView}
+use Rattle.mbuf_chain.specs.Owners.{times, IsOwned, Moves}
+use Rattle.mbuf_chain.specs.Train.{TrainView, numbers}
+use Rattle.mbuf_chain.proofs.Laws.Owners.{times-append, moves_reordered}
+use Rattle.mbuf_chain.proofs.Laws.Trains.{held_none}
+use Rattle.ip_reass.specs.Table.{TableView, IsReady, held_all, unfinished}
+use Rattle.sock_calls.specs.declared.net.Net.{Net}
+use Rattle.sock_calls.specs.Sockets.{SocksView, queued_chains}
+use Rattle.sock_calls.specs.Delivery.{seen}
+use Rattle.sock_calls.specs.Outgoing.{SendView, CanSend, sending}
+use Rattle.net_stack.specs.Stack.{StackView, IsStack, state_of, rest_of, chains_of}
+use Rattle.net_stack.specs.Arrivals.{HasCome}
+use Rattle.net_stack.specs.Sending.{HasSent, no_train, out_chains}
+use Rattle.net_stack.specs.Inside.{seen as seen_in, IsInside}
+use Rattle.net_stack.specs.declared.stack.Stack.TheInside.{Inside}
+use Rattle.net_stack.proofs.Called.{Called}
+use Rattle.net_stack.proofs.Lifted.{Stepped, accounts, stepped, input_step}
+
+-- the bytes behind a reference are bytes
+pub are_bytes : (xs : List ℕ) → ((k : ℕ) → Fits w8 (get_or xs k 0)) → IsBytes xs
+are_bytes xs fits = All-from_recursion (λ byte. byte < 256) xs (go xs fits)
+  where
+    go : (ys : List ℕ) → ((k : ℕ) → Fits w8 (get_or ys k 0)) → Each (λ byte. byte < 256) ys
+    go [] f = tt
+    go (y ∷ ys) f = (omega (arith, f 0), go ys (λ k. f (suc k)))
+
+-- ---- a packet from the wire
+
+pub come_owned : (s : StackView) → IsStack s → IsOwned s.pool (held_all s.pool s.reass.datagrams ++ queued_chains s.pool s.socks.queues)
+come_owned s is = λ k. omega (arith, is.all k, times-append k (held_all s.pool s.reass.datagrams ++ queued_chains s.pool s.socks.queues) (numbers s.pool s.output))
+
+pub rx_step : (s : StackView) (packet : List ℕ) (q : PoolView) (w : SocksView) (es : TableView) (c : Counters) → IsStack s → IsEvent (Comes packet) → IsReady q es
+    → HasCome (seen s.pool s.socks (unfinished s.pool s.reass.datagrams) (held_all s.pool s.reass.datagrams) s.counters) packet (seen q w (unfinished q es.datagrams) (held_all q es.datagrams) c)
+    → Stepped s (Comes packet) Done (record s { pool = q; socks = w; reass = es; counters = c })
+rx_step s packet q w es c is can ready came = input_step s q w es c (Comes packet) Done is can came.ready ready came.moves (refl, came.step (rest_of s) is.consistent.keys (accounts s is))
+
+-- ---- a send
+
+-- what a stack with this net shows
+abbrev pub shown : Config → PoolView → SocksView → TableView → Net → StackView
+shown config p s r n = record { config = config; pool = p; socks = s; reass = r; output = n.out; next_id = n.next_id; counters = n.counters }
+
+split : (s : StackView) (k : ℕ) → times k (chains_of s) ≡ times k (held_all s.pool s.reass.datagrams) + times k (queued_chains s.pool s.socks.queues) + times k (numbers s.pool s.output)
+split s k = omega (
+  arith,
+  times-append k (held_all s.pool s.reass.datagrams ++ queued_chains s.pool s.socks.queues) (numbers s.pool s.output),
+  times-append k (held_all s.pool s.reass.datagrams) (queued_chains s.pool s.socks.queues),
+)
+
+same_chains : (config : Config) (p : PoolView) (s : SocksView) (r : TableView) (n : Net) (k : ℕ) → times k (chains_of (shown config p s r n)) ≡ times k (held_all p r.datagrams ++ out_chains (sending p s n))
+same_chains config p s r n k = omega (
+  arith,
+  split (shown config p s r n) k,
+  times-append k (held_all p r.datagrams) (out_chains (sending p s n)),
+  times-append k (numbers p n.out) (queued_chains p s.queues),
+)
+
+pub send_owned : (config : Config) (p : PoolView) (s : SocksView) (r : TableView) (n : Net) → IsStack (shown config p s r n) → IsOwned p (held_all p r.datagrams ++ out_chains (sending p s n))
+send_owned config p s r n is = λ k. omega (arith, is.all k, same_chains config p s r n k)
+
+pub can_send : (config : Config) (p : PoolView) (s : SocksView) (r : TableView) (n : Net) → IsStack (shown config p s r n) → n.mtu ≡ config.mtu → n.looped ≡ no_train → CanSend (sending p s n)
+can_send config p s r n is mtu none = record {
+  socks = is.socks;
+  out = is.output;
+  owned = λ k. omega (arith, send_owned config p s r n is k, times-append k (held_all p r.datagrams) (out_chains (sending p s n)));
+  looped = held_none p n.looped none;
+  none = ap (λ (t : TrainView). t.len) none;
+  mtu = omega (arith, mtu, is.consistent.config.least_mtu);
+  apart = λ e. is.consistent.config.apart (sym e);
+  outside = λ e. is.consistent.config.bcast.no_loopback (ap (λ (a : ℕ). a / 2 ^ 24) e);
+}
+
+pub send_step : (config : Config) (p q : PoolView) (s w : SocksView) (r es : TableView) (n m : Net) (fd : ℕ) (to : Option Addr) (bytes : List ℕ) (result : Result ℕ Errno) → IsStack (shown config p s r n) → n.mtu ≡ config.mtu
+    → IsEvent (Send fd to bytes) → HasSent fd to bytes (sending p s n) r result (sending q w m) es → Stepped (shown config p s r n) (Send fd to bytes) (sent_reply result) (shown config q w es m)
+send_step config p q s w r es n m fd to bytes result is mtu can sent =
+    stepped (shown config p s r n) (shown config q w es m) (Send fd to bytes) (sent_reply result) is can refl sent.socks sent.reass sent.out
+    (moves_reordered (chains_of (shown config p s r n)) (chains_of (shown config q w es m)) sent.moves (same_chains config p s r n) (same_chains config q w es m))
+    (sent.step (boot config) (sym mtu) is.consistent.keys (accounts (shown config p s r n) is))
+
+-- the fields of a stack after a send
+pub sent_called : (s : Inside) (v : StackView) (q : PoolView) (w : SocksView) (r : TableView) (m : Net) (fd : ℕ) (to : Option Addr) (bytes : List ℕ) (result : Result ℕ Errno) → IsInside s → seen_in s ≡ v
+    → IsEvent (Send fd to bytes) → HasSent fd to bytes (sending s.pool s.socks s.net) s.reass result (sending q w m) r → Called v (Send fd to bytes) (sent_reply result) (record s { pool = q; socks = w; reass = r; net = m })
+sent_called s v q w r m fd to bytes result is e can sent =
+    let t : Stepped (seen_in s) (Send fd to bytes) (sent_reply result) (shown s.config q w r m) = send_step s.config s.pool q s.socks w s.reass r s.net m fd to bytes result is.stack is.mtu can sent in
+    record {
+      step = subst (λ (x : StackView). Step (state_of x) (Send fd to bytes) (sent_reply result) (state_of (shown s.config q w r m))) e t.step;
+      inside = record { stack = t.stack; mtu = sent.mtu ∙ is.mtu; looped = sent.none };
+    }

@@ -1,0 +1,50 @@
+-- A packet is taken from the output queue, copied out and freed.
+use Rattle.std.proofs.Common.{◌≡◌, ℕ, ◌≤◌, List, [], ◌∷◌, ◌++◌, length, map, take, drop, Option, Some, None, refl, sym, ap, ◌∙◌, subst}
+use Rattle.std.proofs.Math.Seq.{take-append_seam, take-length}
+use Rattle.std.specs.List.{AllByRecursion}
+use Rattle.flat_model.specs.Weight.{Item}
+use Rattle.flat_model.specs.Event.{Reply, Given}
+use Rattle.flat_model.specs.State.{State}
+use Rattle.flat_model.specs.Step.{Transmits}
+use Rattle.mbuf_chain.specs.Chain.{PoolView, chain_of, string, without}
+use Rattle.mbuf_chain.specs.Owners.{times, Moves}
+use Rattle.mbuf_chain.specs.Frames.{SameAt}
+use Rattle.mbuf_chain.specs.Train.{TrainView, numbers}
+use Rattle.mbuf_chain.proofs.Laws.Owners.{moves_none, same_without, then_without}
+use Rattle.ledger.specs.Accounts.{item_at}
+use Rattle.ip_out.specs.Packets.{packets}
+use Rattle.ip_out.specs.Queues.{IsQueue}
+use Rattle.net_stack.specs.Transmit.{with_packets, AreWithin, IsGiven}
+use Rattle.net_stack.proofs.Lifted.{OutputKept, output_kept}
+
+-- the bytes in front of a room, of which some were written
+pub in_front : (bytes to room : List ℕ) (n : ℕ) → n ≡ length bytes → to ≡ bytes → take n (to ++ room) ≡ bytes
+in_front bytes to room n e f = (λ i. take (e i) (f i ++ room)) ∙ take-append_seam bytes room
+
+-- all of a string is copied where there is room for it
+pub all_copied : (n k : ℕ) (s to : List ℕ) → to ≡ take k (drop 0 s) → k ≡ n → n ≡ length s → to ≡ s
+all_copied n k s to is is_k is_n = is ∙ ap (λ (j : ℕ). take j s) (is_k ∙ is_n) ∙ take-length s
+
+-- the first packet fits where each does
+pub first_within : (p q : PoolView) (t u : TrainView) (c most : ℕ) → AreWithin p t most → packets p t ≡ item_at q c ∷ packets q u → length (string (chain_of q c)) ≤ most
+first_within p q t u c most each e = (subst (λ (items : List Item). AllByRecursion (λ (item : Item). length item.bytes ≤ most) items) e each).0
+
+pub packet_given : (p q r : PoolView) (t u : TrainView) (c : ℕ) (bytes : List ℕ) → IsQueue p t → packets p t ≡ item_at q c ∷ packets q u → times c (numbers q u) ≡ 0 → IsQueue q u
+    → Moves p (numbers p t) q (c ∷ numbers q u) → r ≡ without q c → bytes ≡ string (chain_of q c)
+    → IsGiven p t (Given (Some bytes)) r u
+packet_given p q r t u c bytes was front apart now m gone e =
+    let same : SameAt q r (numbers q u) = same_without q r c (numbers q u) apart gone in
+    let o : OutputKept q r u = output_kept q r u same now in
+    let all : packets p t ≡ item_at q c ∷ packets r u = front ∙ ap (λ (items : List Item). item_at q c ∷ items) (sym o.shows) in
+    record {
+      step = λ rest. subst (λ (items : List Item). Transmits items (record rest { output = items }) (Given (Some bytes)) (with_packets r u rest)) (sym all) (ap (λ (bs : List ℕ). Given (Some bs)) e, refl);
+      queue = o.queue;
+      moves = subst (Moves p (numbers p t) r) (sym o.chains) (then_without r c (numbers q u) m was.held.owned gone);
+    }
+
+pub nothing_given : (p : PoolView) (t : TrainView) → IsQueue p t → packets p t ≡ [] → IsGiven p t (Given None) p t
+nothing_given p t is e = record {
+  step = λ rest. subst (λ (items : List Item). Transmits items (record rest { output = items }) (Given None) (record rest { output = items })) (sym e) (refl, refl);
+  queue = is;
+  moves = moves_none p (numbers p t);
+}

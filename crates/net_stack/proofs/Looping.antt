@@ -1,0 +1,167 @@
+-- The packets of a train arrive one after another.
+use Rattle.std.proofs.Common.{◌≡◌, ℕ, zero, suc, ◌+◌, ◌<◌, ◌≤◌, List, [], ◌∷◌, ◌++◌, length, map, None, refl, sym, ap, ◌∙◌, subst, arith}
+use Rattle.std.specs.Prelude.{slice_index_or}
+use Rattle.std.specs.List.{remove}
+use Rattle.flat_model.specs.Weight.{Weight, Item, SameWeight, nothing, ◌⊕◌, all_of, times as bag_times}
+use Rattle.flat_model.specs.State.{State}
+use Rattle.flat_model.specs.Ledger.{exact_ledger, weight_of_state}
+use Rattle.flat_model.specs.Arrival.{Looped, Arrives, AllArrive}
+use Rattle.flat_model.specs.declared.counters.Counters.{Counters}
+use Rattle.flat_model.proofs.Laws.{nothing-both, times-both}
+use Rattle.mbuf_chain.specs.Chain.{ChainView, Entry, PoolView, chain_of, entry_of, no_entry}
+use Rattle.mbuf_chain.specs.Owners.{times, IsOwned, Moves}
+use Rattle.mbuf_chain.specs.Frames.{SameAt}
+use Rattle.mbuf_chain.specs.Train.{TrainView, Car, no_car, cars, car_at, numbers, IsHeld}
+use Rattle.mbuf_chain.proofs.Laws.Owners.{times-append, live_at_most, moves_beside, moves_none, moves_trans, owned_after, same_beside}
+use Rattle.mbuf_chain.proofs.Laws.Trains.{length-cars, numbers_same, cars_same, held_same, none_left}
+use Rattle.ledger.specs.Accounts.{item_of, item_at, weight_at, weight_owned, IsAccounted}
+use Rattle.ledger.proofs.Laws.{accounted_as}
+use Rattle.ip_out.specs.Packets.{packets, AreBegunPlain, BeginPlain}
+use Rattle.ip_out.proofs.Laws.{none_wait}
+use Rattle.ip_reass.specs.Table.{TableView, IsReady, held_all, unfinished}
+use Rattle.sock_calls.specs.Sockets.{SocksView, IsSocks, queued_chains, with_net}
+use Rattle.sock_calls.specs.Delivery.{NetView, seen, state_at, chains_at}
+use Rattle.net_stack.specs.Arrivals.{HaveApartKeys, IsArrived, AreArriving, HaveArrived}
+use Rattle.net_stack.proofs.Keys.{keys_arrive}
+use Rattle.net_stack.proofs.Lifted.{output_weighs}
+use Rattle.net_stack.proofs.Aside.{Aside, aside}
+
+-- the first packet of a train, once it was taken
+record IsFirst (p : PoolView) (t : TrainView) (q : PoolView) (c : ℕ) (u : TrainView) : Type 0 where
+  items : packets p t ≡ item_at q c ∷ packets q u
+  plain : (entry_of (chain_of q c) 0).cluster ≡ None
+  later : BeginPlain q u
+
+is_first : (p q : PoolView) (t u : TrainView) (c tag : ℕ) → IsHeld p t → BeginPlain p t → 0 < t.len → cars q u ≡ remove (cars p t) 0
+    → car_at p t 0 ≡ record { number = c; entries = (chain_of q c).entries; tag = tag } → IsFirst p t q c u
+is_first p q t u c tag held plain some is_cars is_car = go (cars p t) refl plain
+  where
+    go : (cs : List Car) → cars p t ≡ cs → AreBegunPlain cs → IsFirst p t q c u
+    go [] e begun = absurd (omega (arith, length-cars p t held, some, ap length e))
+    go (x ∷ xs) e begun =
+        let same : x.entries ≡ (chain_of q c).entries = ap (λ (y : Car). y.entries) (sym (ap (λ (cs : List Car). slice_index_or cs 0 no_car) e) ∙ is_car) in
+        let left : xs ≡ cars q u = sym (is_cars ∙ ap (λ (cs : List Car). remove cs 0) e) in
+        record {
+          items = ap (map (λ (car : Car). item_of car.entries)) e ∙ (λ i. item_of (same i) ∷ map (λ (car : Car). item_of car.entries) (left i));
+          plain = ap (λ (es : List Entry). (slice_index_or es 0 no_entry).cluster) (sym same) ∙ begun.0;
+          later = subst AreBegunPlain left begun.1;
+        }
+
+-- what is in hand first goes behind
+swapped : {p : PoolView} {s : State} (a b : Weight) → IsAccounted p s (nothing ⊕ (a ⊕ b)) → IsAccounted p s (b ⊕ a)
+swapped {p} {s} a b acc = accounted_as acc refl (record {
+  mbufs = omega arith;
+  bag = λ k. omega (
+    arith,
+    times-both k (weight_of_state s) (nothing ⊕ (a ⊕ b)),
+    times-both k nothing (a ⊕ b),
+    times-both k a b,
+    times-both k (weight_of_state s) (b ⊕ a),
+    times-both k b a,
+  );
+})
+
+from_nothing : {p : PoolView} {s : State} (a : Weight) → IsAccounted p s a → IsAccounted p s (nothing ⊕ a)
+from_nothing {p} {s} a acc = subst (λ (w : Weight). IsAccounted p s w) (sym (nothing-both a)) acc
+
+-- the train that is left, beside an arrival
+record IsLater (p : PoolView) (c : ℕ) (u : TrainView) (xs : List ℕ) (q : PoolView) (ys : List ℕ) : Type 0 where
+  numbers_are : numbers q u ≡ numbers p u
+  items : packets q u ≡ packets p u
+  held : IsHeld q u
+  plain : BeginPlain q u
+  moves : Moves p ((c ∷ numbers p u) ++ xs) q (numbers q u ++ ys)
+
+is_later : (p q : PoolView) (c : ℕ) (u : TrainView) (xs ys : List ℕ) → IsOwned p ((c ∷ numbers p u) ++ xs) → IsHeld p u → BeginPlain p u → Moves p (c ∷ xs) q ys → IsLater p c u xs q ys
+is_later p q c u xs ys owned held plain m =
+    let same : SameAt p q (numbers p u) =
+    same_beside (numbers p u) m (λ k. omega (arith, owned k, times-append k (numbers p u) xs)) (λ k h. omega (arith, owned k, h, live_at_most p k, times-append k (numbers p u) xs)) in
+    let ns : numbers q u ≡ numbers p u = numbers_same p q u same in
+    let cs : cars q u ≡ cars p u = cars_same p q u same in
+    record {
+      numbers_are = ns;
+      items = ap (map (λ (car : Car). item_of car.entries)) cs;
+      held = held_same p q u same held;
+      plain = subst AreBegunPlain (sym cs) plain;
+      moves = moves_beside ((c ∷ numbers p u) ++ xs) (numbers q u ++ ys) (numbers p u) m
+          (λ k. omega (arith, times-append k (numbers p u) xs))
+          (λ k. omega (arith, times-append k (numbers q u) ys, ap (times k) ns));
+    }
+
+-- ---- one packet more
+
+pub record IsOneMore (v : NetView) (t : TrainView) (q : PoolView) (s : SocksView) (ds : TableView) (b : Counters) (u : TrainView) : Type 0 where
+  pub way : AreArriving v t (seen q s (unfinished q ds.datagrams) (held_all q ds.datagrams) b) u
+  pub held : IsHeld q u
+  pub plain : BeginPlain q u
+  pub owned : IsOwned q (numbers q u ++ (held_all q ds.datagrams ++ queued_chains q s.queues))
+
+-- what is asked for before it arrives
+pub taken : {p q : PoolView} {s : SocksView} {ds : TableView} {c : ℕ} (t u : TrainView) → IsOwned p (numbers p t ++ (held_all p ds.datagrams ++ queued_chains p s.queues)) → IsReady p ds → IsSocks p s
+    → Moves p (numbers p t) q (c ∷ numbers q u) → Aside p ds s (numbers p t) q (c ∷ numbers q u)
+taken {p} {q} {s} {ds} {c} t u owned table socks m = aside (numbers p t) (c ∷ numbers q u) owned table socks m
+
+pub one_owned : {p q : PoolView} {s : SocksView} {ds : TableView} {c : ℕ} (t u : TrainView) → Aside p ds s (numbers p t) q (c ∷ numbers q u) → IsOwned q (c ∷ (held_all q ds.datagrams ++ queued_chains q s.queues))
+one_owned {q = q} {s = s} {ds = ds} {c = c} t u a = λ k. omega (arith, a.owned k, times-append k (numbers q u) (held_all q ds.datagrams ++ queued_chains q s.queues))
+
+pub one_more : {v : NetView} {t u u1 : TrainView} {q q1 q2 : PoolView} {s s2 : SocksView} {ds ds2 : TableView} {a b : Counters} {c : ℕ} (tag : ℕ)
+    → AreArriving v t (seen q s (unfinished q ds.datagrams) (held_all q ds.datagrams) a) u → IsHeld q u → BeginPlain q u → IsOwned q (numbers q u ++ (held_all q ds.datagrams ++ queued_chains q s.queues)) → IsReady q ds
+    → 0 < u.len → cars q1 u1 ≡ remove (cars q u) 0 → car_at q u 0 ≡ record { number = c; entries = (chain_of q1 c).entries; tag = tag } → IsHeld q1 u1 → Moves q (numbers q u) q1 (c ∷ numbers q1 u1)
+    → IsArrived (seen q1 s (unfinished q1 ds.datagrams) (held_all q1 ds.datagrams) a) c (seen q2 s2 (unfinished q2 ds2.datagrams) (held_all q2 ds2.datagrams) b)
+    → IsOneMore v t q2 s2 ds2 b u1
+one_more {v} {t} {u} {u1} {q} {q1} {q2} {s} {s2} {ds} {ds2} {a} {b} {c} tag w held plain owned table some is_cars is_car held1 m arrived =
+    let x : Aside q ds s (numbers q u) q1 (c ∷ numbers q1 u1) = taken u u1 owned table w.ready m in
+    let f : IsFirst q u q1 c u1 = is_first q q1 u u1 c tag held plain some is_cars is_car in
+    let l : IsLater q1 c u1 (held_all q1 ds.datagrams ++ queued_chains q1 s.queues) q2 (held_all q2 ds2.datagrams ++ queued_chains q2 s2.queues) =
+    is_later q1 q2 c u1 (held_all q1 ds.datagrams ++ queued_chains q1 s.queues) (held_all q2 ds2.datagrams ++ queued_chains q2 s2.queues) x.owned held1 f.later arrived.spent.moves in
+    let wl : Weight = weight_owned q1 (numbers q1 u1) in
+    let weighs : all_of (λ (item : Item). item.weight) (packets q1 u1) ≡ wl = output_weighs q1 (numbers q1 u1) in
+    let now : (rest : State) → with_net q1 s (unfinished q1 ds.datagrams) a rest ≡ with_net q s (unfinished q ds.datagrams) a rest = λ rest. x.shows a rest in
+    let acc1 : (rest : State) → IsAccounted v.pool (state_at v rest) (weight_owned v.pool (numbers v.pool t)) → IsAccounted q1 (with_net q1 s (unfinished q1 ds.datagrams) a rest) (wl ⊕ weight_at q1 c) =
+    λ rest acc. swapped (weight_at q1 c) wl (x.accounts a a rest nothing (from_nothing (weight_owned q (numbers q u)) (w.accounts rest acc))) in
+    let keys1 : (rest : State) → HaveApartKeys v.unfinished → IsAccounted v.pool (state_at v rest) (weight_owned v.pool (numbers v.pool t)) → HaveApartKeys (unfinished q1 ds.datagrams) =
+    λ rest keys acc. subst HaveApartKeys (sym x.reass.shows) (w.keys rest keys acc) in
+    let step : (rest : State) → HaveApartKeys v.unfinished → IsAccounted v.pool (state_at v rest) (weight_owned v.pool (numbers v.pool t))
+    → Arrives exact_ledger Looped wl (item_at q1 c) (with_net q1 s (unfinished q1 ds.datagrams) a rest) (with_net q2 s2 (unfinished q2 ds2.datagrams) b rest) =
+    λ rest keys acc. arrived.step rest wl Looped (keys1 rest keys acc) f.plain (acc1 rest acc) in
+    record {
+      way = record {
+        goes = λ rest new keys acc later.
+            let mid : State = with_net q2 s2 (unfinished q2 ds2.datagrams) b rest in
+            let first : Arrives exact_ledger Looped (all_of (λ (item : Item). item.weight) (packets q1 u1)) (item_at q1 c) (with_net q s (unfinished q ds.datagrams) a rest) mid =
+            subst (λ (h : Weight). Arrives exact_ledger Looped h (item_at q1 c) (with_net q s (unfinished q ds.datagrams) a rest) mid) (sym weighs)
+            (subst (λ (old : State). Arrives exact_ledger Looped wl (item_at q1 c) old mid) (now rest) (step rest keys acc)) in
+            let others : AllArrive exact_ledger (packets q1 u1) mid new = subst (λ (items : List Item). AllArrive exact_ledger items mid new) l.items later in
+            w.goes rest new keys acc (subst (λ (items : List Item). AllArrive exact_ledger items (with_net q s (unfinished q ds.datagrams) a rest) new) (sym f.items) (mid, first, others));
+        keys = λ rest keys acc. keys_arrive Looped wl (item_at q1 c) (with_net q1 s (unfinished q1 ds.datagrams) a rest) (with_net q2 s2 (unfinished q2 ds2.datagrams) b rest) (step rest keys acc) (keys1 rest keys acc);
+        accounts = λ rest acc. subst (λ (h : Weight). IsAccounted q2 (with_net q2 s2 (unfinished q2 ds2.datagrams) b rest) h)
+            (sym weighs ∙ ap (all_of (λ (item : Item). item.weight)) (sym l.items) ∙ output_weighs q2 (numbers q2 u1))
+            (arrived.spent.accounts rest wl (acc1 rest acc));
+        ready = arrived.spent.ready;
+        pcbs = arrived.spent.pcbs ∙ w.pcbs;
+        moves = moves_trans w.moves (moves_trans x.moves l.moves);
+      };
+      held = l.held;
+      plain = l.plain;
+      owned = owned_after (moves_trans x.moves l.moves) owned;
+    }
+
+-- ---- the ends of the loop
+
+pub begun : (v : NetView) (t : TrainView) → IsSocks v.pool v.socks → AreArriving v t v t
+begun v t ready = record {
+  goes = λ rest new keys acc all. all;
+  keys = λ rest keys acc. keys;
+  accounts = λ rest acc. acc;
+  ready = ready;
+  pcbs = refl;
+  moves = moves_none v.pool (numbers v.pool t ++ chains_at v);
+}
+
+pub all_arrived : (v : NetView) (t : TrainView) (w : NetView) (u : TrainView) → AreArriving v t w u → u.len ≡ 0 → HaveArrived v t w
+all_arrived v t w u way none = record {
+  step = λ rest keys acc. way.goes rest (state_at w rest) keys acc (subst (λ (items : List Item). AllArrive exact_ledger items (state_at w rest) (state_at w rest)) (sym (none_wait w.pool u none)) refl);
+  ready = way.ready;
+  pcbs = way.pcbs;
+  moves = subst (λ (xs : List ℕ). Moves v.pool (numbers v.pool t ++ chains_at v) w.pool (xs ++ chains_at w)) (none_left w.pool u none) way.moves;
+}

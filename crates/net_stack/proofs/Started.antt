@@ -1,0 +1,158 @@
+-- How a stack starts, and what it leaves.
+use Rattle.std.proofs.lemmas.List.{length-replicate}
+use Rattle.mbuf_pool.specs.Store.{StoreView, free_store, free_cluster}
+use Rattle.mbuf_pool.specs.declared.sizes.Sizes.{Sizes}
+use Rattle.std.proofs.Common.{◌≡◌, ◌⊎◌, ℕ, ◌+◌, ◌<◌, ◌≤◌, List, [], ◌∷◌, ◌++◌, length, map, Option, Some, None, refl, sym, ap, ◌∙◌, subst, arith}
+use Rattle.std.specs.FinMap as finmap
+use Rattle.std.specs.FinMap.{get-empty}
+use Rattle.std.specs.Ordering.{nat_cmp}
+use Rattle.flat_model.specs.State.{State, IsConfig, boot}
+use Rattle.flat_model.specs.Count.{no_counts}
+use Rattle.flat_model.specs.Consistent.{IsConsistent}
+use Rattle.flat_model.specs.declared.config.Config.{Config}
+use Rattle.flat_model.specs.declared.counters.Counters.{Counters}
+use Rattle.flat_model.proofs.Laws.{boot_is_consistent}
+use Rattle.mbuf_chain.specs.Chain.{PoolView}
+use Rattle.mbuf_chain.specs.Frames.{SameAt}
+use Rattle.mbuf_chain.specs.Owners.{times, live_at, IsOwned, IsAll, Moves}
+use Rattle.mbuf_chain.specs.Train.{TrainView, Car, car_of, follow, numbers}
+use Rattle.mbuf_chain.proofs.Laws.Owners.{times-append, live_at_most, live_none, live_one, moves_beside, moves_trans, moves_nothing, same_beside, same_part}
+use Rattle.ledger.specs.Accounts.{item_of}
+use Rattle.pcb_table.specs.Table.{Table, sockets_with}
+use Rattle.ip_out.specs.Packets.{packets}
+use Rattle.ip_out.specs.Queues.{IsQueue}
+use Rattle.ip_reass.specs.Table.{TableView, IsTable, IsReady, held_all, unfinished}
+use Rattle.ip_reass.specs.declared.datagram.Datagram.{Datagram}
+use Rattle.sock_calls.specs.declared.net.Net.{Net}
+use Rattle.sock_calls.specs.Sockets.{SocksView, IsSocks, queues_of, queued_chains}
+use Rattle.net_stack.specs.Boots.{free_pool}
+use Rattle.net_stack.specs.Stack.{StackView, IsStack, state_of, chains_of}
+use Rattle.net_stack.specs.Inside.{seen, IsInside}
+use Rattle.net_stack.specs.declared.stack.Stack.TheInside.{Inside}
+use Rattle.net_stack.proofs.Lifted.{ReassKept, reass_kept, OutputKept, output_kept, split}
+
+free_live : (config : Config) (k : ℕ) → live_at (free_pool config) k ≡ 0
+free_live config k = live_none (free_pool config) k (get-empty nat_cmp k)
+
+-- ---- the start
+
+no_packets : (p : PoolView) (t : TrainView) → t.len ≡ 0 → packets p t ≡ []
+no_packets p t e = ap (λ (n : ℕ). map (λ (car : Car). item_of car.entries) (map (car_of p) (follow p n t.first))) e
+
+-- the pool over a store of that size
+pub pool_of_store : (config : Config) (store : StoreView) (p : PoolView) → store ≡ free_store (record { mbufs = config.mbufs; clusters = config.clusters })
+    → p ≡ record { mbufs = length store.mbufs; clusters = length store.clusters; chains = finmap.empty } → p ≡ free_pool config
+pool_of_store config store p e is =
+    let a : length store.mbufs ≡ config.mbufs = ap (λ (t : StoreView). length t.mbufs) e ∙ length-replicate config.mbufs None in
+    let b : length store.clusters ≡ config.clusters = ap (λ (t : StoreView). length t.clusters) e ∙ length-replicate config.clusters free_cluster in
+    is ∙ (λ i. record { mbufs = a i; clusters = b i; chains = finmap.empty })
+
+-- the parts that a stack starts with
+pub record Starts (config : Config) (s : Inside) : Type 0 where
+  pub same : s.config ≡ config
+  pub pool : s.pool ≡ free_pool config
+  pub socks : (p : PoolView) → IsSocks p s.socks
+  pub blocks : s.socks.pcbs ≡ record { addr = config.addr; bcast = config.bcast; blocks = []; last_port = None }
+  pub none : s.reass.datagrams ≡ []
+  pub room : config.mbufs ≤ s.reass.room
+  pub mtu : s.net.mtu ≡ config.mtu
+  pub next_id : s.net.next_id ≡ config.first_id
+  pub counters : s.net.counters ≡ no_counts
+  pub out : (p : PoolView) → IsQueue p s.net.out
+  pub waits : s.net.out.len ≡ 0
+  pub looped : s.net.looped ≡ record { first = None; last = None; len = 0 }
+
+pub started_state : (config : Config) (s : Inside) → Starts config s → state_of (seen s) ≡ boot config
+started_state config s h = λ i. record {
+  config = record (h.same i) { addr = (h.blocks i).addr; bcast = (h.blocks i).bcast };
+  sockets = sockets_with (queues_of s.pool s.socks.queues) (h.blocks i);
+  unfinished = unfinished s.pool (h.none i);
+  output = no_packets s.pool s.net.out h.waits i;
+  last_port = (h.blocks i).last_port;
+  next_id = h.next_id i;
+  counters = h.counters i;
+}
+
+none_table : (p : PoolView) (ds : List Datagram) → ds ≡ [] → IsTable p ds
+none_table p ds e = subst (IsTable p) (sym e) (record { owned = λ k. omega arith; each = tt })
+
+started_all : (config : Config) (s : Inside) → Starts config s → IsAll s.pool (chains_of (seen s))
+started_all config s h = λ k. omega (
+  arith,
+  split (seen s) k,
+  ap (λ (ds : List Datagram). times k (held_all s.pool ds)) h.none,
+  (h.socks s.pool).owned k,
+  (h.out s.pool).held.owned k,
+  ap (λ (p : PoolView). live_at p k) h.pool,
+  free_live config k,
+)
+
+pub started : (config : Config) (s : Inside) → IsConfig config → Starts config s → IsInside s
+started config s is h = record {
+  stack = record {
+    mbufs = ap (λ (c : Config). c.mbufs) h.same ∙ sym (ap (λ (p : PoolView). p.mbufs) h.pool);
+    clusters = ap (λ (c : Config). c.clusters) h.same ∙ sym (ap (λ (p : PoolView). p.clusters) h.pool);
+    socks = h.socks s.pool;
+    reass = record { table = none_table s.pool s.reass.datagrams h.none; room = omega (arith, h.room, ap (λ (p : PoolView). p.mbufs) h.pool) };
+    output = h.out s.pool;
+    all = started_all config s h;
+    consistent = subst IsConsistent (sym (started_state config s h)) (boot_is_consistent config is);
+  };
+  mtu = h.mtu ∙ sym (ap (λ (c : Config). c.mtu) h.same);
+  looped = h.looped;
+}
+
+-- ---- the end
+
+-- a pool whose chains have all gone
+gone : (config : Config) (p q : PoolView) (xs : List ℕ) → config.mbufs ≡ p.mbufs → config.clusters ≡ p.clusters → IsAll p xs → Moves p xs q [] → q ≡ free_pool config
+gone config p q xs em ec all m = moves_nothing {p = free_pool config} {q = q} (record {
+  mbufs = m.mbufs ∙ sym em;
+  clusters = m.clusters ∙ sym ec;
+  others = λ k live none. absurd (omega (arith, free_live config k, live_one (free_pool config) k live));
+  owned = λ k. omega (arith, m.owned k, all k, free_live config k);
+})
+
+-- once the sockets ended
+pub record SocksGone (s : Inside) (q : PoolView) : Type 0 where
+  pub reass : ReassKept s.pool q s.reass
+  pub output : OutputKept s.pool q s.net.out
+
+pub socks_gone : (s : Inside) (q : PoolView) → IsStack (seen s) → Moves s.pool (queued_chains s.pool s.socks.queues) q [] → SocksGone s q
+socks_gone s q is m =
+    let p : PoolView = s.pool in
+    let xs : List ℕ = held_all p s.reass.datagrams in
+    let zs : List ℕ = numbers p s.net.out in
+    let same : SameAt p q (xs ++ zs) =
+    same_beside (xs ++ zs) m (λ k. omega (arith, is.all k, split (seen s) k, times-append k xs zs)) (λ k h. omega (arith, h, is.all k, split (seen s) k, times-append k xs zs, live_at_most p k)) in
+    record {
+      reass = reass_kept p q s.reass (same_part p q (xs ++ zs) xs same (λ k. omega (arith, times-append k xs zs))) is.reass;
+      output = output_kept p q s.net.out (same_part p q (xs ++ zs) zs same (λ k. omega (arith, times-append k xs zs))) is.output;
+    }
+
+-- once the unfinished datagrams ended too
+pub record ReassGone (s : Inside) (r : PoolView) : Type 0 where
+  pub output : OutputKept s.pool r s.net.out
+  pub moves : Moves s.pool (held_all s.pool s.reass.datagrams ++ queued_chains s.pool s.socks.queues) r []
+
+pub reass_gone : (s : Inside) (q r : PoolView) → IsStack (seen s) → Moves s.pool (queued_chains s.pool s.socks.queues) q [] → Moves q (held_all q s.reass.datagrams) r [] → ReassGone s r
+reass_gone s q r is m n =
+    let p : PoolView = s.pool in
+    let xs : List ℕ = held_all p s.reass.datagrams in
+    let ys : List ℕ = queued_chains p s.socks.queues in
+    let zs : List ℕ = numbers p s.net.out in
+    let first : Moves p (xs ++ ys) q xs = moves_beside (xs ++ ys) xs xs m (λ k. omega (arith, times-append k xs ys)) (λ k. omega arith) in
+    let both : Moves p (xs ++ ys) r [] = moves_trans first (subst (λ (l : List ℕ). Moves q l r []) (socks_gone s q is m).reass.chains n) in
+    record {
+      output = output_kept p r s.net.out (same_beside zs both (λ k. omega (arith, is.all k, times-append k (xs ++ ys) zs)) (λ k h. omega (arith, h, is.all k, times-append k (xs ++ ys) zs, live_at_most p k))) is.output;
+      moves = both;
+    }
+
+-- once all ended
+pub all_gone : (s : Inside) (r t : PoolView) → IsStack (seen s) → ReassGone s r → Moves r (numbers r s.net.out) t [] → t ≡ free_pool s.config
+all_gone s r t is g n =
+    let p : PoolView = s.pool in
+    let xs : List ℕ = held_all p s.reass.datagrams ++ queued_chains p s.socks.queues in
+    let zs : List ℕ = numbers p s.net.out in
+    let first : Moves p (xs ++ zs) r zs = moves_beside (xs ++ zs) zs zs g.moves (λ k. omega (arith, times-append k xs zs)) (λ k. omega arith) in
+    gone s.config p t (chains_of (seen s)) is.mbufs is.clusters is.all (moves_trans first (subst (λ (l : List ℕ). Moves r l t []) g.output.chains n))

@@ -1,0 +1,16 @@
+use Rattle.std.proofs.Common.{◌≡◌, refl, ap, ◌∙◌}
+use Rattle.flat_model.specs.Ledger.{usage_of}
+use Rattle.flat_model.proofs.Laws.{none_held}
+use Rattle.net_stack.specs.Inside.{seen}
+use Rattle.net_stack.specs.Stack.{StackView, state_of}
+use Rattle.net_stack.proofs.Lifted.{accounts}
+use Rattle.net_stack.proofs.stack.Stack.mbstat.Goals as goal
+
+right : (c : goal.After-mbstat) → c.mbstat.result ≡ usage_of (state_of c.args.self.now)
+right c = c.mbstat.ensures (state_of (seen c.self.inside)) (accounts (seen c.self.inside) c.self.invariant.stack) ∙ ap (λ (v : StackView). usage_of (state_of v)) c.self.view_is
+
+pub returns-clause-step : goal.returns-clause-step
+returns-clause-step c = (c.mbstat.result, right c, refl, refl)
+
+pub returns-clause-free : goal.returns-clause-free
+returns-clause-free c = λ es eu eo. right c ∙ none_held (state_of c.args.self.now) es eu eo

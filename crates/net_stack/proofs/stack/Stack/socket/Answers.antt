@@ -1,0 +1,16 @@
+use Rattle.std.proofs.Common.{arith}
+use Rattle.flat_model.specs.Event.{Open}
+use Rattle.flat_model.specs.Replies.{opened_reply}
+use Rattle.net_stack.specs.Stack.{StackView}
+use Rattle.net_stack.specs.declared.stack.Stack.TheInside.{Inside}
+use Rattle.net_stack.proofs.Called.{Called, blocks_called}
+use Rattle.net_stack.proofs.stack.Stack.socket.Goals as goal
+
+all : (c : goal.After-socket) → Called c.args.self.now Open (opened_reply c.socket.result) (record (c.self.inside) { socks = c.socket.new.self })
+all c = blocks_called c.self.inside c.args.self.now c.socket.new.self Open (opened_reply c.socket.result) c.self.invariant c.self.view_is tt c.socket.ensures
+
+pub invariant_of-self : goal.invariant_of-self
+invariant_of-self c = (all c).inside
+
+pub returns : goal.returns
+returns c = (all c).step

@@ -1,0 +1,20 @@
+use Rattle.flat_model.specs.Event.{Transmit}
+use Rattle.flat_model.specs.Replies.{given_reply}
+use Rattle.std.proofs.Common.{length}
+use Rattle.net_stack.proofs.Called.{Called, are_within, output_called}
+use Rattle.net_stack.proofs.stack.Stack.tx.Goals as goal
+
+all : (c : goal.After-slice_known-2-1) → Called c.args.self.now Transmit (given_reply c.take_packet.result c.take_packet.new.room) (record (c.self.inside) { pool = c.take_packet.new.pool; net = record (c.self.inside.net) { out = c.take_packet.new.out } })
+all c = output_called c.self.inside c.args.self.now c.take_packet.new.pool c.take_packet.new.out (given_reply c.take_packet.result c.take_packet.new.room) c.self.invariant c.self.view_is c.take_packet.ensures.given
+
+pub take_packet-requires-clause-queue : goal.take_packet-requires-clause-queue
+take_packet-requires-clause-queue c = c.self.invariant.stack.output
+
+pub take_packet-requires-clause-within : goal.take_packet-requires-clause-within
+take_packet-requires-clause-within c = are_within c.self.inside (length c.args.room.now) c.self.invariant c.requires
+
+pub invariant_of-self : goal.invariant_of-self
+invariant_of-self c = (all c).inside
+
+pub returns-clause-step : goal.returns-clause-step
+returns-clause-step c = (all c).step

@@ -1,0 +1,7 @@
+pub mod Stack
+pub mod Inside
+pub mod Boots
+pub mod Runs
+pub mod Arrivals
+pub mod Sending
+pub mod Transmit

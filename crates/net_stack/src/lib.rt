@@ -1,0 +1,16 @@
+//! The stack: sockets, reassembly and output over one pool.
+#![tactic(auto)]
+
+mod arrive;
+mod calls;
+mod laws;
+mod receive;
+mod send;
+mod stack;
+#[cfg(test)]
+mod tests;
+mod traffic;
+mod transmit;
+
+pub use laws::calls_are_run;
+pub use stack::{BootFault, Stack};

@@ -1,0 +1,100 @@
+//! A packet from the wire.
+ghost use Rattle.std.specs.Prelude.{◌≡◌, ◌<◌, ◌≤◌, ◌++◌, length, max, if◌then◌else◌};
+ghost use Rattle.flat_model.specs.Layout.{is_cluster, need_of, next_room, size_of, wire};
+ghost use Rattle.mbuf_chain.specs.Owners.{IsOwned};
+ghost use Rattle.chain_ops.specs.Stored.{Has};
+ghost use Rattle.ip_reass.specs.Table.{IsReady, held_all, unfinished};
+ghost use Rattle.sock_calls.specs.Sockets.{IsSocks, queued_chains};
+ghost use Rattle.sock_calls.specs.Delivery.{seen};
+ghost use Rattle.net_stack.specs.Arrivals.{HasCome, IsLaidOut};
+
+use crate::arrive::arrive;
+use chain_ops::from_wire;
+use chain_ops::theorems::stored_layout;
+use flat_model::{Counters, Need, Why};
+use ip_reass::Reass;
+use ledger::reserve;
+use mbuf_chain::{Chain, Pool};
+use params::{IP_MAX_PACKET, MCLBYTES, MHLEN, MINCLSIZE, MLEN};
+use sock_calls::Socks;
+
+/// How many bytes go into the next mbuf, of those left, and how many clusters it takes: `small` at most into a plain one.
+fn next_mbuf(small: u32, left: u32) -> (u32, u32)
+    ensures size { result.0 ≡ size_of (next_room MCLBYTES small left) }
+    ensures cluster { result.1 ≡ (if is_cluster (next_room MCLBYTES small left) then 1 else 0) }
+{
+    if left >= MINCLSIZE {
+        (left.min(MCLBYTES), 1)
+    } else {
+        (left.min(small), 0)
+    }
+}
+
+/// The number, or 1 in place of 0.
+fn at_least_one(n: u32) -> u32
+    ensures { result ≡ max n 1 }
+{
+    if n == 0 { 1 } else { n }
+}
+
+/// How many free mbufs and clusters a packet of `n` bytes from the wire takes. It takes one step for each mbuf.
+fn wire_need(n: u32) -> Need
+    requires { n ≤ IP_MAX_PACKET }
+    ensures { result ≡ need_of (wire n) }
+{
+    let mut mbufs = 0;
+    let mut clusters = 0;
+    let mut small = MHLEN;
+    let mut left = n;
+    'rooms: while left > 0 {
+        let (size, cluster) = next_mbuf(small, left);
+        mbufs += 1;
+        clusters += cluster;
+        small = MLEN;
+        left -= size;
+    }
+    Need {
+        mbufs: at_least_one(mbufs),
+        clusters,
+    }
+}
+
+/// Puts a packet into a chain of its own. Its buffers have to be free.
+fn put_packet(pool: &mut Pool, packet: &[u8]) -> Chain
+    requires most { length packet.now ≤ IP_MAX_PACKET }
+    requires free { Has pool.old (wire (length packet.now)) }
+    ensures { IsLaidOut pool.old packet.now pool.new result }
+{
+    stored_layout();
+    match from_wire(pool, packet) {
+        Ok(chain) => chain,
+        Err(_) => unreachable!(),
+    }
+}
+
+/// A packet comes from the wire and arrives; where the pool has too few buffers for it, all unfinished datagrams are given
+/// back, and where it has too few then, the packet is lost and counted. At most 65,535 bytes.
+pub(crate) fn come_in(
+    pool: &mut Pool,
+    socks: &mut Socks,
+    reass: &mut Reass,
+    counters: &mut Counters,
+    packet: &[u8],
+)
+    requires socks { IsSocks pool.old socks.old }
+    requires reass { IsReady pool.old reass.old }
+    requires owned { IsOwned pool.old (held_all pool.old reass.old.datagrams ++ queued_chains pool.old socks.old.queues) }
+    requires most { length packet.now ≤ IP_MAX_PACKET }
+    ensures came { HasCome
+        (seen pool.old socks.old (unfinished pool.old reass.old.datagrams) (held_all pool.old reass.old.datagrams) counters.old) packet.now
+        (seen pool.new socks.new (unfinished pool.new reass.new.datagrams) (held_all pool.new reass.new.datagrams) counters.new) }
+    ensures reass { IsReady pool.new reass.new }
+{
+    let need = wire_need(packet.len() as u32);
+    if !reserve(pool, reass, counters, need.mbufs, need.clusters) {
+        counters.count_ended(Why::NoBufs);
+        return;
+    }
+    let chain = put_packet(pool, packet);
+    arrive(pool, socks, reass, counters, chain);
+}

@@ -1,0 +1,24 @@
+//! The packet that has waited longest, copied out.
+ghost use Rattle.std.specs.Prelude.{◌≡◌, ◌≤◌, length, IfSome};
+ghost use Rattle.flat_model.specs.Replies.{given_reply};
+ghost use Rattle.ip_out.specs.Queues.{IsQueue};
+ghost use Rattle.net_stack.specs.Transmit.{AreWithin, IsGiven};
+
+use chain_ops::m_copydata;
+use ip_out::Queue;
+use mbuf_chain::Pool;
+
+/// Takes the packet that has waited longest, puts its bytes in front of the room, and frees its buffers. It answers how
+/// many bytes they are, or `None` where none waits. The room has a place for each byte of any packet that waits.
+pub(crate) fn take_packet(pool: &mut Pool, out: &mut Queue, room: &mut [u8]) -> Option<usize>
+    requires queue { IsQueue pool.old out.old }
+    requires within { AreWithin pool.old out.old (length room.old) }
+    ensures given { IsGiven pool.old out.old (given_reply result room.new) pool.new out.new }
+    ensures fits { IfSome result (λ n. n ≤ length room.new) }
+{
+    let packet = out.pop(pool)?;
+    let len = pool.len(&packet) as usize;
+    m_copydata(pool, &packet, 0, &mut room[..len]);
+    pool.free_chain(packet);
+    Some(len)
+}
