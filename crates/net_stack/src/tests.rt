@@ -1,4 +1,6 @@
 //! Calls of a stack, each on its plain path.
+mod traffic;
+
 use crate::{BootFault, Stack};
 use flat_model::{Addr, Config, Counters, Errno, Mbstat, Opt};
 use std::alloc::Global;
