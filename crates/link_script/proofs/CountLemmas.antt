@@ -1,28 +1,16 @@
--- What counting leaves.
-use Rattle.std.proofs.Common.{◌≡◌, refl}
-use Rattle.flat_model.specs.Count.{counted}
+-- The text of counters, one after another.
+use Rattle.std.proofs.Common.{◌≡◌, ℕ, List, [], ◌∷◌, ◌++◌, flat_map, map, sym, ap, ◌∙◌, append_assoc, append-nil}
+use Rattle.flat_model.specs.Count.{counter_name, value_of}
+use Rattle.flat_model.specs.Texts.{count, count_text}
+use Rattle.flat_model.specs.declared.counter.Counter.{Counter}
 use Rattle.flat_model.specs.declared.counters.Counters.{Counters}
-use Rattle.flat_model.specs.declared.counters.Why.{Why}
-use Rattle.flat_model.specs.declared.counters.Why.TheVariants.{TooSmall, BadVersion, BadHeaderLength, Options, BadSum, BadLength, TooShort, CantForward, BadFragment, FragmentDropped, NoProtocol, UdpHeaderDrops, UdpBadLength, UdpBadSum, UdpNoPort, UdpNoPortBroadcast, UdpFullSocket, NoBufs}
 
--- no packet ends by a reclaim
-pub counted-reclaimed : (why : Why) (c : Counters) → (counted why c).ip_reclaimed ≡ c.ip_reclaimed
-unfolding counted
-counted-reclaimed TooSmall c = refl
-counted-reclaimed BadVersion c = refl
-counted-reclaimed BadHeaderLength c = refl
-counted-reclaimed Options c = refl
-counted-reclaimed BadSum c = refl
-counted-reclaimed BadLength c = refl
-counted-reclaimed TooShort c = refl
-counted-reclaimed CantForward c = refl
-counted-reclaimed BadFragment c = refl
-counted-reclaimed FragmentDropped c = refl
-counted-reclaimed NoProtocol c = refl
-counted-reclaimed UdpHeaderDrops c = refl
-counted-reclaimed UdpBadLength c = refl
-counted-reclaimed UdpBadSum c = refl
-counted-reclaimed UdpNoPort c = refl
-counted-reclaimed UdpNoPortBroadcast c = refl
-counted-reclaimed UdpFullSocket c = refl
-counted-reclaimed NoBufs c = refl
+-- the text of these counters
+abbrev pub texts : Counters → List Counter → List ℕ
+texts c items = flat_map count_text (map (λ counter. count (counter_name counter) (value_of counter c)) items)
+
+-- behind the text of some counters, that of one more
+pub texts-more : (c : Counters) (items : List Counter) (one : Counter) → texts c (items ++ one ∷ []) ≡ texts c items ++ count_text (count (counter_name one) (value_of one c))
+texts-more c [] one = append-nil _
+texts-more c (item ∷ items) one =
+    ap (λ (t : List ℕ). count_text (count (counter_name item) (value_of item c)) ++ t) (texts-more c items one) ∙ sym (append_assoc _ (texts c items) _)

@@ -1,8 +1,7 @@
 -- A line asks for one event at most.
-use Rattle.std.proofs.Common.{◌≡◌, ℕ, ◌/◌, ◌%◌, ◌<◌, ◌^◌, Bool, true, false, if◌then◌else◌, List, [], ◌∷◌, length, get_or, codes, bytes_eq, Some, None, Ok, refl, sym, ap, ◌∙◌, subst, inl, inr, arith, rules}
+use Rattle.std.proofs.Common.{◌≡◌, ℕ, ◌/◌, ◌%◌, ◌<◌, ◌^◌, Bool, true, false, List, [], ◌∷◌, get_or, codes, bytes_eq, Some, None, Ok, refl, sym, ap, ◌∙◌, subst, inl, inr, arith}
 use Rattle.std.proofs.lemmas.Bool.{false≢true}
 use Rattle.std.proofs.lemmas.Fmt.{decimal_injective}
-use Rattle.std.proofs.lemmas.List.{get_or_default}
 use Rattle.std.proofs.lemmas.Slice.Eq.{bytes_eq-Decides}
 use Rattle.std.specs.declared.net.ipv4_addr.Ipv4Addr.{Ipv4Addr}
 use Rattle.std.proofs.NetLemmas.Theorems.{IsIpv4Text_unique}
@@ -11,57 +10,10 @@ use Rattle.hex.proofs.HexLemmas.{decode_of-ok, decode_of-same}
 use Rattle.flat_model.specs.declared.address.Addr.{Addr}
 use Rattle.flat_model.specs.declared.option.Opt.{Opt}
 use Rattle.flat_model.specs.declared.option.Opt.TheVariants.{Broadcast, ReusePort}
-use Rattle.flat_model.specs.Event.{Event, IsEvent, IsAddr, IsBytes, Open, Bind, Connect, Send, Receive, Close, Set_option, Comes, Transmit, Tick, Ask_counters, Ask_usage}
+use Rattle.flat_model.specs.Event.{Event, Open, Bind, Connect, Send, Receive, Close, Set_option, Comes, Transmit, Tick, Ask_counters, Ask_usage}
 use Rattle.flat_model.specs.Grammar.{keyword, HasArguments, IsLine, IsNumber, IsAddress, IsEnd, IsHex, option_name, switch_name}
 use Rattle.link_script.proofs.AddressLemmas.{IsAddress-dotted}
-
--- ---- which event it is
-
-place : List ℕ → ℕ
-place word =
-    if bytes_eq word (codes "socket") then 0
-    else if bytes_eq word (codes "bind") then 1
-    else if bytes_eq word (codes "connect") then 2
-    else if bytes_eq word (codes "sendto") then 3
-    else if bytes_eq word (codes "send") then 3
-    else if bytes_eq word (codes "recvfrom") then 5
-    else if bytes_eq word (codes "close") then 6
-    else if bytes_eq word (codes "setsockopt") then 7
-    else if bytes_eq word (codes "rx") then 8
-    else if bytes_eq word (codes "tx") then 9
-    else if bytes_eq word (codes "tick") then 10
-    else if bytes_eq word (codes "stat") then 11
-    else 12
-
-abbrev index : Event → ℕ
-index Open = 0
-index (Bind fd address) = 1
-index (Connect fd address) = 2
-index (Send fd to bytes) = 3
-index (Receive fd most) = 5
-index (Close fd) = 6
-index (Set_option fd option on) = 7
-index (Comes packet) = 8
-index Transmit = 9
-index Tick = 10
-index Ask_counters = 11
-index Ask_usage = 12
-
-place-keyword : (event : Event) → place (keyword event) ≡ index event
-unfolding place
-place-keyword Open = refl
-place-keyword (Bind fd address) = refl
-place-keyword (Connect fd address) = refl
-place-keyword (Send fd (Some to) bytes) = refl
-place-keyword (Send fd None bytes) = refl
-place-keyword (Receive fd most) = refl
-place-keyword (Close fd) = refl
-place-keyword (Set_option fd option on) = refl
-place-keyword (Comes packet) = refl
-place-keyword Transmit = refl
-place-keyword Tick = refl
-place-keyword Ask_counters = refl
-place-keyword Ask_usage = refl
+use Rattle.link_script.proofs.KeywordLemmas.{place, index, place-keyword}
 
 -- ---- words that write one value
 
@@ -112,79 +64,52 @@ switch-same false true e = absurd (apart (codes "0") (codes "1") refl e)
 
 -- ---- lines
 
-events-same : (a b : Event) (args : List (List ℕ)) → HasArguments a args → HasArguments b args → keyword a ≡ keyword b → index a ≡ index b → a ≡ b
-events-same Open Open args h k names e = refl
-events-same (Bind fd address) (Bind fd' address') args h k names e =
+events-same : (a b : Event) (args : List (List ℕ)) → HasArguments a args → HasArguments b args → index a ≡ index b → a ≡ b
+events-same Open Open args h k e = refl
+events-same (Bind fd address) (Bind fd' address') args h k e =
     let words : h.0 ∷ h.1 ∷ h.2 ∷ [] ≡ k.0 ∷ k.1 ∷ k.2 ∷ [] = sym h.3 ∙ k.3 in
     ap (λ (n : ℕ). Bind n address) (number-same 4294967295 fd fd' h.0 k.0 (omega arith) (cc words) h.4 k.4)
     ∙ ap (λ (x : Addr). Bind fd' x) (end-same address address' h.1 k.1 h.2 k.2 (cc words) (cc words) h.5 k.5)
-events-same (Connect fd address) (Connect fd' address') args h k names e =
+events-same (Connect fd address) (Connect fd' address') args h k e =
     let words : h.0 ∷ h.1 ∷ h.2 ∷ [] ≡ k.0 ∷ k.1 ∷ k.2 ∷ [] = sym h.3 ∙ k.3 in
     ap (λ (n : ℕ). Connect n address) (number-same 4294967295 fd fd' h.0 k.0 (omega arith) (cc words) h.4 k.4)
     ∙ ap (λ (x : Addr). Connect fd' x) (end-same address address' h.1 k.1 h.2 k.2 (cc words) (cc words) h.5 k.5)
-events-same (Send fd (Some to) bytes) (Send fd' (Some to') bytes') args h k names e =
+events-same (Send fd (Some to) bytes) (Send fd' (Some to') bytes') args h k e =
     let words : h.0 ∷ h.1 ∷ h.2 ∷ h.3 ∷ [] ≡ k.0 ∷ k.1 ∷ k.2 ∷ k.3 ∷ [] = sym h.4 ∙ k.4 in
     ap (λ (n : ℕ). Send n (Some to) bytes) (number-same 4294967295 fd fd' h.0 k.0 (omega arith) (cc words) h.5 k.5)
     ∙ ap (λ (x : Addr). Send fd' (Some x) bytes) (end-same to to' h.1 k.1 h.2 k.2 (cc words) (cc words) h.6 k.6)
     ∙ ap (λ (t : List ℕ). Send fd' (Some to') t) (hex-same bytes bytes' h.3 k.3 (cc words) h.7 k.7)
-events-same (Send fd None bytes) (Send fd' None bytes') args h k names e =
+events-same (Send fd None bytes) (Send fd' None bytes') args h k e =
     let words : h.0 ∷ h.1 ∷ [] ≡ k.0 ∷ k.1 ∷ [] = sym h.2 ∙ k.2 in
     ap (λ (n : ℕ). Send n None bytes) (number-same 4294967295 fd fd' h.0 k.0 (omega arith) (cc words) h.3 k.3)
     ∙ ap (λ (t : List ℕ). Send fd' None t) (hex-same bytes bytes' h.1 k.1 (cc words) h.4 k.4)
-events-same (Send fd (Some to) bytes) (Send fd' None bytes') args h k names e = absurd (apart (codes "sendto") (codes "send") refl names)
-events-same (Send fd None bytes) (Send fd' (Some to') bytes') args h k names e = absurd (apart (codes "send") (codes "sendto") refl names)
-events-same (Receive fd most) (Receive fd' most') args h k names e =
+events-same (Send fd (Some to) bytes) (Send fd' None bytes') args h k e = absurd (omega arith)
+events-same (Send fd None bytes) (Send fd' (Some to') bytes') args h k e = absurd (omega arith)
+events-same (Receive fd most) (Receive fd' most') args h k e =
     let words : h.0 ∷ h.1 ∷ [] ≡ k.0 ∷ k.1 ∷ [] = sym h.2 ∙ k.2 in
     ap (λ (n : ℕ). Receive n most) (number-same 4294967295 fd fd' h.0 k.0 (omega arith) (cc words) h.3 k.3)
     ∙ ap (λ (n : ℕ). Receive fd' n) (number-same 65535 most most' h.1 k.1 (omega arith) (cc words) h.4 k.4)
-events-same (Close fd) (Close fd') args h k names e =
+events-same (Close fd) (Close fd') args h k e =
     let words : h.0 ∷ [] ≡ k.0 ∷ [] = sym h.1 ∙ k.1 in
     ap Close (number-same 4294967295 fd fd' h.0 k.0 (omega arith) (cc words) h.2 k.2)
-events-same (Set_option fd option on) (Set_option fd' option' on') args h k names e =
+events-same (Set_option fd option on) (Set_option fd' option' on') args h k e =
     let words : h.0 ∷ option_name option ∷ switch_name on ∷ [] ≡ k.0 ∷ option_name option' ∷ switch_name on' ∷ [] = sym h.1 ∙ k.1 in
     ap (λ (n : ℕ). Set_option n option on) (number-same 4294967295 fd fd' h.0 k.0 (omega arith) (cc words) h.2 k.2)
     ∙ ap (λ (o : Opt). Set_option fd' o on) (option-same option option' (cc words))
     ∙ ap (λ (b : Bool). Set_option fd' option' b) (switch-same on on' (cc words))
-events-same (Comes packet) (Comes packet') args h k names e =
+events-same (Comes packet) (Comes packet') args h k e =
     let words : h.0 ∷ [] ≡ k.0 ∷ [] = sym h.1 ∙ k.1 in
     ap Comes (hex-same packet packet' h.0 k.0 (cc words) h.2 k.2)
-events-same Transmit Transmit args h k names e = refl
-events-same Tick Tick args h k names e = refl
-events-same Ask_counters Ask_counters args h k names e = refl
-events-same Ask_usage Ask_usage args h k names e = refl
-events-same a b args h k names e = absurd (omega arith)
+events-same Transmit Transmit args h k e = refl
+events-same Tick Tick args h k e = refl
+events-same Ask_counters Ask_counters args h k e = refl
+events-same Ask_usage Ask_usage args h k e = refl
+events-same a b args h k e = absurd (omega arith)
 
 pub one_event : (line : List ℕ) (a b : Event) → IsLine line a → IsLine line b → a ≡ b
 one_event line a b h k =
     let words : keyword a ∷ h.args ≡ keyword b ∷ k.args = sym h.words_are ∙ k.words_are in
     let names : keyword a ≡ keyword b = cc words in
     let args : k.args ≡ h.args = cc (sym words) in
-    events-same a b h.args h.arguments (subst (λ (t : List (List ℕ)). HasArguments b t) args k.arguments) names
+    events-same a b h.args h.arguments (subst (λ (t : List (List ℕ)). HasArguments b t) args k.arguments)
     (sym (place-keyword a) ∙ ap place names ∙ place-keyword b)
-
--- ---- ranges
-
-bytes-all : (xs : List ℕ) → ((i : ℕ) → get_or xs i 0 < 256) → IsBytes xs
-bytes-all xs small = λ k d below. let same : get_or xs k d ≡ get_or xs k 0 = get_or_default xs k d 0 below in rw same (small k)
-
-hex-bytes : (word bytes : List ℕ) → IsHex word bytes → IsBytes bytes × (length bytes < 2 ^ 16)
-hex-bytes word bytes (inl dash) = rw dash.1 (search rules, omega arith)
-hex-bytes word bytes (inr some) = (bytes-all bytes (decode_of-ok word bytes some.2).3, omega (arith, some.1))
-
-end-range : (a p : List ℕ) (end : Addr) → IsEnd a p end → IsAddr end
-end-range a p end h = record { ip = h.0.0; port = omega (arith, h.1.0) }
-
-pub in_range : (line : List ℕ) (event : Event) → IsLine line event → IsEvent event
-in_range line Open h = tt
-in_range line (Bind fd address) h = end-range _ _ address h.arguments.5
-in_range line (Connect fd address) h = end-range _ _ address h.arguments.5
-in_range line (Send fd (Some to) bytes) h = (end-range _ _ to h.arguments.6, (hex-bytes _ bytes h.arguments.7).0)
-in_range line (Send fd None bytes) h = (search rules, (hex-bytes _ bytes h.arguments.4).0)
-in_range line (Receive fd most) h = tt
-in_range line (Close fd) h = tt
-in_range line (Set_option fd option on) h = tt
-in_range line (Comes packet) h = let range = hex-bytes _ packet h.arguments.2 in (range.0, range.1)
-in_range line Transmit h = tt
-in_range line Tick h = tt
-in_range line Ask_counters h = tt
-in_range line Ask_usage h = tt

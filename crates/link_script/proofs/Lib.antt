@@ -1,15 +1,10 @@
-pub mod FormLemmas
-pub mod AddressLemmas
-pub mod RunLemmas
-pub mod RoomLemmas
-pub mod SumLemmas
-pub mod QueueLemmas
-pub mod ChoiceLemmas
-pub mod LookupLemmas
-pub mod ArrivalLemmas
-pub mod CountLemmas
-pub mod WireLemmas
-pub mod BindLemmas
-pub mod ProgramLemmas
+mod AddressLemmas
+mod KeywordLemmas
+mod FormLemmas
+mod RunLemmas
+mod RoomLemmas
+mod BootLemmas
+mod CountLemmas
+mod EventLemmas
+mod ProgramLemmas
 mod OptionLemmas
-pub mod EventLemmas

@@ -1,18 +1,28 @@
 -- Which configurations a machine is booted with (this project's own).
 use Rattle.std.specs.Prelude.{Result, Ok, Err}
 use Rattle.flat_model.specs.declared.config.Config.{Config}
-use Rattle.flat_model.specs.declared.config.ConfigFault.{ConfigFault}
-use Rattle.flat_model.specs.declared.config.ConfigFault.TheVariants as fault
 use Rattle.flat_model.specs.State.{IsConfig, HasSizes}
+use Rattle.net_stack.specs.declared.stack.BootFault.{BootFault}
+use Rattle.net_stack.specs.declared.stack.BootFault.TheVariants as boot
 use Rattle.script_loop.specs.declared.fault.RunFault.{RunFault}
 use Rattle.script_loop.specs.declared.fault.RunFault.TheVariants.{Read, Write, Memory, TooManyLines, BadSizes, BadConfig}
 
--- what a bad configuration ends with
-abbrev pub refused_as : ConfigFault → RunFault
-refused_as fault.BadSizes = BadSizes
-refused_as fault.BadConfig = BadConfig
+-- the fault of a run on a stack that isn't booted
+abbrev pub refused_as : BootFault → RunFault
+refused_as boot.Memory = Memory
+refused_as boot.BadSizes = BadSizes
+refused_as boot.BadConfig = BadConfig
 
--- the sizes are tested first, then all else of the configuration
+-- why there is no machine: the sizes are tested first, then all else of the configuration
+abbrev pub IsUnbooted : Config → RunFault → Type 0
+IsUnbooted c BadSizes = ¬ HasSizes c
+IsUnbooted c BadConfig = HasSizes c × ¬ IsConfig c
+IsUnbooted c Memory = IsConfig c
+IsUnbooted c Read = ⊥
+IsUnbooted c Write = ⊥
+IsUnbooted c TooManyLines = ⊥
+
+-- the same of a whole run, which may fail later
 abbrev pub Boots : Config → Result Unit RunFault → Type 0
 Boots c (Err BadSizes) = ¬ HasSizes c
 Boots c (Err BadConfig) = HasSizes c × ¬ IsConfig c

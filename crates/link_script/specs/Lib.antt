@@ -1,10 +1,6 @@
-pub mod FirstPath
 pub mod Requests
 pub mod Parts
 pub mod Says
 pub mod Boots
 pub mod Options
 pub mod Program
-pub mod Datagrams
-pub mod Hosts
-pub mod Ports

@@ -1,11 +1,11 @@
 -- What the program does, by its status (this project's own).
 use Rattle.std.specs.Prelude.{◌≡◌, ◌⊎◌, ℕ, List, [], Option, Result, Ok, Err}
+use Rattle.flat_model.specs.Event.{Event, Reply}
 use Rattle.flat_model.specs.State.{State, boot}
 use Rattle.flat_model.specs.declared.config.Config.{Config}
 use Rattle.script_loop.specs.Serves.{Serves, Moves}
 use Rattle.script_loop.specs.declared.fault.RunFault.{RunFault}
 use Rattle.script_loop.specs.declared.fault.RunFault.TheVariants.{Read, Write, Memory, TooManyLines, BadSizes, BadConfig}
-use Rattle.link_script.specs.FirstPath.{OneSocket, is_served}
 use Rattle.link_script.specs.Says.{Says}
 use Rattle.link_script.specs.Boots.{Boots}
 use Rattle.link_script.specs.declared.command_line.Failure.{Failure}
@@ -33,14 +33,14 @@ abbrev pub IsWordsFault : (Config → Type 0) → Failure → Type 0
 IsWordsFault asks Usage = (config : Config) → ¬ asks config
 IsWordsFault asks (Run fault) = fault ≡ Memory
 
--- What was done by words that ask for these configurations. They ask for none, or memory was lacking to read them, and nothing was
+-- What was done by words that ask for these configurations, on a machine by its steps. They ask for none, or memory was lacking to read them, and nothing was
 -- read or written; or the machine that they ask for was run.
-abbrev pub Ran : (Config → Type 0) → Option (List ℕ) → Option (List ℕ) → Option (List ℕ) → Option (List ℕ) → Result Unit Failure → Type 0
-Ran asks unread rest before after (Err Usage) = ((config : Config) → ¬ asks config) × Moves unread rest [] before after []
-Ran asks unread rest before after (Err (Run fault)) =
+abbrev pub Ran : (State → Event → Reply → State → Type 0) → (Config → Type 0) → Option (List ℕ) → Option (List ℕ) → Option (List ℕ) → Option (List ℕ) → Result Unit Failure → Type 0
+Ran step asks unread rest before after (Err Usage) = ((config : Config) → ¬ asks config) × Moves unread rest [] before after []
+Ran step asks unread rest before after (Err (Run fault)) =
     ((fault ≡ Memory) × Moves unread rest [] before after [])
     ⊎ ((config : Config) × asks config × Boots config (Err fault)
-    × (new : State) × Serves (Says is_served OneSocket) (boot config) new unread rest before after (Err fault))
-Ran asks unread rest before after (Ok done) =
+    × (new : State) × Serves (Says step) (boot config) new unread rest before after (Err fault))
+Ran step asks unread rest before after (Ok done) =
     (config : Config) × asks config × Boots config (Ok done)
-    × (new : State) × Serves (Says is_served OneSocket) (boot config) new unread rest before after (Ok done)
+    × (new : State) × Serves (Says step) (boot config) new unread rest before after (Ok done)

@@ -1,10 +1,10 @@
 -- What a machine may print for a line by its steps.
-use Rattle.std.specs.Prelude.{◌≡◌, ℕ, Bool, List, Option}
+use Rattle.std.specs.Prelude.{◌≡◌, ℕ, List, Option}
 use Rattle.flat_model.specs.Event.{Event, Reply}
 use Rattle.flat_model.specs.State.{State}
 use Rattle.flat_model.specs.Texts.{answer_text}
-use Rattle.flat_model.specs.Script.{Answers}
+use Rattle.flat_model.specs.Script.{Answers, all_events}
 
--- the text of an answer that it may give
-abbrev pub Says : (Event → Bool) → (State → Event → Reply → State → Type 0) → State → List ℕ → List ℕ → State → Type 0
-Says serves step old line text new = (answer : Option Reply) × Answers serves step old line answer new × (text ≡ answer_text answer)
+-- the text of an answer that it may give; all lines are served
+abbrev pub Says : (State → Event → Reply → State → Type 0) → State → List ℕ → List ℕ → State → Type 0
+Says step old line text new = (answer : Option Reply) × Answers all_events step old line answer new × (text ≡ answer_text answer)

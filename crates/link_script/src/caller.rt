@@ -1,18 +1,17 @@
 //! A machine whose calls are made by lines.
-ghost use Rattle.std.specs.Prelude.{◌≡◌, ◌≤◌, ◌++◌, List, ℕ, length, Some, Option, IfOk};
-ghost use Rattle.flat_model.specs.Event.{Reply, Receive};
+ghost use Rattle.std.specs.Prelude.{◌≡◌, ◌≤◌, ◌++◌, List, ℕ, length, Some, Option};
+ghost use Rattle.flat_model.specs.Event.{Reply, Receive, Transmit};
 ghost use Rattle.flat_model.specs.State.{State};
 ghost use Rattle.flat_model.specs.Texts.{answer_text};
-ghost use Rattle.link_script.specs.FirstPath.{is_served};
 ghost use Rattle.link_script.specs.Says.{Says};
 ghost use Rattle.link_script.specs.Requests.{event_of, room_of};
 
 use crate::machine::Machine;
-use crate::reply::{TEXT, put_done, put_opened, put_received};
+use crate::reply::{
+    TEXT, put_counters, put_done, put_given, put_opened, put_received, put_sent, put_usage,
+};
 use crate::request::{Request, request_of};
-use crate::rooms::Rooms;
-use script_loop::{Answers, Buffer};
-use std::alloc::{AllocError, Global};
+use script_loop::{Answers, Buffer, Rooms};
 
 /// Receives at most `most` bytes, and puts the reply behind the text.
 fn receive<M: Machine>(
@@ -36,6 +35,24 @@ fn receive<M: Machine>(
     put_received(text, digits, taken, outcome);
 }
 
+/// Lets the link take the oldest packet, and puts the reply behind the text.
+fn transmit<M: Machine>(
+    machine: &mut M,
+    text: &mut Buffer<TEXT>,
+    bytes: &mut [u8],
+    digits: &mut [u8],
+)
+    requires text { length text.old ≤ 65536 }
+    requires bytes { length bytes.old ≡ 65535 }
+    requires digits { length digits.old ≡ 131070 }
+    ensures { (reply : Reply)
+        × M.may_step (M.state machine.old) Transmit reply (M.state machine.new)
+        × (text.new ≡ text.old ++ answer_text (Some reply)) }
+{
+    let given = machine.tx(bytes);
+    put_given(text, digits, bytes, given);
+}
+
 /// Makes the call that a request asks for, and puts its reply behind the text.
 fn call<M: Machine>(machine: &mut M, rooms: &mut Rooms, request: Request, text: &mut Buffer<TEXT>)
     requires text { length text.old ≤ 65536 }
@@ -47,6 +64,8 @@ fn call<M: Machine>(machine: &mut M, rooms: &mut Rooms, request: Request, text: 
     match request {
         Request::Socket => put_opened(text, machine.socket()),
         Request::Bind(fd, local) => put_done(text, machine.bind(fd, local)),
+        Request::Connect(fd, peer) => put_done(text, machine.connect(fd, peer)),
+        Request::Send(fd, to, len) => put_sent(text, machine.sendto(fd, to, &rooms.bytes[..len])),
         Request::Receive(fd, most) => receive(
             machine,
             text,
@@ -55,10 +74,24 @@ fn call<M: Machine>(machine: &mut M, rooms: &mut Rooms, request: Request, text: 
             fd,
             most,
         ),
+        Request::Close(fd) => put_done(text, machine.close(fd)),
+        Request::SetOption(fd, option, on) => put_done(text, machine.setsockopt(fd, option, on)),
         Request::Packet(len) => {
             machine.rx(&rooms.bytes[..len]);
             put_done(text, Ok(()));
         }
+        Request::Transmit => transmit(
+            machine,
+            text,
+            rooms.bytes.as_mut_slice(),
+            rooms.digits.as_mut_slice(),
+        ),
+        Request::Tick => {
+            machine.tick();
+            put_done(text, Ok(()));
+        }
+        Request::Counters => put_counters(text, &machine.counters()),
+        Request::Usage => put_usage(text, machine.mbstat()),
     }
 }
 
@@ -66,7 +99,7 @@ fn call<M: Machine>(machine: &mut M, rooms: &mut Rooms, request: Request, text: 
 fn put_answer<M: Machine>(machine: &mut M, rooms: &mut Rooms, line: &[u8], text: &mut Buffer<TEXT>)
     requires { length text.old ≤ 65536 }
     ensures { (reply : List ℕ)
-        × Says is_served M.may_step (M.state machine.old) line.now reply (M.state machine.new)
+        × Says M.may_step (M.state machine.old) line.now reply (M.state machine.new)
         × (text.new ≡ text.old ++ reply) }
 {
     match request_of(line, rooms.bytes.as_mut_slice()) {
@@ -76,20 +109,9 @@ fn put_answer<M: Machine>(machine: &mut M, rooms: &mut Rooms, line: &[u8], text:
 }
 
 /// A machine, and the memory for the work on one line.
-#[derive(Drop)]
 pub struct Caller<M> {
-    machine: M,
-    rooms: Rooms,
-}
-
-impl<M: Machine + Drop> Caller<M> {
-    /// The machine as it is. This takes all the memory for the work on lines.
-    pub fn new(alloc: Global, machine: M) -> Result<Caller<M>, AllocError>
-        ensures { IfOk result (λ c. M.state c.machine ≡ M.state machine) }
-    {
-        let rooms = Rooms::new(alloc)?;
-        Ok(Caller { machine, rooms })
-    }
+    pub machine: M,
+    pub rooms: Rooms,
 }
 
 impl<M: Machine> Answers<TEXT> for Caller<M> {
@@ -97,7 +119,7 @@ impl<M: Machine> Answers<TEXT> for Caller<M> {
 
     ghost state = { λ c. M.state c.machine };
 
-    ghost may_answer = { Says is_served M.may_step };
+    ghost may_answer = { Says M.may_step };
 
     fn answer(&mut self, line: &[u8], text: &mut Buffer<TEXT>) {
         put_answer(&mut self.machine, &mut self.rooms, line, text);

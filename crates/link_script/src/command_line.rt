@@ -1,6 +1,7 @@
 //! The program: its command line, its statuses and its texts.
 ghost use Rattle.std.specs.Prelude.{◌≡◌, Result, Err, map, MatchResult};
 ghost use Rattle.std.specs.String.{string_bytes};
+ghost use Rattle.flat_model.specs.Step.{Step};
 ghost use Rattle.link_script.specs.Options.{IsAskedBy};
 ghost use Rattle.link_script.specs.Program.{defaults, status_of, IsWordsFault, Ran};
 
@@ -72,7 +73,7 @@ fn serve<R: Source, W: Sink>(
     reader: &mut R,
     writer: &mut W,
 ) -> Result<(), Failure>
-    ensures { Ran (IsAskedBy (λ all. map string_bytes all.items) defaults words.now)
+    ensures { Ran Step (IsAskedBy (λ all. map string_bytes all.items) defaults words.now)
         (R.remaining reader.old) (R.remaining reader.new) (W.contents writer.old) (W.contents writer.new) result }
 {
     let config = config_named(alloc, words)?;
@@ -91,9 +92,8 @@ fn serve<R: Source, W: Sink>(
 /// UTF-8.
 ///
 /// The status is 0 where all lines were answered; 2 where the words aren't a command, or a number isn't one or is out of
-/// its range; 3 where host memory is lacking or
-/// the configuration is bad; 4 where reading or writing failed, or there were too many lines. Each status but 0 has its
-/// text, which goes to `errors`; a failure there changes nothing.
+/// its range; 3 where host memory is lacking or the configuration is bad; 4 where reading or writing failed, or there were
+/// too many lines. Each status but 0 has its text, which goes to `errors`; a failure there changes nothing.
 pub fn program<R: Source, W: Sink, E: Write>(
     alloc: Global,
     words: io::Result<Vec<String>>,
@@ -103,7 +103,7 @@ pub fn program<R: Source, W: Sink, E: Write>(
 ) -> u8
     // The status tells the outcome, and with it what was read and written, on the machine that the words ask for.
     ensures { (outcome : Result Unit Failure) × (result ≡ status_of outcome)
-        × Ran (IsAskedBy (λ all. map string_bytes all.items) defaults words)
+        × Ran Step (IsAskedBy (λ all. map string_bytes all.items) defaults words)
         (R.remaining reader.old) (R.remaining reader.new) (W.contents writer.old) (W.contents writer.new) outcome }
 {
     match serve(alloc, &words, reader, writer) {

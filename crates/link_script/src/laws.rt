@@ -1,11 +1,13 @@
 //! Laws of the lines. Each is a function that does nothing, and its contract is the law.
 ghost use Rattle.std.specs.Prelude.{◌≡◌, ℕ, List};
 ghost use Rattle.flat_model.specs.Event.{Event, IsEvent};
-ghost use Rattle.flat_model.specs.State.{State};
+ghost use Rattle.flat_model.specs.State.{State, boot};
 ghost use Rattle.flat_model.specs.Grammar.{IsLine};
+ghost use Rattle.flat_model.specs.Step.{Step};
 ghost use Rattle.flat_model.specs.Script as script;
+ghost use Rattle.flat_model.specs.Script.{PrintsRun, all_events};
+ghost use Rattle.flat_model.specs.declared.config.Config.{Config};
 ghost use Rattle.script_loop.specs.Printed.{Prints};
-ghost use Rattle.link_script.specs.FirstPath.{OneSocket, is_served};
 ghost use Rattle.link_script.specs.Says.{Says};
 
 /// A line asks for one event at most, whose numbers are in the ranges that calls have.
@@ -14,9 +16,12 @@ pub fn lines_law()
     ensures ranges { (line : List ℕ) (event : Event) → IsLine line event → IsEvent event }
 {}
 
-/// What is printed line by line, each text being that of an answer, is what the flat machine's definition prints for all
-/// lines together.
+/// What is printed line by line, each text being that of an answer of the machine that keeps exact accounts, is what its
+/// definition prints for all lines together. From boot it's told by one run: each line that asks for something has its turn,
+/// in their order, and what is printed are the replies of these turns.
 pub fn prints_law()
-    ensures { (old new : State) (lines : List (List ℕ)) (printed : List ℕ)
-        → Prints (Says is_served OneSocket) old lines printed new → script.Prints is_served OneSocket old lines printed new }
+    ensures all { (old new : State) (lines : List (List ℕ)) (printed : List ℕ)
+        → Prints (Says Step) old lines printed new → script.Prints all_events Step old lines printed new }
+    ensures run { (config : Config) (new : State) (lines : List (List ℕ)) (printed : List ℕ)
+        → Prints (Says Step) (boot config) lines printed new → PrintsRun config lines printed new }
 {}

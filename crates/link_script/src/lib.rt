@@ -4,17 +4,14 @@
 mod address;
 mod caller;
 mod command_line;
-mod counting;
-mod host;
+mod keyword;
 mod laws;
 mod machine;
 mod options;
-mod packet;
-mod queue;
 mod reply;
 mod request;
-mod rooms;
 mod runs;
+mod stack;
 
 pub use command_line::program;
 pub use flat_model::Config;

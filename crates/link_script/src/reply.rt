@@ -1,10 +1,12 @@
 //! The lines that replies are printed as.
-ghost use Rattle.std.specs.Prelude.{◌≡◌, ◌+◌, ◌*◌, ◌≤◌, ◌++◌, length, Some, codes, decimal, Option, Result};
+ghost use Rattle.std.specs.Prelude.{◌≡◌, ◌+◌, ◌*◌, ◌≤◌, ◌++◌, length, Some, codes, decimal, Option, Result, IfSome};
+ghost use Rattle.flat_model.specs.Count.{counter_name};
+ghost use Rattle.flat_model.specs.Event.{Counted, Shown};
 ghost use Rattle.flat_model.specs.Grammar.{address_text};
-ghost use Rattle.flat_model.specs.Texts.{hex_text, refusal_text, lack_text, answer_text};
-ghost use Rattle.flat_model.specs.Replies.{opened_reply, done_reply, received_reply, FitsRoom};
+ghost use Rattle.flat_model.specs.Texts.{hex_text, refusal_text, lack_text, answer_text, count, count_text, share_text};
+ghost use Rattle.flat_model.specs.Replies.{opened_reply, done_reply, sent_reply, received_reply, given_reply, FitsRoom};
 
-use flat_model::{Addr, Errno};
+use flat_model::{Addr, Counter, Counters, Errno, Mbstat};
 use script_loop::{Buffer, HELD, put_hex, put_number};
 
 /// Room for the longest line of reply, behind those that are held.
@@ -99,5 +101,102 @@ pub fn put_received(
         }
         Err(errno) => put_refusal(text, errno),
     }
+    text.append(b"\n");
+}
+
+/// Puts the digits of a number behind the text, twenty of them at most.
+fn put_long(text: &mut Buffer<TEXT>, n: u64)
+    requires { length text.old + 20 ≤ 196736 }
+    ensures items { text.new ≡ text.old ++ decimal n }
+    ensures len { length text.new ≤ length text.old + 20 }
+{
+    let mut digits = itoa::Buffer::new();
+    text.append(digits.format(n).as_bytes());
+}
+
+/// The line for a send.
+pub fn put_sent(text: &mut Buffer<TEXT>, outcome: Result<usize, Errno>)
+    requires { length text.old ≤ 65536 }
+    ensures { text.new ≡ text.old ++ answer_text (Some (sent_reply outcome)) }
+{
+    match outcome {
+        Ok(count) => {
+            text.append(b"ok ");
+            put_long(text, count as u64);
+        }
+        Err(errno) => put_refusal(text, errno),
+    }
+    text.append(b"\n");
+}
+
+/// The line for the packet that the link takes, which stands in front of the room.
+pub fn put_given(text: &mut Buffer<TEXT>, digits: &mut [u8], room: &[u8], given: Option<usize>)
+    requires text { length text.old ≤ 65536 }
+    requires fits { IfSome given (λ len. len ≤ length room.now) }
+    requires within { length room.now ≤ 65535 }
+    requires digits { length digits.old ≡ 131070 }
+    ensures { text.new ≡ text.old ++ answer_text (Some (given_reply given room.now)) }
+{
+    match given {
+        Some(len) => {
+            text.append(b"packet ");
+            put_hex(text, digits, &room[..len]);
+        }
+        None => text.append(b"none"),
+    }
+    text.append(b"\n");
+}
+
+/// Puts a counter behind the text, where it isn't 0.
+fn put_count(text: &mut Buffer<TEXT>, counter: Counter, value: u64)
+    requires { length text.old + 37 ≤ 196736 }
+    ensures items { text.new ≡ text.old ++ count_text (count (counter_name counter) value) }
+    ensures len { length text.new ≤ length text.old + 37 }
+{
+    if value == 0 {
+        return;
+    }
+    text.append(b" ");
+    text.append(counter.name().as_bytes());
+    text.append(b"=");
+    put_long(text, value);
+}
+
+/// The line for the counters: those that aren't 0, in the order in which they're printed.
+pub fn put_counters(text: &mut Buffer<TEXT>, counters: &Counters)
+    requires { length text.old ≤ 65536 }
+    ensures { text.new ≡ text.old ++ answer_text (Some (Counted counters.now)) }
+{
+    text.append(b"stat");
+    for counter in Counter::all() {
+        put_count(text, counter, counters.value(counter));
+    }
+    text.append(b"\n");
+}
+
+/// Puts what is free of all behind the text.
+fn put_share(text: &mut Buffer<TEXT>, free: u32, all: u32)
+    requires { length text.old + 21 ≤ 196736 }
+    ensures items { text.new ≡ text.old ++ share_text free all }
+    ensures len { length text.new ≤ length text.old + 21 }
+{
+    put_number(text, free);
+    text.append(b"/");
+    put_number(text, all);
+}
+
+/// The line for how much of the pool is in use.
+pub fn put_usage(text: &mut Buffer<TEXT>, usage: Mbstat)
+    requires { length text.old ≤ 65536 }
+    ensures { text.new ≡ text.old ++ answer_text (Some (Shown usage)) }
+{
+    text.append(b"mbufs ");
+    put_share(text, usage.free_mbufs, usage.mbufs);
+    text.append(b" clusters ");
+    put_share(text, usage.free_clusters, usage.clusters);
+    text.append(b" refs ");
+    put_number(text, usage.refs);
+    text.append(b" most ");
+    put_number(text, usage.most);
     text.append(b"\n");
 }

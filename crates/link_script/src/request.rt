@@ -1,29 +1,36 @@
 //! What a line asks for.
-ghost use Rattle.std.specs.Prelude.{◌≡◌, ◌≤◌, ℕ, List, [], ◌∷◌, length, take, codes, MatchOption, IfSome};
+ghost use Rattle.std.specs.Prelude.{◌≡◌, ◌≤◌, ℕ, Bool, List, [], length, MatchOption, IfSome};
 ghost use Rattle.flat_model.specs.declared.address.Addr.{Addr};
 ghost use Rattle.flat_model.specs.Event.{Event};
-ghost use Rattle.flat_model.specs.Grammar.{IsEnd};
-ghost use Rattle.flat_model.specs.Script.{Asks};
-ghost use Rattle.link_script.specs.FirstPath.{is_served};
+ghost use Rattle.flat_model.specs.Grammar.{IsEnd, option_name, switch_name};
+ghost use Rattle.flat_model.specs.Script.{Asks, all_events};
 ghost use Rattle.link_script.specs.Requests.{event_of, room_of};
+ghost use Rattle.link_script.specs.declared.keyword.Keyword.TheVariants as line;
 ghost use Rattle.script_loop.specs.Left.{left};
 ghost use Rattle.link_script.specs.Parts.{ReadsForm};
 
 use crate::address::address;
-use flat_model::Addr;
-use script_loop::{bytes, first_word, is_end, number, one, three, two};
+use crate::keyword::{Keyword, keyword_of};
+use flat_model::{Addr, Opt};
+use script_loop::{LONGEST_REQUEST, bytes, first_word, is_end, number, one, three, two};
 
-/// The most bytes that a line may have to ask for something.
-const LONGEST_REQUEST: usize = 131_200;
-
-/// What a line asks for. The bytes of a packet stand in a room beside it.
+/// What a line asks for. The bytes of a packet or of a send stand in a room beside it.
 #[derive(Clone, Copy)]
 pub enum Request {
     Socket,
     Bind(u32, Addr),
+    Connect(u32, Addr),
+    /// So many bytes are sent, to an address and port or to the peer.
+    Send(u32, Option<Addr>, usize),
     Receive(u32, usize),
+    Close(u32),
+    SetOption(u32, Opt, bool),
     /// A packet of so many bytes arrives.
     Packet(usize),
+    Transmit,
+    Tick,
+    Counters,
+    Usage,
 }
 
 /// The address and the port that two words write.
@@ -39,19 +46,37 @@ fn end_of(ip: &[u8], port: &[u8]) -> Option<Addr>
     })
 }
 
-fn socket_of(rest: Option<&[u8]>) -> Option<Request>
-    ensures form { (room : List ℕ) → ReadsForm (codes "socket") (left rest.entry) room result }
-    ensures fits { IfSome result (λ request. room_of request ≤ 65535) }
+/// The option that a word names.
+fn option_of(word: &[u8]) -> Option<Opt>
+    ensures { MatchOption result ((option : Opt) → word.now ≡ option_name option → ⊥) (λ option. word.now ≡ option_name option) }
 {
-    if is_end(rest) {
-        Some(Request::Socket)
-    } else {
-        None
+    match word {
+        b"broadcast" => Some(Opt::Broadcast),
+        b"reuseport" => Some(Opt::ReusePort),
+        _ => None,
     }
 }
 
+/// Whether a word sets an option or clears it.
+fn switch_of(word: &[u8]) -> Option<bool>
+    ensures { MatchOption result ((on : Bool) → word.now ≡ switch_name on → ⊥) (λ on. word.now ≡ switch_name on) }
+{
+    match word {
+        b"0" => Some(false),
+        b"1" => Some(true),
+        _ => None,
+    }
+}
+
+/// The request, where no word is left.
+fn alone(rest: Option<&[u8]>, request: Request) -> Option<Request>
+    ensures { MatchOption result (left rest.entry ≡ [] → ⊥) (λ r. (r ≡ request) × (left rest.entry ≡ [])) }
+{
+    if is_end(rest) { Some(request) } else { None }
+}
+
 fn bind_of(rest: Option<&[u8]>) -> Option<Request>
-    ensures form { (room : List ℕ) → ReadsForm (codes "bind") (left rest.entry) room result }
+    ensures form { (room : List ℕ) → ReadsForm line.Bind (left rest.entry) room result }
     ensures fits { IfSome result (λ request. room_of request ≤ 65535) }
 {
     let (fd, ip, port) = three(rest)?;
@@ -60,8 +85,42 @@ fn bind_of(rest: Option<&[u8]>) -> Option<Request>
     Some(Request::Bind(fd, end))
 }
 
+fn connect_of(rest: Option<&[u8]>) -> Option<Request>
+    ensures form { (room : List ℕ) → ReadsForm line.Connect (left rest.entry) room result }
+    ensures fits { IfSome result (λ request. room_of request ≤ 65535) }
+{
+    let (fd, ip, port) = three(rest)?;
+    let fd = number(fd, u32::MAX)?;
+    let end = end_of(ip, port)?;
+    Some(Request::Connect(fd, end))
+}
+
+fn sendto_of(rest: Option<&[u8]>, room: &mut [u8]) -> Option<Request>
+    requires { length room.old ≡ 65535 }
+    ensures form { ReadsForm line.SendTo (left rest.entry) room.new result }
+    ensures fits { IfSome result (λ request. room_of request ≤ 65535) }
+{
+    let (fd, rest) = first_word(rest?);
+    let (ip, port, data) = three(rest)?;
+    let fd = number(fd, u32::MAX)?;
+    let end = end_of(ip, port)?;
+    let len = bytes(data, room)?;
+    Some(Request::Send(fd, Some(end), len))
+}
+
+fn send_of(rest: Option<&[u8]>, room: &mut [u8]) -> Option<Request>
+    requires { length room.old ≡ 65535 }
+    ensures form { ReadsForm line.Send (left rest.entry) room.new result }
+    ensures fits { IfSome result (λ request. room_of request ≤ 65535) }
+{
+    let (fd, data) = two(rest)?;
+    let fd = number(fd, u32::MAX)?;
+    let len = bytes(data, room)?;
+    Some(Request::Send(fd, None, len))
+}
+
 fn receive_of(rest: Option<&[u8]>) -> Option<Request>
-    ensures form { (room : List ℕ) → ReadsForm (codes "recvfrom") (left rest.entry) room result }
+    ensures form { (room : List ℕ) → ReadsForm line.RecvFrom (left rest.entry) room result }
     ensures fits { IfSome result (λ request. room_of request ≤ 65535) }
 {
     let (fd, most) = two(rest)?;
@@ -73,9 +132,28 @@ fn receive_of(rest: Option<&[u8]>) -> Option<Request>
     Some(Request::Receive(fd, most as usize))
 }
 
+fn close_of(rest: Option<&[u8]>) -> Option<Request>
+    ensures form { (room : List ℕ) → ReadsForm line.Close (left rest.entry) room result }
+    ensures fits { IfSome result (λ request. room_of request ≤ 65535) }
+{
+    let fd = number(one(rest)?, u32::MAX)?;
+    Some(Request::Close(fd))
+}
+
+fn set_option_of(rest: Option<&[u8]>) -> Option<Request>
+    ensures form { (room : List ℕ) → ReadsForm line.SetSockOpt (left rest.entry) room result }
+    ensures fits { IfSome result (λ request. room_of request ≤ 65535) }
+{
+    let (fd, option, on) = three(rest)?;
+    let fd = number(fd, u32::MAX)?;
+    let option = option_of(option)?;
+    let on = switch_of(on)?;
+    Some(Request::SetOption(fd, option, on))
+}
+
 fn packet_of(rest: Option<&[u8]>, room: &mut [u8]) -> Option<Request>
     requires { length room.old ≡ 65535 }
-    ensures form { ReadsForm (codes "rx") (left rest.entry) room.new result }
+    ensures form { ReadsForm line.Rx (left rest.entry) room.new result }
     ensures fits { IfSome result (λ request. room_of request ≤ 65535) }
 {
     let word = one(rest)?;
@@ -83,28 +161,40 @@ fn packet_of(rest: Option<&[u8]>, room: &mut [u8]) -> Option<Request>
     Some(Request::Packet(len))
 }
 
-/// What the line asks for, where it is of a form that is served.
+/// What a keyword and the words behind it ask for.
+fn form_of(word: Keyword, rest: Option<&[u8]>, room: &mut [u8]) -> Option<Request>
+    requires { length room.old ≡ 65535 }
+    ensures form { ReadsForm word (left rest.entry) room.new result }
+    ensures fits { IfSome result (λ request. room_of request ≤ 65535) }
+{
+    match word {
+        Keyword::Socket => alone(rest, Request::Socket),
+        Keyword::Bind => bind_of(rest),
+        Keyword::Connect => connect_of(rest),
+        Keyword::SendTo => sendto_of(rest, room),
+        Keyword::Send => send_of(rest, room),
+        Keyword::RecvFrom => receive_of(rest),
+        Keyword::Close => close_of(rest),
+        Keyword::SetSockOpt => set_option_of(rest),
+        Keyword::Rx => packet_of(rest, room),
+        Keyword::Tx => alone(rest, Request::Transmit),
+        Keyword::Tick => alone(rest, Request::Tick),
+        Keyword::Stat => alone(rest, Request::Counters),
+        Keyword::MbStat => alone(rest, Request::Usage),
+    }
+}
+
+/// What the line asks for, where it is of a form.
 pub fn request_of(line: &[u8], room: &mut [u8]) -> Option<Request>
     requires { length room.old ≡ 65535 }
-    ensures event { MatchOption result ((event : Event) → Asks is_served line.now event → ⊥)
-        (λ request. Asks is_served line.now (event_of request room.new)) }
+    ensures event { MatchOption result ((event : Event) → Asks all_events line.now event → ⊥)
+        (λ request. Asks all_events line.now (event_of request room.new)) }
     ensures fits { IfSome result (λ request. room_of request ≤ 65535) }
 {
     if line.len() > LONGEST_REQUEST {
         return None;
     }
-    let (name, rest) = first_word(line);
-    if name == b"rx".as_slice() {
-        return packet_of(rest, room);
-    }
-    if name == b"recvfrom".as_slice() {
-        return receive_of(rest);
-    }
-    if name == b"bind".as_slice() {
-        return bind_of(rest);
-    }
-    if name == b"socket".as_slice() {
-        return socket_of(rest);
-    }
-    None
+    let (word, rest) = first_word(line);
+    let word = keyword_of(word)?;
+    form_of(word, rest, room)
 }

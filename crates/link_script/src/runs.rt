@@ -1,30 +1,65 @@
 //! The runs that callers ask for.
 ghost use Rattle.std.specs.Prelude.{◌≡◌};
 ghost use Rattle.flat_model.specs.State.{State, boot};
-ghost use Rattle.link_script.specs.FirstPath.{OneSocket, is_served};
+ghost use Rattle.flat_model.specs.Step.{Step};
 ghost use Rattle.script_loop.specs.Streams.{MoreBy, reader_failures, writer_failures};
 ghost use Rattle.link_script.specs.Says.{Says};
-ghost use Rattle.link_script.specs.Boots.{Boots, refused_as};
-ghost use Rattle.script_loop.specs.Serves.{Serves};
+ghost use Rattle.link_script.specs.Boots.{Boots};
+ghost use Rattle.script_loop.specs.Serves.{Serves, IsServed};
 
 use crate::caller::Caller;
-use crate::host::Host;
-use flat_model::{Config, ConfigFault};
-use script_loop::{RunFault, Sink, Source, serve_script};
+use crate::machine::Machine;
+use flat_model::Config;
+use net_stack::Stack;
+use script_loop::{Rooms, RunFault, Sink, Source, serve_script};
 use std::alloc::Global;
 
-/// What a bad configuration ends with.
-fn refusal_of(fault: ConfigFault) -> RunFault
-    ensures { result ≡ refused_as fault }
+/// Serves a script on a machine, and spends it.
+fn serve_machine<M: Machine, R: Source, W: Sink>(
+    alloc: Global,
+    machine: M,
+    reader: &mut R,
+    writer: &mut W,
+) -> Result<(), RunFault>
+    ensures read { MoreBy (reader_failures result) (R.failures reader.old) (R.failures reader.new) }
+    ensures wrote { MoreBy (writer_failures result) (W.failures writer.old) (W.failures writer.new) }
+    ensures served { (new : State) × Serves (Says M.may_step) (M.state machine) new
+        (R.remaining reader.old) (R.remaining reader.new) (W.contents writer.old) (W.contents writer.new) result }
+    ensures started { IsServed result }
 {
-    match fault {
-        ConfigFault::BadSizes => RunFault::BadSizes,
-        ConfigFault::BadConfig => RunFault::BadConfig,
-    }
+    let Ok(rooms) = Rooms::new(alloc) else {
+        machine.end();
+        return Err(RunFault::Memory);
+    };
+    let mut caller = Caller { machine, rooms };
+    let outcome = serve_script(alloc, &mut caller, reader, writer);
+    let Caller {
+        machine,
+        rooms: _rooms,
+    } = caller;
+    machine.end();
+    outcome
 }
 
-/// Serves a script on a new machine with one socket: the lines `socket`, `bind FD ADDR PORT`, `rx HEX` and
-/// `recvfrom FD LEN`, each answered by a line; every other line is answered `? line`.
+/// Serves a script on a new machine, which is spent then.
+fn run_on<M: Machine, R: Source, W: Sink>(
+    alloc: Global,
+    config: Config,
+    reader: &mut R,
+    writer: &mut W,
+) -> Result<(), RunFault>
+    ensures booted { Boots config result }
+    ensures read { MoreBy (reader_failures result) (R.failures reader.old) (R.failures reader.new) }
+    ensures wrote { MoreBy (writer_failures result) (W.failures writer.old) (W.failures writer.new) }
+    ensures served { (new : State) × Serves (Says M.may_step) (boot config) new
+        (R.remaining reader.old) (R.remaining reader.new) (W.contents writer.old) (W.contents writer.new) result }
+{
+    let machine = M::boot(alloc, config)?;
+    serve_machine(alloc, machine, reader, writer)
+}
+
+/// Serves a script on a new stack: each line that asks for something is answered by what the stack answers, and every
+/// other line by `? line`. The stack is spent then.
 ///
 /// Each line is answered when its end was read, and a line begun when the input ends is one too. Host memory is taken
 /// before the first read alone.
@@ -49,18 +84,10 @@ pub fn run<R: Source, W: Sink>(
     // The reader failed once where the fault is `Read`, and the writer where it is `Write`; else they didn't.
     ensures read { MoreBy (reader_failures result) (R.failures reader.old) (R.failures reader.new) }
     ensures wrote { MoreBy (writer_failures result) (W.failures writer.old) (W.failures writer.new) }
-    // What is written is printed on the way of such a machine from boot, over the lines of what is read, and nothing else.
-    ensures served { (new : State) × Serves (Says is_served OneSocket) (boot config) new
+    // What is written is printed on the way of the machine with exact accounts from boot, over the lines of what is read, and
+    // nothing else.
+    ensures served { (new : State) × Serves (Says Step) (boot config) new
         (R.remaining reader.old) (R.remaining reader.new) (W.contents writer.old) (W.contents writer.new) result }
 {
-    if let Err(fault) = config.check() {
-        return Err(refusal_of(fault));
-    }
-    let Ok(host) = Host::new(alloc, config) else {
-        return Err(RunFault::Memory);
-    };
-    match Caller::new(alloc, host) {
-        Ok(mut caller) => serve_script(alloc, &mut caller, reader, writer),
-        Err(_) => Err(RunFault::Memory),
-    }
+    run_on::<Stack, R, W>(alloc, config, reader, writer)
 }

@@ -96,13 +96,13 @@ fn answers_scripts(rt: HostRuntime) -> Result<(), Fail> {
         ),
         // lines of no form, and one that asks for the least
         (
-            "hello\n\nbind 3 10.0.0.1\nrecvfrom 3 0\nrx 4\ntick \nrx -\n",
-            "? line\n? line\n? line\n? line\n? line\n? line\nok\n",
+            "hello\n\nbind 3 10.0.0.1\nrecvfrom 3 0\nrx 4\ntick \nsetsockopt 3 reuseport 2\nsetsockopt 3 linger 1\nsendto 3 -\nclose\nstat x\nrx -\n",
+            "? line\n? line\n? line\n? line\n? line\n? line\n? line\n? line\n? line\n? line\n? line\nok\n",
         ),
         // refusals
         (
-            "socket\nbind 3 10.0.0.1 8\nbind 4 0.0.0.0 8\nrecvfrom 66 1\n",
-            "error 24 EMFILE\nerror 22 EINVAL\nerror 9 EBADF\nerror 9 EBADF\n",
+            "socket\nbind 3 10.0.0.1 8\nbind 4 0.0.0.0 7\nsend 4 00\nclose 5\ntx\nrecvfrom 66 1\n",
+            "ok 4\nerror 22 EINVAL\nerror 48 EADDRINUSE\nerror 39 EDESTADDRREQ\nerror 9 EBADF\nnone\nerror 9 EBADF\n",
         ),
     ] {
         let mut all = String::from_str(rt.alloc(), BOUND)?;

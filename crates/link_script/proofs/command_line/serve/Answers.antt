@@ -5,4 +5,4 @@ use Rattle.link_script.proofs.command_line.serve.Goals as goal
 pub returns-in_err-config : goal.returns-in_err-config
 returns-in_err-config g c =
     let p = err_from_is_err_and c.from_residual.result c.from_residual.ensures.1 in
-    rw (p.1, p.2) (Ran-none _ _ _ _ c.in_err-config.ensures)
+    rw (p.1, p.2) (Ran-none _ _ _ _ _ c.in_err-config.ensures)

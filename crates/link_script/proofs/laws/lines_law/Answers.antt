@@ -1,4 +1,5 @@
-use Rattle.link_script.proofs.EventLemmas.{one_event, in_range}
+use Rattle.flat_model.proofs.Laws.{in_range}
+use Rattle.link_script.proofs.EventLemmas.{one_event}
 use Rattle.link_script.proofs.laws.lines_law.Goals as goal
 
 pub returns-clause-one : goal.returns-clause-one

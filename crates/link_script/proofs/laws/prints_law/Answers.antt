@@ -1,6 +1,9 @@
-use Rattle.link_script.specs.FirstPath.{OneSocket}
-use Rattle.link_script.proofs.RunLemmas.{Prints-answers}
+use Rattle.flat_model.specs.Step.{Step}
+use Rattle.link_script.proofs.RunLemmas.{Prints-answers, Prints-run}
 use Rattle.link_script.proofs.laws.prints_law.Goals as goal
 
-pub returns : goal.returns
-returns c = Prints-answers OneSocket
+pub returns-clause-all : goal.returns-clause-all
+returns-clause-all c = Prints-answers Step
+
+pub returns-clause-run : goal.returns-clause-run
+returns-clause-run c = Prints-run
