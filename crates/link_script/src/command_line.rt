@@ -29,11 +29,14 @@ pub enum Failure {
     /// The words aren't a command.
     #[error("usage")]
     Usage,
+    /// There is no machine, or its script wasn't served to its end.
     #[error(transparent)]
     Run(RunFault),
 }
 
 impl Failure {
+    /// The status that the program ends with, 2 to 4: 2 where the words aren't a command, 3 where there is no machine, 4
+    /// where reading or writing failed or the script has too many lines (this project's own).
     pub fn status(self) -> u8
         ensures { result ≡ status_of (Err self) }
     {
