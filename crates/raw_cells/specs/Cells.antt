@@ -1,7 +1,8 @@
 -- What a contract sees of a region (this project's own layout; the sizes are those of a 32-bit 4.4BSD, TCP/IP Illustrated, volume 2, section 2.2).
-use Rattle.std.specs.Prelude.{◌≡◌, ℕ, ◌+◌, ◌*◌, ◌<◌, ◌≤◌, ◌⊎◌, ◌≢◌, if◌then◌else◌, is_some, Some, None, Option, List, length, take, drop, replicate, slice_index_or, slice_set}
+use Rattle.std.specs.Prelude.{◌≡◌, ℕ, ◌+◌, ◌*◌, ◌<◌, ◌≤◌, ◌⊎◌, ◌≢◌, if◌then◌else◌, is_some, Some, None, Option, option_map, List, length, take, drop, replicate, slice_index_or, slice_set}
 use Rattle.raw_cells.specs.Over.{over}
 use Rattle.raw_cells.specs.declared.head.Head.{Head}
+use Rattle.raw_cells.specs.declared.head.PacketHeader.{PacketHeader}
 use Rattle.raw_cells.specs.declared.part.Part.{Part}
 use Rattle.raw_cells.specs.declared.part.Buffer.{Buffer}
 use Rattle.raw_cells.specs.declared.part.Buffer.TheVariants.{Mbuf, Cluster}
@@ -85,3 +86,10 @@ with_head c i h b = record { heads = slice_set c.heads i h; bytes = over c.bytes
 -- the mbuf i has a new head: it takes some bytes of its own at the beginning of the mbuf, and every other byte and head is as it was
 abbrev pub SetsHead : Cells → Cells → ℕ → Head → Type 0
 SetsHead old new i h = (b : List ℕ) × (length b ≡ head_size h) × (new ≡ with_head old i h b)
+
+-- ---- one field of a head
+abbrev pub with_packet_len : Head → ℕ → Head
+with_packet_len h n = record h { packet = option_map {T = PacketHeader} (λ p. record p { len = n }) h.packet }
+
+abbrev pub with_arrival : Head → ℕ → Head
+with_arrival h n = record h { packet = option_map {T = PacketHeader} (λ p. record p { arrival = n }) h.packet }

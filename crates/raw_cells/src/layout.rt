@@ -1,5 +1,5 @@
 //! Heads as bytes.
-ghost use Rattle.std.specs.Prelude.{◌≡◌, ◌+◌, ◌≤◌, length};
+ghost use Rattle.std.specs.Prelude.{◌≡◌, ◌+◌, ◌/◌, ◌%◌, ◌≤◌, length};
 ghost use Rattle.raw_cells.specs.Cells.{head_size, IsHead, IsLink};
 ghost use Rattle.raw_cells.specs.Layout.{head_in, link_of, packet_in, cluster_in, flags_of, u16_at, u32_at};
 
@@ -61,6 +61,7 @@ fn read_cluster(bytes: &[u8], at: usize, flags: u16) -> Option<u32>
 }
 
 /// The head of the mbuf that begins at the byte `at`.
+#[inline(always)]
 pub(crate) fn read_head(bytes: &[u8], at: usize) -> Head
     requires { at + 32 ≤ length bytes.now }
     ensures head { result ≡ head_in bytes.now at }
@@ -112,6 +113,47 @@ fn bytes_link(link: Option<u32>) -> [u8; 4]
     ensures { link_of (u32_at result 0) ≡ link }
 {
     bytes_u32(link.unwrap_or(NO_MBUF))
+}
+
+/// Writes a number over four bytes.
+pub(crate) fn put_u32(bytes: &mut [u8], x: u32)
+    requires { length bytes.old ≡ 4 }
+    ensures value { u32_at bytes.new 0 ≡ x }
+    ensures len { length bytes.new ≡ 4 }
+{
+    LittleEndian::write_u32(bytes, x);
+}
+
+/// Writes a link over four bytes.
+pub(crate) fn put_link(bytes: &mut [u8], link: Option<u32>)
+    requires len { length bytes.old ≡ 4 }
+    requires link { IsLink link }
+    ensures value { link_of (u32_at bytes.new 0) ≡ link }
+    ensures len { length bytes.new ≡ 4 }
+{
+    put_u32(bytes, link.unwrap_or(NO_MBUF));
+}
+
+/// Writes the length of an mbuf's data and its start over eight bytes.
+pub(crate) fn put_data(bytes: &mut [u8], len: u32, start: u32)
+    requires { length bytes.old ≡ 8 }
+    ensures len { u32_at bytes.new 0 ≡ len }
+    ensures start { u32_at bytes.new 4 ≡ start }
+    ensures long { length bytes.new ≡ 8 }
+{
+    let both = u64::from(len) + (u64::from(start) << 32);
+    LittleEndian::write_u64(bytes, both);
+}
+
+/// Clears the flag of a packet header.
+pub(crate) fn clear_packet(bytes: &mut [u8])
+    requires { length bytes.old ≡ 2 }
+    ensures packet { u16_at bytes.new 0 / 2 % 2 ≡ 0 }
+    ensures cluster { u16_at bytes.new 0 % 2 ≡ u16_at bytes.old 0 % 2 }
+    ensures len { length bytes.new ≡ 2 }
+{
+    let flags = LittleEndian::read_u16(bytes);
+    LittleEndian::write_u16(bytes, flags % 2);
 }
 
 fn flags(head: &Head) -> u16

@@ -1,11 +1,11 @@
 //! The region: mbufs, and clusters behind them, in one block.
-ghost use Rattle.std.specs.Prelude.{◌≡◌, ◌+◌, ◌<◌, ◌≤◌, IfOk, length};
+ghost use Rattle.std.specs.Prelude.{◌≡◌, ◌+◌, ◌<◌, ◌≤◌, IfOk, IsSome, None, length};
 ghost use Rattle.std.specs.Borrow.{sem};
-ghost use Rattle.raw_cells.specs.Cells.{zero_cells, head_of, IsHead, IsPart, IsSized, SetsHead, read, write, place};
+ghost use Rattle.raw_cells.specs.Cells.{zero_cells, head_of, with_arrival, with_packet_len, IsHead, IsLink, IsPart, IsSized, SetsHead, read, write, place};
 
 use crate::block::Block;
 use crate::head::Head;
-use crate::layout::{encode, head_len, read_head};
+use crate::layout::{clear_packet, encode, head_len, put_data, put_link, put_u32, read_head};
 use crate::part::{Buffer, Part};
 use std::alloc::{AllocError, Global};
 use std::marker::Model;
@@ -62,6 +62,8 @@ impl Region {
     }
 
     /// The head of the mbuf `index`, one that the region has. Its links are below 0xffff_ffff.
+    // Inlined, so that a caller reads only the fields that it uses.
+    #[inline(always)]
     pub fn head(&self, index: u32) -> Head
         requires { index < length self.now.heads }
         ensures value { result ≡ head_of self.now index }
@@ -86,6 +88,80 @@ impl Region {
         self.block
             .slice_mut(MBUF_LEN * index as usize, len)
             .copy_from_slice(&bytes[..len]);
+    }
+
+    /// Makes `next` the link of the mbuf `index`, one that the region has, and leaves all else of its head.
+    /// A number must be below 0xffff_ffff.
+    pub fn set_next(&mut self, index: u32, next: Option<u32>)
+        requires index { index < length self.old.heads }
+        requires link { IsLink next }
+        ensures change { SetsHead self.old self.new index (record (head_of self.old index) { next = next }) }
+        ensures sized { IsSized self.new }
+    {
+        put_link(self.block.slice_mut(MBUF_LEN * index as usize, 4), next);
+    }
+
+    /// Makes `next_packet` the link to the next packet of the mbuf `index`, one that the region has, and leaves
+    /// all else of its head. A number must be below 0xffff_ffff.
+    pub fn set_next_packet(&mut self, index: u32, next_packet: Option<u32>)
+        requires index { index < length self.old.heads }
+        requires link { IsLink next_packet }
+        ensures change { SetsHead self.old self.new index (record (head_of self.old index) { next_packet = next_packet }) }
+        ensures sized { IsSized self.new }
+    {
+        put_link(
+            self.block.slice_mut(MBUF_LEN * index as usize + 4, 4),
+            next_packet,
+        );
+    }
+
+    /// Lets the data of the mbuf `index`, one that the region has, be the `len` bytes from `start` on, and leaves
+    /// all else of its head.
+    pub fn set_data(&mut self, index: u32, start: u32, len: u32)
+        requires { index < length self.old.heads }
+        ensures change { SetsHead self.old self.new index (record (head_of self.old index) { len = len; start = start }) }
+        ensures sized { IsSized self.new }
+    {
+        put_data(
+            self.block.slice_mut(MBUF_LEN * index as usize + 8, 8),
+            len,
+            start,
+        );
+    }
+
+    /// Makes `len` the packet length of the mbuf `index`, one that the region has and that has a packet header,
+    /// and leaves all else of its head.
+    pub fn set_packet_len(&mut self, index: u32, len: u32)
+        requires index { index < length self.old.heads }
+        requires packet { IsSome (head_of self.old index).packet }
+        ensures change { SetsHead self.old self.new index (with_packet_len (head_of self.old index) len) }
+        ensures sized { IsSized self.new }
+    {
+        put_u32(self.block.slice_mut(MBUF_LEN * index as usize + 20, 4), len);
+    }
+
+    /// Makes `arrival` the number kept beside the packet of the mbuf `index`, one that the region has and that has
+    /// a packet header, and leaves all else of its head.
+    pub fn set_arrival(&mut self, index: u32, arrival: u32)
+        requires index { index < length self.old.heads }
+        requires packet { IsSome (head_of self.old index).packet }
+        ensures change { SetsHead self.old self.new index (with_arrival (head_of self.old index) arrival) }
+        ensures sized { IsSized self.new }
+    {
+        put_u32(
+            self.block.slice_mut(MBUF_LEN * index as usize + 24, 4),
+            arrival,
+        );
+    }
+
+    /// Takes the packet header from the mbuf `index`, one that the region has, and leaves all else of its head:
+    /// the 8 bytes that the packet header had belong to the room, as they are.
+    pub fn drop_packet(&mut self, index: u32)
+        requires { index < length self.old.heads }
+        ensures change { SetsHead self.old self.new index (record (head_of self.old index) { packet = None }) }
+        ensures sized { IsSized self.new }
+    {
+        clear_packet(self.block.slice_mut(MBUF_LEN * index as usize + 18, 2));
     }
 
     // Where the part begins in the block.
