@@ -13,7 +13,7 @@ use Rattle.raw_cells.specs.declared.part.Buffer.TheVariants.{Mbuf, Cluster}
 use Rattle.raw_cells.proofs.Laws.{length_over, over_all}
 use Rattle.mbuf_pool.specs.FreeList.{times, IsFreeList}
 use Rattle.mbuf_pool.specs.Link.{link_in, link_bytes, link_part}
-use Rattle.mbuf_pool.specs.Store.{MbufView, ClusterView, StoreView, with_mbuf, with_cluster, with_bytes, bytes_in, is_out, mbuf_of, cluster_of, count_of, free_cluster, held, released, new_head, TakesMbuf, TakesCluster, IsRoom, IsPart, read, write, IsStore}
+use Rattle.mbuf_pool.specs.Store.{MbufView, ClusterView, StoreView, with_mbuf, with_cluster, with_bytes, bytes_in, is_out, mbuf_of, head_of, cluster_of, count_of, free_cluster, held, released, TakesWith, TakesCluster, IsRoom, IsPart, read, write, IsStore}
 use Rattle.mbuf_pool.specs.Inside.{mbuf_bytes, cluster_bytes, next_mbuf, next_cluster, mbuf_seen, shown, seen_in, seen, IsSound, IsInside}
 use Rattle.mbuf_pool.specs.declared.store.Store.TheInside.{Inside}
 use Rattle.mbuf_pool.proofs.FreeList.{list_kept, list_put, list_taken, first_free, none_free, times-here, times-there}
@@ -22,7 +22,7 @@ use Rattle.mbuf_pool.proofs.Shown.{yes_zero, not_zero, out_once, seen_is, is_sto
 use Rattle.mbuf_pool.proofs.Changes.{SameButCluster, head_changed, mbuf_changed, cluster_changed}
 use Rattle.mbuf_pool.proofs.Steps.{Leaves, mbuf_step, cluster_step}
 use Rattle.mbuf_pool.proofs.Links.{length-link_bytes, link_back}
-use Rattle.mbuf_pool.proofs.Reading.{shown_as, index_is, out_here, mbuf_is, cluster_is, cluster_index_is, count_is, counts_are, read_is}
+use Rattle.mbuf_pool.proofs.Reading.{shown_as, index_is, out_here, mbuf_is, head_is, cluster_is, cluster_index_is, count_is, counts_are, read_is}
 
 -- what is accounted for is a store
 pub leaves_store : {r : Cells} {counts : List ℕ} {f : Option ℕ} {m : ℕ} {cf : Option ℕ} {cm : ℕ} {v : StoreView} → Leaves r counts f m cf cm v → IsStore (seen_in r counts f)
@@ -129,6 +129,10 @@ module _ (s : Inside) (v : StoreView) (a : IsInside s) (e : seen s ≡ v) where
       seen_out t0 free i once ∙ (λ j. Some (record { head = ch.1 j; bytes = (ch.2 ∙ ap (λ (x : MbufView). over x.bytes 0 sets.0) (sym (mbuf_is s v a e i out))) j })) in
       subst (λ (x : Cells). Leaves x s.counts.items s.first_mbuf s.free_mbufs s.first_cluster s.free_clusters (with_mbuf v i (Some (record { head = h; bytes = over (mbuf_of v i).bytes 0 sets.0 })))) (sym sets.2)
       (subst (λ (x : Option MbufView). Leaves t0 s.counts.items s.first_mbuf s.free_mbufs s.first_cluster s.free_clusters (with_mbuf v i x)) shows leaves)
+
+  -- a field of the head of an mbuf is set
+  pub field_sets : (g : Head → Head) (i : ℕ) (t : Cells) → IsTrue (is_out v i) → cells.SetsHead s.region t i (g (cells.head_of s.region i)) → cells.SetsHead s.region t i (g (head_of v i))
+  field_sets g i t out sets = subst (λ (h : Head). cells.SetsHead s.region t i (g h)) (head_is s v a e i out) sets
 
   -- the count of a cluster in use changes, and it stays in use
   counted_as : (c x : ℕ) (t : Cells) → 0 < count_of v c → 0 < x → SameButCluster s.region t c → IsSized t
@@ -258,19 +262,19 @@ module _ (s : Inside) (v : StoreView) (a : IsInside s) (e : seen s ≡ v) where
       let found = first_free (next_mbuf s.region) (length s.region.heads) i s.free_mbufs a.1.0 (subst (λ (f : Option ℕ). IsFreeList (next_mbuf s.region) (length s.region.heads) f s.free_mbufs a.1.0) first a.1.2.mbuf_list) in
       omega (arith, a.1.2.mbuf_list.size, ap length found.1)
 
-  pub get_left : (i : ℕ) (t : Cells) (next : Option ℕ) → s.first_mbuf ≡ Some i → next ≡ next_mbuf s.region i → (sets : cells.SetsHead s.region t i new_head)
-      → Leaves t s.counts.items next (s.free_mbufs - 1) s.first_cluster s.free_clusters (with_mbuf v i (Some (record { head = new_head; bytes = over (mbuf_bytes s.region i) 0 sets.0 }))) × TakesMbuf v (seen_in t s.counts.items next) i
-  get_left i t next first next_is sets =
+  pub get_left : (h : Head) (i : ℕ) (t : Cells) (next : Option ℕ) → s.first_mbuf ≡ Some i → next ≡ next_mbuf s.region i → (sets : cells.SetsHead s.region t i h)
+      → Leaves t s.counts.items next (s.free_mbufs - 1) s.first_cluster s.free_clusters (with_mbuf v i (Some (record { head = h; bytes = over (mbuf_bytes s.region i) 0 sets.0 }))) × TakesWith v (seen_in t s.counts.items next) i h
+  get_left h i t next first next_is sets =
       let r = s.region in let counts = s.counts.items in
       let ok = subst (λ (f : Option ℕ). IsSound r counts f s.free_mbufs s.first_cluster s.free_clusters a.1.0 a.1.1) first a.1.2 in
       let found = first_free (next_mbuf r) (length r.heads) i s.free_mbufs a.1.0 ok.mbuf_list in
       let ok' = subst (λ (l : List ℕ). IsSound r counts (Some i) s.free_mbufs s.first_cluster s.free_clusters l a.1.1) found.1 ok in
       let is' = subst (λ (l : List ℕ). shown r counts l ≡ v) found.1 (shown_as s v a e) in
-      let after : StoreView = with_mbuf v i (Some (record { head = new_head; bytes = over (mbuf_bytes r i) 0 sets.0 })) in
-      let plain = got r counts s.free_mbufs s.first_cluster s.free_clusters i found.0 a.1.1 v ok' is' new_head sets.0 sets.1 in
+      let after : StoreView = with_mbuf v i (Some (record { head = h; bytes = over (mbuf_bytes r i) 0 sets.0 })) in
+      let plain = got r counts s.free_mbufs s.first_cluster s.free_clusters i found.0 a.1.1 v ok' is' h sets.0 sets.1 in
       let leaves : Leaves t counts next (s.free_mbufs - 1) s.first_cluster s.free_clusters after =
       subst (λ (x : Cells). Leaves x counts next (s.free_mbufs - 1) s.first_cluster s.free_clusters after) (sym sets.2)
-      (subst (λ (x : Option ℕ). Leaves (with_head r i new_head sets.0) counts x (s.free_mbufs - 1) s.first_cluster s.free_clusters after) (sym next_is) plain) in (
+      (subst (λ (x : Option ℕ). Leaves (with_head r i h sets.0) counts x (s.free_mbufs - 1) s.first_cluster s.free_clusters after) (sym next_is) plain) in (
         leaves,
         record {
           was_free = was_free r counts s.free_mbufs s.first_cluster s.free_clusters i found.0 a.1.1 v ok' is';

@@ -1,15 +1,18 @@
 -- What callers can use of a store.
-use Rattle.std.proofs.Common.{◌≡◌, ◌≢◌, ℕ, zero, suc, ◌+◌, ◌<◌, Bool, true, IsTrue, cond, if◌then◌else◌, ◌==◌, ◌-◌, Option, None, Some, is_some, is_none, List, [], ◌∷◌, length, take, count_by, slice_index_or, unwrap_or, refl, sym, ap, ◌∙◌, subst, arith, inl, inr}
+use Rattle.std.proofs.Common.{◌≡◌, ◌≢◌, ℕ, zero, suc, ◌+◌, ◌<◌, Bool, true, IsTrue, cond, if◌then◌else◌, ◌==◌, ◌-◌, Option, None, Some, is_some, is_none, List, [], ◌∷◌, length, take, count_by, slice_index_or, unwrap_or, refl, sym, ap, ◌∙◌, subst, arith, inl, inr, ◌≤◌, get_or, ext_get_or, slice_set}
 use Rattle.std.proofs.lemmas.Bool.{cases_eq, cases_lt, eq-eqb, ne_eqb, false≢true}
 use Rattle.std.proofs.lemmas.Option.{slice_get_within}
 use Rattle.std.proofs.lemmas.List.{length-set, get_or-set_same, get_or-set_other, get_or_past}
 use Rattle.std.proofs.lemmas.List.Sums.{sum_by-cons}
 use Rattle.raw_cells.specs.Over.{over}
+use Rattle.raw_cells.specs.Cells.{head_size}
+use Rattle.raw_cells.specs.declared.head.Head.{Head}
 use Rattle.raw_cells.specs.declared.part.Part.{Part}
 use Rattle.raw_cells.specs.declared.part.Buffer.{Buffer}
 use Rattle.raw_cells.specs.declared.part.Buffer.TheVariants.{Mbuf, Cluster}
 pub use Rattle.raw_cells.proofs.Laws.{over_below, over_above, over_in, length_over}
-use Rattle.mbuf_pool.specs.Store.{MbufView, ClusterView, StoreView, no_mbuf, new_head, free_cluster, is_out, mbuf_of, head_of, cluster_of, count_of, free_mbufs, free_clusters, held, released, with_mbuf, with_cluster, with_bytes, bytes_in, write, IsRoom, IsPart, IsStore, TakesMbuf, TakesCluster}
+use Rattle.mbuf_pool.proofs.Changes.{head_size_le}
+use Rattle.mbuf_pool.specs.Store.{MbufView, ClusterView, StoreView, no_mbuf, new_head, free_cluster, is_out, mbuf_of, head_of, cluster_of, count_of, free_mbufs, free_clusters, held, released, with_mbuf, with_cluster, with_bytes, bytes_in, write, IsRoom, IsPart, IsStore, TakesMbuf, TakesCluster, SetsHead}
 
 -- ---- one mbuf, or one cluster, in place of another
 pub mbuf_here : (s : StoreView) (i : ℕ) (m : Option MbufView) → i < length s.mbufs → slice_index_or (with_mbuf s i m).mbufs i None ≡ m
@@ -128,3 +131,45 @@ no_cluster_left (v ∷ vs) (suc c) e lt = no_cluster_left vs c (omega (arith, su
 
 pub all_counted : (s : StoreView) (c : ℕ) → free_clusters s ≡ 0 → c < length s.clusters → 0 < count_of s c
 all_counted s c e lt = no_cluster_left s.clusters c e lt
+
+-- ---- one head after another
+over_over : (xs a b : List ℕ) → length a ≤ length b → length b ≤ length xs → over (over xs 0 a) 0 b ≡ over xs 0 b
+over_over xs a b less fits =
+    let long : length (over xs 0 a) ≡ length xs = length_over xs 0 a (omega arith) in
+    ext_get_or 0 (over (over xs 0 a) 0 b) (over xs 0 b) (length_over (over xs 0 a) 0 b (omega arith) ∙ long ∙ sym (length_over xs 0 b (omega arith))) (λ k lt. elim (cases_lt k (length b)) [
+      | inl within ↦
+          let here : 0 + k ≡ k = omega arith in
+          subst (λ (j : ℕ). get_or (over (over xs 0 a) 0 b) j 0 ≡ get_or (over xs 0 b) j 0) here
+          (over_in (over xs 0 a) 0 b (omega arith) k 0 within ∙ sym (over_in xs 0 b (omega arith) k 0 within))
+      | inr behind ↦
+          over_above (over xs 0 a) 0 b (omega arith) k 0 (omega arith) ∙ over_above xs 0 a (omega arith) k 0 (omega arith)
+          ∙ sym (over_above xs 0 b (omega arith) k 0 (omega arith))
+    ])
+
+set_twice : (ms : List (Option MbufView)) (i : ℕ) (a b : Option MbufView) → slice_set (slice_set ms i a) i b ≡ slice_set ms i b
+set_twice [] i a b = refl
+set_twice (m ∷ ms) zero a b = refl
+set_twice (m ∷ ms) (suc i) a b = ap (λ (l : List (Option MbufView)). m ∷ l) (set_twice ms i a b)
+
+pub sets_out : (s t : StoreView) (i : ℕ) (h : Head) → IsTrue (is_out s i) → SetsHead s t i h → IsTrue (is_out t i)
+sets_out s t i h out sets =
+    ap (λ (w : StoreView). is_out w i) sets.2 ∙ ap is_some (mbuf_here s i (Some (record { head = h; bytes = over (mbuf_of s i).bytes 0 sets.0 })) (out_within s i out))
+
+pub sets_head : (s t : StoreView) (i : ℕ) (h : Head) → IsTrue (is_out s i) → SetsHead s t i h → head_of t i ≡ h
+sets_head s t i h out sets =
+    ap (λ (w : StoreView). head_of w i) sets.2
+    ∙ ap (λ (m : Option MbufView). (unwrap_or m no_mbuf).head) (mbuf_here s i (Some (record { head = h; bytes = over (mbuf_of s i).bytes 0 sets.0 })) (out_within s i out))
+
+-- a head that takes no fewer bytes than the one before it is set as if that had not been
+pub sets_twice : (s t u : StoreView) (i : ℕ) (h g : Head) → IsTrue (is_out s i) → IsStore s → head_size h ≤ head_size g → SetsHead s t i h → SetsHead t u i g → SetsHead s u i g
+sets_twice s t u i h g out store more first later =
+    let m : MbufView = record { head = h; bytes = over (mbuf_of s i).bytes 0 first.0 } in
+    let there : mbuf_of t i ≡ m =
+    ap (λ (w : StoreView). mbuf_of w i) first.2 ∙ ap (λ (o : Option MbufView). unwrap_or o no_mbuf) (mbuf_here s i (Some m) (out_within s i out)) in
+    let bytes : over (mbuf_of t i).bytes 0 later.0 ≡ over (mbuf_of s i).bytes 0 later.0 =
+    ap (λ (v : MbufView). over v.bytes 0 later.0) there ∙ over_over (mbuf_of s i).bytes first.0 later.0 (omega (arith, first.1, later.1)) (omega (arith, later.1, head_size_le g, store.mbuf_bytes i out)) in (
+      later.0,
+      later.1,
+      later.2 ∙ (λ j. with_mbuf (first.2 j) i (Some (record { head = g; bytes = bytes j })))
+          ∙ (λ j. record s { mbufs = set_twice s.mbufs i (Some m) (Some (record { head = g; bytes = over (mbuf_of s i).bytes 0 later.0 })) j }),
+    )

@@ -4,5 +4,5 @@ pub use Rattle.raw_cells.specs.declared.head.PacketHeader.{PacketHeader}
 pub use Rattle.raw_cells.specs.declared.part.Part.{Part}
 pub use Rattle.raw_cells.specs.declared.part.Buffer.{Buffer}
 pub use Rattle.raw_cells.specs.declared.part.Buffer.TheVariants.{Mbuf, Cluster}
-pub use Rattle.raw_cells.specs.Cells.{IsHead, IsLink, head_size}
+pub use Rattle.raw_cells.specs.Cells.{IsHead, IsLink, head_size, with_arrival, with_packet_len}
 pub use Rattle.raw_cells.specs.Over.{over}

@@ -94,6 +94,13 @@ pub record TakesMbuf (old new : StoreView) (i : ℕ) : Type 0 where
   pub long : length bytes ≡ 128
   pub change : new ≡ with_mbuf old i (Some (record { head = new_head; bytes = bytes }))
 
+-- the same with this head
+pub record TakesWith (old new : StoreView) (i : ℕ) (h : Head) : Type 0 where
+  pub was_free : slice_get old.mbufs i ≡ Some None
+  pub bytes : List ℕ
+  pub long : length bytes ≡ 128
+  pub change : new ≡ with_mbuf old i (Some (record { head = h; bytes = bytes }))
+
 -- the cluster c was free and has the count 1; what its bytes are is not said
 pub record TakesCluster (old new : StoreView) (c : ℕ) : Type 0 where
   pub was_free : slice_get old.clusters c ≡ Some free_cluster

@@ -1,8 +1,8 @@
 //! The store.
-ghost use Rattle.std.specs.Prelude.{◌≡◌, ◌+◌, ◌<◌, ◌≤◌, ◌↔◌, IsTrue, length, sum, fold, max, IfOk, OnErr, Err};
+ghost use Rattle.std.specs.Prelude.{◌≡◌, ◌+◌, ◌<◌, ◌≤◌, ◌↔◌, IsTrue, IsSome, None, length, sum, fold, max, IfOk, OnErr, Err};
 ghost use Rattle.std.specs.Borrow.{sem};
-ghost use Rattle.raw_cells.specs.Cells.{IsHead};
-ghost use Rattle.mbuf_pool.specs.Store.{is_out, head_of, count_of, counts_of, cluster_of, free_mbufs, mbufs_out, free_clusters, with_mbuf, with_cluster, held, released, free_store, TakesMbuf, TakesCluster, SetsHead, IsPart, read, write, IsStore, IsBad};
+ghost use Rattle.raw_cells.specs.Cells.{IsHead, IsLink, with_arrival, with_packet_len};
+ghost use Rattle.mbuf_pool.specs.Store.{is_out, head_of, count_of, counts_of, cluster_of, free_mbufs, mbufs_out, free_clusters, with_mbuf, with_cluster, held, released, free_store, TakesMbuf, TakesWith, TakesCluster, SetsHead, IsPart, read, write, IsStore, IsBad};
 ghost use Rattle.mbuf_pool.specs.AllOut.{IsAllOut};
 
 use crate::counts::Counts;
@@ -114,11 +114,26 @@ impl Store {
         ensures same { OnErr result (self.new ≡ self.old) }
         ensures store { IsStore self.new }
     {
+        match self.get_with(NEW_HEAD) {
+            Ok(index) => Ok(index),
+            Err(refusal) => Err(refusal),
+        }
+    }
+
+    /// An mbuf that was free, by its number, with the head `given`, whose links must be below 0xffff_ffff. What its
+    /// other bytes hold is not said. `NoBufs` comes exactly where no mbuf is free, and changes nothing.
+    pub fn get_with(&mut self, given: Head) -> Result<u32, NoBufs>
+        requires { IsHead given }
+        ensures ok { IfOk result (λ i. TakesWith self.old self.new i given) }
+        ensures err { OnErr result (free_mbufs self.old ≡ 0) }
+        ensures same { OnErr result (self.new ≡ self.old) }
+        ensures store { IsStore self.new }
+    {
         let Some(index) = self.first_mbuf else {
             return Err(NoBufs);
         };
         self.first_mbuf = self.region.head(index).next;
-        self.region.set_head(index, NEW_HEAD);
+        self.region.set_head(index, given);
         self.free_mbufs -= 1;
         Ok(index)
     }
@@ -129,11 +144,7 @@ impl Store {
         ensures change { self.new ≡ with_mbuf self.old index None }
         ensures store { IsStore self.new }
     {
-        let linked = Head {
-            next: self.first_mbuf,
-            ..NEW_HEAD
-        };
-        self.region.set_head(index, linked);
+        self.region.set_next(index, self.first_mbuf);
         self.first_mbuf = Some(index);
         self.free_mbufs += 1;
     }
@@ -246,6 +257,8 @@ impl Store {
     }
 
     /// The head of an mbuf. It must be handed out.
+    // Inlined, so that a caller reads only the fields that it uses.
+    #[inline(always)]
     pub fn head(&self, index: u32) -> Head
         requires { IsTrue (is_out self.now index) }
         ensures value { result ≡ head_of self.now index }
@@ -264,6 +277,70 @@ impl Store {
         ensures store { IsStore self.new }
     {
         self.region.set_head(index, head);
+    }
+
+    /// Makes `next` the link of an mbuf, which must be handed out, and leaves all else of its head. A link must be
+    /// below 0xffff_ffff.
+    pub fn set_next(&mut self, index: u32, next: Option<u32>)
+        requires out { IsTrue (is_out self.old index) }
+        requires link { IsLink next }
+        ensures change { SetsHead self.old self.new index (record (head_of self.old index) { next = next }) }
+        ensures store { IsStore self.new }
+    {
+        self.region.set_next(index, next);
+    }
+
+    /// Makes `next_packet` the link to the next packet of an mbuf, which must be handed out, and leaves all else of
+    /// its head. A link must be below 0xffff_ffff.
+    pub fn set_next_packet(&mut self, index: u32, next_packet: Option<u32>)
+        requires out { IsTrue (is_out self.old index) }
+        requires link { IsLink next_packet }
+        ensures change { SetsHead self.old self.new index (record (head_of self.old index) { next_packet = next_packet }) }
+        ensures store { IsStore self.new }
+    {
+        self.region.set_next_packet(index, next_packet);
+    }
+
+    /// Lets the data of an mbuf, which must be handed out, be the `len` bytes from `start` on, and leaves all else of
+    /// its head.
+    pub fn set_data(&mut self, index: u32, start: u32, len: u32)
+        requires { IsTrue (is_out self.old index) }
+        ensures change { SetsHead self.old self.new index (record (head_of self.old index) { len = len; start = start }) }
+        ensures store { IsStore self.new }
+    {
+        self.region.set_data(index, start, len);
+    }
+
+    /// Makes `len` the packet length of an mbuf, which must be handed out and have a packet header, and leaves all
+    /// else of its head.
+    pub fn set_packet_len(&mut self, index: u32, len: u32)
+        requires out { IsTrue (is_out self.old index) }
+        requires packet { IsSome (head_of self.old index).packet }
+        ensures change { SetsHead self.old self.new index (with_packet_len (head_of self.old index) len) }
+        ensures store { IsStore self.new }
+    {
+        self.region.set_packet_len(index, len);
+    }
+
+    /// Makes `arrival` the number kept beside the packet of an mbuf, which must be handed out and have a packet
+    /// header, and leaves all else of its head.
+    pub fn set_arrival(&mut self, index: u32, arrival: u32)
+        requires out { IsTrue (is_out self.old index) }
+        requires packet { IsSome (head_of self.old index).packet }
+        ensures change { SetsHead self.old self.new index (with_arrival (head_of self.old index) arrival) }
+        ensures store { IsStore self.new }
+    {
+        self.region.set_arrival(index, arrival);
+    }
+
+    /// Takes the packet header from an mbuf, which must be handed out, and leaves all else of its head. The bytes
+    /// that it had belong to the room then, as they are.
+    pub fn drop_packet(&mut self, index: u32)
+        requires { IsTrue (is_out self.old index) }
+        ensures change { SetsHead self.old self.new index (record (head_of self.old index) { packet = None }) }
+        ensures store { IsStore self.new }
+    {
+        self.region.drop_packet(index);
     }
 
     /// The bytes of a part, without copying. The part must lie in a cluster that is counted above 0,

@@ -3,23 +3,23 @@ use Rattle.mbuf_pool.proofs.Reading.{index_is, first_links, few_mbufs}
 use Rattle.mbuf_pool.proofs.Effects.{put_back, leaves_store, head_count}
 use Rattle.mbuf_pool.proofs.store.Store.put.Goals as goal
 
-pub set_head-requires-clause-index : goal.set_head-requires-clause-index
-set_head-requires-clause-index c = index_is c.self.inside c.args.self.now c.self.invariant c.self.view_is c.args.index c.requires
+pub set_next-requires-clause-index : goal.set_next-requires-clause-index
+set_next-requires-clause-index c = index_is c.self.inside c.args.self.now c.self.invariant c.self.view_is c.args.index c.requires
 
-pub set_head-requires-clause-links : goal.set_head-requires-clause-links
-set_head-requires-clause-links c = (first_links c.self.inside c.self.invariant, tt)
+pub set_next-requires-clause-link : goal.set_next-requires-clause-link
+set_next-requires-clause-link c = first_links c.self.inside c.self.invariant
 
 pub overflow_add-self : goal.overflow_add-self
 overflow_add-self c = omega (arith, few_mbufs c.self.inside c.self.invariant)
 
 pub invariant_of-self : goal.invariant_of-self
 invariant_of-self c = (
-  c.self.invariant.0 ∙ sym (head_count c.self.inside.region c.set_head.new.self c.args.index _ c.set_head.ensures.change),
-  (put_back c.self.inside c.args.self.now c.self.invariant c.self.view_is c.args.index _ c.set_head.new.self c.requires refl c.set_head.ensures.change).account,
+  c.self.invariant.0 ∙ sym (head_count c.self.inside.region c.set_next.new.self c.args.index _ c.set_next.ensures.change),
+  (put_back c.self.inside c.args.self.now c.self.invariant c.self.view_is c.args.index _ c.set_next.new.self c.requires refl c.set_next.ensures.change).account,
 )
 
 pub returns-clause-change : goal.returns-clause-change
-returns-clause-change c = (put_back c.self.inside c.args.self.now c.self.invariant c.self.view_is c.args.index _ c.set_head.new.self c.requires refl c.set_head.ensures.change).seen
+returns-clause-change c = (put_back c.self.inside c.args.self.now c.self.invariant c.self.view_is c.args.index _ c.set_next.new.self c.requires refl c.set_next.ensures.change).seen
 
 pub returns-clause-store : goal.returns-clause-store
-returns-clause-store c = leaves_store (put_back c.self.inside c.args.self.now c.self.invariant c.self.view_is c.args.index _ c.set_head.new.self c.requires refl c.set_head.ensures.change)
+returns-clause-store c = leaves_store (put_back c.self.inside c.args.self.now c.self.invariant c.self.view_is c.args.index _ c.set_next.new.self c.requires refl c.set_next.ensures.change)
