@@ -1,10 +1,10 @@
 -- A head of a live chain written anew.
-use Rattle.std.proofs.Common.{◌≡◌, ◌≢◌, ℕ, zero, suc, ◌+◌, ◌-◌, ◌<◌, ◌≤◌, true, cond, List, [], ◌∷◌, length, Option, None, Some, is_some, unwrap_or, refl, sym, ap, ◌∙◌, subst, arith, inl, inr, slice_set, slice_index_or, take, drop}
+use Rattle.std.proofs.Common.{◌≡◌, ◌≢◌, ℕ, zero, suc, ◌+◌, ◌-◌, ◌<◌, ◌≤◌, true, cond, List, [], ◌∷◌, length, Option, None, Some, is_some, option_map, unwrap_or, refl, sym, ap, ◌∙◌, subst, arith, inl, inr, slice_set, slice_index_or, take, drop}
 use Rattle.std.specs.List.{AllByRecursion}
 use Rattle.std.proofs.lemmas.Bool.{cases_eq}
 use Rattle.std.proofs.lemmas.Option.{none-some, same_Some}
 use Rattle.std.proofs.lemmas.List.{length-set}
-use Rattle.mbuf_pool.specs.Cells.{Head, PacketHeader, head_size, over}
+use Rattle.mbuf_pool.specs.Cells.{Head, PacketHeader, head_size, over, with_packet_len}
 use Rattle.mbuf_pool.specs.Store.{StoreView, MbufView, ClusterView, is_out, mbuf_of, head_of, cluster_of, count_of, mbufs_out, with_mbuf, SetsHead, IsStore}
 use Rattle.mbuf_chain.specs.declared.place.Place.{Place}
 use Rattle.mbuf_chain.specs.Chain.{Entry, Front, ChainView, PoolView, chain_of, IsLive, with_chain, entry_of, IsPlace}
@@ -157,6 +157,11 @@ total_right s c added removed off live none =
 pub record IsSet (s t : StoreView) : Type 0 where
   pub pool : IsPool t
   pub same : pool_of t ≡ pool_of s
+
+-- the packet length alone
+pub total_sets : (s t : StoreView) (c added removed : ℕ) (packet : PacketHeader) → (head_of s c).packet ≡ Some packet → SetsHead s t c (with_packet_len (head_of s c) (packet.len + added - removed)) → SetsHead s t c (with_total (head_of s c) added removed packet)
+total_sets s t c added removed packet is sets =
+    subst (λ (h : Head). SetsHead s t c h) (ap (λ (o : Option PacketHeader). record (head_of s c) { packet = option_map {T = PacketHeader} (λ p. record p { len = packet.len + added - removed }) o }) is) sets
 
 pub total_set : (s t : StoreView) (c added removed : ℕ) (packet : PacketHeader) → IsOff s c added removed → IsLive (pool_of s) c → (head_of s c).packet ≡ Some packet → SetsHead s t c (with_total (head_of s c) added removed packet) → IsStore t → IsSet s t
 total_set s t c added removed packet off live is sets store =

@@ -10,6 +10,7 @@ use Rattle.std.proofs.lemmas.Option.{none-some, same_Some, get_or_from_slice_get
 use Rattle.std.proofs.lemmas.List.{length-append, map-append}
 use Rattle.mbuf_pool.specs.Cells.{Head, PacketHeader}
 use Rattle.mbuf_pool.specs.Store.{StoreView, is_out, head_of, SetsHead, IsStore}
+use Rattle.mbuf_pool.proofs.Laws.{sets_head, sets_twice}
 use Rattle.mbuf_chain.specs.declared.place.Place.{Place}
 use Rattle.mbuf_chain.specs.Chain.{Front, ChainView, chain_of, IsLive, IsPlace, with_chain, without, string, flat_bytes, alone}
 use Rattle.mbuf_chain.specs.Steps.{headless, joined}
@@ -17,7 +18,7 @@ use Rattle.mbuf_chain.specs.Cells.{weigh, weigh_all, is_at, one, len_at, entry_a
 use Rattle.mbuf_chain.proofs.Maps.{get_there, remove-insert, two_to_one}
 use Rattle.mbuf_chain.proofs.Lists.{bit, on, off, small, is_at_same, is_at_other, chains_of, get-chains_of, heads_at, heads-tails, split_first, not_first, find_chain, bytes_bound, few_out}
 use Rattle.mbuf_chain.proofs.Changes.{SameCell, same_cell, step, view_is, links_kept, count_ones}
-use Rattle.mbuf_chain.proofs.Focused.{Focused, open_on, enter, in_list, linked_from, once_in, weigh_all_has}
+use Rattle.mbuf_chain.proofs.Focused.{Focused, first_out, open_on, enter, in_list, linked_from, once_in, weigh_all_has}
 use Rattle.mbuf_chain.proofs.Rewrites.{SameOuts, rest_by, some_cell, off_here}
 use Rattle.mbuf_chain.proofs.Heads.{HeadSet, head_set, Reheaded, rehead, enter_first, entry_long, IsSet, live_with}
 use Rattle.mbuf_chain.proofs.Stores.{refers_to}
@@ -68,6 +69,14 @@ freed_all s t c pool live freed store =
 -- ---- the packet header taken off
 abbrev pub bare : Head → Head
 bare h = record h { next_packet = None; packet = None }
+
+-- the packet header first, and then the link
+pub bared_twice : (s t u : StoreView) (c : ℕ) → IsPool s → IsLive (pool_of s) c → SetsHead s t c (record (head_of s c) { packet = None }) → SetsHead t u c (record (head_of t c) { next_packet = None }) → SetsHead s u c (bare (head_of s c))
+bared_twice s t u c pool live first later =
+    let o = open_on s c pool live in
+    let out = first_out s c o.at in
+    sets_twice s t u c (record (head_of s c) { packet = None }) (bare (head_of s c)) out o.at.sound.store (omega arith) first
+    (subst (λ (h : Head). SetsHead t u c (record h { next_packet = None })) (sets_head s t c (record (head_of s c) { packet = None }) out first) later)
 
 pub record Stripped (s t : StoreView) (c : ℕ) : Type 0 where
   pub pool : IsPool t

@@ -1,12 +1,12 @@
 -- What each call on a store does to heads, bytes and counts.
-use Rattle.std.proofs.Common.{◌≡◌, ◌≢◌, ℕ, zero, suc, ◌+◌, ◌-◌, ◌<◌, ◌≤◌, true, cond, nat_eq, List, [], ◌∷◌, length, Option, None, Some, is_some, is_none, unwrap_or, refl, sym, ap, ◌∙◌, subst, arith, inl, inr, slice_set, slice_index_or, count_by}
+use Rattle.std.proofs.Common.{◌≡◌, ◌≢◌, ℕ, ◌+◌, ◌-◌, ◌<◌, ◌≤◌, true, cond, nat_eq, List, [], ◌∷◌, length, Option, None, Some, is_some, is_none, unwrap_or, refl, sym, ap, ◌∙◌, subst, arith, inl, inr, slice_index_or, count_by}
 use Rattle.std.specs.Option.{option_eq}
 use Rattle.std.proofs.lemmas.Bool.{cases_lt, cases_eq, eq-eqb, ne_eqb}
 use Rattle.std.proofs.lemmas.Option.{slice_get_within, get_or_from_slice_get}
 use Rattle.std.proofs.lemmas.List.{get_or_past, length-set, get_or-set_same, get_or-set_other}
 use Rattle.std.proofs.lemmas.List.Sums.{sum_by-set, sum_by-cons}
-use Rattle.mbuf_pool.specs.Cells.{Head, over}
-use Rattle.mbuf_pool.specs.Store.{StoreView, MbufView, ClusterView, no_mbuf, free_cluster, is_out, mbuf_of, head_of, cluster_of, count_of, mbufs_out, with_mbuf, with_cluster, released, SetsHead, TakesMbuf}
+use Rattle.mbuf_pool.specs.Cells.{Head}
+use Rattle.mbuf_pool.specs.Store.{StoreView, MbufView, ClusterView, no_mbuf, free_cluster, is_out, mbuf_of, head_of, cluster_of, count_of, mbufs_out, with_mbuf, with_cluster, released, TakesWith}
 use Rattle.mbuf_chain.specs.Cells.{weigh, is_at, one, refers_at, out_at, released_in, Taken, Freed, IsFreeable, IsWhole, cells_from}
 use Rattle.mbuf_chain.proofs.Lists.{is_at_same, is_at_other, on, off, bit, out_below, walk_on}
 
@@ -158,16 +158,10 @@ free_none [] e = refl
 free_none (None ∷ xs) e = absurd (omega (arith, sum_by-cons (λ (o : Option MbufView). cond {A = ℕ} (is_none o) 1 0) None xs))
 free_none (Some m ∷ xs) e = omega (arith, sum_by-cons (λ (o : Option MbufView). cond {A = ℕ} (is_none o) 1 0) (Some m) xs, sum_by-cons (λ (o : Option MbufView). cond {A = ℕ} (is_some o) 1 0) (Some m) xs, free_none xs (omega (arith, sum_by-cons (λ (o : Option MbufView). cond {A = ℕ} (is_none o) 1 0) (Some m) xs)))
 
-set_twice : (xs : List (Option MbufView)) (i : ℕ) (a b : Option MbufView) → slice_set (slice_set xs i a) i b ≡ slice_set xs i b
-set_twice [] i a b = refl
-set_twice (x ∷ xs) zero a b = refl
-set_twice (x ∷ xs) (suc i) a b = ap (λ (l : List (Option MbufView)). x ∷ l) (set_twice xs i a b)
-
-pub taken : (s t u : StoreView) (i : ℕ) (h : Head) → TakesMbuf s t i → SetsHead t u i h → Taken s u i h
-taken s t u i h got (b, long, is) =
-    record {
-      below = slice_get_within s.mbufs i None got.was_free;
-      fresh = ap (λ (o : Option MbufView). is_some o) (get_or_from_slice_get s.mbufs i None None got.was_free);
-      bytes = over (mbuf_of t i).bytes 0 b;
-      change = is ∙ (λ j. record { mbufs = (ap (λ (v : StoreView). slice_set v.mbufs i (Some (record { head = h; bytes = over (mbuf_of t i).bytes 0 b }))) got.change ∙ set_twice s.mbufs i _ _) j; clusters = ap (λ (v : StoreView). v.clusters) got.change j });
-    }
+pub taken : (s t : StoreView) (i : ℕ) (h : Head) → TakesWith s t i h → Taken s t i h
+taken s t i h got = record {
+  below = slice_get_within s.mbufs i None got.was_free;
+  fresh = ap (λ (o : Option MbufView). is_some o) (get_or_from_slice_get s.mbufs i None None got.was_free);
+  bytes = got.bytes;
+  change = got.change;
+}

@@ -18,11 +18,8 @@ pub(crate) fn set_total(store: &mut Store, first: u32, added: u32, removed: u32)
 {
     let head = store.head(first);
     if let Some(packet) = head.packet {
-        let packet = Some(PacketHeader {
-            len: packet.len + added - removed,
-            arrival: packet.arrival,
-        });
-        store.set_head(first, Head { packet, ..head });
+        let len = packet.len + added - removed;
+        store.set_packet_len(first, len);
     }
 }
 
@@ -39,7 +36,7 @@ pub(crate) fn resize(store: &mut Store, first: u32, at: Place, start: u32, len: 
         (entry_from store.old at.cell (with_segment (head_of store.old at.cell) start len)) }
 {
     let head = store.head(at.cell);
-    store.set_head(at.cell, Head { start, len, ..head });
+    store.set_data(at.cell, start, len);
     set_total(store, first, len, head.len);
 }
 

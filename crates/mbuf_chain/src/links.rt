@@ -8,7 +8,7 @@ ghost use Rattle.mbuf_chain.specs.Cells.{IsPool, IsWhole, pool_of, cells_from, w
 use crate::cells::{bytes_from, count_from, free_from};
 use crate::edit::set_total;
 use crate::place::{Place, Segment};
-use mbuf_pool::{Head, PacketHeader, Store};
+use mbuf_pool::{PacketHeader, Store};
 
 /// How many bytes an mbuf has.
 const MBUF_LEN: u32 = 128;
@@ -201,15 +201,8 @@ pub(crate) fn strip(store: &mut Store, first: u32)
     ensures change { pool_of store.new ≡
         with_chain (pool_of store.old) first (headless (chain_of (pool_of store.old) first)) }
 {
-    let head = store.head(first);
-    store.set_head(
-        first,
-        Head {
-            packet: None,
-            next_packet: None,
-            ..head
-        },
-    );
+    store.drop_packet(first);
+    store.set_next_packet(first, None);
 }
 
 /// Links a chain that has no packet header, and so many bytes, behind another.
@@ -228,9 +221,7 @@ fn join(store: &mut Store, front: u32, last: Place, back: u32, added: u32)
         with_chain (without (pool_of store.old) back) front
         (joined (chain_of (pool_of store.old) front) (chain_of (pool_of store.old) back)) }
 {
-    let head = store.head(last.cell);
-    let next = Some(back);
-    store.set_head(last.cell, Head { next, ..head });
+    store.set_next(last.cell, Some(back));
     set_total(store, front, added, 0);
 }
 
@@ -323,7 +314,7 @@ pub(crate) fn cut(store: &mut Store, first: u32, keep: u32) -> u32
     let (last, kept) = end_of(store, first, keep);
     let head = store.head(last);
     let rest = head.next.unwrap();
-    store.set_head(last, Head { next: None, ..head });
+    store.set_next(last, None);
     set_total(store, first, kept, whole);
     rest
 }

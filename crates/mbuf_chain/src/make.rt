@@ -32,7 +32,7 @@ fn head_for(header: bool, start: u32, len: u32, cluster: Option<u32>) -> Head
     }
 }
 
-/// Takes an mbuf and gives it a head.
+/// Takes an mbuf, with a head.
 fn take(store: &mut Store, head: Head) -> Result<u32, NoBufs>
     requires { IsHead head }
     ensures ok { IfOk result (λ i. Taken store.old store.new i head) }
@@ -41,11 +41,8 @@ fn take(store: &mut Store, head: Head) -> Result<u32, NoBufs>
     ensures store { IsStore store.new }
 {
     let _ = store.free_mbufs();
-    match store.get() {
-        Ok(cell) => {
-            store.set_head(cell, head);
-            Ok(cell)
-        }
+    match store.get_with(head) {
+        Ok(cell) => Ok(cell),
         Err(refusal) => Err(refusal),
     }
 }

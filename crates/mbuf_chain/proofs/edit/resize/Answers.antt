@@ -1,29 +1,27 @@
-use Rattle.std.proofs.Common.{arith, ap, subst, ◌∙◌}
+use Rattle.std.proofs.Common.{arith, ap, ◌∙◌}
 use Rattle.mbuf_pool.specs.Cells.{Head}
-use Rattle.mbuf_pool.specs.Store.{SetsHead}
-use Rattle.mbuf_chain.specs.Cells.{with_segment}
 use Rattle.mbuf_chain.proofs.Heads.{shown_at, resized}
 use Rattle.mbuf_chain.proofs.edit.resize.Goals as goal
 
 pub head-head-requires : goal.head-head-requires
 head-head-requires c = (shown_at _ _ _ c.requires.pool c.requires.live c.requires.place).out
 
-pub set_head-requires-clause-out : goal.set_head-requires-clause-out
-set_head-requires-clause-out c = (shown_at _ _ _ c.requires.pool c.requires.live c.requires.place).out
+pub set_data-requires : goal.set_data-requires
+set_data-requires c = (shown_at _ _ _ c.requires.pool c.requires.live c.requires.place).out
 
 pub set_total-requires-clause-off : goal.set_total-requires-clause-off
 set_total-requires-clause-off c =
     let s = c.args.store.now in
     let at = c.args.at in
-    (resized s c.set_head.new.self c.args.first c.args.len c.head-head.result.len c.args.start c.args.len at c.requires.pool c.requires.live c.requires.place
-    (subst (λ (h : Head). SetsHead s c.set_head.new.self at.cell (with_segment h c.args.start c.args.len)) c.head-head.ensures.value c.set_head.ensures.change) c.set_head.ensures.store c.requires.low c.requires.high (omega (arith, ap (λ (h : Head). h.len) c.head-head.ensures.value))).off
+    (resized s c.set_data.new.self c.args.first c.args.len c.head-head.result.len c.args.start c.args.len at c.requires.pool c.requires.live c.requires.place
+    c.set_data.ensures.change c.set_data.ensures.store c.requires.low c.requires.high (omega (arith, ap (λ (h : Head). h.len) c.head-head.ensures.value))).off
 
 pub set_total-requires-clause-live : goal.set_total-requires-clause-live
 set_total-requires-clause-live c =
     let s = c.args.store.now in
     let at = c.args.at in
-    (resized s c.set_head.new.self c.args.first c.args.len c.head-head.result.len c.args.start c.args.len at c.requires.pool c.requires.live c.requires.place
-    (subst (λ (h : Head). SetsHead s c.set_head.new.self at.cell (with_segment h c.args.start c.args.len)) c.head-head.ensures.value c.set_head.ensures.change) c.set_head.ensures.store c.requires.low c.requires.high (omega (arith, ap (λ (h : Head). h.len) c.head-head.ensures.value))).live
+    (resized s c.set_data.new.self c.args.first c.args.len c.head-head.result.len c.args.start c.args.len at c.requires.pool c.requires.live c.requires.place
+    c.set_data.ensures.change c.set_data.ensures.store c.requires.low c.requires.high (omega (arith, ap (λ (h : Head). h.len) c.head-head.ensures.value))).live
 
 pub set_total-requires-clause-few : goal.set_total-requires-clause-few
 set_total-requires-clause-few c = omega (arith, (shown_at _ _ _ c.requires.pool c.requires.live c.requires.place).small, ap (λ (h : Head). h.len) c.head-head.ensures.value)
@@ -32,5 +30,5 @@ pub returns-clause-change : goal.returns-clause-change
 returns-clause-change c =
     let s = c.args.store.now in
     let at = c.args.at in
-    c.set_total.ensures.same ∙ (resized s c.set_head.new.self c.args.first c.args.len c.head-head.result.len c.args.start c.args.len at c.requires.pool c.requires.live c.requires.place
-    (subst (λ (h : Head). SetsHead s c.set_head.new.self at.cell (with_segment h c.args.start c.args.len)) c.head-head.ensures.value c.set_head.ensures.change) c.set_head.ensures.store c.requires.low c.requires.high (omega (arith, ap (λ (h : Head). h.len) c.head-head.ensures.value))).map_is
+    c.set_total.ensures.same ∙ (resized s c.set_data.new.self c.args.first c.args.len c.head-head.result.len c.args.start c.args.len at c.requires.pool c.requires.live c.requires.place
+    c.set_data.ensures.change c.set_data.ensures.store c.requires.low c.requires.high (omega (arith, ap (λ (h : Head). h.len) c.head-head.ensures.value))).map_is

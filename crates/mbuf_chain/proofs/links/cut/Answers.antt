@@ -1,6 +1,5 @@
-use Rattle.std.proofs.Common.{None, arith, sym, ap, subst, ◌∙◌}
+use Rattle.std.proofs.Common.{arith, sym, ap, subst, ◌∙◌}
 use Rattle.mbuf_pool.specs.Cells.{Head}
-use Rattle.mbuf_pool.specs.Store.{SetsHead}
 use Rattle.mbuf_chain.specs.Chain.{PoolView, Adds, with_chain, chain_of}
 use Rattle.mbuf_chain.specs.Steps.{first_part, second_part}
 use Rattle.mbuf_chain.specs.Cells.{pool_of, weigh, one}
@@ -22,30 +21,33 @@ end_of-last-requires-clause-within c =
 pub head-head-requires : goal.head-head-requires
 head-head-requires c = (cut_place c.args.store.now c.args.first c.args.keep c.end_of-last.result.0 c.requires.pool c.requires.live c.requires.some c.requires.within c.end_of-last.ensures.cell).out
 
+pub set_next-requires-clause-out : goal.set_next-requires-clause-out
+set_next-requires-clause-out c = (cut_place c.args.store.now c.args.first c.args.keep c.end_of-last.result.0 c.requires.pool c.requires.live c.requires.some c.requires.within c.end_of-last.ensures.cell).out
+
 pub unwrap-rest-requires : goal.unwrap-rest-requires
 unwrap-rest-requires c = (cut_place c.args.store.now c.args.first c.args.keep c.end_of-last.result.0 c.requires.pool c.requires.live c.requires.some c.requires.within c.end_of-last.ensures.cell).some c.head-head.result c.head-head.ensures.value
 
 pub set_total-requires-clause-off : goal.set_total-requires-clause-off
-set_total-requires-clause-off c = (cut_made c.args.store.now c.set_head.new.self c.args.first c.unwrap-rest.result c.args.keep c.end_of-last.result.0 c.end_of-last.result.1 c.packet_len-whole.result c.requires.pool c.requires.live c.requires.some c.requires.within c.end_of-last.ensures.cell c.end_of-last.ensures.bytes c.packet_len-whole.ensures
+set_total-requires-clause-off c = (cut_made c.args.store.now c.set_next.new.self c.args.first c.unwrap-rest.result c.args.keep c.end_of-last.result.0 c.end_of-last.result.1 c.packet_len-whole.result c.requires.pool c.requires.live c.requires.some c.requires.within c.end_of-last.ensures.cell c.end_of-last.ensures.bytes c.packet_len-whole.ensures
     (ap (λ (h : Head). h.next) (sym c.head-head.ensures.value) ∙ c.unwrap-rest.ensures) (cut_place c.args.store.now c.args.first c.args.keep c.end_of-last.result.0 c.requires.pool c.requires.live c.requires.some c.requires.within c.end_of-last.ensures.cell).out (cut_place c.args.store.now c.args.first c.args.keep c.end_of-last.result.0 c.requires.pool c.requires.live c.requires.some c.requires.within c.end_of-last.ensures.cell).fit
-    (subst (λ (h : Head). SetsHead c.args.store.now c.set_head.new.self c.end_of-last.result.0 (record h { next = None })) c.head-head.ensures.value c.set_head.ensures.change) c.set_head.ensures.store).off
+    c.set_next.ensures.change c.set_next.ensures.store).off
 
 pub set_total-requires-clause-live : goal.set_total-requires-clause-live
-set_total-requires-clause-live c = (cut_made c.args.store.now c.set_head.new.self c.args.first c.unwrap-rest.result c.args.keep c.end_of-last.result.0 c.end_of-last.result.1 c.packet_len-whole.result c.requires.pool c.requires.live c.requires.some c.requires.within c.end_of-last.ensures.cell c.end_of-last.ensures.bytes c.packet_len-whole.ensures
+set_total-requires-clause-live c = (cut_made c.args.store.now c.set_next.new.self c.args.first c.unwrap-rest.result c.args.keep c.end_of-last.result.0 c.end_of-last.result.1 c.packet_len-whole.result c.requires.pool c.requires.live c.requires.some c.requires.within c.end_of-last.ensures.cell c.end_of-last.ensures.bytes c.packet_len-whole.ensures
     (ap (λ (h : Head). h.next) (sym c.head-head.ensures.value) ∙ c.unwrap-rest.ensures) (cut_place c.args.store.now c.args.first c.args.keep c.end_of-last.result.0 c.requires.pool c.requires.live c.requires.some c.requires.within c.end_of-last.ensures.cell).out (cut_place c.args.store.now c.args.first c.args.keep c.end_of-last.result.0 c.requires.pool c.requires.live c.requires.some c.requires.within c.end_of-last.ensures.cell).fit
-    (subst (λ (h : Head). SetsHead c.args.store.now c.set_head.new.self c.end_of-last.result.0 (record h { next = None })) c.head-head.ensures.value c.set_head.ensures.change) c.set_head.ensures.store).live
+    c.set_next.ensures.change c.set_next.ensures.store).live
 
 pub set_total-requires-clause-few : goal.set_total-requires-clause-few
 set_total-requires-clause-few c = omega (
   arith,
-  (cut_made c.args.store.now c.set_head.new.self c.args.first c.unwrap-rest.result c.args.keep c.end_of-last.result.0 c.end_of-last.result.1 c.packet_len-whole.result c.requires.pool c.requires.live c.requires.some c.requires.within c.end_of-last.ensures.cell c.end_of-last.ensures.bytes c.packet_len-whole.ensures
+  (cut_made c.args.store.now c.set_next.new.self c.args.first c.unwrap-rest.result c.args.keep c.end_of-last.result.0 c.end_of-last.result.1 c.packet_len-whole.result c.requires.pool c.requires.live c.requires.some c.requires.within c.end_of-last.ensures.cell c.end_of-last.ensures.bytes c.packet_len-whole.ensures
       (ap (λ (h : Head). h.next) (sym c.head-head.ensures.value) ∙ c.unwrap-rest.ensures) (cut_place c.args.store.now c.args.first c.args.keep c.end_of-last.result.0 c.requires.pool c.requires.live c.requires.some c.requires.within c.end_of-last.ensures.cell).out (cut_place c.args.store.now c.args.first c.args.keep c.end_of-last.result.0 c.requires.pool c.requires.live c.requires.some c.requires.within c.end_of-last.ensures.cell).fit
-      (subst (λ (h : Head). SetsHead c.args.store.now c.set_head.new.self c.end_of-last.result.0 (record h { next = None })) c.head-head.ensures.value c.set_head.ensures.change) c.set_head.ensures.store).few,
+      c.set_next.ensures.change c.set_next.ensures.store).few,
 )
 
 pub returns-clause-change : goal.returns-clause-change
 returns-clause-change c =
     subst (λ (p : PoolView). Adds (with_chain (pool_of c.args.store.now) c.args.first (first_part c.args.keep (chain_of (pool_of c.args.store.now) c.args.first))) p c.unwrap-rest.result (second_part c.args.keep (chain_of (pool_of c.args.store.now) c.args.first))) (sym c.set_total.ensures.same)
-    (cut_made c.args.store.now c.set_head.new.self c.args.first c.unwrap-rest.result c.args.keep c.end_of-last.result.0 c.end_of-last.result.1 c.packet_len-whole.result c.requires.pool c.requires.live c.requires.some c.requires.within c.end_of-last.ensures.cell c.end_of-last.ensures.bytes c.packet_len-whole.ensures
+    (cut_made c.args.store.now c.set_next.new.self c.args.first c.unwrap-rest.result c.args.keep c.end_of-last.result.0 c.end_of-last.result.1 c.packet_len-whole.result c.requires.pool c.requires.live c.requires.some c.requires.within c.end_of-last.ensures.cell c.end_of-last.ensures.bytes c.packet_len-whole.ensures
     (ap (λ (h : Head). h.next) (sym c.head-head.ensures.value) ∙ c.unwrap-rest.ensures) (cut_place c.args.store.now c.args.first c.args.keep c.end_of-last.result.0 c.requires.pool c.requires.live c.requires.some c.requires.within c.end_of-last.ensures.cell).out (cut_place c.args.store.now c.args.first c.args.keep c.end_of-last.result.0 c.requires.pool c.requires.live c.requires.some c.requires.within c.end_of-last.ensures.cell).fit
-    (subst (λ (h : Head). SetsHead c.args.store.now c.set_head.new.self c.end_of-last.result.0 (record h { next = None })) c.head-head.ensures.value c.set_head.ensures.change) c.set_head.ensures.store).adds
+    c.set_next.ensures.change c.set_next.ensures.store).adds
