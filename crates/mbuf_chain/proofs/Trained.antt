@@ -1,13 +1,15 @@
 -- A chain put in its place before another in a train.
-use Rattle.std.proofs.Common.{◌≡◌, ℕ, true, cond, ◌∷◌, Option, None, Some, is_some, refl, sym, ap, ◌∙◌, arith}
+use Rattle.std.proofs.Common.{◌≡◌, ℕ, true, cond, ◌∷◌, Option, None, Some, is_some, option_map, refl, sym, ap, ◌∙◌, subst, arith}
+use Rattle.std.specs.Prelude.{IsSome}
 use Rattle.std.proofs.lemmas.Bool.{false≢true}
 use Rattle.std.proofs.lemmas.Option.{same_Some}
-use Rattle.mbuf_pool.specs.Cells.{Head, PacketHeader}
+use Rattle.mbuf_pool.specs.Cells.{Head, PacketHeader, head_size, with_arrival}
+use Rattle.mbuf_pool.proofs.Laws.{sets_head, sets_twice}
 use Rattle.mbuf_pool.specs.Store.{StoreView, head_of, SetsHead, IsStore}
 use Rattle.mbuf_chain.specs.Chain.{chain_of, IsLive, with_chain}
 use Rattle.mbuf_chain.specs.Steps.{placed}
 use Rattle.mbuf_chain.specs.Cells.{entry_at, front_of, room_low, pool_of, IsPool}
-use Rattle.mbuf_chain.proofs.Focused.{open_on}
+use Rattle.mbuf_chain.proofs.Focused.{first_out, open_on}
 use Rattle.mbuf_chain.proofs.Heads.{rehead, enter_first, set_same}
 use Rattle.mbuf_chain.proofs.Places.{header_is}
 
@@ -42,3 +44,28 @@ placed_made s t c behind tag packet pool live headed is sets store =
 
 pub has_packet : {A : Type 0} (s : StoreView) (c : ℕ) → IsPool s → IsLive (pool_of s) c → (chain_of (pool_of s) c).front.header ≡ true → (head_of s c).packet ≡ None → A
 has_packet s c pool live headed none = absurd (false≢true (ap (λ (p : Option PacketHeader). is_some p) (sym none) ∙ header_is s c pool live ∙ headed))
+
+pub packet_there : (s : StoreView) (c : ℕ) → IsPool s → IsLive (pool_of s) c → (chain_of (pool_of s) c).front.header ≡ true → (packet : PacketHeader) × ((head_of s c).packet ≡ Some packet)
+packet_there s c pool live headed = go (head_of s c).packet refl
+  where
+    go : (p : Option PacketHeader) → (head_of s c).packet ≡ p → (packet : PacketHeader) × ((head_of s c).packet ≡ Some packet)
+    go None e = has_packet s c pool live headed e
+    go (Some packet) e = (packet, e)
+
+-- the link first, and then the tag
+pub trained_twice : (s t u : StoreView) (c : ℕ) (behind : Option ℕ) (tag : ℕ) (packet : PacketHeader) → IsPool s → IsLive (pool_of s) c → (head_of s c).packet ≡ Some packet
+    → SetsHead s t c (record (head_of s c) { next_packet = behind }) → SetsHead t u c (with_arrival (head_of t c) tag) → SetsHead s u c (trained (head_of s c) behind tag packet)
+trained_twice s t u c behind tag packet pool live is first later =
+    let o = open_on s c pool live in
+    let out = first_out s c o.at in
+    let set : with_arrival (record (head_of s c) { next_packet = behind }) tag ≡ trained (head_of s c) behind tag packet =
+    ap (λ (p : Option PacketHeader). record (head_of s c) { next_packet = behind; packet = option_map {T = PacketHeader} (λ q. record q { arrival = tag }) p }) is in
+    let size : head_size (record (head_of s c) { next_packet = behind }) ≡ head_size (trained (head_of s c) behind tag packet) =
+    ap (λ (p : Option PacketHeader). cond {A = ℕ} (is_some (head_of s c).cluster) 32 (cond (is_some p) 28 20)) is in
+    sets_twice s t u c (record (head_of s c) { next_packet = behind }) (trained (head_of s c) behind tag packet) out o.at.sound.store (omega (arith, size)) first
+    (subst (λ (g : Head). SetsHead t u c g) set (subst (λ (g : Head). SetsHead t u c (with_arrival g tag)) (sets_head s t c (record (head_of s c) { next_packet = behind }) out first) later))
+
+pub packet_after : (s t : StoreView) (c : ℕ) (behind : Option ℕ) (packet : PacketHeader) → IsPool s → IsLive (pool_of s) c → (head_of s c).packet ≡ Some packet → SetsHead s t c (record (head_of s c) { next_packet = behind }) → IsSome (head_of t c).packet
+packet_after s t c behind packet pool live is first =
+    let o = open_on s c pool live in
+    subst (λ (p : Option PacketHeader). IsSome p) (sym (ap (λ (h : Head). h.packet) (sets_head s t c (record (head_of s c) { next_packet = behind }) (first_out s c o.at) first) ∙ is)) refl

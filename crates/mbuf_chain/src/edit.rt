@@ -6,7 +6,7 @@ ghost use Rattle.mbuf_chain.specs.Steps.{with_entry, narrowed, placed, with_entr
 ghost use Rattle.mbuf_chain.specs.Cells.{IsPool, IsOff, pool_of, room_low, room_high, with_segment, entry_from};
 
 use crate::place::Place;
-use mbuf_pool::{Head, PacketHeader, Store};
+use mbuf_pool::Store;
 
 /// Puts a chain's packet length right, where it has one and so many bytes came in and went.
 pub(crate) fn set_total(store: &mut Store, first: u32, added: u32, removed: u32)
@@ -66,19 +66,6 @@ pub(crate) fn set_behind(store: &mut Store, first: u32, behind: Option<u32>, tag
         with_chain (pool_of store.old) first
         (placed (chain_of (pool_of store.old) first) behind tag) }
 {
-    let head = store.head(first);
-    if let Some(packet) = head.packet {
-        let packet = Some(PacketHeader {
-            len: packet.len,
-            arrival: tag,
-        });
-        store.set_head(
-            first,
-            Head {
-                next_packet: behind,
-                packet,
-                ..head
-            },
-        );
-    }
+    store.set_next_packet(first, behind);
+    store.set_arrival(first, tag);
 }

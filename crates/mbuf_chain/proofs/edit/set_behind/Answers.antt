@@ -1,22 +1,23 @@
-use Rattle.std.proofs.Common.{sym, ap, subst, ◌∙◌}
-use Rattle.mbuf_pool.specs.Cells.{Head}
-use Rattle.mbuf_pool.specs.Store.{SetsHead}
+use Rattle.mbuf_pool.proofs.Laws.{sets_out}
 use Rattle.mbuf_chain.proofs.Focused.{open_on, first_out}
-use Rattle.mbuf_chain.proofs.Trained.{placed_made, has_packet, trained}
+use Rattle.mbuf_chain.proofs.Trained.{packet_after, packet_there, placed_made, trained_twice}
 use Rattle.mbuf_chain.proofs.edit.set_behind.Goals as goal
 
-pub head-head-requires : goal.head-head-requires
-head-head-requires c = first_out _ _ (open_on _ _ c.requires.pool c.requires.live).at
+pub set_next_packet-requires-clause-out : goal.set_next_packet-requires-clause-out
+set_next_packet-requires-clause-out c = first_out _ _ (open_on _ _ c.requires.pool c.requires.live).at
 
-pub returns-in-Some-clause-pool : goal.returns-in-Some-clause-pool
-returns-in-Some-clause-pool c =
-    (placed_made _ _ _ c.args.behind c.args.tag c.in-Some.packet c.requires.pool c.requires.live c.requires.headed (ap (λ (h : Head). h.packet) (sym c.head-head.ensures.value) ∙ c.in-Some.is)
-    (subst (λ (h : Head). SetsHead c.args.store.now c.set_head.new.self c.args.first (trained h c.args.behind c.args.tag c.in-Some.packet)) c.head-head.ensures.value c.set_head.ensures.change) c.set_head.ensures.store).pool
+pub set_arrival-requires-clause-out : goal.set_arrival-requires-clause-out
+set_arrival-requires-clause-out c = sets_out _ _ _ _ (first_out _ _ (open_on _ _ c.requires.pool c.requires.live).at) c.set_next_packet.ensures.change
 
-pub returns-in-Some-clause-change : goal.returns-in-Some-clause-change
-returns-in-Some-clause-change c =
-    (placed_made _ _ _ c.args.behind c.args.tag c.in-Some.packet c.requires.pool c.requires.live c.requires.headed (ap (λ (h : Head). h.packet) (sym c.head-head.ensures.value) ∙ c.in-Some.is)
-    (subst (λ (h : Head). SetsHead c.args.store.now c.set_head.new.self c.args.first (trained h c.args.behind c.args.tag c.in-Some.packet)) c.head-head.ensures.value c.set_head.ensures.change) c.set_head.ensures.store).map_is
+pub set_arrival-requires-clause-packet : goal.set_arrival-requires-clause-packet
+set_arrival-requires-clause-packet c = packet_after _ _ _ _ (packet_there _ _ c.requires.pool c.requires.live c.requires.headed).0 c.requires.pool c.requires.live (packet_there _ _ c.requires.pool c.requires.live c.requires.headed).1 c.set_next_packet.ensures.change
 
-pub returns-in_default-clause-change : goal.returns-in_default-clause-change
-returns-in_default-clause-change c = has_packet _ _ c.requires.pool c.requires.live c.requires.headed (ap (λ (h : Head). h.packet) (sym c.head-head.ensures.value) ∙ c.in_default.is)
+pub returns-clause-pool : goal.returns-clause-pool
+returns-clause-pool c =
+    (placed_made _ _ _ c.args.behind c.args.tag (packet_there _ _ c.requires.pool c.requires.live c.requires.headed).0 c.requires.pool c.requires.live c.requires.headed (packet_there _ _ c.requires.pool c.requires.live c.requires.headed).1
+    (trained_twice _ _ _ _ c.args.behind c.args.tag (packet_there _ _ c.requires.pool c.requires.live c.requires.headed).0 c.requires.pool c.requires.live (packet_there _ _ c.requires.pool c.requires.live c.requires.headed).1 c.set_next_packet.ensures.change c.set_arrival.ensures.change) c.set_arrival.ensures.store).pool
+
+pub returns-clause-change : goal.returns-clause-change
+returns-clause-change c =
+    (placed_made _ _ _ c.args.behind c.args.tag (packet_there _ _ c.requires.pool c.requires.live c.requires.headed).0 c.requires.pool c.requires.live c.requires.headed (packet_there _ _ c.requires.pool c.requires.live c.requires.headed).1
+    (trained_twice _ _ _ _ c.args.behind c.args.tag (packet_there _ _ c.requires.pool c.requires.live c.requires.headed).0 c.requires.pool c.requires.live (packet_there _ _ c.requires.pool c.requires.live c.requires.headed).1 c.set_next_packet.ensures.change c.set_arrival.ensures.change) c.set_arrival.ensures.store).map_is
