@@ -12,15 +12,19 @@ use mbuf_chain::{Chain, Place, Pool};
 use mbuf_pool::NoBufs;
 use params::{MAX_PROTOCOL_HEADER, MHLEN, MSIZE};
 use std::mem;
+use thiserror::Error;
 
 /// Why a chain wasn't pulled up.
-#[derive(Clone, Copy, Debug, PartialEq, Eq)]
+#[derive(Clone, Copy, Debug, PartialEq, Eq, Error)]
 pub enum Refusal {
     /// More than 100 bytes were asked for.
+    #[error("too long")]
     TooLong,
     /// The chain has fewer bytes.
+    #[error("too short")]
     TooShort,
     /// A new first mbuf is needed, and none is free.
+    #[error("no buffers")]
     NoBufs,
 }
 

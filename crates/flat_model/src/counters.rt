@@ -2,47 +2,66 @@ ghost use Rattle.std.specs.Prelude.{◌≡◌};
 ghost use Rattle.flat_model.specs.Count.{counted, counter_of, counts_more, more_by, no_counts, value_of};
 
 use crate::counter::Counter;
+use thiserror::Error;
 
 /// Why a packet, or a receiver's part of one, ended: a case for each counter that can end one. The tests are
 /// those of volume 2, chapters 8 (`ipintr`), 10 (`ip_reass`) and 23 (`udp_input`), and this project's own
 /// where a case says so.
-#[derive(Clone, Copy, Debug, PartialEq, Eq)]
+#[derive(Clone, Copy, Debug, PartialEq, Eq, Error)]
 pub enum Why {
     /// Fewer than 20 bytes.
+    #[error("packet shorter than a header")]
     TooSmall,
     /// The version isn't 4.
+    #[error("wrong version")]
     BadVersion,
     /// The header's length is below 5 words.
+    #[error("header length too small")]
     BadHeaderLength,
     /// The header's length is above 5 words (this project's own: it takes no options).
+    #[error("options are not taken")]
     Options,
     /// The header's checksum is wrong.
+    #[error("wrong header checksum")]
     BadSum,
     /// The total length is below 20.
+    #[error("total length too small")]
     BadLength,
     /// The packet is shorter than its total length.
+    #[error("packet shorter than its total length")]
     TooShort,
     /// The destination isn't this machine (this project's own: it forwards nothing).
+    #[error("not addressed to this machine")]
     CantForward,
     /// A fragment of a size or at an offset that none can have.
+    #[error("malformed fragment")]
     BadFragment,
     /// A fragment all of whose bytes are held already, by pieces that begin no later.
+    #[error("fragment held already")]
     FragmentDropped,
     /// A datagram of another protocol than UDP (this project's own).
+    #[error("unknown protocol")]
     NoProtocol,
     /// Fewer than 8 bytes carried.
+    #[error("datagram shorter than a header")]
     UdpHeaderDrops,
     /// The UDP length is below 8 or above what is carried.
+    #[error("wrong datagram length")]
     UdpBadLength,
     /// The UDP checksum is wrong.
+    #[error("wrong datagram checksum")]
     UdpBadSum,
     /// No socket has the port.
+    #[error("no socket has the port")]
     UdpNoPort,
     /// No socket has the port of a broadcast.
+    #[error("no socket has the port of the broadcast")]
     UdpNoPortBroadcast,
     /// The socket's receive queue is full.
+    #[error("receive queue full")]
     UdpFullSocket,
     /// The pool has too few buffers.
+    #[error("no buffer space available")]
     NoBufs,
 }
 

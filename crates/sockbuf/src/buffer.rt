@@ -12,13 +12,16 @@ use flat_model::Addr;
 use mbuf_chain::{Chain, Pool, Reclaim, Train};
 use params::{MSIZE, SOCKADDR_BYTES, UDP_RECEIVE_MEMORY, UDP_RECEIVE_SPACE};
 use std::marker::Model;
+use thiserror::Error;
 
 /// Why a datagram wasn't queued.
-#[derive(Clone, Copy, Debug, PartialEq, Eq)]
+#[derive(Clone, Copy, Debug, PartialEq, Eq, Error)]
 pub enum Refusal {
     /// It doesn't fit beside what waits.
+    #[error("receive queue full")]
     Full,
     /// No mbuf is free for the sender's address.
+    #[error("no buffers")]
     NoBufs,
 }
 
