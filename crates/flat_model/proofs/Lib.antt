@@ -19,6 +19,7 @@ mod Ranges
 mod Runs
 mod Told
 mod Law
+mod Received
 mod Weaker
 mod Totals
 mod Overlaid

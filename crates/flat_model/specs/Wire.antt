@@ -1,8 +1,8 @@
 -- Two machines on one wire (this project's own). The wire loses, repeats and reorders packets, and others send on it
 -- too, but nobody forges the first machine's address.
-use Rattle.std.specs.Prelude.{◌≡◌, ◌≢◌, ◌⊎◌, ℕ, ◌<◌, ◌≤◌, ◌^◌, List, ◌∷◌, ◌++◌, length, filter_map, All, Contains, Option, Some, None}
+use Rattle.std.specs.Prelude.{◌≡◌, ◌≢◌, ◌⊎◌, ℕ, ◌<◌, ◌≤◌, ◌^◌, List, ◌∷◌, ◌++◌, length, take, filter_map, All, Contains, Option, Some, None}
 use Rattle.flat_model.specs.Header.{u32_at}
-use Rattle.flat_model.specs.Event.{Event, Reply, Send, Sent, Comes, Transmit, Given}
+use Rattle.flat_model.specs.Event.{Event, Reply, Send, Sent, Receive, Received, Comes, Transmit, Given}
 use Rattle.flat_model.specs.State.{IsConfig, State, Socket, Datagram, boot, socket_at}
 use Rattle.flat_model.specs.declared.config.Config.{Config}
 use Rattle.flat_model.specs.Send.{target}
@@ -78,3 +78,24 @@ abbrev pub WireLaw : Ledger → Ledger → Type 0
 WireLaw L M = (first second : Config) (sent came : List Turn) (s t : State) → AreWired L M first second sent came s t →
     (socket : Socket) (d : Datagram) → Contains t.sockets socket → Contains socket.queue d → d.sender.ip ≡ first.addr →
     (to : Addr) × IsAnswered L first sent s d.sender.port to d.item.bytes × (socket.port ≡ Some to.port) × ((to.ip ≡ second.addr) ⊎ (to.ip ≡ second.bcast))
+
+-- The run of the second that these turns make, and then a `recvfrom` of at most `most` bytes, answered with `bytes` from
+-- `sender`: the first answered a send of `whole`, of which these bytes are the front, from that port and to one of the
+-- second's addresses and the port that the socket had then.
+pub record WasSent (L M : Ledger) (first second : Config) (sent before : List Turn) (s : State) (fd most : ℕ) (sender : Addr) (bytes : List ℕ) : Type 0 where
+  pub whole : List ℕ
+  pub bytes_are : bytes ≡ take most whole
+  pub to : Addr
+  pub answered : IsAnswered L first sent s sender.port to whole
+  pub here : (to.ip ≡ second.addr) ⊎ (to.ip ≡ second.bcast)
+  pub then' : State
+  pub leads : Leads M (boot second) before then'
+  pub me : Socket
+  pub found : socket_at fd then' ≡ Some me
+  pub to_port : me.port ≡ Some to.port
+
+-- So of each answer of the second's `recvfrom` that names the first's address as the sender's: what is received was sent.
+abbrev pub ReceivedLaw : Ledger → Ledger → Type 0
+ReceivedLaw L M = (first second : Config) (sent before after : List Turn) (s t : State) (fd most : ℕ) (sender : Addr) (bytes : List ℕ) →
+    AreWired L M first second sent (before ++ record { event = Receive fd most; reply = Received sender bytes } ∷ after) s t →
+    sender.ip ≡ first.addr → WasSent L M first second sent before s fd most sender bytes

@@ -10,7 +10,7 @@ ghost use Rattle.flat_model.specs.Step.{Step, Loose};
 ghost use Rattle.flat_model.specs.Run.{Turn, Leads, Run};
 ghost use Rattle.flat_model.specs.Script.{Prints, IsPrintOfRun, PrintsRun, all_events};
 ghost use Rattle.flat_model.specs.declared.config.Config.{Config};
-ghost use Rattle.flat_model.specs.Wire.{WireLaw};
+ghost use Rattle.flat_model.specs.Wire.{ReceivedLaw, WireLaw};
 ghost use Rattle.flat_model.specs.Laws.{CutsJoin, IsFragmentOf, OverlayOrder};
 
 /// The parts of a string put together are the string. All but the last are a multiple of 8 long, and
@@ -30,6 +30,12 @@ pub fn overlay_order()
 /// with the first machine's address as its sender was sent so, whole, by the first.
 pub fn wire_law()
     ensures { WireLaw exact_ledger exact_ledger }
+{}
+
+/// The same of what the second machine's program is told: what its `recvfrom` answers with the first machine's address as
+/// the sender's is the front of what the first sent so, whole.
+pub fn received_law()
+    ensures { ReceivedLaw exact_ledger exact_ledger }
 {}
 
 /// The machine that keeps exact books of its buffers does nothing that the machine without books may not do:

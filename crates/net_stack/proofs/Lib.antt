@@ -8,6 +8,7 @@ mod Keys
 pub mod Lifted
 mod Looping
 mod Runs
+mod Wired
 mod Sent
 mod Started
 mod Exchanged

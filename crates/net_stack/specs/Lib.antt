@@ -5,3 +5,4 @@ pub mod Runs
 pub mod Arrivals
 pub mod Sending
 pub mod Transmit
+pub mod Wire

@@ -12,5 +12,5 @@ mod tests;
 mod traffic;
 mod transmit;
 
-pub use laws::calls_are_run;
+pub use laws::{calls_are_run, stacks_on_a_wire};
 pub use stack::{BootFault, Stack};

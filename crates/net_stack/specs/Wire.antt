@@ -1,0 +1,25 @@
+-- Two stacks on one wire that loses, repeats and reorders packets, and on which others send too (this project's own).
+use Rattle.std.specs.Prelude.{◌≡◌, ◌≢◌, ◌<◌, ◌^◌, List, filter_map, All, Contains}
+use Rattle.flat_model.specs.Run.{Turn}
+use Rattle.flat_model.specs.State.{IsConfig, boot}
+use Rattle.flat_model.specs.Wire.{ComesFrom, packet_in, packet_out}
+use Rattle.flat_model.specs.declared.config.Config.{Config}
+use Rattle.net_stack.specs.Stack.{StackView, state_of}
+use Rattle.net_stack.specs.Runs.{AreCalls}
+
+-- Two stacks as `boot` gives them, and the calls that were made of each. What came to the second from the first's address is
+-- what `tx` of the first gave out, in any order and any number of times; the first sent fewer than 65,536 times; and the
+-- second doesn't have the first's address.
+pub record AreOnOneWire (first second : Config) (sent came : List Turn) (s t : StackView) : Type 0 where
+  pub first_boots : IsConfig first
+  pub second_boots : IsConfig second
+  pub first_start : StackView
+  pub second_start : StackView
+  pub first_starts : state_of first_start ≡ boot first
+  pub second_starts : state_of second_start ≡ boot second
+  pub first_calls : AreCalls first_start sent s
+  pub second_calls : AreCalls second_start came t
+  pub not_addr : first.addr ≢ second.addr
+  pub not_bcast : first.addr ≢ second.bcast
+  pub few : s.counters.ip_localout < 2 ^ 16
+  pub wire : All (λ packet. ComesFrom first.addr packet → Contains (filter_map packet_out sent) packet) (filter_map packet_in came)
