@@ -3,7 +3,7 @@ ghost use Rattle.std.specs.Prelude.{◌≡◌, ◌≤◌, length};
 ghost use Rattle.mbuf_pool.specs.Store.{free_mbufs, free_clusters};
 
 use crate::{BootFault, NoBufs, Sizes, Store};
-use raw_cells::{Buffer, Part};
+use raw_cells::{Buffer, Head, PacketHeader, Part};
 use std::alloc::{AllocError, Global};
 use std::process::Abort;
 use std::test::Fail;
@@ -93,6 +93,56 @@ fn heads_and_bytes(rt: HostRuntime) -> Result<(), Fail> {
     store.copy(small, large);
     assert_eq!(rt; store.bytes(large), b"mbuf".as_slice());
     assert_eq!(rt; store.head(index), head);
+    Ok(())
+}
+
+#[test]
+fn fields_of_a_head(rt: HostRuntime) -> Result<(), Fail> {
+    let sizes = Sizes {
+        mbufs: 2,
+        clusters: 1,
+    };
+    let mut store = Store::boot(rt.alloc(), sizes)?;
+    let packet = PacketHeader {
+        len: 100,
+        arrival: 0,
+    };
+    let given = Head {
+        next: None,
+        next_packet: None,
+        len: 100,
+        start: 28,
+        kind: 1,
+        packet: Some(packet),
+        cluster: None,
+    };
+    let index = store.get_with(given)?;
+    assert_eq!(rt; store.head(index), given);
+    store.set_next(index, Some(1));
+    store.set_next_packet(index, Some(0));
+    store.set_data(index, 40, 60);
+    store.set_packet_len(index, 60);
+    store.set_arrival(index, 16_383);
+    let changed = Head {
+        next: Some(1),
+        next_packet: Some(0),
+        len: 60,
+        start: 40,
+        packet: Some(PacketHeader {
+            len: 60,
+            arrival: 16_383,
+        }),
+        ..given
+    };
+    assert_eq!(rt; store.head(index), changed);
+    store.drop_packet(index);
+    assert_eq!(rt;
+        store.head(index),
+        Head {
+            packet: None,
+            ..changed
+        }
+    );
     Ok(())
 }
 

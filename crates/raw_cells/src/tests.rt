@@ -201,3 +201,66 @@ fn a_head_leaves_the_room_behind_it(rt: HostRuntime) -> Result<(), Fail> {
     );
     Ok(())
 }
+
+#[test]
+fn a_field_is_stored_alone(rt: HostRuntime) -> Result<(), Fail> {
+    let mut region = Region::new(rt.alloc(), 3, 1)?;
+    let packet = PacketHeader {
+        len: 100,
+        arrival: 7,
+    };
+    let mut head = Head {
+        packet: Some(packet),
+        cluster: Some(0),
+        ..PLAIN
+    };
+    region.set_head(1, head);
+    region.set_next(1, Some(0xffff_fffe));
+    head.next = Some(0xffff_fffe);
+    assert_eq!(rt; region.head(1), head);
+    region.set_next_packet(1, Some(2));
+    head.next_packet = Some(2);
+    assert_eq!(rt; region.head(1), head);
+    region.set_data(1, 2000, 48);
+    head.start = 2000;
+    head.len = 48;
+    assert_eq!(rt; region.head(1), head);
+    region.set_next(1, None);
+    region.set_next_packet(1, None);
+    head.next = None;
+    head.next_packet = None;
+    assert_eq!(rt; region.head(1), head);
+    assert_eq!(rt; (region.head(0), region.head(2)), (ZEROS, ZEROS));
+    Ok(())
+}
+
+#[test]
+fn a_packet_header_is_changed_and_dropped(rt: HostRuntime) -> Result<(), Fail> {
+    let mut region = Region::new(rt.alloc(), 3, 1)?;
+    let packet = PacketHeader {
+        len: 100,
+        arrival: 7,
+    };
+    let head = Head {
+        packet: Some(packet),
+        ..PLAIN
+    };
+    region.set_head(1, head);
+    region.set_packet_len(1, 65_535);
+    region.set_arrival(1, 0xffff_ffff);
+    let changed = PacketHeader {
+        len: 65_535,
+        arrival: 0xffff_ffff,
+    };
+    assert_eq!(rt; region.head(1).packet, Some(changed));
+    region.bytes_mut(part(Buffer::Mbuf(1), 28, 100)).fill(2);
+    region.drop_packet(1);
+    assert_eq!(rt; region.head(1), PLAIN);
+    // The packet header's 8 bytes, low bytes first, are room now.
+    assert_eq!(rt;
+        region.bytes(part(Buffer::Mbuf(1), 20, 9)),
+        [0xff, 0xff, 0, 0, 0xff, 0xff, 0xff, 0xff, 2].as_slice()
+    );
+    assert_eq!(rt; (region.head(0), region.head(2)), (ZEROS, ZEROS));
+    Ok(())
+}
