@@ -1,8 +1,8 @@
 -- Laws of the definitions, over lists of entries alone.
-use Rattle.std.proofs.Common.{◌≡◌, ℕ, zero, suc, ◌+◌, ◌-◌, ◌<◌, ◌≤◌, min, Bool, List, [], ◌∷◌, ◌++◌, length, take, drop, refl, sym, ap, ◌∙◌, subst, arith, inl, inr, append_assoc}
+use Rattle.std.proofs.Common.{◌≡◌, ℕ, ◌+◌, ◌-◌, ◌<◌, ◌≤◌, min, Bool, List, [], ◌∷◌, ◌++◌, length, take, drop, refl, sym, ap, ◌∙◌, subst, arith, inl, inr, append_assoc}
 use Rattle.std.specs.Prelude.{◌⊎◌, slice_set}
 use Rattle.std.proofs.lemmas.Bool.{cond-true, cond-false, and_from, and_left, and_right, lt-ltb, le-ltb, le-leb, lt-leb, ne_eqb, cases_lt}
-use Rattle.std.proofs.lemmas.List.{drop_more, drop_all, take_all, take_more_set, drop-set-lt, length-append, length-drop, drop-append-le, take-append-drop}
+use Rattle.std.proofs.lemmas.List.{drop_more, drop_all, take_more_set, drop-set-lt, length-append, length-drop, take-append-drop}
 use Rattle.mbuf_chain.specs.declared.place.Place.{Place}
 use Rattle.mbuf_chain.specs.Chain.{Entry, ChainView, entry_of, no_entry, flat_bytes, IsPlace}
 use Rattle.chain_ops.specs.Rooms.{room_low}
@@ -61,11 +61,6 @@ pub position_here : (v : ChainView) (at : Place) (off : ℕ) → IsPlace v at �
 position_here v at off p h =
     ap (λ (es : List Entry). position_of es off) (at_entry v at p) ∙ position-stays (entry_of v at.index) (drop (at.index + 1) v.entries) off h
     ∙ ap (λ (es : List Entry). record { entries = es; skip = off }) (sym (at_entry v at p))
-
-pub position_next : (v : ChainView) (at : Place) (off : ℕ) → IsPlace v at → 0 < off → length (entry_of v at.index).bytes ≤ off
-    → position_of (drop at.index v.entries) off ≡ position_of (drop (at.index + 1) v.entries) (off - length (entry_of v at.index).bytes)
-position_next v at off p some h =
-    ap (λ (es : List Entry). position_of es off) (at_entry v at p) ∙ position-passes (entry_of v at.index) (drop (at.index + 1) v.entries) off some h
 
 -- ---- cursors
 pub flat-append : (es fs : List Entry) → flat_bytes (es ++ fs) ≡ flat_bytes es ++ flat_bytes fs

@@ -1,13 +1,13 @@
 -- Laws of writes, over lists of entries.
-use Rattle.std.proofs.Common.{◌≡◌, ℕ, zero, suc, ◌+◌, ◌-◌, ◌==◌, ◌<◌, ◌≤◌, min, Bool, true, false, cond, List, [], ◌∷◌, ◌++◌, length, take, drop, replicate, count_by, nat_eq, Option, None, Some, refl, sym, ap, ◌∙◌, subst, arith, inl, inr, append_assoc, append-nil}
-use Rattle.std.specs.Prelude.{◌⊎◌, ◌&&◌, not, nat_lt, slice_set, slice_index_or}
+use Rattle.std.proofs.Common.{◌≡◌, ℕ, zero, suc, ◌+◌, ◌-◌, ◌==◌, ◌<◌, ◌≤◌, min, Bool, true, false, cond, List, [], ◌∷◌, ◌++◌, length, take, drop, replicate, count_by, nat_eq, Option, None, Some, refl, sym, ap, ◌∙◌, arith, inl, inr, append_assoc, append-nil}
+use Rattle.std.specs.Prelude.{◌⊎◌, ◌&&◌, nat_lt, slice_set, slice_index_or}
 use Rattle.std.specs.Option.{option_eq}
-use Rattle.std.proofs.lemmas.Bool.{cases_lt, cond-true, cond-false, eq-eqb, ne_eqb, lt-ltb, le-ltb, ltb-false, and_parts, not-true, false≢true}
+use Rattle.std.proofs.lemmas.Bool.{cases_lt, cond-true, cond-false, eq-eqb, ne_eqb, lt-ltb, ltb-false, and_parts, not-true, false≢true}
 use Rattle.std.proofs.lemmas.List.{take_all, drop_all, length-append, length-drop, length-replicate, length-take, drop-replicate, take-replicate, set-get_or, drop-append-le, take-append-le}
 use Rattle.std.proofs.Math.Seq.{take-add}
 use Rattle.std.proofs.lemmas.List.Sums.{sum_by-cons}
 use Rattle.mbuf_chain.specs.declared.place.Place.{Place}
-use Rattle.mbuf_chain.specs.Chain.{Entry, ChainView, PoolView, IsLive, IsPlace, IsUnshared, Adds, chain_of, entry_of, no_entry, flat_bytes, references, references_of, refers, with_chain, without}
+use Rattle.mbuf_chain.specs.Chain.{Entry, ChainView, PoolView, IsLive, IsPlace, IsUnshared, chain_of, entry_of, no_entry, flat_bytes, references, refers, with_chain, without}
 use Rattle.mbuf_chain.specs.Steps.{overwritten, with_entry}
 use Rattle.mbuf_chain.proofs.Laws.Accounts.{references-with, references-without, references-adds}
 use Rattle.chain_ops.specs.Makes.{Makes}
@@ -15,7 +15,7 @@ use Rattle.chain_ops.specs.Writes.{is_shared, is_writable, overlaid, plain_piece
 use Rattle.chain_ops.proofs.Laws.Lists.{take_over, take_least, drop_over}
 use Rattle.chain_ops.proofs.Laws.Strings.{take_none, drop_none}
 use Rattle.chain_ops.proofs.Lists.{at_entry, flat-append, walk_set}
-use Rattle.chain_ops.proofs.Trims.{changed, entries_now}
+use Rattle.chain_ops.proofs.Trims.{entries_now}
 
 -- ---- where it may be written
 pub writable-none : (counts : ℕ → ℕ) (es : List Entry) (off : ℕ) → is_writable counts es off 0 ≡ true
@@ -35,27 +35,6 @@ pub writable_parts : (counts : ℕ → ℕ) (e : Entry) (es : List Entry) (off l
 writable_parts counts e es off len some h =
     let both = and_parts _ _ h in
     (λ l. last_false (nat_lt 0 len) (nat_lt off (length e.bytes)) (is_shared counts e.cluster) (lt-ltb 0 len some) (lt-ltb off (length e.bytes) l) (not-true _ both.0), both.1)
-
-pub writable-next : (counts : ℕ → ℕ) (e : Entry) (es : List Entry) (off len : ℕ) → (off < length e.bytes) ⊎ (length e.bytes ≤ off) → (off < length e.bytes → is_shared counts e.cluster ≡ false)
-    → is_writable counts (e ∷ es) off len ≡ is_writable counts es (off - length e.bytes) (len - (length e.bytes - off))
-writable-next counts e es off len (inl l) h = go (nat_lt 0 len) (nat_lt off (length e.bytes)) (is_shared counts e.cluster) (h l)
-  where
-    go : (a b s : Bool) → s ≡ false → (not (a && (b && s)) && is_writable counts es (off - length e.bytes) (len - (length e.bytes - off))) ≡ is_writable counts es (off - length e.bytes) (len - (length e.bytes - off))
-    go true true false x = refl
-    go true false s x = refl
-    go false b s x = refl
-    go true true true x = absurd (false≢true (sym x))
-writable-next counts e es off len (inr l) h =
-    ap (λ (b : Bool). not (nat_lt 0 len && (b && is_shared counts e.cluster)) && is_writable counts es (off - length e.bytes) (len - (length e.bytes - off))) (le-ltb off (length e.bytes) l)
-    ∙ go (nat_lt 0 len)
-  where
-    go : (a : Bool) → (not (a && false) && is_writable counts es (off - length e.bytes) (len - (length e.bytes - off))) ≡ is_writable counts es (off - length e.bytes) (len - (length e.bytes - off))
-    go true = refl
-    go false = refl
-
-pub writable-stops : (counts : ℕ → ℕ) (e : Entry) (es : List Entry) (off len : ℕ) → 0 < len → off < length e.bytes → is_shared counts e.cluster ≡ true → is_writable counts (e ∷ es) off len ≡ false
-writable-stops counts e es off len some l shared =
-    (λ j. not (lt-ltb 0 len some j && (lt-ltb off (length e.bytes) l j && shared j)) && is_writable counts es (off - length e.bytes) (len - (length e.bytes - off)))
 
 -- ---- an entry that isn't shared
 counted : (k : ℕ) (es : List Entry) (i : ℕ) → i < length es → (slice_index_or es i no_entry).cluster ≡ Some k → 0 < count_by (refers k) es

@@ -1,5 +1,5 @@
 -- The sums of words of bytes that are cut, and the two orders of the bytes in a word.
-use Rattle.std.proofs.Common.{◌≡◌, ℕ, zero, suc, ◌+◌, ◌*◌, ◌/◌, ◌%◌, ◌<◌, ◌≤◌, List, [], ◌∷◌, ◌++◌, length, get_or, slice_index_or, length-append, Bool, not, nat_eq, cond, ◌⊎◌, inl, inr, ap₂, Fits, w8, refl, sym, ap, ◌∙◌, arith}
+use Rattle.std.proofs.Common.{◌≡◌, ℕ, zero, suc, ◌+◌, ◌*◌, ◌/◌, ◌%◌, ◌<◌, ◌≤◌, List, [], ◌∷◌, ◌++◌, length, get_or, length-append, Bool, not, nat_eq, cond, ◌⊎◌, inl, inr, ap₂, Fits, w8, refl, sym, ap, ◌∙◌, arith}
 use Rattle.std.specs.Int.{w16, swap_bytes}
 use mathlib.Core.Bool.{beq}
 use Rattle.flat_model.specs.Checksum.{word_sum, fold16, folded_sum}
@@ -94,19 +94,6 @@ pub swapped_part_added : (total : ℕ) (part after rest : List ℕ) → swapped_
 swapped_part_added total part after rest cut =
     let whole : total + swapped_sum part + swapped_sum after ≡ total + swapped_sum rest = omega arith in
     fold16-add_first (total + swapped_sum part) (swapped_sum after) ∙ ap fold16 whole
-
--- no byte counts less than itself
-pub swapped_sum_one : (s : List ℕ) → 1 ≤ length s → slice_index_or s 0 0 ≤ swapped_sum s
-swapped_sum_one [] long = omega arith
-swapped_sum_one (a ∷ []) long = omega arith
-swapped_sum_one (a ∷ b ∷ s) long = omega arith
-
-pub swapped_sum_three : (s : List ℕ) → 3 ≤ length s → slice_index_or s 2 0 ≤ swapped_sum s
-swapped_sum_three [] long = omega arith
-swapped_sum_three (a ∷ []) long = omega arith
-swapped_sum_three (a ∷ b ∷ []) long = omega arith
-swapped_sum_three (a ∷ b ∷ c ∷ []) long = omega arith
-swapped_sum_three (a ∷ b ∷ c ∷ d ∷ s) long = omega arith
 
 parity : (n : ℕ) → (n % 2 ≡ 0) ⊎ (n % 2 ≡ 1)
 parity zero = inl (omega arith)

@@ -1,24 +1,23 @@
 -- The packets of a datagram, one after another.
-use Rattle.std.proofs.Common.{◌≡◌, ◌≢◌, ℕ, zero, suc, ◌+◌, ◌-◌, ◌*◌, ◌/◌, ◌%◌, ◌<◌, ◌≤◌, min, Bool, true, false, List, [], ◌∷◌, ◌++◌, length, take, drop, map, refl, sym, ap, ◌∙◌, subst, arith, None, Some, Option, unwrap_or, inl, inr}
-use Rattle.std.specs.Prelude.{nat_le, nat_lt, sum_by, filter_map, slice_index_or, ◌⊎◌}
+use Rattle.std.proofs.Common.{◌≡◌, ℕ, zero, suc, ◌+◌, ◌-◌, ◌*◌, ◌/◌, ◌%◌, ◌<◌, ◌≤◌, min, Bool, true, false, List, [], ◌∷◌, ◌++◌, length, take, drop, map, refl, sym, ap, ◌∙◌, subst, arith, None, Some, Option, unwrap_or, inl, inr}
+use Rattle.std.specs.Prelude.{nat_le, nat_lt, sum_by, filter_map, slice_index_or}
 use Rattle.std.specs.List.{range_with_len, insert, cons_option}
 use Rattle.std.specs.FinMap as finmap
 use Rattle.std.proofs.lemmas.Bool.{cond-true, cond-false, le-leb, lt-leb, le-ltb}
-use Rattle.std.proofs.lemmas.List.{map-append, length-map}
+use Rattle.std.proofs.lemmas.List.{map-append}
 use Rattle.std.proofs.lemmas.List.Edits.{insert_end}
 use Rattle.std.proofs.lemmas.List.Sums.{sum_by-cons, sum_by-take-le}
 use Rattle.std.proofs.lemmas.List.FromFn.{map-range_with_len_more, sum_by-map-range_with_len_more, take-map-range_with_len}
 use Rattle.flat_model.specs.Weight.{Weight, Item, mbuf, ◌⊕◌}
-use Rattle.flat_model.specs.Cuts.{Part, part, cuts, chunk, chunks}
+use Rattle.flat_model.specs.Cuts.{Part, part, cuts, chunk}
 use Rattle.flat_model.specs.Layout as flat
 use Rattle.flat_model.specs.Layout.{weight_of, entries_met}
-use Rattle.flat_model.specs.Sending.{later_weight}
 use Rattle.mbuf_chain.specs.Chain.{Entry, ChainView, PoolView, IsLive, chain_of, no_chain, no_entry, flat_bytes, string, alone, held_mbufs, mbufs_of}
-use Rattle.mbuf_chain.specs.Owners.{Moves, times}
+use Rattle.mbuf_chain.specs.Owners.{Moves}
 use Rattle.mbuf_chain.specs.Train.{TrainView, Car, car_of, cars, numbers, IsHeld}
-use Rattle.mbuf_chain.proofs.Laws.Owners.{moves_trans, moves_none}
+use Rattle.mbuf_chain.proofs.Laws.Owners.{moves_trans}
 use Rattle.mbuf_chain.proofs.Laws.Accounts.{held_moves}
-use Rattle.mbuf_chain.proofs.Laws.Trains.{beside_adds, apart_adds, moves_new, length-cars, held_none}
+use Rattle.mbuf_chain.proofs.Laws.Trains.{beside_adds, moves_new, length-cars}
 use Rattle.ledger.specs.Accounts as ledger
 use Rattle.ledger.specs.Accounts.{item_of}
 use Rattle.chain_ops.specs.Makes.{Makes}
@@ -27,7 +26,7 @@ use Rattle.chain_ops.specs.Weights.{laid, HaveBytes}
 use Rattle.chain_ops.proofs.Laws.Strings.{copied_bytes}
 use Rattle.ip_out.specs.declared.head.IpHead.{IpHead}
 use Rattle.ip_out.specs.Headings.{head_bytes}
-use Rattle.ip_out.specs.Packets.{packets, head_for, part_bytes, part_need, AreBegunPlain, BeginPlain, IsDatagram}
+use Rattle.ip_out.specs.Packets.{head_for, part_need, AreBegunPlain}
 use Rattle.ip_out.specs.Inside.{head_entry, later_item, parts_to, IsLater, IsCut}
 use Rattle.ip_out.proofs.Counting.{div_cases, mul_more}
 
@@ -153,16 +152,6 @@ held_later {p} {q} {t} {v} {h} {ps} l =
     omega (arith, held_moves l.moves (λ k. omega arith), weigh_numbers q (numbers q t), ap (sum_by (λ (it : Item). it.weight.mbufs)) l.items, weigh_parts v h ps)
 
 -- ---- the train grows
-pub later_none : (p : PoolView) (t : TrainView) (v : ChainView) (h : IpHead) → t ≡ record { first = None; last = None; len = 0 } → IsLater p p t v h []
-later_none p t v h e =
-    let none : numbers p t ≡ [] = ap (numbers p) e in
-    record {
-      held = held_none p t e;
-      moves = subst (λ (xs : List ℕ). Moves p [] p xs) (sym none) (moves_none p []);
-      items = ap (packets p) e;
-      plain = subst (λ (u : TrainView). BeginPlain p u) (sym e) tt;
-    }
-
 plain_more : (cs : List Car) (c : Car) → AreBegunPlain cs → (slice_index_or c.entries 0 no_entry).cluster ≡ None → AreBegunPlain (cs ++ c ∷ [])
 plain_more [] c all one = (one, tt)
 plain_more (x ∷ cs) c all one = (all.0, plain_more cs c all.1 one)

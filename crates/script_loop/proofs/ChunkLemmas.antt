@@ -86,18 +86,6 @@ Byte-more gives begin now seen line count printed b text h other room short = (
 
 -- ---- texts that are written
 
--- behind a byte that was taken, some of the text is written
-pub Takes-room : {S : Type 0} (gives : S → List ℕ → List ℕ → S → Type 0) (begin now : S) (seen line : List ℕ) (count : ℕ)
-    (written text full left : List ℕ) (b : ℕ) (w w' : Option (List ℕ))
-    → TakesByte gives begin now seen b (written ++ text) text full line (Some count) → Flushes w w' full left (Ok tt)
-    → TakesChunk gives begin now seen (b ∷ []) written w w' left line (Ok count)
-Takes-room gives begin now seen line count written text full left b w w' h sent = (
-  sent.0,
-  sent.2,
-  Answered-same gives begin now _ _ line count _ _ refl
-      (append_assoc written text h.0 ∙ ap (λ (t : List ℕ). written ++ t) (sym h.1 ∙ sent.1) ∙ sym (append_assoc written sent.0 left)) h.2,
-)
-
 pub Takes-no_room : {S : Type 0} (gives : S → List ℕ → List ℕ → S → Type 0) (begin now : S) (seen line : List ℕ) (count : ℕ)
     (written text full left held line' : List ℕ) (b : ℕ) (w w' : Option (List ℕ)) (e : RunFault)
     → TakesByte gives begin now seen b (written ++ text) text full line (Some count) → Flushes w w' full left (Err e)

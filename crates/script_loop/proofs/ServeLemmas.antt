@@ -1,7 +1,7 @@
 -- From what stands in hand to what serving a script did.
 use Rattle.std.proofs.Common.{◌≡◌, ℕ, List, [], ◌∷◌, ◌++◌, Option, Result, Ok, Err, inl, inr, refl, sym, ap, ◌∙◌, append_assoc, append-nil, arith, subst}
 use Rattle.std.specs.Io.KnownBytes.{Appends, Consumes, IsAtEnd}
-use Rattle.std.proofs.KnownBytes.{Appends-nil, Appends-trans, Consumes-nil, Consumes-trans}
+use Rattle.std.proofs.KnownBytes.{Appends-trans, Consumes-trans}
 use Rattle.flat_model.specs.Lines.{whole_lines, begun_line, last_line, lines}
 use Rattle.script_loop.specs.Streams.{Sends, reader_failures}
 use Rattle.script_loop.specs.Serves.{Serves, Moves, IsServed}
@@ -114,14 +114,3 @@ chunk-fault gives begin now seen chunk written w v line Read h = absurd h
 chunk-fault gives begin now seen chunk written w v line Memory h = absurd h
 chunk-fault gives begin now seen chunk written w v line BadSizes h = absurd h
 chunk-fault gives begin now seen chunk written w v line BadConfig h = absurd h
-
--- so does a text that is sent
-pub Sends-fault : (w v : Option (List ℕ)) (text : List ℕ) (r : Result Unit RunFault) → Sends w v text r
-    → (reader_failures r ≡ 0) × IsServed r
-Sends-fault w v text (Ok done) h = (refl, tt)
-Sends-fault w v text (Err Write) h = (refl, tt)
-Sends-fault w v text (Err Read) h = absurd h
-Sends-fault w v text (Err Memory) h = absurd h
-Sends-fault w v text (Err TooManyLines) h = absurd h
-Sends-fault w v text (Err BadSizes) h = absurd h
-Sends-fault w v text (Err BadConfig) h = absurd h
