@@ -2,7 +2,7 @@
 use Rattle.std.proofs.Common.{◌≡◌, ℕ, zero, suc, ◌+◌, ◌-◌, ◌<◌, ◌≤◌, eqb, ltb, List, [], ◌∷◌, ◌++◌, length, map, filter, count_by, get_or, set, take, drop, sum_by, refl, sym, ap, ◌∙◌, subst, arith, inl, inr, append-nil, get_or-drop}
 use Rattle.std.specs.List as lists
 use Rattle.std.proofs.lemmas.Bool.{cases_eq, cases_lt, cond-true, cond-false, lt-ltb, le-ltb, eq-eqb, ne_eqb}
-use Rattle.std.proofs.lemmas.List.{take_at, take-set-le, take_more_set, take_more, take_all, set-set, drop-set-lt, length-set, get_or-set_same, get_or_default}
+use Rattle.std.proofs.lemmas.List.{take_at, take-set-le, take_more_set, take_more, set-set, drop-set-lt, length-set, get_or-set_same, get_or_default}
 use Rattle.std.proofs.lemmas.List.Edits.{swap_is, length-swap}
 use Rattle.std.proofs.lemmas.List.Sorted.{sum_by-IsPermutation, All-permutation}
 use Rattle.std.specs.List.{AllByRecursion}
@@ -83,9 +83,6 @@ rest_more old now i e = tail now i ∙ (ap (drop 1) e ∙ sym (tail old i))
 aged_more : (old : List Datagram) (i : ℕ) (d : Datagram) → i < length old → aged (take (suc i) old) ≡ aged (take i old) ++ aged (get_or old i d ∷ [])
 aged_more old i d l = ap (λ (n : ℕ). aged (take n old)) (let s : suc i ≡ i + 1 = omega arith in s) ∙ (ap aged (take_more old i d l) ∙ aged-append (take i old) (get_or old i d ∷ []))
 
-pub aging_none : (old : List Datagram) → Aging old old 0 0
-aging_none old = record { within = omega arith; len = refl; front = refl; rest = refl; same = λ p k. refl; each = λ p h. h }
-
 pub aging_past : (old now : List Datagram) (kept i : ℕ) (d : Datagram) → Aging old now kept i → i < length now → (get_or now i d).ticks ≤ 1 → Aging old now kept (suc i)
 aging_past old now kept i d a l t = record {
   within = omega (arith, a.within);
@@ -117,9 +114,6 @@ aging_kept old now next kept i d y a l t y_is is perm =
           recursion_from_All (λ (x : Datagram). IsUnfinished p x) next (All-permutation (λ (x : Datagram). IsUnfinished p x) (set now i y) next perm
           (All-from_recursion (λ (x : Datagram). IsUnfinished p x) (set now i y) (all_set (λ (x : Datagram). IsUnfinished p x) now i y was (subst (λ (x : Datagram). IsUnfinished p x) (sym y_is) mine))));
     }
-
-pub aging_all : (old now : List Datagram) (kept i : ℕ) → Aging old now kept i → length old ≤ i → take kept now ≡ aged old
-aging_all old now kept i a l = a.front ∙ ap aged (take_all i old l)
 
 -- the two arms of the loop
 pub arm_past : (old now next : List Datagram) (kept i k : ℕ) (d : Datagram) → Aging old now kept i → i < length now → (get_or now i d).ticks ≤ 1 → next ≡ now → k ≡ kept → Aging old next k (i + 1)

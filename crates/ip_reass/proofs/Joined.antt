@@ -190,11 +190,3 @@ entries_more p q r t u c d tag f whole held some shown taken gone kept made is =
     made.entries ∙ (λ i. cat (shown i).entries (sym (first ∙ ap queued_of taken) i).entries) in
     let left : queued r u ≡ remove (queued p t) 0 = ap (map queued_of) (kept ∙ gone) ∙ map-remove queued_of (cars p t) 0 in
     (λ i. joined_behind (e i) (left i)) ∙ (sym (joined_next (chain_of p c).entries (queued p t) (omega (arith, length-queued p t held))) ∙ is)
-
--- the first taken out, the others are joined behind it
-pub entries_first : (p q : PoolView) (t u : TrainView) (c tag : ℕ) → IsHeld p t → 0 < t.len → car_at p t 0 ≡ record { number = c; entries = (chain_of q c).entries; tag = tag } → cars q u ≡ remove (cars p t) 0
-    → joined_behind (chain_of q c).entries (queued q u) ≡ joined (queued p t)
-entries_first p q t u c tag held some taken gone =
-    let first : (queued_at (queued p t) 0).entries ≡ (chain_of q c).entries = ap (λ (x : QueuedFragment). x.entries) (queued_is p t 0 held some ∙ ap queued_of taken) in
-    let left : queued q u ≡ remove (queued p t) 0 = ap (map queued_of) gone ∙ map-remove queued_of (cars p t) 0 in
-    (λ i. joined_behind (sym first i) (left i)) ∙ sym (joined_first (queued p t) (omega (arith, length-queued p t held)))

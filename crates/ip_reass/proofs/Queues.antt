@@ -117,9 +117,6 @@ leaves_new k f qs q (Dropped why) now l n h =
     absurd (false≢true (sym (none_covers f l) ∙ (λ j. is_covered (map_of (map fragment_of (sym (at_end qs (record { key = k; fragments = [] }) no_queue) j).fragments)) (fragment_of f)) ∙ h.1))
 
 -- ---- a step in between
-pub wait_same : (qs rs : List KeyedQueue) → rs ≡ qs → WaitOrNone qs rs
-wait_same qs rs e = inl e
-
 pub wait_then : (qs rs ts : List KeyedQueue) → WaitOrNone qs rs → ts ≡ rs → WaitOrNone qs ts
 wait_then qs rs ts (inl a) e = inl (e ∙ a)
 wait_then qs rs ts (inr a) e = inr (e ∙ a)

@@ -1,17 +1,16 @@
 -- A fragment laid, as a step of the flat machine.
-use Rattle.std.proofs.Common.{◌≡◌, ℕ, zero, suc, ◌<◌, ◌≤◌, Bool, true, false, not, cond, List, [], ◌∷◌, ◌++◌, length, map, filter, count_by, get_or, set, take, drop, remove, refl, sym, ap, ◌∙◌, subst, arith, inl, inr}
+use Rattle.std.proofs.Common.{◌≡◌, ℕ, zero, suc, ◌<◌, ◌≤◌, Bool, true, not, cond, List, [], ◌∷◌, ◌++◌, length, map, filter, count_by, get_or, set, take, drop, remove, refl, sym, ap, ◌∙◌, subst, arith, inl, inr}
 use Rattle.std.proofs.lemmas.Bool.{false≢true}
 use Rattle.std.proofs.lemmas.List.{get_or-map, get_or-set_same, length-map, length-set}
 use Rattle.flat_model.specs.Weight.{Weight, Item}
 use Rattle.flat_model.specs.Overlay.{Map, overlay}
 use Rattle.flat_model.specs.Whole.{IsWhole, bytes_below, weight_of_pieces}
 use Rattle.flat_model.specs.State.{State, Key, Unfinished, is_key, end_unfinished}
-use Rattle.flat_model.specs.Count.{counted, counts_more}
+use Rattle.flat_model.specs.Count.{counts_more}
 use Rattle.flat_model.specs.Ledger.{exact_ledger}
 use Rattle.flat_model.specs.Arrival.{Lays, Settles, IsJoin, WholeArrives, counts_reassembled}
 use Rattle.flat_model.specs.declared.counters.Counters.{Counters}
 use Rattle.flat_model.specs.declared.counter.Counter.TheVariants.{IpReassembled}
-use Rattle.flat_model.specs.declared.counters.Why.TheVariants.{FragmentDropped}
 use Rattle.mbuf_chain.specs.Chain.{Entry, PoolView, chain_of, flat_bytes, string}
 use Rattle.mbuf_chain.specs.Train.{TrainView}
 use Rattle.ledger.specs.Accounts.{item_of, item_at, weight_of}
@@ -53,14 +52,6 @@ module _ (k : Key) (p : PoolView) (ds : List Datagram) (i : ℕ) (l : i < length
 
   pub ended : filter (λ (u : Unfinished). not (is_key k u)) (unfinished p ds) ≡ remove (unfinished p ds) i
   ended = filter_one (is_key k) (unfinished p ds) i (unfinished_of p no_datagram) within (ap (is_key k) at_i ∙ here) most
-
--- the fragment was covered
-pub settles_covered : (rest : State) (held : Weight) (k : Key) (p q : PoolView) (ds es : List Datagram) (c d : Counters) (i n : ℕ) (f : QueuedFragment) (new : State) → LaysIn p ds i n f false q es → d ≡ counted FragmentDropped c
-    → new ≡ machine q es d rest → Lays exact_ledger held k (fragment_of f) (unfinished_of p (datagram_at ds i)) (machine p ds c rest) new
-settles_covered rest held k p q ds es c d i n f new la counts is = record {
-  yes = λ e. is ∙ (λ j. record rest { unfinished = la.same j; counters = counts j });
-  no = λ e. absurd (false≢true (sym e ∙ la.covered));
-}
 
 -- it waits
 pub settles_kept : (rest : State) (held : Weight) (k : Key) (p q : PoolView) (ds es : List Datagram) (c : Counters) (i n : ℕ) (f : QueuedFragment) (new : State) → i < length ds

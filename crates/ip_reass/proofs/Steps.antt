@@ -126,9 +126,6 @@ pub record Clearing (e i : ℕ) (old now : List QueuedFragment) : Type 0 where
   pub front : take i now ≡ take i old
   pub rest : cut_to e (drop i now) ≡ cut_to e (drop i old)
 
-pub clearing_none : (e i : ℕ) (old : List QueuedFragment) → Clearing e i old old
-clearing_none e i old = record { front = refl; rest = refl }
-
 pub clearing_more : (e i : ℕ) (old now next : List QueuedFragment) → Clearing e i old now → i < length now → (queued_at now i).offset < e → queued_end (queued_at now i) ≤ e → next ≡ remove now i → Clearing e i old next
 clearing_more e i old now next c l a b is = subst (Clearing e i old) (sym is) (record {
   front = take-remove now i l ∙ c.front;

@@ -1,6 +1,6 @@
 -- Walks over the fragments of a train.
 use Rattle.std.proofs.Common.{◌≡◌, ℕ, zero, suc, ◌+◌, ◌/◌, ◌%◌, ◌<◌, ◌≤◌, eqb, List, [], ◌∷◌, length, take, drop, remove, refl, sym, ap, ◌∙◌, subst, arith}
-use Rattle.std.proofs.lemmas.List.{get_or-map, drop_all, length-map}
+use Rattle.std.proofs.lemmas.List.{get_or-map, length-map}
 use Rattle.flat_model.specs.Overlay.{Fragment}
 use Rattle.mbuf_chain.specs.Chain.{PoolView, flat_bytes}
 use Rattle.mbuf_chain.specs.Train.{TrainView, no_car, car_at, cars, IsHeld}
@@ -45,9 +45,6 @@ pub above_from : (a low i : ℕ) (ps : List Fragment) → Apart low ps → i < l
 above_from a low i [] h l m = absurd (omega arith)
 above_from a low zero (p ∷ ps) h l m = (m, above_all a (end_of p) ps (omega arith) h.2)
 above_from a low (suc i) (p ∷ ps) h l m = above_from a (end_of p) i ps h.2 (omega arith) m
-
-pub above_none : (a i : ℕ) (ps : List Fragment) → length ps ≤ i → AllAbove a (drop i ps)
-above_none a i ps l = subst (AllAbove a) (sym (drop_all i ps l)) tt
 
 pub reach_take : (low i : ℕ) (ps : List Fragment) → i < length ps → reach low (take (suc i) ps) ≡ end_of (fragment_at ps i)
 reach_take low i [] l = absurd (omega arith)

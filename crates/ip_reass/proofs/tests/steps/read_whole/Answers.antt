@@ -1,4 +1,3 @@
-use Rattle.std.proofs.Common.{ℕ, ◌+◌, ◌≤◌, arith}
 use Rattle.mbuf_chain.proofs.Laws.Owners.{same_without, apart_first}
 use Rattle.ip_reass.specs.Table.{held_all}
 use Rattle.ip_reass.specs.Same.{ready_same}
