@@ -1,4 +1,5 @@
 mod Edits
+mod Fronts
 mod Walks
 mod Laid
 mod Steps

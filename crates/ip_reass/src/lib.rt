@@ -1,13 +1,14 @@
 //! Reassembly of IP datagrams, as 4.4BSD does it (`ip_reass` of TCP/IP Illustrated, volume 2, chapter 10; RFC 791, section
 //! 3.2): the table of unfinished datagrams, a fragment that arrives, and the clock that drops those that take too long.
 //!
-//! Each contract is a step of the flat machine, for every rest of it. docs/ip_reass.md has the words.
+//! Each contract is a step of the flat machine, for every rest of it. README.md has the words.
 #![tactic(auto)]
 
 mod arrival;
 mod arrive;
 mod datagram;
 mod lay;
+mod place;
 mod queue;
 mod table;
 #[cfg(test)]

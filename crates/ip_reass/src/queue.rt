@@ -5,110 +5,112 @@ ghost use Rattle.flat_model.specs.Overlay.{overlay, is_covered};
 ghost use Rattle.flat_model.specs.Whole.{IsWhole};
 ghost use Rattle.mbuf_chain.specs.Chain.{IsLive, chain_of, string, alone, flat_bytes};
 ghost use Rattle.mbuf_chain.specs.Owners.{times, Moves};
-ghost use Rattle.mbuf_chain.specs.Train.{numbers, IsHeld};
+ghost use Rattle.mbuf_chain.specs.Train.{numbers, IsCar, IsHeld};
 ghost use Rattle.ip_reass.specs.Fragments.{AllEnd, IsQueue, cut, cut_to, fragment_of, fragments, joined, laid, map_of, queued, queued_end};
-ghost use Rattle.ip_reass.specs.Inside.{AllAbove, AllUpto, arrived, queued_at, reach};
+ghost use Rattle.ip_reass.specs.Inside.{AllAbove, AllUpto, IsFront, arrived, behind, queued_at, reach};
 
+use crate::place::{insert_after, next_after, take_after};
 use chain_ops::{cat_behind, trim_front};
-use mbuf_chain::{Chain, Pool, Train};
+use mbuf_chain::{CarPlace, Chain, Pool, Train};
 use params::{IP_MAX_DATA, IP_MAX_PACKET};
 
-/// The place of the first fragment that begins above an offset, and where those in front of it end.
-fn find(pool: &Pool, train: &Train, offset: u32) -> (u32, u32)
+/// The last of the fragments that begin no later than an offset, and where it ends.
+fn find(pool: &Pool, train: &Train, offset: u32) -> (Option<CarPlace>, u32)
     requires { IsQueue pool.now train.now }
-    ensures within { result.0 ≤ train.now.len }
-    ensures upto { AllUpto offset (take result.0 (fragments pool.now train.now)) }
-    ensures above { AllAbove offset (drop result.0 (fragments pool.now train.now)) }
-    ensures end { result.1 ≡ reach 0 (take result.0 (fragments pool.now train.now)) }
+    ensures front { IsFront pool.now train.now result.0 }
+    ensures upto { AllUpto offset (take (behind result.0) (fragments pool.now train.now)) }
+    ensures above { AllAbove offset (drop (behind result.0) (fragments pool.now train.now)) }
+    ensures end { result.1 ≡ reach 0 (take (behind result.0) (fragments pool.now train.now)) }
 {
+    let mut front = None;
     let mut end = 0;
-    let Some(mut at) = train.first(pool) else {
-        return (0, 0);
-    };
-    'fragments: loop {
+    'fragments: while let Some(at) = next_after(pool, train, front) {
         let begin = train.tag_at(pool, at) / 2;
         if begin > offset {
-            return (at.index, end);
+            return (front, end);
         }
         end = begin + train.len_at(pool, at);
-        let Some(next) = train.next(pool, at) else {
-            return (train.len(), end);
-        };
-        at = next;
+        front = Some(at);
     }
+    (front, end)
 }
 
 /// Where the fragment at a place begins.
-fn begins(pool: &Pool, train: &Train, i: u32) -> u32
-    requires place { i < train.now.len }
+fn begins(pool: &Pool, train: &Train, at: CarPlace) -> u32
+    requires place { IsCar pool.now train.now at }
     requires held { IsHeld pool.now train.now }
-    ensures { result ≡ (queued_at (queued pool.now train.now) i).offset }
+    ensures { result ≡ (queued_at (queued pool.now train.now) at.index).offset }
 {
-    train.tag(pool, i) / 2
+    train.tag_at(pool, at) / 2
 }
 
 /// The first offset after the fragment at a place.
-fn ends(pool: &Pool, train: &Train, i: u32) -> u32
-    requires place { i < train.now.len }
+fn ends(pool: &Pool, train: &Train, at: CarPlace) -> u32
+    requires place { IsCar pool.now train.now at }
     requires held { IsHeld pool.now train.now }
     requires small { AllEnd IP_MAX_DATA (fragments pool.now train.now) }
-    ensures { result ≡ queued_end (queued_at (queued pool.now train.now) i) }
+    ensures { result ≡ queued_end (queued_at (queued pool.now train.now) at.index) }
 {
-    begins(pool, train, i) + train.chain_len(pool, i)
+    begins(pool, train, at) + train.len_at(pool, at)
 }
 
-/// Takes the fragment at a place out and frees it.
-fn free_at(pool: &mut Pool, train: &mut Train, i: u32)
-    requires place { i < train.old.len }
+/// Takes the fragment behind a place out and frees it.
+fn free_after(pool: &mut Pool, train: &mut Train, front: Option<CarPlace>)
+    requires front { IsFront pool.old train.old front }
+    requires more { behind front < train.old.len }
     requires held { IsHeld pool.old train.old }
-    ensures queue { queued pool.new train.new ≡ remove (queued pool.old train.old) i }
+    ensures queue { queued pool.new train.new ≡ remove (queued pool.old train.old) (behind front) }
+    ensures front { IsFront pool.new train.new front }
     ensures held { IsHeld pool.new train.new }
     ensures len { train.new.len + 1 ≡ train.old.len }
     ensures moves { Moves pool.old (numbers pool.old train.old) pool.new (numbers pool.new train.new) }
 {
-    let (chain, _) = train.take(pool, i);
+    let (chain, _) = take_after(pool, train, front);
     pool.free_chain(chain);
 }
 
-/// Cuts the first n bytes off the fragment at a place, as `m_adj` does.
-fn trim_at(pool: &mut Pool, train: &mut Train, i: u32, n: u32)
-    requires place { i < train.old.len }
+/// Cuts the first n bytes off the fragment behind a place, as `m_adj` does.
+fn trim_after(pool: &mut Pool, train: &mut Train, front: Option<CarPlace>, n: u32)
+    requires front { IsFront pool.old train.old front }
+    requires more { behind front < train.old.len }
     requires held { IsHeld pool.old train.old }
     requires small { AllEnd IP_MAX_DATA (fragments pool.old train.old) }
-    requires within { n ≤ length (flat_bytes (queued_at (queued pool.old train.old) i).entries) }
+    requires within { n ≤ length (flat_bytes (queued_at (queued pool.old train.old) (behind front)).entries) }
     ensures queue { queued pool.new train.new ≡
-        slice_set (queued pool.old train.old) i (cut n (queued_at (queued pool.old train.old) i)) }
+        slice_set (queued pool.old train.old) (behind front) (cut n (queued_at (queued pool.old train.old) (behind front))) }
+    ensures front { IsFront pool.new train.new front }
     ensures held { IsHeld pool.new train.new }
     ensures len { train.new.len ≡ train.old.len }
     ensures moves { Moves pool.old (numbers pool.old train.old) pool.new (numbers pool.new train.new) }
 {
-    let (chain, tag) = train.take(pool, i);
+    let (chain, tag) = take_after(pool, train, front);
     let moved = tag + 2 * n;
     trim_front(pool, &chain, n);
-    train.insert(pool, i, chain, moved);
+    insert_after(pool, train, front, chain, moved);
 }
 
-/// What lies below an offset goes from the fragments at a place and after it: whole fragments, and the front of one.
-fn clear(pool: &mut Pool, train: &mut Train, i: u32, end: u32)
-    requires place { i ≤ train.old.len }
+/// What lies below an offset goes from the fragments behind a place: whole fragments, and the front of one.
+fn clear(pool: &mut Pool, train: &mut Train, front: Option<CarPlace>, end: u32)
+    requires front { IsFront pool.old train.old front }
     requires held { IsHeld pool.old train.old }
     requires small { AllEnd IP_MAX_DATA (fragments pool.old train.old) }
     ensures queue { queued pool.new train.new ≡
-        take i (queued pool.old train.old) ++ cut_to end (drop i (queued pool.old train.old)) }
+        take (behind front) (queued pool.old train.old) ++ cut_to end (drop (behind front) (queued pool.old train.old)) }
+    ensures front { IsFront pool.new train.new front }
     ensures held { IsHeld pool.new train.new }
     ensures len { train.new.len ≤ train.old.len }
     ensures moves { Moves pool.old (numbers pool.old train.old) pool.new (numbers pool.new train.new) }
 {
-    'fragments: while i < train.len() {
-        let begin = begins(pool, train, i);
+    'fragments: while let Some(at) = next_after(pool, train, front) {
+        let begin = begins(pool, train, at);
         if end <= begin {
             return;
         }
-        if end < ends(pool, train, i) {
-            trim_at(pool, train, i, end - begin);
+        if end < ends(pool, train, at) {
+            trim_after(pool, train, front, end - begin);
             return;
         }
-        free_at(pool, train, i);
+        free_after(pool, train, front);
     }
 }
 
@@ -121,18 +123,18 @@ fn tag_of(offset: u32, more: bool) -> u32
     if more { 2 * offset + 1 } else { 2 * offset }
 }
 
-/// Puts what is left of a chain at its place, and takes what it holds from the fragments after it.
+/// Puts what is left of a chain behind a place, and takes what it holds from the fragments after it.
 fn settle(
     pool: &mut Pool,
     train: &mut Train,
     chain: Chain,
-    i: u32,
+    front: Option<CarPlace>,
     offset: u32,
     skip: u32,
     len: u32,
     more: bool,
 )
-    requires place { i ≤ train.old.len }
+    requires front { IsFront pool.old train.old front }
     requires held { IsHeld pool.old train.old }
     requires small { AllEnd IP_MAX_DATA (fragments pool.old train.old) }
     requires live { IsLive pool.old chain }
@@ -142,15 +144,15 @@ fn settle(
     requires left { skip < len }
     requires within { offset + len ≤ IP_MAX_DATA }
     ensures queue { let f = arrived pool.old chain offset more in
-        queued pool.new train.new ≡ take i (queued pool.old train.old)
-        ++ cut skip f ∷ cut_to (queued_end f) (drop i (queued pool.old train.old)) }
+        queued pool.new train.new ≡ take (behind front) (queued pool.old train.old)
+        ++ cut skip f ∷ cut_to (queued_end f) (drop (behind front) (queued pool.old train.old)) }
     ensures held { IsHeld pool.new train.new }
     ensures moves { Moves pool.old (chain ∷ numbers pool.old train.old) pool.new (numbers pool.new train.new) }
 {
     let tag = tag_of(offset + skip, more);
     trim_front(pool, &chain, skip);
-    clear(pool, train, i, offset + len);
-    train.insert(pool, i, chain, tag);
+    clear(pool, train, front, offset + len);
+    insert_after(pool, train, front, chain, tag);
 }
 
 /// Lays a fragment among those held: what precedes it keeps its bytes, what follows loses its own to it. The answer is
@@ -173,13 +175,13 @@ pub(crate) fn lay(pool: &mut Pool, train: &mut Train, chain: Chain, offset: u32,
     ensures moves { Moves pool.old (chain ∷ numbers pool.old train.old) pool.new (numbers pool.new train.new) }
 {
     let len = pool.len(&chain);
-    let (i, end) = find(pool, train, offset);
+    let (front, end) = find(pool, train, offset);
     let skip = end.saturating_sub(offset);
     if len <= skip {
         pool.free_chain(chain);
         return false;
     }
-    settle(pool, train, chain, i, offset, skip, len, more);
+    settle(pool, train, chain, front, offset, skip, len, more);
     true
 }
 

@@ -1,0 +1,81 @@
+//! A place among the fragments of a datagram, told by the fragment in front of it: what stands behind that one is found,
+//! taken out or put in with no further walk.
+ghost use Rattle.std.specs.Prelude.{◌≡◌, ◌+◌, ◌<◌, ◌∷◌, true, length, insert, remove, MatchOption};
+ghost use Rattle.mbuf_chain.specs.Chain.{IsLive, chain_of, alone};
+ghost use Rattle.mbuf_chain.specs.Owners.{times, Moves};
+ghost use Rattle.mbuf_chain.specs.Train.{cars, car_at, numbers, IsCar, IsHeld};
+ghost use Rattle.ip_reass.specs.Inside.{IsFront, behind};
+
+use mbuf_chain::{CarPlace, Chain, Pool, Train};
+
+/// The place of the fragment behind this one: of the first, where none stands in front.
+pub(crate) fn next_after(pool: &Pool, train: &Train, front: Option<CarPlace>) -> Option<CarPlace>
+    requires front { IsFront pool.now train.now front }
+    requires held { IsHeld pool.now train.now }
+    ensures { MatchOption result (train.now.len ≡ behind front) (λ at. (at.index ≡ behind front)
+        × IsCar pool.now train.now at) }
+{
+    match front {
+        None => train.first(pool),
+        Some(at) => train.next(pool, at),
+    }
+}
+
+/// Takes the fragment behind this one out: its chain and its tag.
+pub(crate) fn take_after(
+    pool: &mut Pool,
+    train: &mut Train,
+    front: Option<CarPlace>,
+) -> (Chain, u32)
+    requires front { IsFront pool.old train.old front }
+    requires more { behind front < train.old.len }
+    requires held { IsHeld pool.old train.old }
+    ensures cars { cars pool.new train.new ≡ remove (cars pool.old train.old) (behind front) }
+    ensures taken { car_at pool.old train.old (behind front) ≡
+        record {
+          number = result.0;
+          entries = (chain_of pool.new result.0).entries;
+          tag = result.1;
+        } }
+    ensures alone { (chain_of pool.new result.0).front ≡ alone true }
+    ensures front { IsFront pool.new train.new front }
+    ensures held { IsHeld pool.new train.new }
+    ensures len { train.new.len + 1 ≡ train.old.len }
+    ensures moves { Moves pool.old (numbers pool.old train.old) pool.new
+        (result.0 ∷ numbers pool.new train.new) }
+{
+    match front {
+        None => train.take(pool, 0),
+        Some(at) => train.take_after(pool, at),
+    }
+}
+
+/// Puts a fragment in behind this one, with a tag.
+pub(crate) fn insert_after(
+    pool: &mut Pool,
+    train: &mut Train,
+    front: Option<CarPlace>,
+    chain: Chain,
+    tag: u32,
+)
+    requires front { IsFront pool.old train.old front }
+    requires live { IsLive pool.old chain }
+    requires headed { (chain_of pool.old chain).front.header ≡ true }
+    requires held { IsHeld pool.old train.old }
+    requires apart { times chain (numbers pool.old train.old) ≡ 0 }
+    ensures cars { cars pool.new train.new ≡
+        insert (cars pool.old train.old) (behind front)
+        (record { number = chain; entries = (chain_of pool.old chain).entries; tag = tag }) }
+    ensures front { IsFront pool.new train.new front }
+    ensures held { IsHeld pool.new train.new }
+    ensures len { train.new.len ≡ train.old.len + 1 }
+    ensures moves { Moves pool.old (chain ∷ numbers pool.old train.old) pool.new
+        (numbers pool.new train.new) }
+{
+    match front {
+        None => train.insert(pool, 0, chain, tag),
+        Some(at) => {
+            let _ = train.insert_after(pool, at, chain, tag);
+        }
+    }
+}
