@@ -1,5 +1,8 @@
 //! Calls of a stack, each on its plain path.
+mod broadcasts;
+mod fragments;
 mod traffic;
+mod two;
 
 use crate::{BootFault, Stack};
 use flat_model::{Addr, Config, Counters, Errno, Mbstat, Opt};
@@ -15,6 +18,25 @@ const PLAIN: Config = Config {
     clusters: 4,
     first_id: 1,
 };
+
+/// The same host with a large pool.
+const LARGE: Config = Config {
+    mbufs: 512,
+    clusters: 64,
+    ..PLAIN
+};
+
+/// How much of a pool of 64 clusters is free, and how often its clusters are referred to.
+const fn free(free_mbufs: u32, mbufs: u32, free_clusters: u32, refs: u32, most: u32) -> Mbstat {
+    Mbstat {
+        free_mbufs,
+        mbufs,
+        free_clusters,
+        clusters: 64,
+        refs,
+        most,
+    }
+}
 
 /// 10.0.0.2.
 const NEAR: u32 = 0x0a00_0002;
