@@ -1,5 +1,5 @@
 -- What stands in hand between two bytes of a script.
-use Rattle.std.specs.Prelude.{◌≡◌, ◌+◌, ◌-◌, ◌*◌, ℕ, List, [], ◌∷◌, ◌++◌, length, Option, Some, None, Result, Ok, Err}
+use Rattle.std.specs.Prelude.{◌≡◌, ◌≢◌, ◌⊎◌, ◌≤◌, ◌+◌, ◌-◌, ◌*◌, ℕ, List, [], ◌∷◌, ◌++◌, length, Option, Some, None, Result, Ok, Err}
 use Rattle.std.specs.Io.KnownBytes.{Appends}
 use Rattle.flat_model.specs.Lines.{whole_lines, begun_line}
 use Rattle.script_loop.specs.Printed.{Prints}
@@ -19,13 +19,32 @@ pub record Answered {S : Type 0} (gives : S → List ℕ → List ℕ → S → 
 abbrev pub budget : ℕ → List ℕ → ℕ
 budget count line = (10000000 - count) * 1048577 + (1048577 - length line)
 
--- What one byte does, behind those seen. The answer to the line that it ends stands behind the text.
-abbrev pub TakesByte : {S : Type 0} → (S → List ℕ → List ℕ → S → Type 0) → S → S → List ℕ → ℕ → List ℕ
+-- no byte of these ends a line
+abbrev pub EndsNoLine : List ℕ → Type 0
+EndsNoLine [] = Unit {0}
+EndsNoLine (byte ∷ bytes) = (byte ≢ 10) × EndsNoLine bytes
+
+-- Bytes that end no line may come: none of them is behind the last line that is allowed, or makes the line too long.
+abbrev pub HasRoom : ℕ → List ℕ → List ℕ → Type 0
+HasRoom count line part = (part ≡ []) ⊎ ((count ≢ 10000000) × (length line + length part ≤ 1048576))
+
+-- A byte of the piece goes too far behind those seen and those in front of it, which end no line.
+pub record BreaksLimit (seen piece : List ℕ) : Type 0 where
+  pub front : List ℕ
+  pub byte : ℕ
+  pub rest : List ℕ
+  pub cut : piece ≡ front ++ byte ∷ rest
+  pub within : StaysWithin (seen ++ front)
+  pub far : GoesTooFar (seen ++ front) byte
+  pub same : whole_lines (seen ++ front) ≡ whole_lines seen
+
+-- What a piece does, behind the bytes seen. The answer to the line that it ends stands behind the text.
+abbrev pub TakesPiece : {S : Type 0} → (S → List ℕ → List ℕ → S → Type 0) → S → S → List ℕ → List ℕ → List ℕ
     → List ℕ → List ℕ → List ℕ → Option ℕ → Type 0
-TakesByte gives begin now seen byte printed before after line (Some count) =
-    (reply : List ℕ) × (after ≡ before ++ reply) × Answered gives begin now (seen ++ byte ∷ []) line count (printed ++ reply)
-TakesByte gives begin now seen byte printed before after line None =
-    GoesTooFar seen byte × (after ≡ before) × Prints gives begin (whole_lines seen) printed now
+TakesPiece gives begin now seen piece printed before after line (Some count) =
+    (reply : List ℕ) × (after ≡ before ++ reply) × Answered gives begin now (seen ++ piece) line count (printed ++ reply)
+TakesPiece gives begin now seen piece printed before after line None =
+    BreaksLimit seen piece × (after ≡ before) × Prints gives begin (whole_lines seen) printed now
 
 -- Of a text a writer took the part before the one that is left at `Ok`, and a front at `Err(Write)`, which is the only error.
 abbrev pub Flushes : Option (List ℕ) → Option (List ℕ) → List ℕ → List ℕ → Result Unit RunFault → Type 0

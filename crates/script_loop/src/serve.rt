@@ -1,13 +1,14 @@
 //! The loop that reads a script and answers it.
-ghost use Rattle.std.specs.Prelude.{◌≡◌, ◌≤◌, ◌<◌, ◌+◌, ◌∷◌, [], ℕ, List, length, Option, Some, IfOk, IfSome, ◌++◌};
+ghost use Rattle.std.specs.Prelude.{◌≡◌, ◌↔◌, ◌≤◌, ◌<◌, ◌+◌, ◌∷◌, [], ℕ, List, length, IsTrue, IfOk, IfSome, ◌++◌};
 ghost use Rattle.script_loop.specs.Streams.{MoreBy, Sends, reader_failures, writer_failures};
 ghost use Rattle.script_loop.specs.Serves.{Serves, IsServed};
-ghost use Rattle.script_loop.specs.Chunks.{Answered, TakesByte, TakesChunk, Flushes, budget};
+ghost use Rattle.script_loop.specs.Chunks.{Answered, EndsNoLine, HasRoom, TakesPiece, TakesChunk, Flushes, budget};
 
 use crate::answers::Answers;
 use crate::buffer::Buffer;
 use crate::fault::RunFault;
 use crate::streams::{Sink, Source, send};
+use memchr::memchr;
 use std::alloc::Global;
 
 /// The most lines that are served.
@@ -62,61 +63,75 @@ fn make_room<const N: usize, W: Sink>(writer: &mut W, text: &mut Buffer<N>) -> R
     flush(writer, text)
 }
 
-/// Takes one byte, and puts the answer to the line that it ends behind the text. `count` lines were answered, and the
-/// result is how many are now, or nothing where the byte goes too far.
-fn take_byte<const N: usize, A: Answers<N>>(
+/// Takes bytes that end no line, and answers whether all may come. Where one goes too far, nothing changes.
+fn take_part(line: &mut Buffer<LONGEST>, count: u32, part: &[u8]) -> bool
+    requires { length line.old ≤ 1048576 }
+    ensures room { IsTrue result ↔ HasRoom count line.old part.now }
+    ensures line { IsTrue result → line.new ≡ line.old ++ part.now }
+{
+    if part.is_empty() {
+        return true;
+    }
+    if count == MOST_LINES || part.len() > LONGEST - line.len() {
+        return false;
+    }
+    line.append(part);
+    true
+}
+
+/// Takes the last bytes of a line and the line feed behind them, and puts the answer to it behind the text. `count` lines
+/// were answered, and the result is how many are now, or nothing where a byte goes too far.
+fn take_end<const N: usize, A: Answers<N>>(
     machine: &mut A,
     text: &mut Buffer<N>,
     line: &mut Buffer<LONGEST>,
     count: u32,
-    byte: u8,
+    part: &[u8],
 ) -> Option<u32>
     requires count { count ≤ 10000000 }
     requires short { length line.old ≤ 1048576 }
     requires text { length text.old ≤ 65536 }
+    requires part { EndsNoLine part.now }
     ensures taken { (begin : A.State) (seen printed : List ℕ)
         → Answered A.may_answer begin (A.state machine.old) seen line.old count printed
-        → TakesByte A.may_answer begin (A.state machine.new) seen byte printed text.old text.new line.new result }
+        → TakesPiece A.may_answer begin (A.state machine.new) seen (part.now ++ 10 ∷ []) printed text.old text.new line.new result }
     ensures within { IfSome result (λ now. (now ≤ 10000000) × (length line.new ≤ 1048576)) }
-    ensures fewer { IfSome result (λ now. budget now line.new < budget count line.old) }
+    ensures fewer { IfSome result (λ now. budget now line.new + (length part.now + 1) ≤ budget count line.old) }
 {
     if count == MOST_LINES {
         return None;
     }
-    if byte == b'\n' {
-        machine.answer(line.as_slice(), text);
-        line.clear();
-        return Some(count + 1);
-    }
-    if line.len() == LONGEST {
+    if !take_part(line, count, part) {
         return None;
     }
-    line.push(byte);
-    Some(count)
+    machine.answer(line.as_slice(), text);
+    line.clear();
+    Some(count + 1)
 }
 
-/// Takes one byte, and writes the text where it is full or the byte goes too far.
-fn take_one<const N: usize, A: Answers<N>, W: Sink>(
+/// Takes the last bytes of a line and its line feed, and writes the text where it is full or a byte goes too far.
+fn take_line<const N: usize, A: Answers<N>, W: Sink>(
     machine: &mut A,
     text: &mut Buffer<N>,
     line: &mut Buffer<LONGEST>,
     count: u32,
-    byte: u8,
+    part: &[u8],
     writer: &mut W,
 ) -> Result<u32, RunFault>
     requires count { count ≤ 10000000 }
     requires short { length line.old ≤ 1048576 }
     requires text { length text.old ≤ 65536 }
+    requires part { EndsNoLine part.now }
     ensures taken { (begin : A.State) (seen written : List ℕ)
         → Answered A.may_answer begin (A.state machine.old) seen line.old count (written ++ text.old)
-        → TakesChunk A.may_answer begin (A.state machine.new) seen (byte ∷ []) written
+        → TakesChunk A.may_answer begin (A.state machine.new) seen (part.now ++ 10 ∷ []) written
         (W.contents writer.old) (W.contents writer.new) text.new line.new result }
     ensures told { MoreBy (writer_failures result) (W.failures writer.old) (W.failures writer.new) }
     ensures within { IfOk result (λ now. (now ≤ 10000000) × (length line.new ≤ 1048576)) }
     ensures room { IfOk result (λ _. length text.new ≤ 65536) }
-    ensures fewer { IfOk result (λ now. budget now line.new < budget count line.old) }
+    ensures fewer { IfOk result (λ now. budget now line.new + (length part.now + 1) ≤ budget count line.old) }
 {
-    match take_byte(machine, text, line, count, byte) {
+    match take_end(machine, text, line, count, part) {
         Some(now) => {
             make_room(writer, text)?;
             Ok(now)
@@ -150,11 +165,19 @@ fn take_chunk<const N: usize, A: Answers<N>, W: Sink>(
     ensures fewer { IfOk result (λ now. budget now line.new + length chunk.now ≤ budget count line.old) }
 {
     let mut now = count;
-    for byte in chunk {
-        now = take_one(machine, text, line, now, *byte, writer)?;
+    let mut rest = chunk;
+    while let Some(at) = memchr(b'\n', rest) {
+        now = take_line(machine, text, line, now, &rest[..at], writer)?;
+        let (_, behind) = rest.split_at(at + 1);
+        rest = behind;
     }
+    let fits = take_part(line, now, rest);
     flush(writer, text)?;
-    Ok(now)
+    if fits {
+        Ok(now)
+    } else {
+        Err(RunFault::TooManyLines)
+    }
 }
 
 /// Serves a script, and answers each line when its end was read. Memory is taken before the first read alone.

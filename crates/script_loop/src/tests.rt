@@ -49,6 +49,31 @@ fn cuts_lines(rt: HostRuntime) -> Result<(), Fail> {
     Ok(())
 }
 
+/// A line of so many bytes, and one behind it.
+fn line_of(alloc: Global, len: usize) -> Result<Vec<u8>, Fail> {
+    let mut script = vec![in alloc; b'a'; len]?;
+    script.extend_from_slice(b"\nb\n")?;
+    Ok(script)
+}
+
+/// 8,192 bytes are read at a time, and a line may have 1,048,576 bytes.
+#[test]
+fn takes_lines_across_reads(rt: HostRuntime) -> Result<(), Fail> {
+    let alloc = rt.alloc();
+    for len in [100, 8_190, 8_191, 8_192, 8_193, 16_384, 1_048_576] {
+        let script = line_of(alloc, len)?;
+        let written = echoes(alloc, script.as_slice())?;
+        assert_eq!(rt; written.as_slice(), b"[]\n[b]\n".as_slice(), "at {len}");
+    }
+    let script = line_of(alloc, 1_048_577)?;
+    let mut reader = script.as_slice();
+    let mut written = Vec::new(alloc);
+    let outcome: Result<(), RunFault> = serve_script(alloc, &mut Echo, &mut reader, &mut written);
+    assert_eq!(rt; outcome, Err(RunFault::TooManyLines));
+    assert!(rt; written.is_empty());
+    Ok(())
+}
+
 #[test]
 fn reads_numbers(rt: HostRuntime) -> Result<(), Fail> {
     for (word, want) in [
