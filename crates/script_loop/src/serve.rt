@@ -144,7 +144,7 @@ fn take_line<const N: usize, A: Answers<N>, W: Sink>(
 }
 
 /// Takes the bytes of a chunk, and answers each line that ends in it. All answers are written then.
-fn take_chunk<const N: usize, A: Answers<N>, W: Sink>(
+pub fn take_chunk<const N: usize, A: Answers<N>, W: Sink>(
     machine: &mut A,
     text: &mut Buffer<N>,
     line: &mut Buffer<LONGEST>,

@@ -1,3 +1,4 @@
+use crate::serve::take_chunk;
 use crate::{
     Answers, Buffer, RunFault, bytes, first_word, is_end, number, one, put_hex, serve_script,
     three, two,
@@ -45,6 +46,44 @@ fn cuts_lines(rt: HostRuntime) -> Result<(), Fail> {
     ] {
         let written = echoes(rt.alloc(), script.as_bytes())?;
         assert_eq!(rt; written.as_slice(), want.as_bytes(), "at {script}");
+    }
+    Ok(())
+}
+
+/// 10,000,000 lines are served, and at a byte behind them the script ends: so many were answered before what is read here.
+#[test]
+fn ends_behind_the_last_line(rt: HostRuntime) -> Result<(), Fail> {
+    let alloc = rt.alloc();
+    for (count, chunk, want, replies) in [
+        (9_999_998, "\n\n", Ok(10_000_000), "[]\n[]\n"),
+        (9_999_998, "\n\n\n", Err(RunFault::TooManyLines), "[]\n[]\n"),
+        (
+            9_999_998,
+            "a\nb\nc",
+            Err(RunFault::TooManyLines),
+            "[a]\n[b]\n",
+        ),
+        (9_999_999, "abc", Ok(9_999_999), ""),
+        (10_000_000, "", Ok(10_000_000), ""),
+        (10_000_000, "a", Err(RunFault::TooManyLines), ""),
+    ] {
+        let mut text: Buffer<131_072> = Buffer::new(alloc)?;
+        let mut line = Buffer::new(alloc)?;
+        let mut written = Vec::new(alloc);
+        let outcome = take_chunk(
+            &mut Echo,
+            &mut text,
+            &mut line,
+            count,
+            chunk.as_bytes(),
+            &mut written,
+        );
+        assert_eq!(rt; outcome, want, "at {count} {chunk}");
+        assert_eq!(rt;
+            written.as_slice(),
+            replies.as_bytes(),
+            "at {count} {chunk}"
+        );
     }
     Ok(())
 }
