@@ -13,7 +13,7 @@ use mbuf_pool::{Sizes, Store};
 use std::alloc::Global;
 use std::process::Abort;
 use std::test::Fail;
-use steps::{Became, HEAD, Piece, arrives, reserve_one, ticks};
+use steps::{Became, HEAD, Piece, arrives, arrives_last, buffers, reserve_one, ticks};
 
 /// A pool of which all is free, and a table for it.
 fn booted(alloc: Global, mbufs: u32, clusters: u32) -> Result<(Pool, Reass), Fail>
@@ -94,6 +94,17 @@ fn three_fragments(rt: HostRuntime) -> Result<(), Fail> {
             ],
             [Kept, LOST, Whole(24)],
             b"aaaaaaaaaaaaaaaabbbbbbbb----------------",
+            8,
+        ),
+        // one that lies inside the first, its end too
+        (
+            [
+                (0, true, b'a', 32),
+                (24, false, b'b', 4),
+                (32, false, b'c', 4),
+            ],
+            [Kept, LOST, Whole(36)],
+            b"aaaaaaaaaaaaaaaaaaaaaaaaaaaaaaaacccc----",
             8,
         ),
         // one with more to come lies behind the last: never whole
@@ -452,6 +463,65 @@ fn a_thousand_datagrams(rt: HostRuntime) -> Result<(), Fail> {
     assert_eq!(rt; (table.len(), pool.free_mbufs()), (1000, 0));
     assert_eq!(rt; ticks(&rt, &mut pool, &mut table, 60), (0, 1000));
     assert_eq!(rt; (table.len(), pool.free_mbufs()), (0, 2000));
+    // a tick more drops nothing
+    assert_eq!(rt; ticks(&rt, &mut pool, &mut table, 1), (0, 0));
+    table.end(&mut pool);
+    Ok(())
+}
+
+#[test]
+fn a_pool_of_one_mbuf(rt: HostRuntime) -> Result<(), Fail> {
+    let (mut pool, mut table) = booted(rt.alloc(), 1, 0)?;
+    let mut counters = Counters::none();
+    'fragments: for piece in [(0, true, b'a', 8), (8, false, b'b', 8)] {
+        let became = arrives(
+            &rt,
+            &mut pool,
+            &mut table,
+            &mut counters,
+            HEAD,
+            piece,
+            &mut [0; 4],
+        );
+        assert_eq!(rt; became, Became::Dropped(Why::NoBufs));
+        assert_eq!(rt; (table.len(), pool.free_mbufs()), (0, 1));
+    }
+    assert_eq!(rt;
+        (
+            counters.ip_fragments,
+            counters.nobufs,
+            counters.ip_reclaimed
+        ),
+        (2, 2, 0)
+    );
+    assert_eq!(rt; ticks(&rt, &mut pool, &mut table, 1), (0, 0));
+    table.end(&mut pool);
+    assert_eq!(rt; pool.free_mbufs(), 1);
+    Ok(())
+}
+
+#[test]
+fn clusters_of_a_whole(rt: HostRuntime) -> Result<(), Fail> {
+    let (mut pool, mut table) = booted(rt.alloc(), 16, 4)?;
+    let mut counters = Counters::none();
+    // 316 bytes came in a cluster; 40 of them were pulled up, and 20 of these are left: an mbuf, the cluster, and the key's mbuf
+    let first = (0, true, b'a', 296);
+    let kept = arrives(
+        &rt,
+        &mut pool,
+        &mut table,
+        &mut counters,
+        HEAD,
+        first,
+        &mut [0; 4],
+    );
+    assert_eq!(rt; kept, Became::Kept);
+    assert_eq!(rt; buffers(&pool), (13, 3, 1, 1));
+    // the other is joined as it lies, since a cluster takes no bytes of another mbuf
+    let last = (296, false, b'b', 300);
+    let held = arrives_last(&rt, &mut pool, &mut table, &mut counters, HEAD, last);
+    assert_eq!(rt; held, (12, 2, 2, 1));
+    assert_eq!(rt; buffers(&pool), (16, 4, 0, 0));
     table.end(&mut pool);
     Ok(())
 }

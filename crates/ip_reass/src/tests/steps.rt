@@ -1,6 +1,6 @@
 //! Steps that check their own conditions, for the tests.
 
-ghost use Rattle.std.specs.Prelude.{◌≡◌, ◌∷◌, ◌<◌, length, true};
+ghost use Rattle.std.specs.Prelude.{◌≡◌, ◌∷◌, ◌<◌, ◌≤◌, length, true};
 ghost use Rattle.mbuf_chain.specs.Chain.{chain_of, string};
 ghost use Rattle.mbuf_chain.specs.Owners.{IsOwned};
 ghost use Rattle.ip_reass.specs.Table.{IsReady, held_all};
@@ -12,6 +12,7 @@ use ip_out::IpHead;
 use ledger::reserve;
 use mbuf_chain::{Chain, Pool};
 use mbuf_pool::NoBufs;
+use params::{IP_HEADER, IP_MAX_PACKET};
 use std::process::Abort;
 
 /// The header of a fragment from 10.0.0.2 to 10.0.0.1. Its lengths and its place are set for each.
@@ -67,6 +68,47 @@ fn read_whole(rt: &impl Abort, pool: &mut Pool, table: &Reass, chain: Chain, to:
     len
 }
 
+/// The free mbufs and clusters, the references to clusters, and the most that one has.
+pub(super) fn buffers(pool: &Pool) -> (u32, u32, u32, u32) {
+    let usage = pool.usage();
+    (
+        usage.free_mbufs,
+        usage.free_clusters,
+        usage.references,
+        usage.greatest_count,
+    )
+}
+
+/// A fragment received, in an mbuf or in a cluster, and its header.
+fn fragment(
+    rt: &impl Abort,
+    pool: &mut Pool,
+    table: &Reass,
+    head: IpHead,
+    piece: Piece,
+) -> (Chain, IpHead)
+    requires { IsReady pool.old table.now }
+    ensures ready { IsReady pool.new table.now }
+    ensures owned { IsOwned pool.new (result.0 ∷ held_all pool.new table.now.datagrams) }
+    ensures headed { (chain_of pool.new result.0).front.header ≡ true }
+    ensures total { length (string (chain_of pool.new result.0)) ≡ result.1.total }
+    ensures header { IP_HEADER ≤ result.1.total }
+    ensures offset { result.1.offset ≤ IP_MAX_PACKET }
+{
+    let (offset, more, byte, len) = piece;
+    assert!(rt; len <= 300 && offset <= 65_528);
+    let bytes = [byte; 320];
+    let total = 20 + len;
+    let chain = received(rt, pool, table, &bytes[..total as usize]);
+    let head = IpHead {
+        total: total as u16,
+        more,
+        offset,
+        ..head
+    };
+    (chain, head)
+}
+
 /// Lets a fragment of a datagram arrive, in an mbuf or in a cluster; `to` gets the bytes of the whole.
 pub(super) fn arrives(
     rt: &impl Abort,
@@ -80,22 +122,35 @@ pub(super) fn arrives(
     requires { IsReady pool.old table.old }
     ensures { IsReady pool.new table.new }
 {
-    let (offset, more, byte, len) = piece;
-    assert!(rt; len <= 300 && offset <= 65_528);
-    let bytes = [byte; 320];
-    let total = 20 + len;
-    let chain = received(rt, pool, table, &bytes[..total as usize]);
-    let head = IpHead {
-        total: total as u16,
-        more,
-        offset,
-        ..head
-    };
+    let (chain, head) = fragment(rt, pool, table, head, piece);
     match table.arrive(pool, counters, chain, head) {
         Arrival::Kept => Became::Kept,
         Arrival::Dropped(why) => Became::Dropped(why),
         Arrival::Whole(chain, _) => Became::Whole(read_whole(rt, pool, table, chain, to)),
     }
+}
+
+/// Lets the fragment arrive that makes its datagram whole: the buffers while that is in hand, before it's freed.
+pub(super) fn arrives_last(
+    rt: &impl Abort,
+    pool: &mut Pool,
+    table: &mut Reass,
+    counters: &mut Counters,
+    head: IpHead,
+    piece: Piece,
+) -> (u32, u32, u32, u32)
+    requires { IsReady pool.old table.old }
+    ensures { IsReady pool.new table.new }
+{
+    let (chain, head) = fragment(rt, pool, table, head, piece);
+    let chain = match table.arrive(pool, counters, chain, head) {
+        Arrival::Whole(chain, _) => chain,
+        Arrival::Kept => panic!(rt; "the datagram isn't whole"),
+        Arrival::Dropped(_) => panic!(rt; "the fragment was dropped"),
+    };
+    let held = buffers(pool);
+    read_whole(rt, pool, table, chain, &mut [0; 1024]);
+    held
 }
 
 /// The test for a packet that comes by the wire in one mbuf.
