@@ -3,7 +3,7 @@ use Rattle.std.proofs.Common.{◌≡◌, ℕ, ◌+◌, ◌<◌, ◌≤◌, ◌==
 use Rattle.std.specs.Prelude.{◌||◌, nat_lt, nat_le}
 use Rattle.std.specs.List.{range_with_len}
 use Rattle.std.proofs.lemmas.List.Sums.{sum_by-cons}
-use Rattle.std.proofs.lemmas.Bool.{cases_Bool, ltb-true, ltb-false, leb-true, leb-false}
+use Rattle.std.proofs.lemmas.Bool.{cases_Bool, ltb-true, ltb-false, leb-false}
 use Rattle.mbuf_chain.specs.Chain.{PoolView, chain_of, mbufs_of, references_of, refers, held_mbufs, references, free_clusters}
 use Rattle.mbuf_chain.proofs.Laws.Accounts.{held_by_owners, references_by_owners}
 use Rattle.chain_ops.specs.Makes.{HasMbufs, LacksMbufs}
@@ -38,9 +38,6 @@ lt_no a b h = elim (cases_Bool (nat_lt a b)) [ inl y ↦ absurd (omega (arith, l
 
 pub le_yes : (a b : ℕ) → a ≤ b → nat_le a b ≡ true
 le_yes a b h = elim (cases_Bool (nat_le a b)) [ inl y ↦ y | inr n ↦ absurd (omega (arith, leb-false a b n)) ]
-
-pub le_no : (a b : ℕ) → b < a → nat_le a b ≡ false
-le_no a b h = elim (cases_Bool (nat_le a b)) [ inl y ↦ absurd (omega (arith, leb-true a b y)) | inr n ↦ n ]
 
 or_right : (x y : Bool) → y ≡ true → (x || y) ≡ true
 or_right true y h = refl

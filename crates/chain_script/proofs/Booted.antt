@@ -4,10 +4,9 @@ use Rattle.std.specs.FinMap as finmap
 use Rattle.std.specs.FinMap.{FinMap, get-empty}
 use Rattle.std.specs.Ordering.{nat_cmp}
 use Rattle.mbuf_chain.specs.Chain.{ChainView, PoolView}
-use Rattle.mbuf_chain.specs.Owners.{live_at}
 use Rattle.mbuf_chain.proofs.Laws.Owners.{live_none}
-use Rattle.chain_script.specs.Machines.{Slot, booted}
-use Rattle.chain_script.specs.Inside.{numbers, slot_of, machine_of, Fits}
+use Rattle.chain_script.specs.Machines.{Slot}
+use Rattle.chain_script.specs.Inside.{numbers, slot_of, Fits}
 
 none_numbered : (n : ℕ) → numbers (replicate n None) ≡ []
 none_numbered zero = refl
@@ -22,8 +21,3 @@ booted_fits p slots none all = λ k.
     ap (λ (ss : List (Option ℕ)). Rattle.mbuf_chain.specs.Owners.times k (numbers ss)) all
     ∙ ap (Rattle.mbuf_chain.specs.Owners.times k) (none_numbered 64)
     ∙ sym (live_none p k (ap (λ (m : FinMap nat_cmp ChainView). finmap.get m k) none ∙ get-empty nat_cmp k))
-
-pub booted_is : (p : PoolView) (slots : List (Option ℕ)) (m c : ℕ) → p.mbufs ≡ m → p.clusters ≡ c → slots ≡ replicate 64 None → machine_of p slots ≡ booted m c
-booted_is p slots m c mbufs clusters all =
-    let shown : map (slot_of p) slots ≡ replicate 64 None = ap (map (slot_of p)) all ∙ none_shown p 64 in
-    (λ j. record { mbufs = mbufs j; clusters = clusters j; slots = shown j })

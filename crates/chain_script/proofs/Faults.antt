@@ -20,9 +20,6 @@ refused b r fault e = subst (λ (o : Option Reply). DoesUnless o b r fault b) (s
 pub wrong_chain : (b : Machine) (r : Request) → has_slots b r ≡ false → Step b r Wrong_chain b
 wrong_chain b r s = refused b r Wrong_chain (λ j. first_of (s j) (is_in_range b r) (hits_shared b r) (is_too_long r) (is_too_short b r) (lacks_buffers b r))
 
-pub wrong_range : (b : Machine) (r : Request) → has_slots b r ≡ true → is_in_range b r ≡ false → Step b r Wrong_range b
-wrong_range b r s g = refused b r Wrong_range (λ j. first_of (s j) (g j) (hits_shared b r) (is_too_long r) (is_too_short b r) (lacks_buffers b r))
-
 pub shared : (b : Machine) (r : Request) → has_slots b r ≡ true → is_in_range b r ≡ true → hits_shared b r ≡ true → Step b r Shared b
 shared b r s g h = refused b r Shared (λ j. first_of (s j) (g j) (h j) (is_too_long r) (is_too_short b r) (lacks_buffers b r))
 

@@ -1,8 +1,7 @@
 -- From the words behind a keyword to what they ask for: each keyword has one form.
-use Rattle.std.proofs.Common.{◌≡◌, ℕ, ℤ, ◌≤◌, List, ◌∷◌, length, if◌then◌else◌, codes, bytes_eq, Option, Some, None, sym, ap, ◌∙◌, subst, arith}
+use Rattle.std.proofs.Common.{◌≡◌, ℕ, ◌≤◌, List, ◌∷◌, length, if◌then◌else◌, codes, bytes_eq, Option, Some, None, sym, ap, ◌∙◌, subst, arith}
 use Rattle.std.specs.Prelude.{MatchOption, IfSome}
 use Rattle.flat_model.specs.Grammar.{words}
-use Rattle.chain_ops.specs.declared.copym.Extent.{Extent}
 use Rattle.chain_script.specs.Lines.{Request, User, Wire, Copy, Prepend, Pull_up, Adjust, Split, Join, Write_over, Read_out, Show, Free, Ask_usage, keyword, HasWords, IsRequest}
 use Rattle.chain_script.specs.Calls.{request_of, IsCall, IsForm, ReadsForm}
 use Rattle.chain_script.specs.declared.line.Call.{Call}
@@ -65,60 +64,15 @@ unfolding place
 Wire-only args none (Wire slot bytes) h = none slot bytes h.1
 Wire-only args none r h = absurd (let e : index r ≡ 1 = place-keyword r (codes "wire") h.0 in omega arith)
 
-pub Copy-only : (args : List (List ℕ)) → ((to slot : ℕ) (extent : Extent) → HasWords (Copy to slot extent) args → ⊥) → (r : Request) → IsForm (codes "copym") args r → ⊥
-unfolding place
-Copy-only args none (Copy to slot extent) h = none to slot extent h.1
-Copy-only args none r h = absurd (let e : index r ≡ 2 = place-keyword r (codes "copym") h.0 in omega arith)
-
 pub Prepend-only : (args : List (List ℕ)) → ((slot : ℕ) (bytes : List ℕ) → HasWords (Prepend slot bytes) args → ⊥) → (r : Request) → IsForm (codes "prepend") args r → ⊥
 unfolding place
 Prepend-only args none (Prepend slot bytes) h = none slot bytes h.1
 Prepend-only args none r h = absurd (let e : index r ≡ 3 = place-keyword r (codes "prepend") h.0 in omega arith)
 
-pub Pull_up-only : (args : List (List ℕ)) → ((slot n : ℕ) → HasWords (Pull_up slot n) args → ⊥) → (r : Request) → IsForm (codes "pullup") args r → ⊥
-unfolding place
-Pull_up-only args none (Pull_up slot n) h = none slot n h.1
-Pull_up-only args none r h = absurd (let e : index r ≡ 4 = place-keyword r (codes "pullup") h.0 in omega arith)
-
-pub Adjust-only : (args : List (List ℕ)) → ((slot : ℕ) (n : ℤ) → HasWords (Adjust slot n) args → ⊥) → (r : Request) → IsForm (codes "adj") args r → ⊥
-unfolding place
-Adjust-only args none (Adjust slot n) h = none slot n h.1
-Adjust-only args none r h = absurd (let e : index r ≡ 5 = place-keyword r (codes "adj") h.0 in omega arith)
-
-pub Split-only : (args : List (List ℕ)) → ((to slot at : ℕ) → HasWords (Split to slot at) args → ⊥) → (r : Request) → IsForm (codes "split") args r → ⊥
-unfolding place
-Split-only args none (Split to slot at) h = none to slot at h.1
-Split-only args none r h = absurd (let e : index r ≡ 6 = place-keyword r (codes "split") h.0 in omega arith)
-
-pub Join-only : (args : List (List ℕ)) → ((slot other : ℕ) → HasWords (Join slot other) args → ⊥) → (r : Request) → IsForm (codes "cat") args r → ⊥
-unfolding place
-Join-only args none (Join slot other) h = none slot other h.1
-Join-only args none r h = absurd (let e : index r ≡ 7 = place-keyword r (codes "cat") h.0 in omega arith)
-
 pub Write_over-only : (args : List (List ℕ)) → ((slot off : ℕ) (bytes : List ℕ) → HasWords (Write_over slot off bytes) args → ⊥) → (r : Request) → IsForm (codes "copyback") args r → ⊥
 unfolding place
 Write_over-only args none (Write_over slot off bytes) h = none slot off bytes h.1
 Write_over-only args none r h = absurd (let e : index r ≡ 8 = place-keyword r (codes "copyback") h.0 in omega arith)
-
-pub Read_out-only : (args : List (List ℕ)) → ((slot off len : ℕ) → HasWords (Read_out slot off len) args → ⊥) → (r : Request) → IsForm (codes "copydata") args r → ⊥
-unfolding place
-Read_out-only args none (Read_out slot off len) h = none slot off len h.1
-Read_out-only args none r h = absurd (let e : index r ≡ 9 = place-keyword r (codes "copydata") h.0 in omega arith)
-
-pub Show-only : (args : List (List ℕ)) → ((slot : ℕ) → HasWords (Show slot) args → ⊥) → (r : Request) → IsForm (codes "show") args r → ⊥
-unfolding place
-Show-only args none (Show slot) h = none slot h.1
-Show-only args none r h = absurd (let e : index r ≡ 10 = place-keyword r (codes "show") h.0 in omega arith)
-
-pub Free-only : (args : List (List ℕ)) → ((slot : ℕ) → HasWords (Free slot) args → ⊥) → (r : Request) → IsForm (codes "free") args r → ⊥
-unfolding place
-Free-only args none (Free slot) h = none slot h.1
-Free-only args none r h = absurd (let e : index r ≡ 11 = place-keyword r (codes "free") h.0 in omega arith)
-
-pub Ask_usage-only : (args : List (List ℕ)) → (HasWords Ask_usage args → ⊥) → (r : Request) → IsForm (codes "mbstat") args r → ⊥
-unfolding place
-Ask_usage-only args none Ask_usage h = none h.1
-Ask_usage-only args none r h = absurd (let e : index r ≡ 12 = place-keyword r (codes "mbstat") h.0 in omega arith)
 
 -- ---- whole lines
 -- a form that begins with its keyword is the line's

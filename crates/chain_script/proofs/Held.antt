@@ -1,5 +1,5 @@
 -- What a slot shows.
-use Rattle.std.proofs.Common.{◌≡◌, ℕ, Bool, true, false, List, length, get_or, Option, Some, None, refl, ap, ◌∙◌}
+use Rattle.std.proofs.Common.{◌≡◌, ℕ, true, false, List, length, get_or, Option, Some, None, ap, ◌∙◌}
 use Rattle.std.specs.Prelude.{is_some, ◌&&◌}
 use Rattle.std.proofs.Math.ListN.{get_or-map}
 use Rattle.mbuf_chain.specs.Chain.{Entry, PoolView, chain_of, string, flat_bytes}
@@ -25,6 +25,3 @@ pub length_is : (p : PoolView) (slots : List (Option ℕ)) (i c : ℕ) → get_o
 length_is p slots i c is = ap (λ (es : List Entry). length (flat_bytes es)) (entries_are p slots i c is)
 
 -- ---- tests joined
-pub and_false : (x y : Bool) → y ≡ false → (x && y) ≡ false
-and_false true y h = h
-and_false false y h = refl

@@ -16,11 +16,11 @@ use Rattle.chain_ops.specs.Joins.{cat}
 use Rattle.chain_ops.specs.Writes.{is_writable, copied_back, copyback_need}
 use Rattle.chain_script.specs.Lines.{Copy, Pull_up, Split, Join, Write_over}
 use Rattle.chain_script.specs.Machines.{put, lacks, is_range, count, entries_at, header_at, is_held, emptied}
-use Rattle.chain_script.specs.Steps.{Ready, No_buffers, Shared, Too_long, Too_short, Step}
+use Rattle.chain_script.specs.Steps.{Ready, No_buffers, Shared, Step}
 use Rattle.chain_script.specs.Inside.{machine_of, Fits}
 use Rattle.chain_script.proofs.SlotLemmas.{changed_fits, joined, joined_fits, parted, parted_fits, live_slot, same_slot, apart_chains}
 use Rattle.chain_script.proofs.Accounts.{count_is, has_all, lacks_mbufs, lt_yes, lt_no, le_yes}
-use Rattle.chain_script.proofs.Faults.{shared, too_long, too_short, no_buffers, done}
+use Rattle.chain_script.proofs.Faults.{shared, no_buffers, done}
 use Rattle.chain_script.proofs.Held.{is_there, is_empty, entries_are, header_is, length_is}
 use Rattle.chain_script.proofs.Stores.{made_as, changed_as, moves_changed, view_is}
 
@@ -78,15 +78,6 @@ pull_lacks p slots i c n fits is short enough lack =
     no_buffers (machine_of p slots) (Pull_up i n) (is_there p slots i c is) refl refl (lt_no MHLEN n short)
     (ap (λ (l : ℕ). nat_lt l n) (length_is p slots i c is) ∙ lt_no _ n enough)
     (ap (λ (v : ChainView). lacks (machine_of p slots) (pull_need v n) 0) (view_is p slots i c is) ∙ lacks_mbufs p slots _ 0 fits lack)
-
-pub pull_long : (p : PoolView) (slots : List (Option ℕ)) (i c n : ℕ) → get_or slots i None ≡ Some c → MHLEN < n
-    → Step (machine_of p slots) (Pull_up i n) Too_long (machine_of p slots)
-pull_long p slots i c n is long = too_long (machine_of p slots) (Pull_up i n) (is_there p slots i c is) refl refl (lt_yes MHLEN n long)
-
-pub pull_short : (p : PoolView) (slots : List (Option ℕ)) (i c n : ℕ) → get_or slots i None ≡ Some c → n ≤ MHLEN → length (string (chain_of p c)) < n
-    → Step (machine_of p slots) (Pull_up i n) Too_short (machine_of p slots)
-pull_short p slots i c n is fits short =
-    too_short (machine_of p slots) (Pull_up i n) (is_there p slots i c is) refl refl (lt_no MHLEN n fits) (ap (λ (l : ℕ). nat_lt l n) (length_is p slots i c is) ∙ lt_yes _ n short)
 
 -- ---- cuts
 moves_parted : (p q : PoolView) (c d : ℕ) (f g : Front) (es fs : List Entry) → IsLive p c → Parts p q c d f es g fs → Moves p (c ∷ []) q (c ∷ d ∷ [])

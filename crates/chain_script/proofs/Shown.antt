@@ -1,25 +1,17 @@
 -- What is shown of chains and of the pool.
-use Rattle.std.proofs.Common.{◌≡◌, ℕ, ◌+◌, ◌<◌, ◌≤◌, ◌++◌, Some, None, List, length, drop, map, sum, fold, max, get_or, Option, refl, sym, ap, ◌∙◌, arith}
-use Rattle.std.specs.Prelude.{flat_map}
+use Rattle.std.proofs.Common.{◌≡◌, ℕ, ◌+◌, ◌<◌, ◌≤◌, ◌++◌, Some, None, List, length, map, sum, fold, max, get_or, Option, refl, sym, ap, ◌∙◌, arith}
 use Rattle.std.specs.List.{range_with_len}
-use Rattle.std.proofs.lemmas.List.{at_drop_more}
 use Rattle.mbuf_chain.specs.declared.usage.Usage.{Usage}
-use Rattle.mbuf_chain.specs.Chain.{Entry, PoolView, IsLive, no_entry, chain_of, without, string, held_mbufs, references, counts, free_clusters}
+use Rattle.mbuf_chain.specs.Chain.{PoolView, IsLive, chain_of, without, string, held_mbufs, references, counts, free_clusters}
 use Rattle.mbuf_chain.specs.Frames.{IsBounded}
 use Rattle.mbuf_chain.proofs.Laws.Accounts.{held-without}
-use Rattle.chain_script.specs.Machines.{Machine, usage_of, count}
-use Rattle.chain_script.specs.Steps.{Laid, Wrong_chain, Step, mbuf_text, shape_text, shapes_of, count_in}
+use Rattle.chain_script.specs.Machines.{usage_of}
+use Rattle.chain_script.specs.Steps.{Laid, Wrong_chain, Step, shapes_of}
 use Rattle.chain_script.specs.Lines.{Show}
 use Rattle.chain_script.specs.Inside.{machine_of, Fits}
 use Rattle.chain_script.proofs.Accounts.{held_is, count_is, free_is}
 use Rattle.chain_script.proofs.Faults.{wrong_chain, done}
 use Rattle.chain_script.proofs.Held.{is_there, is_empty, entries_are, length_is}
-
--- the first mbuf of what is left, and the others
-pub shapes_step : (counts : ℕ → ℕ) (es : List Entry) (i : ℕ) → i < length es
-    → flat_map shape_text (shapes_of counts (drop i es))
-    ≡ mbuf_text (length (get_or es i no_entry).bytes) (count_in counts (get_or es i no_entry).cluster) ++ flat_map shape_text (shapes_of counts (drop (i + 1) es))
-shapes_step counts es i within = at_drop_more (λ (fs : List Entry). flat_map shape_text (shapes_of counts fs)) es i no_entry within
 
 -- what the pool tells of itself is what the slots show of it
 pub usage_is : (p : PoolView) (slots : List (Option ℕ)) (u : Usage) → Fits p slots → u.mbufs ≡ p.mbufs → u.free_mbufs + held_mbufs p ≡ p.mbufs

@@ -13,11 +13,11 @@ use Rattle.chain_ops.specs.Prepends.{has_front, prepended, prepended_front, prep
 use Rattle.chain_ops.specs.Trims.{adjusted}
 use Rattle.chain_script.specs.Lines.{User, Wire, Prepend, Adjust, Free}
 use Rattle.chain_script.specs.Machines.{AreFreeIn, count, put, lacks, view_at, is_in_range}
-use Rattle.chain_script.specs.Steps.{Ready, No_buffers, Wrong_chain, Step}
+use Rattle.chain_script.specs.Steps.{Ready, No_buffers, Step}
 use Rattle.chain_script.specs.Inside.{machine_of, Fits}
 use Rattle.chain_script.proofs.SlotLemmas.{made, changed, changed_fits, freed, freed_fits, live_slot, same_slot}
 use Rattle.chain_script.proofs.Accounts.{count_is, has_all, lacks_mbufs, lacks_clusters}
-use Rattle.chain_script.proofs.Faults.{wrong_chain, no_buffers, done}
+use Rattle.chain_script.proofs.Faults.{no_buffers, done}
 use Rattle.chain_script.proofs.Held.{is_there, is_empty, entries_are, header_is, length_is}
 
 -- ---- a new chain
@@ -62,10 +62,6 @@ pub user_lacks : (p : PoolView) (slots : List (Option ℕ)) (i : ℕ) (xs : List
 user_lacks p slots i xs fits empty lack =
     no_buffers (machine_of p slots) (User i xs) (ap not (is_empty p slots i empty)) refl refl refl refl (lacks_rooms_is p slots (user (length xs)) fits lack)
 
-pub user_taken : (p : PoolView) (slots : List (Option ℕ)) (i c : ℕ) (xs : List ℕ) → get_or slots i None ≡ Some c
-    → Step (machine_of p slots) (User i xs) Wrong_chain (machine_of p slots)
-user_taken p slots i c xs is = wrong_chain (machine_of p slots) (User i xs) (ap not (is_there p slots i c is))
-
 pub wire_done : (p q : PoolView) (slots : List (Option ℕ)) (i d : ℕ) (xs cs : List ℕ) → Fits p slots → get_or slots i None ≡ None
     → Has p (wire (length xs)) → AreFree p cs → length cs ≡ count_by is_cluster (wire (length xs))
     → Makes p q d (alone true) (stored_first 0 false cs (wire (length xs)) xs)
@@ -78,10 +74,6 @@ pub wire_lacks : (p : PoolView) (slots : List (Option ℕ)) (i : ℕ) (xs : List
     → Step (machine_of p slots) (Wire i xs) No_buffers (machine_of p slots)
 wire_lacks p slots i xs fits empty lack =
     no_buffers (machine_of p slots) (Wire i xs) (ap not (is_empty p slots i empty)) refl refl refl refl (lacks_rooms_is p slots (wire (length xs)) fits lack)
-
-pub wire_taken : (p : PoolView) (slots : List (Option ℕ)) (i c : ℕ) (xs : List ℕ) → get_or slots i None ≡ Some c
-    → Step (machine_of p slots) (Wire i xs) Wrong_chain (machine_of p slots)
-wire_taken p slots i c xs is = wrong_chain (machine_of p slots) (Wire i xs) (ap not (is_there p slots i c is))
 
 -- ---- a chain changed
 -- the view that a slot shows, in the words of the chain
