@@ -1,24 +1,16 @@
 /*
- * Times the Internet checksum of in_cksum beside C loops and memcpy.
- *
- *   bench                     checks that all bodies agree, and prints a table of times
- *   bench names               prints the bodies' names, one a line
- *   bench lengths             prints the lengths, one a line
- *   bench call NAME LEN N     calls one body N times on LEN bytes, for a counter of instructions
+ * The Internet checksum of in_cksum beside C loops and memcpy.
  */
-#include <immintrin.h>
-#include <stdint.h>
-#include <stdio.h>
-#include <stdlib.h>
-#include <string.h>
-#include <time.h>
+#include "timer.h"
 
-enum { MOST = 65535, ROUNDS = 300, BYTES_PER_ROUND = 400000, CALL_COST = 200 };
+#include <immintrin.h>
+
+enum { MOST = 65535 };
 
 static const size_t LENGTHS[] = {20, 1500, 9216, MOST};
-enum { LENGTH_COUNT = sizeof LENGTHS / sizeof *LENGTHS };
+static const char *const COLUMNS[] = {"20", "1500", "9216", "65535"};
 
-/* crates/cksum_c */
+/* crates/bench_c/src/cksum.rt */
 uint16_t bsdudp_sum_slice(const uint8_t *bytes, size_t len);
 uint16_t bsdudp_checksum(const uint8_t *bytes, size_t len);
 uint16_t bsdudp_checksum_of_two(const uint8_t *front, size_t front_len, const uint8_t *back,
@@ -135,121 +127,75 @@ static uint16_t by_sum_in_two(const uint8_t *p, size_t len)
     return (uint16_t)~bsdudp_checksum_of_two(p, front, p + front, len - front);
 }
 
-static uint8_t copied[MOST];
+static uint8_t bytes[MOST], copied[MOST];
 
 static uint16_t by_memcpy(const uint8_t *p, size_t len)
 {
     memcpy(copied, p, len);
-    __asm__ volatile("" : : "r"(copied) : "memory");
+    seen(copied);
     return 0;
 }
 
-struct body {
-    const char *name;
-    uint16_t (*run)(const uint8_t *p, size_t len);
-    int needs_avx2;
-};
-
-static const struct body BODIES[] = {
-    {"memcpy", by_memcpy, 0},
-    {"c-plain", c_plain, 0},
-    {"c-lanes", c_lanes, 0},
-    {"c-sse2", c_sse2, 0},
-    {"c-avx2", c_avx2, 1},
-    {"sum_slice", by_sum_slice, 0},
-    {"Sum", by_sum, 0},
-    {"Sum-in-two", by_sum_in_two, 0},
-};
-enum { BODY_COUNT = sizeof BODIES / sizeof *BODIES };
-
-static int can_run(const struct body *body)
-{
-    return !body->needs_avx2 || __builtin_cpu_supports("avx2");
-}
+typedef uint16_t Body(const uint8_t *p, size_t len);
 
 static volatile uint16_t sink;
 
-static void call(const struct body *body, const uint8_t *bytes, size_t len, long times)
+/* The compiler mustn't see which body it is, or it would sum once for all turns. */
+static bool call(Body *body, int column, uint64_t turns)
 {
-    for (long k = 0; k < times; k++)
-        sink = body->run(bytes, len);
+    Body *volatile hidden = body;
+    for (uint64_t k = 0; k < turns; k++)
+        sink = hidden(bytes, LENGTHS[column]);
+    return true;
 }
 
-static void must_agree(const uint8_t *bytes, size_t len)
+#define RUN(body) \
+    static bool run_##body(int column, uint64_t turns) { return call(body, column, turns); }
+
+RUN(by_sum_slice)
+RUN(by_sum)
+RUN(by_sum_in_two)
+RUN(by_memcpy)
+RUN(c_plain)
+RUN(c_lanes)
+RUN(c_sse2)
+RUN(c_avx2)
+
+/* The last only where the processor has AVX2. */
+static const Row ROWS[] = {
+    {"sum_slice", run_by_sum_slice, 0}, {"Sum", run_by_sum, 0},     {"Sum-in-two", run_by_sum_in_two, 0},
+    {"memcpy", run_by_memcpy, 0},       {"c-plain", run_c_plain, 0}, {"c-lanes", run_c_lanes, 0},
+    {"c-sse2", run_c_sse2, 0},          {"c-avx2", run_c_avx2, 0},
+};
+
+static Body *const BODIES[] = {by_sum_slice, by_sum, by_sum_in_two, c_plain, c_lanes, c_sse2, c_avx2};
+
+static bool has_avx2(void)
 {
-    for (int k = 0; k < BODY_COUNT; k++) {
-        const struct body *body = &BODIES[k];
-        if (body->run == by_memcpy || !can_run(body))
-            continue;
-        if (body->run(bytes, len) != c_plain(bytes, len)) {
-            fprintf(stderr, "%s differs at %zu bytes\n", body->name, len);
-            exit(1);
+    return __builtin_cpu_supports("avx2");
+}
+
+static bool agree(size_t len)
+{
+    for (int k = 0; k < COUNT_OF(BODIES); k++)
+        if ((BODIES[k] != c_avx2 || has_avx2()) && BODIES[k](bytes, len) != c_plain(bytes, len)) {
+            fprintf(stderr, "body %d differs at %zu bytes\n", k, len);
+            return false;
         }
-    }
-}
-
-static double now_in_ns(void)
-{
-    struct timespec t;
-    clock_gettime(CLOCK_MONOTONIC, &t);
-    return (double)t.tv_sec * 1e9 + (double)t.tv_nsec;
-}
-
-/* The rounds go over all bodies in turn, so that a busy machine slows all alike; the best round counts. */
-static void print_times(const uint8_t *bytes)
-{
-    static double best[BODY_COUNT][LENGTH_COUNT];
-    for (int round = 0; round < ROUNDS; round++)
-        for (int l = 0; l < LENGTH_COUNT; l++)
-            for (int k = 0; k < BODY_COUNT; k++) {
-                if (!can_run(&BODIES[k]))
-                    continue;
-                long times = BYTES_PER_ROUND / (long)(LENGTHS[l] + CALL_COST) + 1;
-                double start = now_in_ns();
-                call(&BODIES[k], bytes, LENGTHS[l], times);
-                double each = (now_in_ns() - start) / (double)times;
-                if (round == 0 || each < best[k][l])
-                    best[k][l] = each;
-            }
-    printf("%-12s", "ns a call");
-    for (int l = 0; l < LENGTH_COUNT; l++)
-        printf(" %9zu", LENGTHS[l]);
-    printf("   bytes/ns at 9216\n");
-    for (int k = 0; k < BODY_COUNT; k++) {
-        if (!can_run(&BODIES[k]))
-            continue;
-        printf("%-12s", BODIES[k].name);
-        for (int l = 0; l < LENGTH_COUNT; l++)
-            printf(" %9.1f", best[k][l]);
-        printf("   %16.1f\n", 9216 / best[k][2]);
-    }
+    return true;
 }
 
 int main(int argc, char **argv)
 {
-    static uint8_t bytes[MOST];
+    Table table = {"a sum of bytes", 1, COLUMNS, COUNT_OF(COLUMNS), ROWS, COUNT_OF(ROWS)};
+    if (!has_avx2())
+        table.row_count--;
     for (size_t at = 0; at < MOST; at++)
         bytes[at] = (uint8_t)(at * 7 + at / 256 + 3);
-    if (argc == 5 && !strcmp(argv[1], "call")) {
-        for (int k = 0; k < BODY_COUNT; k++)
-            if (!strcmp(argv[2], BODIES[k].name))
-                call(&BODIES[k], bytes, strtoul(argv[3], NULL, 10), strtol(argv[4], NULL, 10));
-        return 0;
-    }
-    if (argc == 2 && !strcmp(argv[1], "lengths")) {
-        for (int l = 0; l < LENGTH_COUNT; l++)
-            printf("%zu\n", LENGTHS[l]);
-        return 0;
-    }
-    if (argc == 2 && !strcmp(argv[1], "names")) {
-        for (int k = 0; k < BODY_COUNT; k++)
-            if (can_run(&BODIES[k]))
-                puts(BODIES[k].name);
-        return 0;
-    }
-    for (size_t len = 0; len <= 3000; len++)
-        must_agree(bytes, len);
-    must_agree(bytes, MOST);
-    print_times(bytes);
-    return 0;
+    for (size_t len = 0; argc == 1 && len <= 3000; len++)
+        if (!agree(len))
+            return 1;
+    if (argc == 1 && !agree(MOST))
+        return 1;
+    return bench_main(argc, argv, &table);
 }

@@ -1,44 +1,19 @@
 /*
- * Times the look-ups of pcb_table beside a list in C.
- *
- *   bench                         checks the answers, and prints a table of times
- *   bench bodies                  prints the bodies' names, one a line
- *   bench kinds                   prints the kinds of table, one a line
- *   bench sizes                   prints the numbers of blocks, one a line
- *   bench call BODY KIND N TIMES  looks up 1,000 packets that many times, for a counter of instructions
+ * The look-ups of pcb_table, beside a list in C: 1,000 packets a turn, to tables of 1, 8 and 64 blocks.
  */
-#include <stdbool.h>
-#include <stdint.h>
-#include <stdio.h>
-#include <stdlib.h>
-#include <string.h>
-#include <time.h>
+#include "timer.h"
 
-/* crates/pcb_c */
+/* crates/bench_c/src/pcb.rt */
 uint64_t bsdudp_lookups(uint16_t sockets, bool is_connected, const uint16_t *ports, size_t len,
                         uint64_t times);
 
 typedef uint64_t Body(uint16_t sockets, bool is_connected, const uint16_t *ports, size_t len,
                       uint64_t times);
 
-enum { PACKETS = 1000, ROUNDS = 60, TIMES = 100, FIRST_PORT = 2000, FIRST_FD = 3 };
+enum { PACKETS = 1000, FIRST_PORT = 2000, FIRST_FD = 3 };
 
-static const uint16_t SIZES[] = {1, 8, 64};
-enum { SIZE_COUNT = sizeof SIZES / sizeof *SIZES };
-
-/* Which ports the packets go to; the oldest socket, which a walk meets last, has the first port. */
-typedef struct {
-    const char *name;
-    bool is_connected;
-    bool alternates; /* between the two oldest sockets */
-} Kind;
-
-static const Kind KINDS[] = {
-    {"connected, the same again", true, false},
-    {"connected, two in turn", true, true},
-    {"unconnected", false, false},
-};
-enum { KIND_COUNT = sizeof KINDS / sizeof *KINDS };
+static const uint16_t BLOCKS[] = {1, 8, 64};
+static const char *const COLUMNS[] = {"1 block", "8 blocks", "64 blocks"};
 
 static uint16_t ports[PACKETS];
 
@@ -114,144 +89,66 @@ static uint64_t c_list(uint16_t sockets, bool is_connected, const uint16_t *to, 
     return digest;
 }
 
-static const struct {
-    const char *name;
-    Body *run;
-} BODIES[] = {{"pcb_table", bsdudp_lookups}, {"c-list", c_list}};
-enum { BODY_COUNT = sizeof BODIES / sizeof *BODIES };
-
 /* ---- */
 
-static void fill(const Kind *kind, uint16_t sockets)
+/*
+ * Which ports the packets go to; the oldest socket, which a walk meets last, has the first port. ALTERNATE packets go to
+ * the two oldest sockets in turn.
+ */
+typedef enum { SAME, ALTERNATE } Ports;
+
+static void fill(Ports kind)
 {
-    for (size_t i = 0; i < PACKETS; i++)
-        ports[i] = FIRST_PORT + (kind->alternates && sockets > 1 ? i % 2 : 0);
+    for (size_t k = 0; k < PACKETS; k++)
+        ports[k] = FIRST_PORT + (kind == ALTERNATE ? k % 2 : 0);
 }
 
-static uint64_t run(int body, const Kind *kind, uint16_t sockets, uint64_t times)
-{
-    return BODIES[body].run(sockets, kind->is_connected, ports, PACKETS, times);
-}
-
-static uint64_t expected(uint64_t times)
+static uint64_t expected(uint64_t turns)
 {
     uint64_t digest = 0;
-    for (uint64_t t = 0; t < times; t++)
-        for (size_t i = 0; i < PACKETS; i++)
-            digest = digest * 31 + FIRST_FD + (ports[i] - FIRST_PORT);
+    for (uint64_t t = 0; t < turns; t++)
+        for (size_t k = 0; k < PACKETS; k++)
+            digest = digest * 31 + FIRST_FD + (ports[k] - FIRST_PORT);
     return digest;
 }
 
-static double now(void)
+static volatile uint64_t sink;
+
+static bool look_up(Body *body, bool is_connected, Ports kind, int column, uint64_t turns)
 {
-    struct timespec t;
-    clock_gettime(CLOCK_MONOTONIC, &t);
-    return (double)t.tv_sec * 1e9 + (double)t.tv_nsec;
+    fill(kind);
+    sink = body(BLOCKS[column], is_connected, ports, PACKETS, turns);
+    return turns != 3 || sink == expected(3);
 }
 
-static double elapsed(int body, const Kind *kind, uint16_t sockets, uint64_t times)
-{
-    double start = now();
-    run(body, kind, sockets, times);
-    return now() - start;
-}
+#define RUN(name, body, is_connected, kind) \
+    static bool name(int column, uint64_t turns) { return look_up(body, is_connected, kind, column, turns); }
 
-/* Nanoseconds a look-up of each body. The making of the table is in both runs, so their difference is
- * without it; of each run the best round counts, and the bodies take turns. */
-static void nanoseconds(const Kind *kind, uint16_t sockets, double each[BODY_COUNT])
-{
-    double once[BODY_COUNT], thrice[BODY_COUNT];
-    for (int body = 0; body < BODY_COUNT; body++)
-        once[body] = thrice[body] = 1e300;
-    for (int round = 0; round < ROUNDS; round++)
-        for (int body = 0; body < BODY_COUNT; body++) {
-            double a = elapsed(body, kind, sockets, TIMES), b = elapsed(body, kind, sockets, 3 * TIMES);
-            once[body] = a < once[body] ? a : once[body];
-            thrice[body] = b < thrice[body] ? b : thrice[body];
-        }
-    for (int body = 0; body < BODY_COUNT; body++)
-        each[body] = (thrice[body] - once[body]) / (2.0 * TIMES * PACKETS);
-}
+RUN(table_same, bsdudp_lookups, true, SAME)
+RUN(table_two, bsdudp_lookups, true, ALTERNATE)
+RUN(table_unconnected, bsdudp_lookups, false, SAME)
+RUN(list_same, c_list, true, SAME)
+RUN(list_two, c_list, true, ALTERNATE)
+RUN(list_unconnected, c_list, false, SAME)
 
-static bool makes_sense(const Kind *kind, uint16_t sockets)
-{
-    return !kind->alternates || sockets > 1;
-}
+static const Row ROWS[] = {
+    {"pcb_table, connected, the same again", table_same, 0},
+    {"pcb_table, connected, two in turn", table_two, 1},
+    {"pcb_table, unconnected", table_unconnected, 0},
+    {"c-list, connected, the same again", list_same, 0},
+    {"c-list, connected, two in turn", list_two, 1},
+    {"c-list, unconnected", list_unconnected, 0},
+};
 
-static bool is_right(const Kind *kind, uint16_t sockets)
-{
-    for (int body = 0; body < BODY_COUNT; body++)
-        if (run(body, kind, sockets, 3) != expected(3)) {
-            fprintf(stderr, "wrong answers: %s, %s, %u blocks\n", BODIES[body].name, kind->name, sockets);
-            return false;
-        }
-    return true;
-}
-
-static int table(void)
-{
-    double each[KIND_COUNT][SIZE_COUNT][BODY_COUNT];
-    printf("%-10s %-26s", "", "nanoseconds a look-up");
-    for (int s = 0; s < SIZE_COUNT; s++)
-        printf(" %8u", SIZES[s]);
-    printf("\n");
-    for (int k = 0; k < KIND_COUNT; k++)
-        for (int s = 0; s < SIZE_COUNT; s++)
-            if (makes_sense(&KINDS[k], SIZES[s])) {
-                fill(&KINDS[k], SIZES[s]);
-                if (!is_right(&KINDS[k], SIZES[s]))
-                    return 1;
-                nanoseconds(&KINDS[k], SIZES[s], each[k][s]);
-            }
-    for (int body = 0; body < BODY_COUNT; body++)
-        for (int k = 0; k < KIND_COUNT; k++) {
-            printf("%-10s %-26s", BODIES[body].name, KINDS[k].name);
-            for (int s = 0; s < SIZE_COUNT; s++)
-                if (makes_sense(&KINDS[k], SIZES[s]))
-                    printf(" %8.1f", each[k][s][body]);
-                else
-                    printf(" %8s", "-");
-            printf("\n");
-        }
-    return 0;
-}
-
-static int call(const char *body_name, const char *kind_name, uint16_t sockets, uint64_t times)
-{
-    for (int body = 0; body < BODY_COUNT; body++)
-        for (int k = 0; k < KIND_COUNT; k++)
-            if (strcmp(body_name, BODIES[body].name) == 0 && strcmp(kind_name, KINDS[k].name) == 0) {
-                fill(&KINDS[k], sockets);
-                if (makes_sense(&KINDS[k], sockets))
-                    printf("%llu\n", (unsigned long long)run(body, &KINDS[k], sockets, times));
-                else
-                    printf("-\n");
-                return 0;
-            }
-    return 2;
-}
+static const Table TABLE = {"a look-up", PACKETS, COLUMNS, COUNT_OF(COLUMNS), ROWS, COUNT_OF(ROWS)};
 
 int main(int argc, char **argv)
 {
-    if (argc == 1)
-        return table();
-    if (argc == 2 && strcmp(argv[1], "bodies") == 0) {
-        for (int body = 0; body < BODY_COUNT; body++)
-            printf("%s\n", BODIES[body].name);
-        return 0;
-    }
-    if (argc == 2 && strcmp(argv[1], "kinds") == 0) {
-        for (int k = 0; k < KIND_COUNT; k++)
-            printf("%s\n", KINDS[k].name);
-        return 0;
-    }
-    if (argc == 2 && strcmp(argv[1], "sizes") == 0) {
-        for (int s = 0; s < SIZE_COUNT; s++)
-            printf("%u\n", SIZES[s]);
-        return 0;
-    }
-    if (argc == 6 && strcmp(argv[1], "call") == 0)
-        return call(argv[2], argv[3], (uint16_t)atoi(argv[4]), strtoull(argv[5], NULL, 10));
-    fprintf(stderr, "usage: bench [bodies | kinds | sizes | call BODY KIND N TIMES]\n");
-    return 2;
+    for (int r = 0; argc == 1 && r < TABLE.row_count; r++)
+        for (int c = ROWS[r].from; c < TABLE.column_count; c++)
+            if (!ROWS[r].run(c, 3)) {
+                fprintf(stderr, "%s: wrong answers\n", ROWS[r].name);
+                return 1;
+            }
+    return bench_main(argc, argv, &TABLE);
 }

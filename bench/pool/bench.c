@@ -1,23 +1,14 @@
 /*
- * Times the pairs of calls of mbuf_pool, beside the C library's malloc and a pool of the same kind in C.
- *
- *   bench                 prints a table of times
- *   bench names           prints the pairs' names, one a line
- *   bench call NAME N     does one pair N times, for a counter of instructions
+ * The pairs of calls of mbuf_pool, beside a pool of the same kind in C and the C library's malloc.
  */
-#include <stdint.h>
-#include <stdio.h>
-#include <stdlib.h>
-#include <string.h>
-#include <time.h>
+#include "timer.h"
 
-/* crates/pool_c */
+/* crates/bench_c/src/pool.rt */
 uint64_t bsdudp_mbuf_pairs(uint64_t times);
 uint64_t bsdudp_cluster_pairs(uint64_t times);
 uint64_t bsdudp_hold_pairs(uint64_t times);
 
 enum { MBUFS = 512, CLUSTERS = 64, MBUF_LEN = 128, CLUSTER_LEN = 2048 };
-enum { ROUNDS = 60, TIMES = 100000 };
 
 /* A pool of the same kind: free mbufs are linked by their first word, and the head is written at each call. */
 typedef struct {
@@ -125,7 +116,7 @@ static uint64_t malloc_pairs(uint64_t times, size_t len)
     uint64_t digest = 0;
     for (uint64_t k = 0; k < times; k++) {
         uint8_t *p = malloc(len);
-        __asm__ volatile("" : : "r"(p) : "memory");
+        seen(p);
         digest = digest * 31 + (uintptr_t)p;
         free(p);
     }
@@ -142,71 +133,38 @@ static uint64_t malloc_clusters(uint64_t times)
     return malloc_pairs(times, CLUSTER_LEN);
 }
 
-typedef struct {
-    const char *name;
-    uint64_t (*run)(uint64_t times);
-} Pair;
-
-static const Pair PAIRS[] = {
-    {"get+put", bsdudp_mbuf_pairs},
-    {"get_cluster+release", bsdudp_cluster_pairs},
-    {"hold+release", bsdudp_hold_pairs},
-    {"c-get+put", c_mbuf_pairs},
-    {"c-get_cluster+release", c_cluster_pairs},
-    {"malloc+free-128", malloc_mbufs},
-    {"malloc+free-2048", malloc_clusters},
-};
-enum { PAIR_COUNT = sizeof PAIRS / sizeof *PAIRS };
-
 static volatile uint64_t sink;
 
-static double now(void)
-{
-    struct timespec t;
-    clock_gettime(CLOCK_MONOTONIC, &t);
-    return (double)t.tv_sec * 1e9 + (double)t.tv_nsec;
-}
+#define RUN(pairs) \
+    static bool run_##pairs(int column, uint64_t turns) { (void)column; sink = pairs(turns); return sink != UINT64_MAX; }
 
-/* Nanoseconds a pair: the best of the short runs and the best of the long ones, whose difference takes the making
-   of the pool off. The rounds take the pairs in turn, so that a busy machine slows all alike. */
-static void print_times(void)
-{
-    static double best[PAIR_COUNT][2];
-    for (int round = 0; round < ROUNDS; round++)
-        for (int k = 0; k < PAIR_COUNT; k++)
-            for (int is_long = 0; is_long < 2; is_long++) {
-                double start = now();
-                sink = PAIRS[k].run(is_long ? 3 * TIMES : TIMES);
-                double took = now() - start;
-                if (round == 0 || took < best[k][is_long])
-                    best[k][is_long] = took;
-            }
-    printf("%-28s %8s %12s\n", "pair", "ns", "million/s");
-    for (int k = 0; k < PAIR_COUNT; k++) {
-        double each = (best[k][1] - best[k][0]) / (2.0 * TIMES);
-        printf("%-28s %8.2f %12.0f\n", PAIRS[k].name, each, 1000 / each);
-    }
-}
+RUN(bsdudp_mbuf_pairs)
+RUN(bsdudp_cluster_pairs)
+RUN(bsdudp_hold_pairs)
+RUN(c_mbuf_pairs)
+RUN(c_cluster_pairs)
+RUN(malloc_mbufs)
+RUN(malloc_clusters)
+
+static const char *const COLUMNS[] = {"each"};
+
+static const Row ROWS[] = {
+    {"get, put", run_bsdudp_mbuf_pairs, 0},
+    {"get_cluster, release", run_bsdudp_cluster_pairs, 0},
+    {"hold, count, release", run_bsdudp_hold_pairs, 0},
+    {"get, put in C", run_c_mbuf_pairs, 0},
+    {"get_cluster, release in C", run_c_cluster_pairs, 0},
+    {"malloc, free of 128 bytes", run_malloc_mbufs, 0},
+    {"malloc, free of 2048 bytes", run_malloc_clusters, 0},
+};
+
+static const Table TABLE = {"a pair of calls", 1, COLUMNS, COUNT_OF(COLUMNS), ROWS, COUNT_OF(ROWS)};
 
 int main(int argc, char **argv)
 {
-    if (argc == 2 && !strcmp(argv[1], "names")) {
-        for (int k = 0; k < PAIR_COUNT; k++)
-            puts(PAIRS[k].name);
-        return 0;
-    }
-    if (argc == 4 && !strcmp(argv[1], "call")) {
-        for (int k = 0; k < PAIR_COUNT; k++)
-            if (!strcmp(argv[2], PAIRS[k].name)) {
-                sink = PAIRS[k].run(strtoull(argv[3], NULL, 10));
-                return 0;
-            }
-        return 2;
-    }
     if (bsdudp_mbuf_pairs(1000) != c_mbuf_pairs(1000) || bsdudp_cluster_pairs(1000) != c_cluster_pairs(1000)) {
         fprintf(stderr, "the pools differ\n");
         return 1;
     }
-    print_times();
-    return 0;
+    return bench_main(argc, argv, &TABLE);
 }

@@ -1,0 +1,152 @@
+/*
+ * What the benchmarks share: a table of rows and columns, its times, and the words that bench/lib.sh asks for.
+ *
+ *   bench                     checks what there is to check, and prints nanoseconds
+ *   bench rows                prints the rows' names, one a line
+ *   bench columns             prints the columns' names, one a line
+ *   bench each                prints how often a turn does what is counted
+ *   bench turns ROW COLUMN N  works N turns of a row and column, for a counter of instructions
+ */
+#ifndef BSDUDP_TIMER_H
+#define BSDUDP_TIMER_H
+
+#include <stdbool.h>
+#include <stdint.h>
+#include <stdio.h>
+#include <stdlib.h>
+#include <string.h>
+#include <time.h>
+
+enum { TIMER_ROUNDS = 100, TIMER_MOST_COLUMNS = 8, TIMER_MOST_ROWS = 16 };
+
+/* Fewer turns than take that many nanoseconds aren't timed. */
+#define TIMER_SHORTEST 100000.0
+
+typedef struct {
+    const char *name;
+    /* So many turns at this column; false where something went wrong. What is made once is made in each call. */
+    bool (*run)(int column, uint64_t turns);
+    /* The first column that the row has. */
+    int from;
+} Row;
+
+typedef struct {
+    const char *what;           /* is done, and timed */
+    uint64_t each;              /* how often a turn does it */
+    const char *const *columns; /* their names */
+    int column_count;
+    const Row *rows;
+    int row_count;
+} Table;
+
+/* What the compiler must take for used. */
+static inline void seen(const void *p)
+{
+    __asm__ volatile("" : : "r"(p) : "memory");
+}
+
+static inline double now_in_ns(void)
+{
+    struct timespec t;
+    clock_gettime(CLOCK_MONOTONIC, &t);
+    return (double)t.tv_sec * 1e9 + (double)t.tv_nsec;
+}
+
+static inline double time_taken(const Row *row, int column, uint64_t turns)
+{
+    double start = now_in_ns();
+    if (!row->run(column, turns)) {
+        fprintf(stderr, "%s: went wrong\n", row->name);
+        exit(1);
+    }
+    return now_in_ns() - start;
+}
+
+static inline double lesser(double a, double b)
+{
+    return a < b ? a : b;
+}
+
+/* So many turns that they can be timed, beside what is made once. */
+static inline uint64_t turns_of(const Row *row, int column)
+{
+    double once = 1e18;
+    for (int round = 0; round < 5; round++)
+        once = lesser(once, time_taken(row, column, 1));
+    uint64_t turns = 8;
+    while (time_taken(row, column, turns) < once + TIMER_SHORTEST)
+        turns *= 2;
+    return turns;
+}
+
+/*
+ * The rounds go over all rows in turn, so that a busy machine slows all alike. Of each row and column, the best run of
+ * N turns is taken from the best of 3 N, so that what is made once falls out.
+ */
+static inline void print_times(const Table *table)
+{
+    static double few[TIMER_MOST_ROWS][TIMER_MOST_COLUMNS], many[TIMER_MOST_ROWS][TIMER_MOST_COLUMNS];
+    static uint64_t turns[TIMER_MOST_ROWS][TIMER_MOST_COLUMNS];
+    for (int round = 0; round < TIMER_ROUNDS; round++)
+        for (int c = 0; c < table->column_count; c++)
+            for (int r = 0; r < table->row_count; r++) {
+                const Row *row = &table->rows[r];
+                if (c < row->from)
+                    continue;
+                if (round == 0) {
+                    turns[r][c] = turns_of(row, c);
+                    few[r][c] = many[r][c] = 1e18;
+                }
+                few[r][c] = lesser(few[r][c], time_taken(row, c, turns[r][c]));
+                many[r][c] = lesser(many[r][c], time_taken(row, c, 3 * turns[r][c]));
+            }
+    printf("%-40s", table->what);
+    for (int c = 0; c < table->column_count; c++)
+        printf(" %12s", table->columns[c]);
+    printf("\n");
+    for (int r = 0; r < table->row_count; r++) {
+        printf("%-40s", table->rows[r].name);
+        for (int c = 0; c < table->column_count; c++)
+            if (c < table->rows[r].from)
+                printf(" %12s", "-");
+            else
+                printf(" %9.1f ns", (many[r][c] - few[r][c]) / (2.0 * (double)turns[r][c] * (double)table->each));
+        printf("\n");
+    }
+}
+
+static inline int work_turns(const Table *table, const char *row, const char *column, uint64_t turns)
+{
+    for (int r = 0; r < table->row_count; r++)
+        for (int c = 0; c < table->column_count; c++)
+            if (!strcmp(row, table->rows[r].name) && !strcmp(column, table->columns[c])) {
+                if (c < table->rows[r].from)
+                    return 3;
+                return table->rows[r].run(c, turns) ? 0 : 1;
+            }
+    return 2;
+}
+
+/* The program, once it has checked what there is to check. Status 3 says that the row doesn't have the column. */
+static inline int bench_main(int argc, char **argv, const Table *table)
+{
+    if (argc == 1)
+        print_times(table);
+    else if (argc == 2 && !strcmp(argv[1], "rows"))
+        for (int r = 0; r < table->row_count; r++)
+            puts(table->rows[r].name);
+    else if (argc == 2 && !strcmp(argv[1], "columns"))
+        for (int c = 0; c < table->column_count; c++)
+            puts(table->columns[c]);
+    else if (argc == 2 && !strcmp(argv[1], "each"))
+        printf("%llu\n", (unsigned long long)table->each);
+    else if (argc == 5 && !strcmp(argv[1], "turns"))
+        return work_turns(table, argv[2], argv[3], strtoull(argv[4], NULL, 10));
+    else
+        return 2;
+    return 0;
+}
+
+#define COUNT_OF(array) ((int)(sizeof(array) / sizeof *(array)))
+
+#endif

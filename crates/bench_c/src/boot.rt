@@ -1,0 +1,15 @@
+//! What work on chains begins with.
+
+use mbuf_chain::Pool;
+use mbuf_pool::{Sizes, Store};
+use std::alloc::Global;
+
+/// A pool of 64 mbufs and 16 clusters, or `None` where memory was refused.
+pub(crate) fn booted(alloc: Global) -> Option<Pool> {
+    let sizes = Sizes {
+        mbufs: 64,
+        clusters: 16,
+    };
+    let store = Store::boot(alloc, sizes).ok()?;
+    Some(Pool::over(store))
+}

@@ -1,5 +1,0 @@
-use Rattle.raw_cells.specs.Cells.{IsPart, IsSized}
-use Rattle.cells_c.proofs.bsdudp_write_and_read.Given as goal
-
-abbrev pub invariant-loop : goal.invariant-loop
-invariant-loop l = record { sized : IsSized l.region; here : IsPart l.region l.here }
