@@ -15,3 +15,4 @@ mod Made
 mod Queueing
 mod Going
 mod Tested
+mod Hosted

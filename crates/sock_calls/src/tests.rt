@@ -1,12 +1,12 @@
-//! Calls and their answers, on sockets of 10.0.0.1 and broadcast address 10.0.0.255.
+//! Calls and their answers, on sockets of 10.0.0.1 and broadcast address 10.0.0.255. Packets, counts and what is free were worked
+//! out by hand.
+mod broadcasts;
+mod host;
+mod nobody;
+mod sends;
 
-ghost use Rattle.sock_calls.specs.Sockets.{IsSocks};
-
-use crate::Socks;
 use flat_model::{Addr, Errno, Opt};
-use mbuf_chain::Pool;
-use mbuf_pool::{BootFault, Sizes, Store};
-use std::alloc::Global;
+use host::Host;
 use std::test::Fail;
 
 const HERE: u32 = 0x0a00_0001;
@@ -16,125 +16,86 @@ const BROADCAST: u32 = 0x0a00_00ff;
 /// Another host.
 const THERE: u32 = 0x0a00_0002;
 
-fn booted(alloc: Global) -> Result<Pool, BootFault> {
-    let store = Store::boot(
-        alloc,
-        Sizes {
-            mbufs: 8,
-            clusters: 1,
-        },
-    )?;
-    Ok(Pool::over(store))
-}
-
-fn fresh(pool: &Pool) -> Socks
-    ensures { IsSocks pool.now result }
-{
-    let _ = pool;
-    Socks::new(HERE, BROADCAST)
-}
-
-fn open(pool: &Pool, socks: &mut Socks) -> Result<u32, Errno>
-    requires { IsSocks pool.now socks.old }
-    ensures { IsSocks pool.now socks.new }
-{
-    let _ = pool;
-    socks.socket()
-}
-
-fn bind(pool: &Pool, socks: &mut Socks, fd: u32, ip: u32, port: u16) -> Result<(), Errno>
-    requires { IsSocks pool.now socks.old }
-    ensures { IsSocks pool.now socks.new }
-{
-    let _ = pool;
-    socks.bind(fd, Addr { ip, port })
-}
-
-fn connect(pool: &Pool, socks: &mut Socks, fd: u32, ip: u32, port: u16) -> Result<(), Errno>
-    requires { IsSocks pool.now socks.old }
-    ensures { IsSocks pool.now socks.new }
-{
-    let _ = pool;
-    socks.connect(fd, Addr { ip, port })
-}
-
-fn reuse_port(pool: &Pool, socks: &mut Socks, fd: u32) -> Result<(), Errno>
-    requires { IsSocks pool.now socks.old }
-    ensures { IsSocks pool.now socks.new }
-{
-    let _ = pool;
-    socks.setsockopt(fd, Opt::ReusePort, true)
-}
+/// 127.0.0.1.
+const LOOPBACK: u32 = 0x7f00_0001;
 
 #[test]
 fn sixty_four_sockets(rt: HostRuntime) -> Result<(), Fail> {
-    let mut pool = booted(rt.alloc())?;
-    let mut socks = fresh(&pool);
-    'sockets: for fd in 3..67 {
-        assert_eq!(rt; open(&pool, &mut socks), Ok(fd));
+    let mut host = Host::boot(rt.alloc(), 8, 1)?;
+    for fd in 3..67 {
+        assert_eq!(rt; host.socket(), Ok(fd));
     }
-    assert_eq!(rt; open(&pool, &mut socks), Err(Errno::TooManyFiles));
-    assert_eq!(rt; socks.close(&mut pool, 5), Ok(()));
-    assert_eq!(rt; open(&pool, &mut socks), Ok(5));
-    socks.end(&mut pool);
+    assert_eq!(rt; host.socket(), Err(Errno::TooManyFiles));
+    assert_eq!(rt; host.close(5), Ok(()));
+    assert_eq!(rt; host.socket(), Ok(5));
+    host.end(&rt);
     Ok(())
 }
 
 #[test]
-fn each_refusal(rt: HostRuntime) -> Result<(), Fail> {
-    let mut pool = booted(rt.alloc())?;
-    let mut socks = fresh(&pool);
-    let mut room = [0; 4];
-    assert_eq!(rt; open(&pool, &mut socks), Ok(3));
-    assert_eq!(rt; bind(&pool, &mut socks, 3, HERE, 7), Ok(()));
-    assert_eq!(rt; bind(&pool, &mut socks, 3, 0, 8), Err(Errno::Invalid));
-    assert_eq!(rt; connect(&pool, &mut socks, 3, THERE, 9), Ok(()));
-    assert_eq!(rt; open(&pool, &mut socks), Ok(4));
-    assert_eq!(rt; bind(&pool, &mut socks, 4, 0, 7), Err(Errno::AddressInUse));
+fn no_such_socket(rt: HostRuntime) -> Result<(), Fail> {
+    let mut host = Host::boot(rt.alloc(), 8, 1)?;
+    let to = Addr { ip: THERE, port: 7 };
+    assert_eq!(rt; host.bind(3, 0, 7), Err(Errno::BadDescriptor));
+    assert_eq!(rt; host.connect(3, THERE, 7), Err(Errno::BadDescriptor));
     assert_eq!(rt;
-        bind(&pool, &mut socks, 4, 0x0a00_0009, 7),
+        host.sendto(&rt, 3, Some(to), b"a"),
+        Err(Errno::BadDescriptor)
+    );
+    assert_eq!(rt; host.recvfrom(3, &mut [0; 9]), Err(Errno::BadDescriptor));
+    assert_eq!(rt; host.close(3), Err(Errno::BadDescriptor));
+    assert_eq!(rt;
+        host.setsockopt(3, Opt::ReusePort, true),
+        Err(Errno::BadDescriptor)
+    );
+    host.end(&rt);
+    Ok(())
+}
+
+#[test]
+fn addresses_refused(rt: HostRuntime) -> Result<(), Fail> {
+    let mut host = Host::boot(rt.alloc(), 8, 1)?;
+    assert_eq!(rt; host.socket(), Ok(3));
+    assert_eq!(rt; host.bind(3, HERE, 7), Ok(()));
+    assert_eq!(rt; host.bind(3, 0, 8), Err(Errno::Invalid));
+    assert_eq!(rt; host.connect(3, THERE, 9), Ok(()));
+    let near = Addr { ip: THERE, port: 9 };
+    assert_eq!(rt;
+        host.sendto(&rt, 3, Some(near), b"a"),
+        Err(Errno::IsConnected)
+    );
+    assert_eq!(rt; host.socket(), Ok(4));
+    assert_eq!(rt; host.bind(4, 0, 7), Err(Errno::AddressInUse));
+    assert_eq!(rt;
+        host.bind(4, 0x0a00_0009, 7),
         Err(Errno::AddressNotAvailable)
     );
-    assert_eq!(rt; bind(&pool, &mut socks, 4, 0x7f00_0001, 7), Ok(()));
-    assert_eq!(rt; connect(&pool, &mut socks, 4, THERE, 9), Ok(()));
-    // its local address is cleared, so that it would be 10.0.0.1, port 7
+    assert_eq!(rt; host.bind(4, LOOPBACK, 7), Ok(()));
+    let all = Addr {
+        ip: BROADCAST,
+        ..near
+    };
+    assert_eq!(rt; host.sendto(&rt, 4, Some(all), b"a"), Err(Errno::Access));
+    let beside = Addr {
+        ip: LOOPBACK + 1,
+        ..near
+    };
     assert_eq!(rt;
-        connect(&pool, &mut socks, 4, THERE, 9),
-        Err(Errno::AddressInUse)
-    );
-    assert_eq!(rt;
-        connect(&pool, &mut socks, 4, THERE, 0),
-        Err(Errno::AddressNotAvailable)
-    );
-    assert_eq!(rt;
-        connect(&pool, &mut socks, 4, 0x7f00_0002, 9),
+        host.sendto(&rt, 4, Some(beside), b"a"),
         Err(Errno::HostUnreachable)
     );
     assert_eq!(rt;
-        socks.recvfrom(&mut pool, 3, &mut room),
-        Err(Errno::WouldBlock)
+        host.connect(4, LOOPBACK + 1, 9),
+        Err(Errno::HostUnreachable)
     );
+    assert_eq!(rt; host.connect(4, THERE, 9), Ok(()));
+    // its local address is cleared, so that it would be 10.0.0.1, port 7
+    assert_eq!(rt; host.connect(4, THERE, 9), Err(Errno::AddressInUse));
     assert_eq!(rt;
-        socks.recvfrom(&mut pool, 9, &mut room),
-        Err(Errno::BadDescriptor)
+        host.sendto(&rt, 4, None, b"a"),
+        Err(Errno::DestinationRequired)
     );
-    assert_eq!(rt; reuse_port(&pool, &mut socks, 9), Err(Errno::BadDescriptor));
-    assert_eq!(rt; socks.close(&mut pool, 9), Err(Errno::BadDescriptor));
-    socks.end(&mut pool);
-    Ok(())
-}
-
-#[test]
-fn one_port_for_two(rt: HostRuntime) -> Result<(), Fail> {
-    let mut pool = booted(rt.alloc())?;
-    let mut socks = fresh(&pool);
-    assert_eq!(rt; open(&pool, &mut socks), Ok(3));
-    assert_eq!(rt; open(&pool, &mut socks), Ok(4));
-    assert_eq!(rt; reuse_port(&pool, &mut socks, 3), Ok(()));
-    assert_eq!(rt; bind(&pool, &mut socks, 3, 0, 7), Ok(()));
-    assert_eq!(rt; bind(&pool, &mut socks, 4, 0, 7), Err(Errno::AddressInUse));
-    assert_eq!(rt; reuse_port(&pool, &mut socks, 4), Ok(()));
-    assert_eq!(rt; bind(&pool, &mut socks, 4, 0, 7), Ok(()));
-    socks.end(&mut pool);
+    assert_eq!(rt; host.recvfrom(3, &mut [0; 4]), Err(Errno::WouldBlock));
+    host.end(&rt);
     Ok(())
 }
