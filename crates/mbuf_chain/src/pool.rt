@@ -19,7 +19,7 @@ use std::marker::Model;
 /// A pool of chains of mbufs, over a store that it hides.
 ///
 /// A contract sees it as a `PoolView`: how many mbufs and clusters there are in all, and a finite map
-/// from a chain's number to what the chain holds. docs/chains.md has the words and a picture.
+/// from a chain's number to what the chain holds. README.md has the words and a picture.
 #[derive(Drop)]
 pub struct Pool {
     store: Store,

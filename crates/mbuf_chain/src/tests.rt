@@ -1,4 +1,4 @@
-//! Two chains that share a cluster as in docs/chains.md, and pools of the smallest and the largest
+//! Two chains that share a cluster as in README.md, and pools of the smallest and the largest
 //! size.
 
 mod callers;

@@ -1,7 +1,7 @@
 //! What stands in the first bytes of an mbuf.
 
 /// The head of an mbuf, as `struct m_hdr` and `struct pkthdr` have it (TCP/IP Illustrated, volume 2,
-/// chapter 2). Links are numbers of mbufs in place of addresses; docs/cells.md says which byte holds
+/// chapter 2). Links are numbers of mbufs in place of addresses; README.md says which byte holds
 /// what.
 #[derive(Clone, Copy, Debug, PartialEq, Eq)]
 pub struct Head {

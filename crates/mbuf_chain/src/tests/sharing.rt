@@ -1,4 +1,4 @@
-//! Two chains that share a cluster, after the worked picture of docs/chains.md.
+//! Two chains that share a cluster, after the worked picture of README.md.
 use super::steps::{booted, count, narrow, overwrite, put_back, share, text};
 use crate::Usage;
 use std::test::Fail;
