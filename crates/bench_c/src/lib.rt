@@ -10,4 +10,5 @@ mod ops;
 mod pcb;
 mod pool;
 mod receive_queue;
+mod stack;
 mod udp_header;

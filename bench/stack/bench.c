@@ -1,0 +1,40 @@
+/*
+ * A datagram from one stack to another: sendto, tx of each packet, rx into the second stack, recvfrom; and one that comes back
+ * to the stack that sent it. Both checksums are made and checked.
+ */
+#include "timer.h"
+
+enum { MOST = 9000 };
+
+/* crates/bench_c/src/stack.rt */
+uint32_t bsdudp_send_and_receive(const uint8_t *bytes, size_t len, uint32_t times);
+uint32_t bsdudp_send_to_itself(const uint8_t *bytes, size_t len, uint32_t times);
+
+static const size_t LENS[] = {2, 1472, MOST};
+static const char *const COLUMNS[] = {"2 bytes", "1,472", "9,000"};
+
+static uint8_t bytes[MOST];
+
+static bool to_another(int column, uint64_t turns)
+{
+    return bsdudp_send_and_receive(bytes, LENS[column], (uint32_t)turns) == turns;
+}
+
+static bool to_itself(int column, uint64_t turns)
+{
+    return bsdudp_send_to_itself(bytes, LENS[column], (uint32_t)turns) == turns;
+}
+
+static const Row ROWS[] = {
+    {"sendto, tx, rx, recvfrom", to_another, 0},
+    {"sendto by loopback, recvfrom", to_itself, 0},
+};
+
+static const Table TABLE = {"a datagram", 1, COLUMNS, COUNT_OF(COLUMNS), ROWS, COUNT_OF(ROWS)};
+
+int main(int argc, char **argv)
+{
+    for (size_t at = 0; at < MOST; at++)
+        bytes[at] = (uint8_t)(at * 7 + at / 256 + 3);
+    return bench_main(argc, argv, &TABLE);
+}
