@@ -1,9 +1,7 @@
 -- From the words of a line to what it asks for.
-use Rattle.std.proofs.Common.{◌≡◌, ℕ, ◌≤◌, Bool, List, [], ◌∷◌, length, Option, Some, None, refl, sym, ap, ◌∙◌, arith, subst}
+use Rattle.std.proofs.Common.{◌≡◌, ℕ, ◌≤◌, List, ◌∷◌, length, Option, Some, None, refl, sym, ap, ◌∙◌, arith, subst}
 use Rattle.std.specs.Prelude.{MatchOption}
-use Rattle.flat_model.specs.declared.address.Addr.{Addr}
-use Rattle.flat_model.specs.declared.option.Opt.{Opt}
-use Rattle.flat_model.specs.Event.{Event, Open, Bind, Connect, Send, Receive, Close, Set_option, Comes, Transmit, Tick, Ask_counters, Ask_usage}
+use Rattle.flat_model.specs.Event.{Event, Send, Receive, Comes}
 use Rattle.flat_model.specs.Grammar.{words, keyword, HasArguments}
 use Rattle.flat_model.specs.Script.{Asks, all_events}
 use Rattle.link_script.specs.declared.keyword.Keyword.{Keyword}
@@ -40,26 +38,6 @@ Asks-none text name args cut none event h =
 
 -- ---- each keyword has one form
 
-pub Open-only : (args : List (List ℕ)) → (args ≡ [] → ⊥) → (event : Event) → IsForm line.Socket args event → ⊥
-Open-only args none Open h = none h.1
-Open-only args none event h = absurd (omega (arith, index-word event line.Socket h.0))
-
-pub Bind-only : (args : List (List ℕ)) → ((fd : ℕ) (address : Addr) → HasArguments (Bind fd address) args → ⊥)
-    → (event : Event) → IsForm line.Bind args event → ⊥
-Bind-only args none (Bind fd address) h = none fd address h.1
-Bind-only args none event h = absurd (omega (arith, index-word event line.Bind h.0))
-
-pub Connect-only : (args : List (List ℕ)) → ((fd : ℕ) (address : Addr) → HasArguments (Connect fd address) args → ⊥)
-    → (event : Event) → IsForm line.Connect args event → ⊥
-Connect-only args none (Connect fd address) h = none fd address h.1
-Connect-only args none event h = absurd (omega (arith, index-word event line.Connect h.0))
-
-pub Sendto-only : (args : List (List ℕ)) → ((fd : ℕ) (to : Addr) (bytes : List ℕ) → HasArguments (Send fd (Some to) bytes) args → ⊥)
-    → (event : Event) → IsForm line.SendTo args event → ⊥
-Sendto-only args none (Send fd (Some to) bytes) h = none fd to bytes h.1
-Sendto-only args none (Send fd None bytes) h = absurd (omega (arith, index-word (Send fd None bytes) line.SendTo h.0))
-Sendto-only args none event h = absurd (omega (arith, index-word event line.SendTo h.0))
-
 pub Send-only : (args : List (List ℕ)) → ((fd : ℕ) (bytes : List ℕ) → HasArguments (Send fd None bytes) args → ⊥)
     → (event : Event) → IsForm line.Send args event → ⊥
 Send-only args none (Send fd None bytes) h = none fd bytes h.1
@@ -71,33 +49,7 @@ pub Receive-only : (args : List (List ℕ)) → ((fd most : ℕ) → HasArgument
 Receive-only args none (Receive fd most) h = none fd most h.1
 Receive-only args none event h = absurd (omega (arith, index-word event line.RecvFrom h.0))
 
-pub Close-only : (args : List (List ℕ)) → ((fd : ℕ) → HasArguments (Close fd) args → ⊥)
-    → (event : Event) → IsForm line.Close args event → ⊥
-Close-only args none (Close fd) h = none fd h.1
-Close-only args none event h = absurd (omega (arith, index-word event line.Close h.0))
-
-pub Option-only : (args : List (List ℕ)) → ((fd : ℕ) (option : Opt) (on : Bool) → HasArguments (Set_option fd option on) args → ⊥)
-    → (event : Event) → IsForm line.SetSockOpt args event → ⊥
-Option-only args none (Set_option fd option on) h = none fd option on h.1
-Option-only args none event h = absurd (omega (arith, index-word event line.SetSockOpt h.0))
-
 pub Comes-only : (args : List (List ℕ)) → ((packet : List ℕ) → HasArguments (Comes packet) args → ⊥)
     → (event : Event) → IsForm line.Rx args event → ⊥
 Comes-only args none (Comes packet) h = none packet h.1
 Comes-only args none event h = absurd (omega (arith, index-word event line.Rx h.0))
-
-pub Transmit-only : (args : List (List ℕ)) → (args ≡ [] → ⊥) → (event : Event) → IsForm line.Tx args event → ⊥
-Transmit-only args none Transmit h = none h.1
-Transmit-only args none event h = absurd (omega (arith, index-word event line.Tx h.0))
-
-pub Tick-only : (args : List (List ℕ)) → (args ≡ [] → ⊥) → (event : Event) → IsForm line.Tick args event → ⊥
-Tick-only args none Tick h = none h.1
-Tick-only args none event h = absurd (omega (arith, index-word event line.Tick h.0))
-
-pub Counters-only : (args : List (List ℕ)) → (args ≡ [] → ⊥) → (event : Event) → IsForm line.Stat args event → ⊥
-Counters-only args none Ask_counters h = none h.1
-Counters-only args none event h = absurd (omega (arith, index-word event line.Stat h.0))
-
-pub Usage-only : (args : List (List ℕ)) → (args ≡ [] → ⊥) → (event : Event) → IsForm line.MbStat args event → ⊥
-Usage-only args none Ask_usage h = none h.1
-Usage-only args none event h = absurd (omega (arith, index-word event line.MbStat h.0))

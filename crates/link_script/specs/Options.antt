@@ -1,9 +1,12 @@
 -- The words of the command line (this project's own). How they're cut into options and values is told by crate clap: `fault_of` has
 -- the faults that it finds in words, and `subcommand_of` what the words behind a subcommand give.
-use Rattle.std.specs.Prelude.{◌≡◌, ◌≢◌, ◌⊎◌, ℕ, ◌-◌, true, List, [], length, slice_get, codes, Option, Some, None, option_map, Result, Ok, Err}
+use Rattle.std.specs.Prelude.{◌≡◌, ◌≢◌, ◌⊎◌, ℕ, ◌-◌, true, List, [], length, slice_get, codes, Option, Some, None, Result, Ok, Err}
 use Rattle.clap.specs.Words.{App, Rule, Row, new_app, new_rule, with_rule, with_subcommand, first_of, subcommand_of, fault_of}
 use Rattle.flat_model.specs.Grammar.{IsNumber, IsAddress}
 use Rattle.flat_model.specs.declared.config.Config.{Config}
+use Rattle.mbuf_pool.specs.declared.sizes.Sizes.{Sizes}
+use Rattle.link_script.specs.declared.options.Task.{Task}
+use Rattle.link_script.specs.declared.options.Task.TheVariants.{Run, Chain}
 
 -- ---- the command
 
@@ -26,6 +29,10 @@ run_app =
     (option_rule (codes "clusters")))
     (option_rule (codes "id"))
 
+-- `chain` with its two options
+abbrev pub chain_app : App
+chain_app = with_rule (with_rule (bare_app (codes "chain")) (option_rule (codes "mbufs"))) (option_rule (codes "clusters"))
+
 -- `bsdudp`, which wants a subcommand
 abbrev pub top_app : App
 top_app = record (bare_app (codes "bsdudp")) {
@@ -33,7 +40,7 @@ top_app = record (bare_app (codes "bsdudp")) {
 }
 
 abbrev pub whole_app : App
-whole_app = with_subcommand top_app run_app.top
+whole_app = with_subcommand (with_subcommand top_app run_app.top) chain_app.top
 
 -- ---- what the options name
 
@@ -56,19 +63,30 @@ pub record Names (defaults : Config) (text : List ℕ → Option (List ℕ)) (c 
   pub clusters : HasNumber 4294967295 defaults.clusters (text (codes "clusters")) c.clusters
   pub first_id : HasNumber 65535 defaults.first_id (text (codes "id")) c.first_id
 
--- The words, the program's name first, are `run` with options that name this configuration.
-pub record Gives (defaults : Config) (words : List (List ℕ)) (c : Config) : Type 0 where
+-- The same of the sizes of a pool.
+pub record NamesSizes (defaults : Config) (text : List ℕ → Option (List ℕ)) (z : Sizes) : Type 0 where
+  pub mbufs : HasNumber 4294967295 defaults.mbufs (text (codes "mbufs")) z.mbufs
+  pub clusters : HasNumber 4294967295 defaults.clusters (text (codes "clusters")) z.clusters
+
+-- A subcommand of this name asks for this task: `run` for the script of calls on sockets, `chain` for the one of calls on chains.
+abbrev pub NamesTask : Config → List ℕ → (List ℕ → Option (List ℕ)) → Task → Type 0
+NamesTask defaults name text (Run c) = (name ≡ codes "run") × Names defaults text c
+NamesTask defaults name text (Chain z) = (name ≡ codes "chain") × NamesSizes defaults text z
+
+-- The words, the program's name first, are a subcommand with options that name this task.
+pub record Gives (defaults : Config) (words : List (List ℕ)) (task : Task) : Type 0 where
   pub taken : fault_of whole_app words ≡ []
+  pub name : List ℕ
   pub rows : List Row
-  pub found : option_map (λ p. p.1) (subcommand_of whole_app words) ≡ Some rows
-  pub names : Names defaults (λ id. first_of id rows) c
+  pub found : subcommand_of whole_app words ≡ Some (name, rows)
+  pub names : NamesTask defaults name (λ id. first_of id rows) task
 
 -- So do the words of a command line, which `--` doesn't end.
-pub record IsRun (defaults : Config) (words : List (List ℕ)) (c : Config) : Type 0 where
-  pub gives : Gives defaults words c
+pub record IsCommand (defaults : Config) (words : List (List ℕ)) (task : Task) : Type 0 where
+  pub gives : Gives defaults words task
   pub ended : slice_get words (length words - 1) ≢ Some (codes "--")
 
--- The words ask for this configuration, where they could be had. `texts` are their bytes.
-abbrev pub IsAskedBy : {W E : Type 0} → (W → List (List ℕ)) → Config → Result W E → Config → Type 0
-IsAskedBy texts defaults (Ok words) c = IsRun defaults (texts words) c
-IsAskedBy texts defaults (Err e) c = ⊥
+-- The words ask for this task, where they could be had. `texts` are their bytes.
+abbrev pub IsAskedBy : {W E : Type 0} → (W → List (List ℕ)) → Config → Result W E → Task → Type 0
+IsAskedBy texts defaults (Ok words) task = IsCommand defaults (texts words) task
+IsAskedBy texts defaults (Err e) task = ⊥

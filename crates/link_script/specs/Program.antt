@@ -1,7 +1,7 @@
 -- What the program does, by its status (this project's own).
 use Rattle.std.specs.Prelude.{◌≡◌, ◌⊎◌, ℕ, List, [], Option, Result, Ok, Err}
-use Rattle.flat_model.specs.Event.{Event, Reply}
 use Rattle.flat_model.specs.State.{State, boot}
+use Rattle.flat_model.specs.Step.{Step}
 use Rattle.flat_model.specs.declared.config.Config.{Config}
 use Rattle.script_loop.specs.Serves.{Serves, Moves}
 use Rattle.script_loop.specs.declared.fault.RunFault.{RunFault}
@@ -9,7 +9,13 @@ use Rattle.script_loop.specs.declared.fault.RunFault.TheVariants.{Read, Write, M
 use Rattle.link_script.specs.Says.{Says}
 use Rattle.link_script.specs.Boots.{Boots}
 use Rattle.link_script.specs.declared.command_line.Failure.{Failure}
-use Rattle.link_script.specs.declared.command_line.Failure.TheVariants.{Usage, Run}
+use Rattle.link_script.specs.declared.command_line.Failure.TheVariants as failure
+use Rattle.link_script.specs.declared.command_line.Failure.TheVariants.{Usage}
+use Rattle.link_script.specs.declared.options.Task.{Task}
+use Rattle.link_script.specs.declared.options.Task.TheVariants as task
+use Rattle.chain_script.specs.Boots as chains
+use Rattle.chain_script.specs.Machines.{Machine, booted}
+use Rattle.chain_script.specs.Steps as steps
 
 -- 10.0.0.1, 10.0.0.255, an MTU of 1500, 512 mbufs, 64 clusters and the first identification 1
 abbrev pub defaults : Config
@@ -26,21 +32,25 @@ fault_status TooManyLines = 4
 abbrev pub status_of : Result Unit Failure → ℕ
 status_of (Ok done) = 0
 status_of (Err Usage) = 2
-status_of (Err (Run fault)) = fault_status fault
+status_of (Err (failure.Run fault)) = fault_status fault
 
--- why words ask for nothing: they name no configuration, or host memory was lacking
-abbrev pub IsWordsFault : (Config → Type 0) → Failure → Type 0
-IsWordsFault asks Usage = (config : Config) → ¬ asks config
-IsWordsFault asks (Run fault) = fault ≡ Memory
+-- why words ask for nothing: they are no command, or host memory was lacking
+abbrev pub IsWordsFault : (Task → Type 0) → Failure → Type 0
+IsWordsFault asks Usage = (task : Task) → ¬ asks task
+IsWordsFault asks (failure.Run fault) = fault ≡ Memory
 
--- What was done by words that ask for these configurations, on a machine by its steps. They ask for none, or memory was lacking to read them, and nothing was
--- read or written; or the machine that they ask for was run.
-abbrev pub Ran : (State → Event → Reply → State → Type 0) → (Config → Type 0) → Option (List ℕ) → Option (List ℕ) → Option (List ℕ) → Option (List ℕ) → Result Unit Failure → Type 0
-Ran step asks unread rest before after (Err Usage) = ((config : Config) → ¬ asks config) × Moves unread rest [] before after []
-Ran step asks unread rest before after (Err (Run fault)) =
+-- the script of a task was served: on a machine of this configuration, or on chains over a pool of these sizes
+abbrev pub Served : Task → Option (List ℕ) → Option (List ℕ) → Option (List ℕ) → Option (List ℕ) → Result Unit RunFault → Type 0
+Served (task.Run config) unread rest before after outcome =
+    Boots config outcome × (new : State) × Serves (Says Step) (boot config) new unread rest before after outcome
+Served (task.Chain sizes) unread rest before after outcome =
+    chains.Boots sizes outcome × (new : Machine) × Serves steps.Says (booted sizes.mbufs sizes.clusters) new unread rest before after outcome
+
+-- What was done by words that ask for these tasks. They ask for none, or memory was lacking to read them, and nothing was read or
+-- written; or the script that they ask for was served.
+abbrev pub Ran : (Task → Type 0) → Option (List ℕ) → Option (List ℕ) → Option (List ℕ) → Option (List ℕ) → Result Unit Failure → Type 0
+Ran asks unread rest before after (Err Usage) = ((task : Task) → ¬ asks task) × Moves unread rest [] before after []
+Ran asks unread rest before after (Err (failure.Run fault)) =
     ((fault ≡ Memory) × Moves unread rest [] before after [])
-    ⊎ ((config : Config) × asks config × Boots config (Err fault)
-    × (new : State) × Serves (Says step) (boot config) new unread rest before after (Err fault))
-Ran step asks unread rest before after (Ok done) =
-    (config : Config) × asks config × Boots config (Ok done)
-    × (new : State) × Serves (Says step) (boot config) new unread rest before after (Ok done)
+    ⊎ ((task : Task) × asks task × Served task unread rest before after (Err fault))
+Ran asks unread rest before after (Ok done) = (task : Task) × asks task × Served task unread rest before after (Ok done)

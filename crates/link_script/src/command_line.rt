@@ -1,12 +1,12 @@
 //! The program: its command line, its statuses and its texts.
 ghost use Rattle.std.specs.Prelude.{◌≡◌, Result, Err, map, MatchResult};
 ghost use Rattle.std.specs.String.{string_bytes};
-ghost use Rattle.flat_model.specs.Step.{Step};
 ghost use Rattle.link_script.specs.Options.{IsAskedBy};
-ghost use Rattle.link_script.specs.Program.{defaults, status_of, IsWordsFault, Ran};
+ghost use Rattle.link_script.specs.Program.{defaults, status_of, IsWordsFault, Served, Ran};
 
-use crate::options::read_words;
+use crate::options::{Task, read_words};
 use crate::runs::run;
+use chain_script::run_chains;
 use flat_model::Config;
 use script_loop::{RunFault, Sink, Source};
 use std::alloc::Global;
@@ -59,8 +59,8 @@ fn words_fault(error: &io::Error) -> Failure
     }
 }
 
-/// The configuration that the words name, where they could be had.
-fn config_named(alloc: Global, words: &io::Result<Vec<String>>) -> Result<Config, Failure>
+/// The task that the words ask for, where they could be had.
+fn task_named(alloc: Global, words: &io::Result<Vec<String>>) -> Result<Task, Failure>
     ensures { MatchResult result (IsAskedBy (λ all. map string_bytes all.items) defaults words.now)
         (IsWordsFault (IsAskedBy (λ all. map string_bytes all.items) defaults words.now)) }
 {
@@ -70,17 +70,32 @@ fn config_named(alloc: Global, words: &io::Result<Vec<String>>) -> Result<Config
     }
 }
 
+/// Serves the script of a task.
+fn serve_task<R: Source, W: Sink>(
+    alloc: Global,
+    task: Task,
+    reader: &mut R,
+    writer: &mut W,
+) -> Result<(), RunFault>
+    ensures { Served task (R.remaining reader.old) (R.remaining reader.new) (W.contents writer.old) (W.contents writer.new) result }
+{
+    match task {
+        Task::Run(config) => run(alloc, config, reader, writer),
+        Task::Chain(sizes) => run_chains(alloc, sizes, reader, writer),
+    }
+}
+
 fn serve<R: Source, W: Sink>(
     alloc: Global,
     words: &io::Result<Vec<String>>,
     reader: &mut R,
     writer: &mut W,
 ) -> Result<(), Failure>
-    ensures { Ran Step (IsAskedBy (λ all. map string_bytes all.items) defaults words.now)
+    ensures { Ran (IsAskedBy (λ all. map string_bytes all.items) defaults words.now)
         (R.remaining reader.old) (R.remaining reader.new) (W.contents writer.old) (W.contents writer.new) result }
 {
-    let config = config_named(alloc, words)?;
-    match run(alloc, config, reader, writer) {
+    let task = task_named(alloc, words)?;
+    match serve_task(alloc, task, reader, writer) {
         Ok(()) => Ok(()),
         Err(fault) => Err(Failure::Run(fault)),
     }
@@ -89,14 +104,16 @@ fn serve<R: Source, W: Sink>(
 /// Does what the words ask for, the program's name first, and answers the status. `run` serves the script from the
 /// reader to the writer, on a machine with the configuration that its options name: `--addr` and `--bcast` the addresses,
 /// `--mtu`, `--mbufs`, `--clusters`, and `--id` the first identification. Each comes at most once, in any order, its value
-/// in the next word or behind `=`. Else it's 10.0.0.1, 10.0.0.255, 1500, 512, 64 and 1.
+/// in the next word or behind `=`. Else it's 10.0.0.1, 10.0.0.255, 1500, 512, 64 and 1. `chain` serves the script of calls
+/// on chains, over a pool whose sizes `--mbufs` and `--clusters` name in the same way.
 ///
 /// `words` is an error where they couldn't be had: `OutOfMemory` for want of memory, and another one where a word isn't
 /// UTF-8.
 ///
 /// The status is 0 where all lines were answered; 2 where the words aren't a command, or a number isn't one or is out of
-/// its range; 3 where host memory is lacking or the configuration is bad; 4 where reading or writing failed, or there were
-/// too many lines. Each status but 0 has its text, which goes to `errors`; a failure there changes nothing.
+/// its range; 3 where host memory is lacking, or the configuration or the sizes are bad; 4 where reading or writing
+/// failed, or there were too many lines. Each status but 0 has its text, which goes to `errors`; a failure there changes
+/// nothing.
 pub fn program<R: Source, W: Sink, E: Write>(
     alloc: Global,
     words: io::Result<Vec<String>>,
@@ -104,9 +121,9 @@ pub fn program<R: Source, W: Sink, E: Write>(
     writer: &mut W,
     errors: &mut E,
 ) -> u8
-    // The status tells the outcome, and with it what was read and written, on the machine that the words ask for.
+    // The status tells the outcome, and with it what was read and written, by the task that the words ask for.
     ensures { (outcome : Result Unit Failure) × (result ≡ status_of outcome)
-        × Ran Step (IsAskedBy (λ all. map string_bytes all.items) defaults words)
+        × Ran (IsAskedBy (λ all. map string_bytes all.items) defaults words)
         (R.remaining reader.old) (R.remaining reader.new) (W.contents writer.old) (W.contents writer.new) outcome }
 {
     match serve(alloc, &words, reader, writer) {

@@ -1,19 +1,31 @@
-//! The words of the command line, and the configuration that they name.
+//! The words of the command line, and what they ask for.
 ghost use Rattle.std.specs.Prelude.{◌≡◌, ◌≢◌, ◌⊎◌, ◌↔◌, ◌-◌, ℕ, [], length, slice_get, Some, codes, false, map, option_map, IsTrue, MatchOption, MatchResult, IfOk};
 ghost use Rattle.std.specs.String.{string_bytes};
 ghost use Rattle.clap.specs.Words.{app_of, rule_of, rows_of, found_of, first_value, fault_of, kind_of};
 ghost use Rattle.clap.specs.declared.error.kind.ErrorKind.TheVariants.{OutOfMemory};
 ghost use Rattle.flat_model.specs.declared.config.Config.{Config};
-ghost use Rattle.link_script.specs.Options.{option_rule, whole_app, HasNumber, HasAddress, Names, Gives, IsRun};
+ghost use Rattle.mbuf_pool.specs.declared.sizes.Sizes.{Sizes};
+ghost use Rattle.link_script.specs.declared.options.Task.{Task};
+ghost use Rattle.link_script.specs.Options.{option_rule, whole_app, HasNumber, HasAddress, Names, NamesSizes, NamesTask, Gives, IsCommand};
 ghost use Rattle.link_script.specs.Program.{defaults, IsWordsFault};
 
 use crate::address::address;
 use crate::command_line::{DEFAULTS, Failure};
+use chain_script::Sizes;
 use clap::error::ErrorKind;
 use clap::{Arg, ArgMatches, Command, Error as ClapError};
 use flat_model::Config;
 use script_loop::{RunFault, number};
 use std::alloc::{AllocError, Global};
+
+/// What the words ask for.
+#[derive(Clone, Copy)]
+pub enum Task {
+    /// `run`: the script of calls on sockets, on a machine of this configuration.
+    Run(Config),
+    /// `chain`: the script of calls on chains, over a pool of these sizes.
+    Chain(Sizes),
+}
 
 /// The number that an option names, or the default where it isn't given.
 fn number_or(text: Option<&str>, most: u32, default: u32) -> Option<u32>
@@ -55,6 +67,28 @@ fn config_of(found: &ArgMatches<'_>) -> Option<Config>
     })
 }
 
+/// The sizes that the options of `chain` name.
+fn sizes_of(found: &ArgMatches<'_>) -> Option<Sizes>
+    ensures { MatchOption result ((z : Sizes) → NamesSizes defaults (first_value (found_of found.now)) z → ⊥)
+        (NamesSizes defaults (first_value (found_of found.now))) }
+{
+    let mbufs = number_or(found.get_str("mbufs"), u32::MAX, DEFAULTS.mbufs)?;
+    let clusters = number_or(found.get_str("clusters"), u32::MAX, DEFAULTS.clusters)?;
+    Some(Sizes { mbufs, clusters })
+}
+
+/// The task that a subcommand of this name asks for by its options.
+fn task_of(name: &str, found: &ArgMatches<'_>) -> Option<Task>
+    ensures { MatchOption result ((t : Task) → NamesTask defaults name.now (first_value (found_of found.now)) t → ⊥)
+        (NamesTask defaults name.now (first_value (found_of found.now))) }
+{
+    match name.as_bytes() {
+        b"run" => Some(Task::Run(config_of(found)?)),
+        b"chain" => Some(Task::Chain(sizes_of(found)?)),
+        _ => None,
+    }
+}
+
 /// An option with a value.
 fn option<'a>(alloc: Global, name: &'a str) -> Arg<'a>
     ensures rule { rule_of result ≡ option_rule name.entry.now }
@@ -63,7 +97,7 @@ fn option<'a>(alloc: Global, name: &'a str) -> Arg<'a>
     Arg::new(alloc, name).long(name)
 }
 
-/// The command, with `run` and its options. Neither has help or a version of its own.
+/// The command, with its subcommands and their options. None has help or a version of its own.
 fn command<'a>(alloc: Global) -> Result<Command<'a>, AllocError>
     ensures { IfOk result (λ r. app_of r ≡ whole_app) }
 {
@@ -76,23 +110,29 @@ fn command<'a>(alloc: Global) -> Result<Command<'a>, AllocError>
         .arg(option(alloc, "mbufs"))?
         .arg(option(alloc, "clusters"))?
         .arg(option(alloc, "id"))?;
+    let chain = Command::new(alloc, "chain")
+        .disable_help_flag(true)
+        .disable_version_flag(true)
+        .arg(option(alloc, "mbufs"))?
+        .arg(option(alloc, "clusters"))?;
     Command::new(alloc, "bsdudp")
         .disable_help_flag(true)
         .disable_version_flag(true)
         .disable_help_subcommand(true)
         .subcommand_required(true)
-        .subcommand(run)
+        .subcommand(run)?
+        .subcommand(chain)
 }
 
-/// The configuration that the words name, where they are the command, by crate clap's reading of them.
-fn named(alloc: Global, words: &[String]) -> Result<Option<Config>, ClapError>
+/// The task that the words ask for, where they are a command, by crate clap's reading of them.
+fn named(alloc: Global, words: &[String]) -> Result<Option<Task>, ClapError>
     ensures { MatchResult result
-        (λ r. MatchOption r ((c : Config) → Gives defaults (map string_bytes words.now) c → ⊥) (Gives defaults (map string_bytes words.now)))
+        (λ r. MatchOption r ((t : Task) → Gives defaults (map string_bytes words.now) t → ⊥) (Gives defaults (map string_bytes words.now)))
         (λ e. (kind_of e ≡ OutOfMemory) ⊎ (fault_of whole_app (map string_bytes words.now) ≢ [])) }
 {
     let matches = command(alloc)?.try_get_matches_from(words)?;
     match matches.subcommand() {
-        Some((_, found)) => Ok(config_of(found)),
+        Some((name, found)) => Ok(task_of(name, found)),
         None => Ok(None),
     }
 }
@@ -111,16 +151,16 @@ fn ends_in_dashes(words: &[String]) -> bool
 ///
 /// # Errors
 ///
-/// `Usage` where they aren't `run` with options, each at most once, or a number isn't one or is out of its range; `--`
-/// ends no command. `Memory` where host memory is lacking.
-pub fn read_words(alloc: Global, words: &[String]) -> Result<Config, Failure>
-    ensures { MatchResult result (IsRun defaults (map string_bytes words.now)) (IsWordsFault (IsRun defaults (map string_bytes words.now))) }
+/// `Usage` where they aren't a subcommand with its options, each at most once, or a number isn't one or is out of its
+/// range; `--` ends no command. `Memory` where host memory is lacking.
+pub fn read_words(alloc: Global, words: &[String]) -> Result<Task, Failure>
+    ensures { MatchResult result (IsCommand defaults (map string_bytes words.now)) (IsWordsFault (IsCommand defaults (map string_bytes words.now))) }
 {
     if ends_in_dashes(words) {
         return Err(Failure::Usage);
     }
     match named(alloc, words) {
-        Ok(Some(config)) => Ok(config),
+        Ok(Some(task)) => Ok(task),
         Ok(None) => Err(Failure::Usage),
         Err(error) if error.kind() == ErrorKind::OutOfMemory => Err(Failure::Run(RunFault::Memory)),
         Err(_) => Err(Failure::Usage),

@@ -1,9 +1,12 @@
-use crate::command_line::{DEFAULTS, Failure};
+use crate::command_line::DEFAULTS;
 use crate::{Config, RunFault, Sink, Source, Untold, program, run};
 use std::alloc::Global;
 use std::io::{self, Read, Write};
 use std::process::Abort;
 use std::test::Fail;
+
+mod streams;
+mod words;
 
 /// Gives its bytes, and then an error.
 #[derive(Drop)]
@@ -273,132 +276,5 @@ fn expect_program<R: Source, W: Sink>(
     let status = program(alloc, Ok(words), reader, writer, &mut errors);
     assert_eq!(rt; status, want.0, "at {line}");
     assert_eq!(rt; errors.as_slice(), want.1.as_bytes(), "at {line}");
-    Ok(())
-}
-
-#[test]
-fn reads_its_words(rt: HostRuntime) -> Result<(), Fail> {
-    let ran = (0, "");
-    let usage = (2, "bsdudp: usage\n");
-    let sizes = (3, "bsdudp: bad sizes\n");
-    let config = (3, "bsdudp: bad config\n");
-    for (line, want) in [
-        ("bsdudp run", ran),
-        ("bsdudp", usage),
-        ("bsdudp ru", usage),
-        ("bsdudp run extra", usage),
-        ("bsdudp run --", usage),
-        ("bsdudp run --mtu 68 --", usage),
-        ("bsdudp run --help", usage),
-        ("bsdudp --version", usage),
-        ("bsdudp help", usage),
-        ("bsdudp chain", usage),
-        ("bsdudp --mtu 68 run", usage),
-        // the value in the next word or behind `=`, in any order
-        ("bsdudp run --mtu 68", ran),
-        ("bsdudp run --mbufs=1 --clusters 0", ran),
-        (
-            "bsdudp run --id 65535 --bcast=223.255.255.255 --clusters 4096 --mtu=4352 --addr 1.0.0.0 --mbufs=65535",
-            ran,
-        ),
-        // at most once, and whole
-        ("bsdudp run --mtu", usage),
-        ("bsdudp run --mtu 68 --mtu 68", usage),
-        ("bsdudp run --id 1 --mbufs 5 --id=2", usage),
-        ("bsdudp run --mt 68", usage),
-        ("bsdudp run -mtu 68", usage),
-        ("bsdudp run --mtu --id", usage),
-        // numbers as in scripts
-        ("bsdudp run --mtu 068", usage),
-        ("bsdudp run --mtu=", usage),
-        ("bsdudp run --mtu 65536", usage),
-        ("bsdudp run --id 65536", usage),
-        ("bsdudp run --id=+1", usage),
-        ("bsdudp run --mbufs 4294967296", usage),
-        ("bsdudp run --clusters -1", usage),
-        ("bsdudp run --mbufs 0", sizes),
-        ("bsdudp run --mbufs 65536", sizes),
-        ("bsdudp run --clusters 4294967295", sizes),
-        // the sizes are tested first
-        ("bsdudp run --mtu 67 --mbufs 0", sizes),
-        ("bsdudp run --mtu 67", config),
-        ("bsdudp run --mtu=4353", config),
-        ("bsdudp run --mtu 0", config),
-        // what is no address counts as 0.0.0.0
-        ("bsdudp run --addr 10.0.0.256", config),
-        ("bsdudp run --addr=", config),
-        ("bsdudp run --addr -", config),
-        ("bsdudp run --bcast 10.0.0.1", config),
-        ("bsdudp run --bcast 127.0.0.1", config),
-    ] {
-        let mut written = Vec::new(rt.alloc());
-        let mut reader = b"".as_slice();
-        expect_program(&rt, rt.alloc(), line, &mut reader, &mut written, want)?;
-        assert!(rt; written.is_empty());
-    }
-    Ok(())
-}
-
-/// An option's value is that of the machine: only its own address can be bound to.
-#[test]
-fn runs_the_machine_that_is_named(rt: HostRuntime) -> Result<(), Fail> {
-    for (line, want) in [
-        ("bsdudp run", b"ok 3\nerror 49 EADDRNOTAVAIL\n".as_slice()),
-        ("bsdudp run --addr 10.0.0.9", b"ok 3\nok\n".as_slice()),
-        ("bsdudp run --bcast=10.0.0.9", b"ok 3\nok\n".as_slice()),
-    ] {
-        let mut written = Vec::new(rt.alloc());
-        let mut reader = b"socket\nbind 3 10.0.0.9 7\n".as_slice();
-        expect_program(&rt, rt.alloc(), line, &mut reader, &mut written, (0, ""))?;
-        assert_eq!(rt; written.as_slice(), want, "at {line}");
-    }
-    Ok(())
-}
-
-/// Words that couldn't be had.
-#[test]
-fn tells_why_there_are_no_words(rt: HostRuntime) -> Result<(), Fail> {
-    for (kind, want) in [
-        (io::ErrorKind::InvalidData, (2, "bsdudp: usage\n")),
-        (io::ErrorKind::OutOfMemory, (3, "bsdudp: no memory\n")),
-    ] {
-        let mut written = Vec::new(rt.alloc());
-        let mut errors = Vec::new(rt.alloc());
-        let words = Err(io::Error::from(kind));
-        let mut reader = b"socket\n".as_slice();
-        let status = program(rt.alloc(), words, &mut reader, &mut written, &mut errors);
-        assert_eq!(rt; status, want.0);
-        assert_eq!(rt; errors.as_slice(), want.1.as_bytes());
-        assert!(rt; written.is_empty());
-    }
-    Ok(())
-}
-
-#[test]
-fn says_what_failed(rt: HostRuntime) -> Result<(), Fail> {
-    let alloc = rt.alloc();
-    let mut written = Vec::new(alloc);
-    let mut reader = Untold(Breaking(b""));
-    let want = (4, "bsdudp: read failed\n");
-    expect_program(&rt, alloc, "bsdudp run", &mut reader, &mut written, want)?;
-
-    let mut reader = b"socket\n".as_slice();
-    let mut slow = Untold(Slow::new(false));
-    let want = (4, "bsdudp: write failed\n");
-    expect_program(&rt, alloc, "bsdudp run", &mut reader, &mut slow, want)?;
-
-    let mut reader = Untold(Endless(b'a'));
-    let want = (4, "bsdudp: too many lines\n");
-    expect_program(&rt, alloc, "bsdudp run", &mut reader, &mut written, want)?;
-
-    for (fault, want) in [
-        (RunFault::Memory, "no memory"),
-        (RunFault::BadSizes, "bad sizes"),
-        (RunFault::BadConfig, "bad config"),
-    ] {
-        let failure = Failure::Run(fault);
-        assert_eq!(rt; failure.status(), 3);
-        assert_eq!(rt; failure.to_string(alloc)?.as_str(), want);
-    }
     Ok(())
 }

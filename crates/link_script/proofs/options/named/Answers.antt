@@ -1,8 +1,8 @@
-use Rattle.std.proofs.Common.{List, ℕ, map, option_map, sym, ap, ◌∙◌}
+use Rattle.std.proofs.Common.{List, ℕ, map, sym, ap, ◌∙◌}
 use Rattle.std.specs.String.{string_bytes}
 use Rattle.clap.specs.Words.{App, found_of, rows_of, is_simple, is_simple_and_free, subcommand_of, fault_of}
 use Rattle.clap.proofs.WalkLemmas.{first_value-rows}
-use Rattle.link_script.proofs.OptionLemmas.{Gives-names}
+use Rattle.link_script.proofs.OptionLemmas.{Gives-names, both-of}
 use Rattle.link_script.proofs.options.named.Goals as goal
 
 pub returns-in-Some : goal.returns-in-Some
@@ -11,7 +11,8 @@ returns-in-Some c =
     let whole = c.in_ok-command.ensures in
     let matches = c.in_ok-matches.ensures.matches (ap is_simple whole) in
     let faults = c.in_ok-matches.ensures.kinds (ap is_simple_and_free whole) in
-    Gives-names _ words _ (rows_of (found_of c.in-Some.found.now)) c.config_of.result
+    let own = both-of _ _ _ c.in-Some.name.now (rows_of (found_of c.in-Some.found.now)) c.in-Some.ensures.name c.in-Some.ensures.rows in
+    Gives-names _ words c.in-Some.name.now _ (rows_of (found_of c.in-Some.found.now)) c.task_of.result
     (sym (ap (λ (a : App). fault_of a words) whole) ∙ faults)
-    (ap (option_map (λ p. p.1)) (sym (matches.1 ∙ ap (λ (a : App). subcommand_of a words) whole)) ∙ sym c.in-Some.ensures.rows)
-    (first_value-rows (found_of c.in-Some.found.now)) c.config_of.ensures
+    (sym (matches.1 ∙ ap (λ (a : App). subcommand_of a words) whole) ∙ own)
+    (first_value-rows (found_of c.in-Some.found.now)) c.task_of.ensures
