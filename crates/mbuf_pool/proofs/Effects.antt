@@ -29,6 +29,13 @@ pub leaves_store : {r : Cells} {counts : List ℕ} {f : Option ℕ} {m : ℕ} {c
 leaves_store {r} {counts} {f} {m} {cf} {cm} {v} h =
     let a = h.account in subst IsStore (sym (seen_is r counts f m cf cm a.0 a.1 a.2)) (is_store r counts f m cf cm a.0 a.1 a.2)
 
+-- the same with another name for what is free first
+pub first_is : {r : Cells} {counts : List ℕ} {f g : Option ℕ} {m : ℕ} {cf : Option ℕ} {cm : ℕ} {v : StoreView} → g ≡ f → Leaves r counts f m cf cm v → Leaves r counts g m cf cm v
+first_is {r} {counts} {f} {g} {m} {cf} {cm} {v} is = subst (λ (x : Option ℕ). Leaves r counts x m cf cm v) (sym is)
+
+pub first_cluster_is : {r : Cells} {counts : List ℕ} {f : Option ℕ} {m : ℕ} {cf cg : Option ℕ} {cm : ℕ} {v : StoreView} → cg ≡ cf → Leaves r counts f m cf cm v → Leaves r counts f m cg cm v
+first_cluster_is {r} {counts} {f} {m} {cf} {cg} {cm} {v} is = subst (λ (x : Option ℕ). Leaves r counts f m x cm v) (sym is)
+
 -- a new head leaves the number of mbufs
 pub head_count : (r t : Cells) (i : ℕ) (h : Head) → cells.SetsHead r t i h → length t.heads ≡ length r.heads
 head_count r t i h sets = ap (λ (x : Cells). length x.heads) sets.2 ∙ length-set r.heads i h

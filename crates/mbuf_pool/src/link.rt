@@ -1,13 +1,51 @@
-//! Links from one free cluster to the next.
+//! Links to free buffers: the first one of a list, and from one free cluster to the next.
 ghost use Rattle.std.specs.Prelude.{◌≡◌, ◌<◌, length};
-ghost use Rattle.raw_cells.specs.Cells.{read, write};
+ghost use Rattle.raw_cells.specs.Cells.{IsLink, read, write};
 ghost use Rattle.mbuf_pool.specs.Link.{link_in, link_bytes, link_part};
 
 use byteorder::{ByteOrder, LittleEndian};
 use raw_cells::{Buffer, Part, Region};
+use std::marker::Model;
 
-/// In place of a number, that there is no further cluster.
-const NO_CLUSTER: u32 = 0xffff_ffff;
+/// In place of a number, that there is no further buffer.
+const NONE: u32 = 0xffff_ffff;
+
+/// The first buffer of a list, or none. It is one word, as a link in memory is: an option would be two, and
+/// each call would test and write both.
+#[derive(Drop)]
+pub(crate) struct First {
+    number: u32,
+}
+
+impl Model for First {
+    ghost use Rattle.std.specs.Prelude.{ℕ, Option};
+    ghost use Rattle.mbuf_pool.specs.Link.{link_of};
+
+    ghost Value = { Option ℕ };
+
+    ghost view = { λ f. link_of f.number };
+}
+
+impl First {
+    pub(crate) fn new(first: Option<u32>) -> First
+        requires { IsLink first }
+        ensures { result ≡ first }
+    {
+        First {
+            number: first.unwrap_or(NONE),
+        }
+    }
+
+    pub(crate) fn get(&self) -> Option<u32>
+        ensures { result ≡ self.now }
+    {
+        if self.number == NONE {
+            None
+        } else {
+            Some(self.number)
+        }
+    }
+}
 
 fn part_of(cluster: u32) -> Part
     ensures { result ≡ link_part cluster }
@@ -22,21 +60,18 @@ fn part_of(cluster: u32) -> Part
 /// The cluster behind a free one.
 pub(crate) fn next_cluster(region: &Region, cluster: u32) -> Option<u32>
     requires { cluster < region.now.clusters }
-    ensures { result ≡ link_in (read region.now (link_part cluster)) }
+    ensures value { result ≡ link_in (read region.now (link_part cluster)) }
+    ensures storable { IsLink result }
 {
     let number = LittleEndian::read_u32(region.bytes(part_of(cluster)));
-    if number == NO_CLUSTER {
-        None
-    } else {
-        Some(number)
-    }
+    if number == NONE { None } else { Some(number) }
 }
 
 fn write_link(bytes: &mut [u8], next: Option<u32>)
     requires { length bytes.old ≡ 4 }
     ensures { bytes.new ≡ link_bytes next }
 {
-    LittleEndian::write_u32(bytes, next.unwrap_or(NO_CLUSTER));
+    LittleEndian::write_u32(bytes, next.unwrap_or(NONE));
 }
 
 /// Links a free cluster to the one behind it.

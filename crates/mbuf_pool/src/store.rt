@@ -7,7 +7,7 @@ ghost use Rattle.mbuf_pool.specs.AllOut.{IsAllOut};
 
 use crate::counts::Counts;
 use crate::fault::{BootFault, NoBufs};
-use crate::link::{next_cluster, set_next_cluster};
+use crate::link::{First, next_cluster, set_next_cluster};
 use crate::sizes::Sizes;
 use raw_cells::{Head, Part, Region};
 use std::alloc::{AllocError, Global};
@@ -43,9 +43,9 @@ pub struct Store {
     region: Region,
     mbufs: u32,
     counts: Vec<u16>,
-    first_mbuf: Option<u32>,
+    first_mbuf: First,
     free_mbufs: u32,
-    first_cluster: Option<u32>,
+    first_cluster: First,
     free_clusters: u32,
 }
 
@@ -98,9 +98,9 @@ impl Store {
             region,
             mbufs: sizes.mbufs,
             counts,
-            first_mbuf: None,
+            first_mbuf: First::new(None),
             free_mbufs: 0,
-            first_cluster: None,
+            first_cluster: First::new(None),
             free_clusters: 0,
         })
     }
@@ -129,10 +129,10 @@ impl Store {
         ensures same { OnErr result (self.new ≡ self.old) }
         ensures store { IsStore self.new }
     {
-        let Some(index) = self.first_mbuf else {
+        let Some(index) = self.first_mbuf.get() else {
             return Err(NoBufs);
         };
-        self.first_mbuf = self.region.head(index).next;
+        self.first_mbuf = First::new(self.region.head(index).next);
         self.region.set_head(index, given);
         self.free_mbufs -= 1;
         Ok(index)
@@ -144,8 +144,8 @@ impl Store {
         ensures change { self.new ≡ with_mbuf self.old index None }
         ensures store { IsStore self.new }
     {
-        self.region.set_next(index, self.first_mbuf);
-        self.first_mbuf = Some(index);
+        self.region.set_next(index, self.first_mbuf.get());
+        self.first_mbuf = First::new(Some(index));
         self.free_mbufs += 1;
     }
 
@@ -157,10 +157,10 @@ impl Store {
         ensures same { OnErr result (self.new ≡ self.old) }
         ensures store { IsStore self.new }
     {
-        let Some(cluster) = self.first_cluster else {
+        let Some(cluster) = self.first_cluster.get() else {
             return Err(NoBufs);
         };
-        self.first_cluster = next_cluster(&self.region, cluster);
+        self.first_cluster = First::new(next_cluster(&self.region, cluster));
         self.counts[cluster as usize] = 1;
         self.free_clusters -= 1;
         Ok(cluster)
@@ -186,8 +186,8 @@ impl Store {
         let left = self.counts[cluster as usize] - 1;
         self.counts[cluster as usize] = left;
         if left == FREE {
-            set_next_cluster(&mut self.region, cluster, self.first_cluster);
-            self.first_cluster = Some(cluster);
+            set_next_cluster(&mut self.region, cluster, self.first_cluster.get());
+            self.first_cluster = First::new(Some(cluster));
             self.free_clusters += 1;
         }
     }

@@ -1,7 +1,8 @@
-use Rattle.std.proofs.Common.{◌-◌, ◌∙◌, ap, sym, arith, length}
-use Rattle.raw_cells.specs.Cells.{Cells}
+use Rattle.std.proofs.Common.{ℕ, ◌-◌, Option, ◌∙◌, ap, sym, arith, length}
+use Rattle.raw_cells.specs.Cells.{Cells, write}
+use Rattle.mbuf_pool.specs.Link.{link_part, link_bytes}
 use Rattle.mbuf_pool.proofs.Reading.{counted_index, count_read, cluster_index_is, few_clusters}
-use Rattle.mbuf_pool.proofs.Effects.{hold_less, give_back_as, leaves_store}
+use Rattle.mbuf_pool.proofs.Effects.{first_cluster_is, hold_less, give_back_as, leaves_store}
 use Rattle.mbuf_pool.proofs.store.Store.release.Goals as goal
 
 pub index-requires : goal.index-requires
@@ -16,28 +17,34 @@ index_mut-requires c = omega (arith, counted_index c.self.inside c.args.self.now
 pub set_next_cluster-requires : goal.set_next_cluster-requires
 set_next_cluster-requires c = cluster_index_is c.self.inside c.args.self.now c.self.invariant c.self.view_is c.args.cluster c.requires
 
+pub new-self-inside-requires : goal.new-self-inside-requires
+new-self-inside-requires c = omega (arith, cluster_index_is c.self.inside c.args.self.now c.self.invariant c.self.view_is c.args.cluster c.requires, c.self.invariant.1.2.sized.clusters)
+
 pub overflow_add-self : goal.overflow_add-self
 overflow_add-self c = omega (arith, few_clusters c.self.inside c.self.invariant)
 
 pub invariant_of-self : goal.invariant_of-self
 invariant_of-self c =
     let s = c.self.inside in let v = c.args.self.now in
-    let is = c.index.ensures ∙ count_read s v c.self.invariant c.self.view_is c.args.cluster c.index.result.now c.requires in (
+    let is = c.index.ensures ∙ count_read s v c.self.invariant c.self.view_is c.args.cluster c.index.result.now c.requires in
+    let linked = c.set_next_cluster.ensures ∙ ap (λ (f : Option ℕ). write c.self.inside.region (link_part c.args.cluster) (link_bytes f)) c.get.ensures in (
       c.self.invariant.0 ∙ sym (ap (λ (x : Cells). length x.heads) c.set_next_cluster.ensures),
-      (give_back_as s v c.self.invariant c.self.view_is c.args.cluster (c.index.result.now - 1) c.set_next_cluster.new.region (omega (arith, is, c.requires)) (omega arith) c.set_next_cluster.ensures).account,
+      (first_cluster_is c.new-self-inside.ensures (give_back_as s v c.self.invariant c.self.view_is c.args.cluster (c.index.result.now - 1) c.set_next_cluster.new.region (omega (arith, is, c.requires)) (omega arith) linked)).account,
     )
 
 pub returns-then-left-eq-FREE-clause-change : goal.returns-then-left-eq-FREE-clause-change
 returns-then-left-eq-FREE-clause-change c =
     let s = c.self.inside in let v = c.args.self.now in
     let is = c.index.ensures ∙ count_read s v c.self.invariant c.self.view_is c.args.cluster c.index.result.now c.requires in
-    (give_back_as s v c.self.invariant c.self.view_is c.args.cluster (c.index.result.now - 1) c.set_next_cluster.new.region (omega (arith, is, c.requires)) (omega arith) c.set_next_cluster.ensures).seen
+    let linked = c.set_next_cluster.ensures ∙ ap (λ (f : Option ℕ). write c.self.inside.region (link_part c.args.cluster) (link_bytes f)) c.get.ensures in
+    (first_cluster_is c.new-self-inside.ensures (give_back_as s v c.self.invariant c.self.view_is c.args.cluster (c.index.result.now - 1) c.set_next_cluster.new.region (omega (arith, is, c.requires)) (omega arith) linked)).seen
 
 pub returns-then-left-eq-FREE-clause-store : goal.returns-then-left-eq-FREE-clause-store
 returns-then-left-eq-FREE-clause-store c =
     let s = c.self.inside in let v = c.args.self.now in
     let is = c.index.ensures ∙ count_read s v c.self.invariant c.self.view_is c.args.cluster c.index.result.now c.requires in
-    leaves_store (give_back_as s v c.self.invariant c.self.view_is c.args.cluster (c.index.result.now - 1) c.set_next_cluster.new.region (omega (arith, is, c.requires)) (omega arith) c.set_next_cluster.ensures)
+    let linked = c.set_next_cluster.ensures ∙ ap (λ (f : Option ℕ). write c.self.inside.region (link_part c.args.cluster) (link_bytes f)) c.get.ensures in
+    leaves_store (first_cluster_is c.new-self-inside.ensures (give_back_as s v c.self.invariant c.self.view_is c.args.cluster (c.index.result.now - 1) c.set_next_cluster.new.region (omega (arith, is, c.requires)) (omega arith) linked))
 
 pub returns-else-left-eq-FREE-clause-change : goal.returns-else-left-eq-FREE-clause-change
 returns-else-left-eq-FREE-clause-change c =
