@@ -1,24 +1,20 @@
 -- For the layers above, which have the receive queues: what a table tells of the machines that have its blocks.
-use Rattle.std.proofs.Common.{◌≡◌, ◌≢◌, ℕ, ◌+◌, Bool, true, false, ◌==◌, ◌&&◌, not, nat_lt, cond, List, [], ◌∷◌, ◌++◌, map, filter, find, Option, Some, None, option_map, is_some, is_none, Result, Ok, Err, refl, sym, ap, ◌∙◌, subst, arith}
-use Rattle.std.specs.Prelude.{IsNone, MatchResult, sum_by, if◌then◌else◌}
+use Rattle.std.proofs.Common.{◌≡◌, ◌≢◌, ℕ, ◌+◌, Bool, true, false, ◌==◌, not, nat_lt, cond, List, [], ◌∷◌, ◌++◌, map, filter, find, Option, Some, None, option_map, is_some, refl, sym, ap, ◌∙◌, subst, arith}
+use Rattle.std.specs.Prelude.{IsNone, sum_by, if◌then◌else◌}
 use Rattle.std.specs.List.{range_with_len}
-use Rattle.std.specs.Option.{option_or}
 use Rattle.std.proofs.lemmas.Bool.{eq-eqb, eqb-true, eqb-false, ne_eqb, lt-ltb, true≢false}
 use Rattle.std.proofs.lemmas.List.Sums.{sum_by-cons, sum_by-append}
 use Rattle.std.proofs.lemmas.Option.{none-some, same_Some}
 use Rattle.flat_model.specs.Weight.{Weight, times, all_of}
 use Rattle.flat_model.specs.State.{State, Socket, Datagram, socket_at, change_socket}
-use Rattle.flat_model.specs.Header.{first_fault}
 use Rattle.flat_model.specs.Event.{Reply, Refused}
 use Rattle.flat_model.specs.Calls.{OnSocket, GetsPort}
 use Rattle.flat_model.specs.Cuts.{Part}
-use Rattle.flat_model.specs.Send.{address_faults, counts_send, send_faults, spent, target}
-use Rattle.flat_model.specs.declared.address.Addr.{Addr}
-use Rattle.flat_model.specs.declared.errno.Errno.{Errno}
-use Rattle.flat_model.specs.declared.errno.Errno.TheVariants.{Access, BadDescriptor, DestinationRequired, MessageSize}
+use Rattle.flat_model.specs.Send.{counts_send, spent}
+use Rattle.flat_model.specs.declared.errno.Errno.TheVariants.{BadDescriptor}
 use Rattle.pcb_table.specs.declared.block.Block.{Block}
 use Rattle.pcb_table.specs.Table.{Table, Queues, KeepsOpen, OpensOnly, ClosesOnly, IsOpen, block_at, descriptors, machine, socket_with, sockets_with}
-use Rattle.pcb_table.specs.Found.{ChecksDestination, EnsuresPort}
+use Rattle.pcb_table.specs.Found.{EnsuresPort}
 use Rattle.pcb_table.specs.Sound.{AreApart, has_fd}
 use Rattle.pcb_table.proofs.Searching.{counted-cons}
 use Rattle.pcb_table.proofs.Descriptors.{named_times, sum_in_range}
@@ -188,60 +184,6 @@ by_descriptor t f apart none =
     is_None (Some b) e = absurd (true≢false e)
 
 -- ---- sends
-
--- the first fault of two lists in a row
-pub first_fault-append : {E : Type 0} (faults more : List (Bool × E)) → first_fault (faults ++ more) ≡ option_or (first_fault faults) (first_fault more)
-first_fault-append [] more = refl
-first_fault-append (fault ∷ faults) more = go fault.0 (first_fault-append faults more)
-  where
-    go : (t : Bool) → first_fault (faults ++ more) ≡ option_or (first_fault faults) (first_fault more)
-        → cond t (Some fault.1) (first_fault (faults ++ more)) ≡ option_or (cond t (Some fault.1) (first_fault faults)) (first_fault more)
-    go true e = refl
-    go false e = e
-
--- the faults of a send to all, which come last
-abbrev pub broadcast_faults : State → Socket → Addr → ℕ → List (Bool × Errno)
-broadcast_faults s me to n =
-    let to_all : Bool = to.ip == s.config.bcast in
-    (to_all && not me.broadcast, Access) ∷ (to_all && nat_lt s.config.mtu (n + 28), MessageSize) ∷ []
-
--- of a send of at most 9216 bytes to an address: those of the address, and then these
-pub faults_of_given : (s : State) (me : Socket) (a : Addr) (n : ℕ) → nat_lt 9216 n ≡ false
-    → first_fault (send_faults s me (Some a) n) ≡ option_or (first_fault (address_faults s me (Some a))) (first_fault (broadcast_faults s me (target s me (Some a)) n))
-faults_of_given s me a n small =
-    let front : List (Bool × Errno) = (false, DestinationRequired) ∷ (nat_lt 9216 n, MessageSize) ∷ [] in
-    let of_address : List (Bool × Errno) = address_faults s me (Some a) in
-    let last : List (Bool × Errno) = broadcast_faults s me (target s me (Some a)) n in
-    first_fault-append (front ++ of_address) last
-    ∙ ap (λ o. option_or o (first_fault last)) (first_fault-append front of_address ∙ (λ i. option_or (if (small i) then Some MessageSize else None) (first_fault of_address)))
-
--- of one to the peer: these alone
-pub faults_of_peer : (s : State) (me : Socket) (n : ℕ) → is_some me.peer ≡ true → nat_lt 9216 n ≡ false
-    → first_fault (send_faults s me None n) ≡ first_fault (broadcast_faults s me (target s me None) n)
-faults_of_peer s me n connected small =
-    let last : List (Bool × Errno) = broadcast_faults s me (target s me None) n in
-    λ i. cond (unset me.peer connected i) (Some DestinationRequired) (cond (small i) (Some MessageSize) (first_fault last))
-  where
-    unset : (o : Option Addr) → is_some o ≡ true → is_none o ≡ false
-    unset None e = absurd (true≢false (sym e))
-    unset (Some a) e = refl
-
--- what `check_destination` answers tells the faults of a send there
-pub checked_faults : (t : Table) (fd : ℕ) (a : Addr) (result : Result Addr Errno) → ChecksDestination t fd a result
-    → (rest : State) (queues : Queues) (b : Block) (n : ℕ) → block_at fd t ≡ Some b → nat_lt 9216 n ≡ false
-    → MatchResult result
-    (λ to. (to ≡ target (machine rest queues t) (socket_with queues b) (Some a))
-    × (first_fault (send_faults (machine rest queues t) (socket_with queues b) (Some a) n) ≡ first_fault (broadcast_faults (machine rest queues t) (socket_with queues b) to n)))
-    (λ errno. first_fault (send_faults (machine rest queues t) (socket_with queues b) (Some a) n) ≡ Some errno)
-checked_faults t fd a (Ok to) checks rest queues b n at small =
-    let s : State = machine rest queues t in
-    let me : Socket = socket_with queues b in
-    let passed = checks rest queues b at in
-    (passed.1, faults_of_given s me a n small ∙ (λ i. option_or (passed.0 i) (first_fault (broadcast_faults s me (sym passed.1 i) n))))
-checked_faults t fd a (Err errno) checks rest queues b n at small =
-    let s : State = machine rest queues t in
-    let me : Socket = socket_with queues b in
-    faults_of_given s me a n small ∙ ap (λ o. option_or o (first_fault (broadcast_faults s me (target s me (Some a)) n))) (checks rest queues b at)
 
 -- what `ensure_port` makes of the machine, of which a send counts its parts too
 pub named_port : (old new : Table) (fd port : ℕ) → EnsuresPort old fd port new
