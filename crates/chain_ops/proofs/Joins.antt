@@ -1,6 +1,6 @@
 -- Laws of joins, over lists of entries.
-use Rattle.std.proofs.Common.{◌≡◌, ℕ, zero, suc, ◌+◌, ◌-◌, ◌*◌, ◌/◌, ◌<◌, ◌≤◌, cond, Bool, true, false, List, [], ◌∷◌, ◌++◌, length, take, drop, Option, None, Some, is_some, refl, sym, ap, ◌∙◌, arith, append_assoc}
-use Rattle.std.specs.Prelude.{slice_set, nat_lt, nat_le, not}
+use Rattle.std.proofs.Common.{◌≡◌, ℕ, zero, suc, ◌+◌, ◌-◌, ◌*◌, ◌/◌, ◌<◌, ◌≤◌, cond, Bool, true, false, List, [], ◌∷◌, ◌++◌, length, take, drop, Option, None, Some, is_some, refl, sym, ap, ◌∙◌, subst, arith, append_assoc}
+use Rattle.std.specs.Prelude.{slice_set, nat_le, not}
 use Rattle.std.proofs.lemmas.Bool.{cond-true, cond-false, lt-ltb, le-ltb, le-leb, lt-leb, eq-eqb, ne_eqb, leb-true, not-true, and_parts}
 use Rattle.std.proofs.lemmas.List.{take_all, take-set-le, take_more, get_or-set_same, length-set, length-append, length-take}
 use Rattle.mbuf_chain.specs.declared.place.Place.{Place}
@@ -12,9 +12,10 @@ use Rattle.chain_ops.specs.Prepends.{prepended, prepended_front, prepend_need}
 use Rattle.chain_ops.specs.Rooms.{room_low, at_end}
 use Rattle.chain_ops.specs.Makes.{Makes}
 use Rattle.mbuf_chain.proofs.Laws.Owners.{shown_with}
+use Rattle.mbuf_chain.proofs.Laws.Steps.{linked_front}
 use Rattle.chain_ops.proofs.Lists.{at_entry}
 use Rattle.chain_ops.proofs.Laws.Steps.{none_of}
-use Rattle.chain_ops.proofs.Laws.Makes.{makes_new, makes_in_place, linked_front}
+use Rattle.chain_ops.proofs.Laws.Makes.{makes_new, makes_in_place}
 
 -- an entry with room behind its bytes is plain
 pub plain_with_room : (e : Entry) (n : ℕ) → n < back_room e → e.cluster ≡ None
@@ -110,6 +111,13 @@ prepended_in p q c at xs place first fits is =
       entries = m.entries ∙ set_first v.entries (with_front (entry_of v 0) xs) (omega (arith, place.within)) ∙ sym (cond-true {A = List Entry} _ _ _ test);
     }
 
+-- a chain linked behind a new one, where the numbers are told by equations
+linked_as : (p r t : PoolView) (c c' d d' : ℕ) (w : ChainView) → c' ≡ c → d' ≡ d → IsLive p c → Adds p r d w
+    → t ≡ with_chain (without r c') d' (joined (chain_of r d') (chain_of r c')) → Adds (without p c) t d' (joined w (chain_of p c))
+linked_as p r t c c' d d' w ec ed live a is =
+    linked_front p r t c d' w live (subst (λ (k : ℕ). Adds p r k w) (sym ed) a)
+    (is ∙ ap (λ (k : ℕ). with_chain (without r k) d' (joined (chain_of r d') (chain_of r k))) ec)
+
 -- bytes put into an mbuf of their own in front
 pub prepended_new : (p r t : PoolView) (c c' d d' start : ℕ) (h : Bool) (xs : List ℕ) → h ≡ (chain_of p c).front.header → front_room (chain_of p c) 0 < length xs → start ≡ at_end h (length xs) → c' ≡ c → d' ≡ d → IsLive p c
     → Adds p r d (one_mbuf h (with_back (empty_entry start None) xs) d)
@@ -118,7 +126,7 @@ pub prepended_new : (p r t : PoolView) (c c' d d' start : ℕ) (h : Bool) (xs : 
 prepended_new p r t c c' d d' start h xs eh lacks at ec ed live a is =
     let v : ChainView = chain_of p c in
     let test : nat_le (length xs) (front_room v 0) ≡ false = lt-leb (length xs) (front_room v 0) lacks in
-    let m = makes_new (linked_front p r t c c' d d' _ ec ed live a is) in
+    let m = makes_new (linked_as p r t c c' d d' _ ec ed live a is) in
     let at' : start ≡ at_end v.front.header (length xs) = at ∙ ap (λ (b : Bool). at_end b (length xs)) eh in
     record {
       adds = m.adds;

@@ -4,6 +4,5 @@ mod Splits
 mod Stored
 mod Sent
 mod Trims
-mod Two
 mod Writes
 pub mod Laws

@@ -10,9 +10,9 @@ use Rattle.chain_ops.specs.Rooms.{end_entry}
 use Rattle.std.specs.Prelude.{slice_set}
 use Rattle.std.specs.Option.{MatchOption}
 use Rattle.mbuf_chain.specs.declared.place.Place.{Place}
+use Rattle.mbuf_chain.proofs.Laws.Steps.{new_entry, filled}
 use Rattle.chain_ops.proofs.Lists.{at_entry}
 use Rattle.chain_ops.specs.Splits.{rest_of, split_front, split_back, split_need}
-use Rattle.chain_ops.proofs.Laws.Steps.{new_entry, filled}
 
 -- a plain mbuf that got the last bytes of another at its end
 pub end_made : (p q r : PoolView) (c i start : ℕ) (e e' : Entry) (off n : ℕ) → off + n ≡ length e.bytes → start ≡ at_end true n → e' ≡ e

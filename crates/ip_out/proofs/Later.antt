@@ -6,10 +6,10 @@ use Rattle.mbuf_chain.specs.declared.place.Place.{Place}
 use Rattle.mbuf_chain.specs.Chain.{Entry, ChainView, PoolView, IsLive, IsPlace, chain_of, entry_in, alone, string, flat_bytes, with_chain, without, Adds}
 use Rattle.mbuf_chain.specs.Steps.{one_mbuf, empty_entry, with_entry, with_entry_in, with_back, joined}
 use Rattle.mbuf_chain.proofs.Laws.Owners.{live_adds, shown_adds}
-use Rattle.mbuf_chain.proofs.Laws.Steps.{live_beside, apart, new_entry, filled}
+use Rattle.mbuf_chain.proofs.Laws.Steps.{live_beside, apart, new_entry, filled, linked_new}
 use Rattle.chain_ops.specs.Makes.{Makes}
 use Rattle.chain_ops.specs.Copies.{copied, copy_header}
-use Rattle.chain_ops.proofs.Laws.Makes.{makes_new, makes_then, makes_as, makes_kept, linked_new}
+use Rattle.chain_ops.proofs.Laws.Makes.{makes_new, makes_then, makes_as, makes_kept}
 use Rattle.chain_ops.proofs.Laws.Strings.{copied_bytes}
 use Rattle.ip_out.specs.declared.head.IpHead.{IpHead}
 use Rattle.ip_out.specs.Headings.{head_bytes}

@@ -7,9 +7,8 @@ use Rattle.mbuf_chain.specs.declared.place.Place.{Place}
 use Rattle.mbuf_chain.specs.declared.place.Segment.{Segment}
 use Rattle.mbuf_chain.specs.Chain.{Entry, ChainView, PoolView, chain_of, entry_of, string, room_start, room_end, IsLive, IsPlace, IsUnshared, with_chain, Adds}
 use Rattle.mbuf_chain.specs.Steps.{one_mbuf, empty_entry, with_entry, with_back}
-use Rattle.mbuf_chain.proofs.Laws.Maps.{insert-insert}
-use Rattle.mbuf_chain.proofs.Laws.Owners.{shown_with, shown_adds, kept_with}
-use Rattle.mbuf_chain.proofs.Laws.Steps.{apart}
+use Rattle.mbuf_chain.proofs.Laws.Owners.{shown_adds, kept_with}
+use Rattle.mbuf_chain.proofs.Laws.Steps.{apart, new_entry, filled}
 use Rattle.chain_ops.specs.Rooms.{room_low}
 use Rattle.chain_ops.specs.Copies.{copied_entry}
 
@@ -47,20 +46,6 @@ copy_room v i header skip n plain low high headed within = go header headed
     go true hd =
         let both = hd refl in
         omega (arith, end, start, cond-true {A = ℕ} v.front.header (cond {A = ℕ} (i == 0) 28 20) 20 both.0, cond-true {A = ℕ} (i == 0) 28 20 (eq-eqb i 0 both.1))
-
--- ---- a new chain of one mbuf, filled
-pub new_entry : (p q : PoolView) (c i : ℕ) (header : Bool) (e : Entry) → Adds p q c (one_mbuf header e c) → i ≡ 0 → entry_of (chain_of q c) i ≡ e
-new_entry p q c i header e a zero = ap (λ (v : ChainView). entry_of v i) (shown_with p q c (one_mbuf header e c) a.pool) ∙ ap (entry_of (one_mbuf header e c)) zero
-
-pub filled : (p q r : PoolView) (c i : ℕ) (header : Bool) (old new : Entry) → Adds p q c (one_mbuf header old c) → i ≡ 0 → r ≡ with_chain q c (with_entry (chain_of q c) i new) → Adds p r c (one_mbuf header new c)
-filled p q r c i header old new a zero is =
-    let entry : with_entry (chain_of q c) i new ≡ one_mbuf header new c =
-    ap (λ (v : ChainView). with_entry v i new) (shown_with p q c (one_mbuf header old c) a.pool) ∙ ap (λ (j : ℕ). with_entry (one_mbuf header old c) j new) zero in
-    record {
-      fresh = a.fresh;
-      pool = is ∙ ap (with_chain q c) entry ∙ ap (λ (s : PoolView). with_chain s c (one_mbuf header new c)) a.pool
-          ∙ (λ j. record { mbufs = p.mbufs; clusters = p.clusters; chains = insert-insert p.chains c (one_mbuf header old c) (one_mbuf header new c) j });
-    }
 
 -- a plain mbuf that got bytes of a plain entry is a copy
 pub copy_made : (p q r : PoolView) (c i start : ℕ) (header : Bool) (e e' : Entry) (skip n : ℕ) → e.cluster ≡ None → start ≡ room_low header → e' ≡ e

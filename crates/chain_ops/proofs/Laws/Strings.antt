@@ -1,6 +1,6 @@
 -- What the operations make of a chain's bytes: list operations, whatever the layout.
 use Rattle.std.proofs.Common.{◌≡◌, ℕ, zero, suc, ◌-◌, ◌<◌, ◌≤◌, min, Bool, true, false, cond, List, [], ◌∷◌, ◌++◌, length, take, drop, refl, sym, ap, ◌∙◌, arith, inl, inr, append_assoc, append-nil}
-use Rattle.std.specs.Prelude.{◌⊎◌, ◌&&◌, ℤ, pos, negsuc, nat_lt, nat_le, nat_eq, is_some, None}
+use Rattle.std.specs.Prelude.{◌⊎◌, ℤ, pos, negsuc, nat_le, is_some, None}
 use Rattle.std.proofs.lemmas.Bool.{cases_lt, cond-true, cond-false, eq-eqb, ne_eqb, lt-ltb, le-ltb}
 use Rattle.std.proofs.lemmas.List.{take_all, drop_all, take_rest, take-append-drop, drop-append-le}
 use Rattle.mbuf_chain.specs.Chain.{Entry, ChainView, entry_of, no_entry, flat_bytes, string, back_room}

@@ -1,8 +1,8 @@
 use Rattle.mbuf_chain.specs.Chain.{chain_of}
 use Rattle.mbuf_chain.specs.Steps.{first_part}
 use Rattle.mbuf_chain.proofs.Laws.Owners.{live_here}
-use Rattle.mbuf_chain.proofs.Laws.Steps.{live_beside}
-use Rattle.chain_ops.proofs.Laws.Makes.{makes_new, cut_freed}
+use Rattle.mbuf_chain.proofs.Laws.Steps.{live_beside, cut_freed}
+use Rattle.chain_ops.proofs.Laws.Makes.{makes_new}
 use Rattle.chain_ops.proofs.cat.drop_first.Goals as goal
 
 pub free_chain-requires-2 : goal.free_chain-requires-2

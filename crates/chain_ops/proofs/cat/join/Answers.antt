@@ -1,14 +1,14 @@
 use Rattle.std.proofs.Common.{◌≡◌, ℕ, ◌++◌, List, [], length, take, drop, arith, ap, sym, refl, ◌∙◌}
 use Rattle.std.proofs.lemmas.List.{length-drop}
 use Rattle.mbuf_chain.specs.declared.place.Segment.{Segment}
-use Rattle.mbuf_chain.specs.Chain.{Entry, ChainView, PoolView, chain_of, entry_of, flat_bytes}
+use Rattle.mbuf_chain.specs.Chain.{Entry, ChainView, PoolView, chain_of, entry_of}
 use Rattle.mbuf_chain.proofs.Laws.Owners.{shown_with, kept_with, chain_left}
 use Rattle.mbuf_chain.proofs.Laws.Steps.{place_after}
 use Rattle.chain_ops.specs.Joins.{filled_up}
-use Rattle.chain_ops.proofs.Laws.Strings.{cat_bytes}
+use Rattle.chain_ops.proofs.Laws.Makes.{makes_new}
 use Rattle.chain_ops.proofs.Laws.Steps.{place_in}
 use Rattle.chain_ops.proofs.Trims.{length_now}
-use Rattle.chain_ops.proofs.Two.{two_start, two_first, two_next, kept_next, two_freed, two_linked}
+use Rattle.mbuf_chain.proofs.Laws.Two.{two_start, two_first, two_next, kept_next, two_freed, two_linked}
 use Rattle.chain_ops.proofs.Joins.{cat_last, last_split, fill_end, one_entry, first_split, cat_moved}
 use Rattle.chain_ops.proofs.cat.join.Goals as goal
 
@@ -25,7 +25,7 @@ pub returns-then-back_room-len-clause-makes : goal.returns-then-back_room-len-cl
 returns-then-back_room-len-clause-makes c =
     let v : ChainView = chain_of c.mbufs.pool c.args.chain.now in
     let w : ChainView = chain_of c.mbufs.pool c.mbufs.back in
-    let m = two_linked c.link.new.self _ c.mbufs.invariant.two c.link.ensures.change in
+    let m = makes_new (two_linked c.link.new.self _ c.mbufs.invariant.two c.link.ensures.change) in
     let shown = shown_with _ c.link.new.self _ _ c.link.ensures.change in
     let split = first_split w c.first-from.result c.first-from.ensures.place c.first-from.ensures.index in
     let len = ap (λ (x : Segment). x.len) c.segment-len.ensures.value in
@@ -50,7 +50,7 @@ returns-in_default-clause-makes c =
     let w : ChainView = chain_of c.mbufs.pool c.mbufs.back in
     let i : ℕ = c.args.last.index in
     let two = two_first c.append.new.self _ c.mbufs.invariant.two c.append.ensures in
-    let m = two_freed c.drop_first.new.pool two c.in_default.ensures.1 in
+    let m = makes_new (two_freed c.drop_first.new.pool two c.in_default.ensures.1) in
     let len = ap (λ (x : Segment). x.len) c.segment-len.ensures.value in
     let now : ChainView = chain_of c.append.new.self c.args.chain.now in
     let same : chain_of c.drop_first.new.pool c.args.chain.now ≡ now = ap (λ (s : PoolView). chain_of s c.args.chain.now) c.in_default.ensures.1 ∙ chain_left c.append.new.self c.mbufs.back c.args.chain.now two.apart in
@@ -78,8 +78,8 @@ pub mbufs-preserved : goal.mbufs-preserved
 mbufs-preserved c =
     let i : ℕ = c.args.last.index in
     let two = two_first c.append.new.self _ c.mbufs.invariant.two c.append.ensures in
-    let next = two_next c.drop_first.new.pool c.in-Some.rest two c.in-Some.ensures in
-    let same = kept_next c.drop_first.new.pool c.in-Some.rest two c.in-Some.ensures in
+    let next = two_next c.drop_first.new.pool c.in-Some.rest two c.in-Some.ensures.adds in
+    let same = kept_next c.drop_first.new.pool c.in-Some.rest two c.in-Some.ensures.adds in
     let len = ap (λ (x : Segment). x.len) c.segment-len.ensures.value in
     let kept = kept_with c.mbufs.pool c.append.new.self c.args.chain.now _ c.mbufs.back c.append.ensures (λ e. c.mbufs.invariant.two.apart (sym e)) in
     let moved = cat_moved c.mbufs.pool c.append.new.self c.args.chain.now c.mbufs.back c.args.last c.first-from.result c.segment-len.result.len c.append.ensures c.mbufs.invariant.place c.first-from.ensures.place c.first-from.ensures.index len (omega (arith, c.if-back_room-len.false, c.back_room.ensures.value)) in

@@ -1,4 +1,4 @@
-use Rattle.std.proofs.Common.{◌≡◌, ℕ, List, drop, ap, sym, ◌∙◌, arith}
+use Rattle.std.proofs.Common.{◌≡◌, List, drop, ap, sym, ◌∙◌, arith}
 use Rattle.mbuf_chain.specs.Chain.{Entry, chain_of, references}
 use Rattle.chain_ops.specs.Writes.{is_writable}
 use Rattle.chain_ops.proofs.Writes.{writable-none}

@@ -1,11 +1,11 @@
-use Rattle.std.proofs.Common.{◌≡◌, ℕ, ◌+◌, ◌-◌, ◌≤◌, ◌++◌, Bool, true, List, [], length, drop, replicate, arith, ap, sym, refl, ◌∙◌, append-nil}
-use Rattle.std.proofs.lemmas.List.{length-append, length-drop, length-replicate, drop_all}
-use Rattle.mbuf_chain.specs.Chain.{Entry, ChainView, PoolView, chain_of, flat_bytes, references}
+use Rattle.std.proofs.Common.{◌≡◌, ℕ, ◌+◌, ◌-◌, ◌≤◌, ◌++◌, true, List, length, drop, replicate, arith, ap, sym, ◌∙◌, append-nil}
+use Rattle.std.proofs.lemmas.List.{length-append, length-drop, length-replicate}
+use Rattle.mbuf_chain.specs.Chain.{Entry, ChainView, PoolView, chain_of, flat_bytes}
 use Rattle.mbuf_chain.proofs.Laws.Owners.{shown_with, kept_with}
 use Rattle.mbuf_chain.proofs.Laws.Steps.{live_shown}
 use Rattle.chain_ops.specs.Writes.{is_writable, overlaid, in_plain, tail_of}
-use Rattle.chain_ops.proofs.Laws.Makes.{makes_in_place, makes_kept, makes_held, makes_mbufs}
-use Rattle.chain_ops.proofs.Two.{two_new, two_first, two_linked}
+use Rattle.chain_ops.proofs.Laws.Makes.{makes_new, makes_in_place, makes_kept}
+use Rattle.mbuf_chain.proofs.Laws.Two.{two_new, two_first, two_linked}
 use Rattle.chain_ops.proofs.Writes.{in_plain-none, in_plain_bytes, plain_counts, copied_back_bytes}
 use Rattle.chain_ops.proofs.copyback.m_copyback.Goals as goal
 
@@ -33,7 +33,7 @@ returns-then-end-len-clause-string c =
     ap flat_bytes m.entries ∙ copied_back_bytes (chain_of c.args.pool.now c.args.chain.now).entries c.args.off c.args.bytes.now
 
 pub overlay-requires-2-clause-live : goal.overlay-requires-2-clause-live
-overlay-requires-2-clause-live c = let two = two_new c.args.chain.now c.requires.live c.in_ok-tail.ensures.ok in two.live_first
+overlay-requires-2-clause-live c = let two = two_new c.args.chain.now c.requires.live c.in_ok-tail.ensures.ok.adds in two.live_first
 
 pub overlay-requires-2-clause-writable : goal.overlay-requires-2-clause-writable
 overlay-requires-2-clause-writable c =
@@ -46,13 +46,13 @@ last-last-requires c = live_shown _ _ _ _ c.overlay-2.ensures
 
 pub link_counted-requires-clause-back : goal.link_counted-requires-clause-back
 link_counted-requires-clause-back c =
-    let two = two_first c.overlay-2.new.pool _ (two_new c.args.chain.now c.requires.live c.in_ok-tail.ensures.ok) c.overlay-2.ensures in
+    let two = two_first c.overlay-2.new.pool _ (two_new c.args.chain.now c.requires.live c.in_ok-tail.ensures.ok.adds) c.overlay-2.ensures in
     two.live_second
 
 pub link_counted-requires-clause-len : goal.link_counted-requires-clause-len
 link_counted-requires-clause-len c =
     let q : PoolView = c.new_tail.new.pool in
-    let two = two_new c.args.chain.now c.requires.live c.in_ok-tail.ensures.ok in
+    let two = two_new c.args.chain.now c.requires.live c.in_ok-tail.ensures.ok.adds in
     let xs : List ℕ = c.behind-rest.result.now in
     let z : ℕ = c.saturating_sub-2.result in
     let kept = kept_with q c.overlay-2.new.pool c.args.chain.now _ c.in_ok-tail.tail c.overlay-2.ensures (λ e. two.apart (sym e)) in
@@ -80,9 +80,9 @@ returns-clause-ok c =
     let d : ℕ = c.in_ok-tail.tail in
     let off : ℕ = c.args.off in
     let xs : List ℕ = c.args.bytes.now in
-    let two = two_new k c.requires.live c.in_ok-tail.ensures.ok in
+    let two = two_new k c.requires.live c.in_ok-tail.ensures.ok.adds in
     let two' = two_first r _ two c.overlay-2.ensures in
-    let m = two_linked s _ two' c.link_counted.ensures.change in
+    let m = makes_new (two_linked s _ two' c.link_counted.ensures.change) in
     let shown = shown_with _ s _ _ c.link_counted.ensures.change in
     let front = shown_with q r k _ c.overlay-2.ensures in
     let was = makes_kept k c.in_ok-tail.ensures.ok c.requires.live in

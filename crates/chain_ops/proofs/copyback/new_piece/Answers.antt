@@ -1,10 +1,10 @@
-use Rattle.std.proofs.Common.{◌≡◌, ℕ, ◌+◌, ◌++◌, false, None, List, length, take, replicate, arith, ap, sym, refl, ◌∙◌, subst}
-use Rattle.std.proofs.lemmas.List.{length-append, length-take, length-replicate}
+use Rattle.std.proofs.Common.{◌≡◌, ℕ, ◌+◌, ◌++◌, false, None, List, length, take, replicate, arith, ap, sym, ◌∙◌, subst}
+use Rattle.std.proofs.lemmas.List.{length-take, length-replicate}
 use Rattle.mbuf_chain.specs.Chain.{Entry, PoolView, HasBackRoom, chain_of, entry_in, with_chain, entry_of, Adds}
 use Rattle.mbuf_chain.specs.Steps.{one_mbuf, with_back, with_entry, empty_entry}
 use Rattle.mbuf_chain.proofs.Laws.Owners.{live_adds}
-use Rattle.mbuf_chain.proofs.Laws.Steps.{place_after}
-use Rattle.chain_ops.proofs.Laws.Steps.{plain_unshared, new_entry, filled}
+use Rattle.mbuf_chain.proofs.Laws.Steps.{place_after, new_entry, filled}
+use Rattle.chain_ops.proofs.Laws.Steps.{plain_unshared}
 use Rattle.chain_ops.proofs.Writes.{tail_first}
 use Rattle.chain_ops.proofs.copyback.new_piece.Goals as goal
 

@@ -1,12 +1,11 @@
-use Rattle.std.proofs.Common.{◌≡◌, ℕ, ◌+◌, ◌-◌, ◌<◌, ◌≤◌, ◌++◌, min, false, Result, Ok, Err, OnErr, List, [], ◌∷◌, length, take, drop, replicate, None, arith, ap, sym, refl, ◌∙◌, append_assoc, append-nil}
+use Rattle.std.proofs.Common.{◌≡◌, ℕ, ◌+◌, ◌-◌, ◌<◌, ◌++◌, Result, Ok, Err, OnErr, List, [], ◌∷◌, length, take, drop, replicate, None, arith, ap, sym, refl, ◌∙◌, append_assoc, append-nil}
 use Rattle.std.proofs.lemmas.List.{length-append, length-take, length-replicate, length-drop}
-use Rattle.mbuf_chain.specs.Chain.{Entry, ChainView, PoolView, alone, chain_of, without}
-use Rattle.mbuf_chain.specs.Steps.{one_mbuf}
+use Rattle.mbuf_chain.specs.Chain.{Entry, ChainView, PoolView, chain_of, without}
 use Rattle.mbuf_chain.proofs.Laws.Owners.{live_adds}
-use Rattle.mbuf_chain.proofs.Laws.Steps.{live_beside, live_shown, place_beside}
+use Rattle.mbuf_chain.proofs.Laws.Steps.{live_beside, live_shown, place_beside, linked_new}
 use Rattle.chain_ops.specs.Makes.{LacksMbufs}
 use Rattle.chain_ops.specs.Writes.{in_plain}
-use Rattle.chain_ops.proofs.Laws.Makes.{makes_new, makes_then, makes_undone, makes_held, makes_mbufs, linked_new}
+use Rattle.chain_ops.proofs.Laws.Makes.{makes_new, makes_then, makes_undone, makes_held, makes_mbufs}
 use Rattle.chain_ops.proofs.Laws.Steps.{kept_adds, string_one}
 use Rattle.chain_ops.proofs.Writes.{in_plain-some, in_plain-none, tail_left}
 use Rattle.chain_ops.proofs.copyback.new_tail.Goals as goal

@@ -1,7 +1,7 @@
-use Rattle.std.proofs.Common.{◌≡◌, ℕ, ◌-◌, length, take, ap, sym, ◌∙◌, arith}
+use Rattle.std.proofs.Common.{ℕ, ◌-◌, ap, sym, ◌∙◌, arith}
 use Rattle.mbuf_chain.specs.declared.place.Segment.{Segment}
-use Rattle.mbuf_chain.specs.Chain.{Entry, ChainView, PoolView, chain_of, entry_of, with_chain}
-use Rattle.mbuf_chain.specs.Steps.{with_entry, overwritten}
+use Rattle.mbuf_chain.specs.Chain.{Entry, PoolView, chain_of, entry_of, with_chain}
+use Rattle.mbuf_chain.specs.Steps.{with_entry}
 use Rattle.chain_ops.proofs.Trims.{changed_none}
 use Rattle.chain_ops.proofs.Writes.{unshared_at, overwritten-past, with_entry-same}
 use Rattle.chain_ops.proofs.copyback.overlay_mbuf.Goals as goal

@@ -2,8 +2,8 @@ use Rattle.std.proofs.Common.{ℕ, length, arith, ap, sym, ◌∙◌, subst}
 use Rattle.mbuf_chain.specs.Chain.{Entry, ChainView, PoolView, IsLive, IsPlace, HasBackRoom, chain_of, entry_in, front_room, with_chain, flat_bytes}
 use Rattle.mbuf_chain.specs.Steps.{with_back, with_entry}
 use Rattle.mbuf_chain.proofs.Laws.Owners.{live_adds, shown_adds}
-use Rattle.mbuf_chain.proofs.Laws.Steps.{live_beside, place_after}
-use Rattle.chain_ops.proofs.Laws.Steps.{plain_unshared, new_entry, filled}
+use Rattle.mbuf_chain.proofs.Laws.Steps.{live_beside, place_after, new_entry, filled}
+use Rattle.chain_ops.proofs.Laws.Steps.{plain_unshared}
 use Rattle.chain_ops.proofs.Laws.Strings.{prepended_bytes}
 use Rattle.chain_ops.proofs.Joins.{prepended_in, prepended_new, at_end_fits, need_none, need_one, low_at_most}
 use Rattle.chain_ops.specs.Rooms.{room_low}

@@ -7,9 +7,10 @@ use Rattle.mbuf_chain.specs.Steps.{narrowed}
 use Rattle.mbuf_chain.proofs.Laws.Owners.{shown_with, kept_with, chain_left}
 use Rattle.mbuf_chain.proofs.Laws.Steps.{place_after}
 use Rattle.chain_ops.specs.Pulls.{moved}
+use Rattle.chain_ops.proofs.Laws.Makes.{makes_new}
 use Rattle.chain_ops.proofs.Laws.Steps.{place_in}
 use Rattle.chain_ops.proofs.Trims.{length_now, entries_now}
-use Rattle.chain_ops.proofs.Two.{two_start, two_first, two_second, two_next, kept_next, two_freed, two_linked}
+use Rattle.mbuf_chain.proofs.Laws.Two.{two_start, two_first, two_second, two_next, kept_next, two_freed, two_linked}
 use Rattle.chain_ops.proofs.Joins.{last_split, one_entry, first_split, pull_moved, part_step, stop_step, entry_now, room_left, first_bytes, set_first}
 use Rattle.chain_ops.proofs.pullup.pull.Goals as goal
 
@@ -89,7 +90,7 @@ returns-then-left-size c =
     let j : ℕ = c.first-from.result.index in
     let two = two_first c.append.new.self _ c.mbufs.invariant.two c.append.ensures in
     let two' = two_second c.narrow.new.self _ two c.narrow.ensures in
-    let m = two_linked c.link_rest.new.pool _ two' c.link_rest.ensures in
+    let m = makes_new (two_linked c.link_rest.new.pool _ two' c.link_rest.ensures) in
     let kept = kept_with c.mbufs.pool c.append.new.self c.args.into.now _ c.mbufs.back c.append.ensures (λ e. c.mbufs.invariant.two.apart (sym e)) in
     let kept' = kept_with c.append.new.self c.narrow.new.self c.mbufs.back _ c.args.into.now c.narrow.ensures c.mbufs.invariant.two.apart in
     let shown = shown_with _ c.link_rest.new.pool _ _ c.link_rest.ensures in
@@ -113,7 +114,7 @@ returns-in_default c =
     let w : ChainView = chain_of c.mbufs.pool c.mbufs.back in
     let i : ℕ = c.args.last.index in
     let two = two_first c.append-in-mbufs.new.self _ c.mbufs.invariant.two c.append-in-mbufs.ensures in
-    let m = two_freed c.drop_first.new.pool two c.in_default.ensures.1 in
+    let m = makes_new (two_freed c.drop_first.new.pool two c.in_default.ensures.1) in
     let len = ap (λ (x : Segment). x.len) c.segment-size.ensures.value in
     let now : ChainView = chain_of c.append-in-mbufs.new.self c.args.into.now in
     let same : chain_of c.drop_first.new.pool c.args.into.now ≡ now = ap (λ (s : PoolView). chain_of s c.args.into.now) c.in_default.ensures.1 ∙ chain_left c.append-in-mbufs.new.self c.mbufs.back c.args.into.now two.apart in
@@ -142,8 +143,8 @@ mbufs-preserved c =
     let v : ChainView = chain_of c.mbufs.pool c.args.into.now in
     let i : ℕ = c.args.last.index in
     let two = two_first c.append-in-mbufs.new.self _ c.mbufs.invariant.two c.append-in-mbufs.ensures in
-    let next = two_next c.drop_first.new.pool c.in-Some.rest two c.in-Some.ensures in
-    let same = kept_next c.drop_first.new.pool c.in-Some.rest two c.in-Some.ensures in
+    let next = two_next c.drop_first.new.pool c.in-Some.rest two c.in-Some.ensures.adds in
+    let same = kept_next c.drop_first.new.pool c.in-Some.rest two c.in-Some.ensures.adds in
     let len = ap (λ (x : Segment). x.len) c.segment-size.ensures.value in
     let kept = kept_with c.mbufs.pool c.append-in-mbufs.new.self c.args.into.now _ c.mbufs.back c.append-in-mbufs.ensures (λ e. c.mbufs.invariant.two.apart (sym e)) in
     let step = pull_moved c.mbufs.pool c.append-in-mbufs.new.self c.args.into.now c.mbufs.back c.args.last c.first-from.result c.segment-size.result.len c.mbufs.left c.append-in-mbufs.ensures c.mbufs.invariant.place c.first-from.ensures.place c.first-from.ensures.index len c.mbufs-test.true c.if-left-size.false in
@@ -173,7 +174,7 @@ pub returns : goal.returns
 returns c =
     let v : ChainView = chain_of c.mbufs.pool c.args.into.now in
     let w : ChainView = chain_of c.mbufs.pool c.mbufs.back in
-    let m = two_linked c.link_rest-2.new.pool _ c.mbufs.invariant.two c.link_rest-2.ensures in
+    let m = makes_new (two_linked c.link_rest-2.new.pool _ c.mbufs.invariant.two c.link_rest-2.ensures) in
     let shown = shown_with _ c.link_rest-2.new.pool _ _ c.link_rest-2.ensures in
     record {
       adds = m.adds;

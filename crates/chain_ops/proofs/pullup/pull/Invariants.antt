@@ -1,7 +1,7 @@
 use Rattle.std.proofs.Common.{◌≡◌, ◌+◌, ◌++◌, true, None, length, take}
 use Rattle.mbuf_chain.specs.Chain.{IsPlace, HasBackRoom, chain_of, entry_of, string, without}
 use Rattle.chain_ops.specs.Pulls.{moved}
-use Rattle.chain_ops.proofs.Two.{HasTwo}
+use Rattle.mbuf_chain.proofs.Laws.Two.{HasTwo}
 use Rattle.chain_ops.proofs.pullup.pull.Given as goal
 
 abbrev pub invariant-mbufs : goal.invariant-mbufs

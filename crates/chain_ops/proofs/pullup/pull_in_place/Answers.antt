@@ -4,10 +4,10 @@ use Rattle.mbuf_chain.specs.declared.place.Segment.{Segment}
 use Rattle.mbuf_chain.specs.Chain.{Entry, ChainView, PoolView, Adds, HasBackRoom, chain_of, entry_of, with_chain, flat_bytes}
 use Rattle.mbuf_chain.specs.Steps.{first_part}
 use Rattle.mbuf_chain.proofs.Laws.Owners.{live_here, live_adds, shown_adds, chain_here}
-use Rattle.mbuf_chain.proofs.Laws.Steps.{live_beside, apart}
+use Rattle.mbuf_chain.proofs.Laws.Steps.{live_beside, apart, base_cut}
 use Rattle.chain_ops.specs.Pulls.{moved}
 use Rattle.chain_ops.proofs.Laws.Steps.{kept_adds}
-use Rattle.chain_ops.proofs.Laws.Makes.{makes_as, makes_in_place, base_cut}
+use Rattle.chain_ops.proofs.Laws.Makes.{makes_as, makes_in_place}
 use Rattle.chain_ops.proofs.Trims.{changed_none}
 use Rattle.chain_ops.proofs.Joins.{first_entry, first_split, room_plain, room_back, moved-none, first_bytes}
 use Rattle.chain_ops.proofs.pullup.pull_in_place.Goals as goal

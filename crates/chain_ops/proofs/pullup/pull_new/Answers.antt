@@ -3,11 +3,11 @@ use Rattle.mbuf_chain.specs.Chain.{Entry, ChainView, PoolView, IsLive, HasBackRo
 use Rattle.mbuf_chain.specs.Steps.{empty_entry}
 use Rattle.mbuf_chain.proofs.Laws.Owners.{live_adds, shown_adds}
 use Rattle.mbuf_chain.proofs.Laws.Accounts.{held-adds}
-use Rattle.mbuf_chain.proofs.Laws.Steps.{live_beside}
+use Rattle.mbuf_chain.proofs.Laws.Steps.{live_beside, new_entry, base_new}
 use Rattle.chain_ops.specs.Rooms.{room_low}
 use Rattle.chain_ops.specs.Pulls.{moved}
-use Rattle.chain_ops.proofs.Laws.Steps.{new_entry, kept_adds}
-use Rattle.chain_ops.proofs.Laws.Makes.{makes_as, base_new}
+use Rattle.chain_ops.proofs.Laws.Steps.{kept_adds}
+use Rattle.chain_ops.proofs.Laws.Makes.{makes_as}
 use Rattle.chain_ops.proofs.Joins.{low_at_most}
 use Rattle.chain_ops.proofs.pullup.pull_new.Goals as goal
 

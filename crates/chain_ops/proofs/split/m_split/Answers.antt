@@ -13,7 +13,7 @@ use Rattle.chain_ops.proofs.Laws.Makes.{makes_new, makes_as, makes_held, makes_m
 use Rattle.chain_ops.proofs.Laws.Strings.{split_front_bytes, split_back_bytes}
 use Rattle.chain_ops.proofs.Laws.Steps.{place_in, kept_adds}
 use Rattle.chain_ops.proofs.Trims.{entries_now, length_now}
-use Rattle.chain_ops.proofs.Two.{two_new, two_first, two_moved, two_parts}
+use Rattle.mbuf_chain.proofs.Laws.Two.{two_new, two_first, two_moved, two_parts}
 use Rattle.chain_ops.proofs.Splits.{front_done, back_done, need_done, rest-none, whole_entry, is_end}
 use Rattle.chain_ops.proofs.split.m_split.Goals as goal
 
@@ -22,7 +22,7 @@ no_next None b e t = refl
 no_next (Some x) b e t = absurd (true≢false (e ∙ ap not t))
 
 pub narrow-requires-clause-live : goal.narrow-requires-clause-live
-narrow-requires-clause-live c = let two = two_new c.args.chain.now c.requires.live c.in_ok-head.ensures.ok in two.live_first
+narrow-requires-clause-live c = let two = two_new c.args.chain.now c.requires.live c.in_ok-head.ensures.ok.adds in two.live_first
 
 pub narrow-requires-clause-place : goal.narrow-requires-clause-place
 narrow-requires-clause-place c = place_in c.args.pool.now c.new_head.new.pool _ _ (makes_kept c.args.chain.now c.in_ok-head.ensures.ok c.requires.live) c.find_cut-off.ensures.place
@@ -89,7 +89,7 @@ returns-clause-enough c =
 
 pub last-last-requires : goal.last-last-requires
 last-last-requires c =
-    let two = two_first c.narrow.new.self _ (two_new c.args.chain.now c.requires.live c.in_ok-head.ensures.ok) c.narrow.ensures in
+    let two = two_first c.narrow.new.self _ (two_new c.args.chain.now c.requires.live c.in_ok-head.ensures.ok.adds) c.narrow.ensures in
     let cut = two_first _ (first_part (c.find_cut-off.result.0.index + 1) (chain_of c.narrow.new.self c.args.chain.now)) two refl in
     live_beside _ _ _ _ c.cut-back.ensures _ cut.live_second
 
@@ -98,7 +98,7 @@ link_rest-requires-clause-back c = live_adds c.cut-back.ensures
 
 pub link_rest-requires-clause-apart : goal.link_rest-requires-clause-apart
 link_rest-requires-clause-apart c =
-    let two = two_first c.narrow.new.self _ (two_new c.args.chain.now c.requires.live c.in_ok-head.ensures.ok) c.narrow.ensures in
+    let two = two_first c.narrow.new.self _ (two_new c.args.chain.now c.requires.live c.in_ok-head.ensures.ok.adds) c.narrow.ensures in
     let cut = two_first _ (first_part (c.find_cut-off.result.0.index + 1) (chain_of c.narrow.new.self c.args.chain.now)) two refl in
     apart _ _ _ _ c.cut-back.ensures _ cut.live_second
 
@@ -116,8 +116,8 @@ returns-then-is_none-clause-ok c =
     let e : Entry = entry_of v i in
     let place = c.find_cut-off.ensures.place in
     let m = c.in_ok-head.ensures.ok in
-    let two = two_first r _ (two_new k c.requires.live m) c.narrow.ensures in
-    let fin = two_parts p r k d two in
+    let two = two_first r _ (two_new k c.requires.live m.adds) c.narrow.ensures in
+    let fin = makes_new (two_parts p r k d two) in
     let kept_q = makes_kept k m c.requires.live in
     let kept_d = kept_with q r k _ d c.narrow.ensures (λ x. two.apart (sym x)) in
     let now = entries_now q r k i _ c.narrow.ensures ∙ ap (λ (x : ChainView). slice_set x.entries i (narrowed (entry_of x i) 0 off)) kept_q in
@@ -176,10 +176,10 @@ returns-clause-ok c =
     let place = c.find_cut-off.ensures.place in
     let m = c.in_ok-head.ensures.ok in
     let kept_q = makes_kept k m c.requires.live in
-    let two = two_first r _ (two_new k c.requires.live m) c.narrow.ensures in
+    let two = two_first r _ (two_new k c.requires.live m.adds) c.narrow.ensures in
     let part : ChainView = first_part (i + 1) (chain_of r k) in
     let cut = two_first (with_chain r k part) part two refl in
-    let fin = two_parts p t k d (two_moved s t b part _ _ two c.cut-back.ensures c.link_rest.ensures) in
+    let fin = makes_new (two_parts p t k d (two_moved s t b part _ _ two c.cut-back.ensures c.link_rest.ensures)) in
     let now = entries_now q r k i _ c.narrow.ensures ∙ ap (λ (x : ChainView). slice_set x.entries i (narrowed (entry_of x i) 0 off)) kept_q in
     let here : chain_of t k ≡ part =
     kept_with _ t d _ k c.link_rest.ensures two.apart ∙ chain_left s b k (apart _ _ _ _ c.cut-back.ensures k cut.live_first) ∙ kept_adds _ s b k _ c.cut-back.ensures cut.live_first ∙ chain_here r k part in

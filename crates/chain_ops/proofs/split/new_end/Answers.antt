@@ -1,8 +1,8 @@
 use Rattle.std.proofs.Common.{length, arith, ap, sym, subst}
 use Rattle.mbuf_chain.specs.Chain.{Entry, ChainView, HasBackRoom, entry_of, entry_in}
 use Rattle.mbuf_chain.proofs.Laws.Owners.{live_adds}
-use Rattle.mbuf_chain.proofs.Laws.Steps.{live_beside, place_beside}
-use Rattle.chain_ops.proofs.Laws.Steps.{plain_unshared, new_entry, kept_adds}
+use Rattle.mbuf_chain.proofs.Laws.Steps.{live_beside, place_beside, new_entry}
+use Rattle.chain_ops.proofs.Laws.Steps.{plain_unshared, kept_adds}
 use Rattle.chain_ops.proofs.Joins.{at_end_fits}
 use Rattle.chain_ops.proofs.Splits.{end_made}
 use Rattle.chain_ops.proofs.split.new_end.Goals as goal

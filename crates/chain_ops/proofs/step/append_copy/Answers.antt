@@ -1,8 +1,7 @@
 use Rattle.std.proofs.Common.{length, ap, sym, ◌∙◌}
 use Rattle.mbuf_chain.specs.Chain.{ChainView, entry_in}
 use Rattle.mbuf_chain.proofs.Laws.Owners.{live_adds}
-use Rattle.mbuf_chain.proofs.Laws.Steps.{live_beside, place_beside}
-use Rattle.chain_ops.proofs.Laws.Makes.{linked_new}
+use Rattle.mbuf_chain.proofs.Laws.Steps.{live_beside, place_beside, linked_new}
 use Rattle.chain_ops.proofs.Laws.Steps.{kept_adds, string_one, copied_length}
 use Rattle.chain_ops.proofs.step.append_copy.Goals as goal
 

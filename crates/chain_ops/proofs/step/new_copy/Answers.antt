@@ -1,8 +1,8 @@
 use Rattle.std.proofs.Common.{◌≡◌, None, length, arith, ap, sym, subst}
 use Rattle.mbuf_chain.specs.Chain.{Entry, ChainView, HasBackRoom, entry_of, entry_in}
 use Rattle.mbuf_chain.proofs.Laws.Owners.{live_adds}
-use Rattle.mbuf_chain.proofs.Laws.Steps.{live_beside, place_beside}
-use Rattle.chain_ops.proofs.Laws.Steps.{plain_segment, plain_unshared, copy_room, new_entry, copy_made, kept_adds}
+use Rattle.mbuf_chain.proofs.Laws.Steps.{live_beside, place_beside, new_entry}
+use Rattle.chain_ops.proofs.Laws.Steps.{plain_segment, plain_unshared, copy_room, copy_made, kept_adds}
 use Rattle.chain_ops.proofs.step.new_copy.Goals as goal
 
 pub first-to-requires : goal.first-to-requires

@@ -1,4 +1,4 @@
-use Rattle.std.proofs.Common.{◌≡◌, ℕ, Bool, cond, [], length, Option, Some, ap, sym, ◌∙◌, subst, arith}
+use Rattle.std.proofs.Common.{◌≡◌, ℕ, Bool, cond, [], length, Some, ap, sym, ◌∙◌, subst, arith}
 use Rattle.std.proofs.lemmas.Bool.{eq-eqb}
 use Rattle.std.proofs.lemmas.Option.{same_Some}
 use Rattle.std.proofs.lemmas.List.Sums.{sum_by-cons}
@@ -6,7 +6,7 @@ use Rattle.mbuf_chain.specs.Chain.{Entry, PoolView, IsUnshared, HasBackRoom, cha
 use Rattle.mbuf_chain.specs.Steps.{one_mbuf, empty_entry, with_entry, with_back}
 use Rattle.mbuf_chain.proofs.Laws.Owners.{live_adds}
 use Rattle.mbuf_chain.proofs.Laws.Accounts.{references-adds}
-use Rattle.chain_ops.proofs.Laws.Steps.{new_entry, filled}
+use Rattle.mbuf_chain.proofs.Laws.Steps.{new_entry, filled}
 use Rattle.chain_ops.proofs.store.new_cluster.Goals as goal
 
 pub first-at-requires : goal.first-at-requires

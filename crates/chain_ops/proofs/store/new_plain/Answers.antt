@@ -2,7 +2,8 @@ use Rattle.std.proofs.Common.{ℕ, length, ap, sym, ◌∙◌, subst, arith}
 use Rattle.mbuf_chain.specs.Chain.{Entry, PoolView, HasBackRoom, chain_of, with_chain, entry_of}
 use Rattle.mbuf_chain.specs.Steps.{with_entry, with_back}
 use Rattle.mbuf_chain.proofs.Laws.Owners.{live_adds}
-use Rattle.chain_ops.proofs.Laws.Steps.{plain_unshared, new_entry, filled}
+use Rattle.mbuf_chain.proofs.Laws.Steps.{new_entry, filled}
+use Rattle.chain_ops.proofs.Laws.Steps.{plain_unshared}
 use Rattle.chain_ops.proofs.store.new_plain.Goals as goal
 
 pub first-at-requires : goal.first-at-requires

@@ -6,11 +6,11 @@ use Rattle.mbuf_chain.specs.Steps.{one_mbuf, joined}
 use Rattle.mbuf_chain.specs.Chain.{Entry, ChainView, PoolView, chain_of, references, references_of, without}
 use Rattle.mbuf_chain.specs.Owners.{times}
 use Rattle.mbuf_chain.proofs.Laws.Owners.{live_adds, shown_adds, shown_with, times-append}
-use Rattle.mbuf_chain.proofs.Laws.Steps.{live_beside, live_shown, place_beside}
+use Rattle.mbuf_chain.proofs.Laws.Steps.{live_beside, live_shown, place_beside, linked_new}
 use Rattle.mbuf_chain.proofs.Laws.Accounts.{references-adds}
 use Rattle.flat_model.specs.Layout.{is_cluster, Room}
 use Rattle.chain_ops.specs.Stored.{Lacks, rooms_for, stored, stored_first}
-use Rattle.chain_ops.proofs.Laws.Makes.{makes_new, makes_then, makes_undone, makes_held, makes_mbufs, linked_new}
+use Rattle.chain_ops.proofs.Laws.Makes.{makes_new, makes_then, makes_undone, makes_held, makes_mbufs}
 use Rattle.chain_ops.proofs.Laws.Steps.{kept_adds, string_one}
 use Rattle.chain_ops.proofs.Laws.Rooms.{rest_rooms, rest_none}
 use Rattle.chain_ops.proofs.Stored.{begin_all, more_all, begin_splits, more_splits, lacks_first, lacks_more, refs_one, refs_joined, refs_linked, ledger_step, none_free, free_more, taken_is}

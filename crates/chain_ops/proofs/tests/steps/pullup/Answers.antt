@@ -1,4 +1,4 @@
-use Rattle.std.proofs.Common.{◌≡◌, ◌≢◌, ℕ, List, Result, Ok, Err, OnOk, OnErr, refl, sym, subst, ap, ◌∙◌}
+use Rattle.std.proofs.Common.{◌≡◌, ◌≢◌, ℕ, List, Result, Ok, Err, OnOk, OnErr, refl, sym, subst, ◌∙◌}
 use Rattle.mbuf_chain.specs.Chain.{Entry, Front, PoolView, IsLive, without}
 use Rattle.mbuf_chain.proofs.Laws.Steps.{live_without}
 use Rattle.chain_ops.specs.Makes.{Makes}
