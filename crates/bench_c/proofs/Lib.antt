@@ -1,1 +1,2 @@
 mod Packets
+mod Reassembly

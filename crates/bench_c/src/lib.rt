@@ -9,6 +9,7 @@ mod cksum;
 mod ops;
 mod pcb;
 mod pool;
+mod reass;
 mod receive_queue;
 mod stack;
 mod udp_header;

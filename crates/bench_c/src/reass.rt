@@ -1,0 +1,213 @@
+//! What `bench/reass` times: fragments that arrive as packets, are stored, have their headers read, and wait or make
+//! their datagram whole.
+
+ghost use Rattle.std.specs.Prelude.{◌≡◌, ◌≤◌, ◌∷◌, true, length, IfSome};
+ghost use Rattle.mbuf_chain.specs.Chain.{chain_of, string};
+ghost use Rattle.mbuf_chain.specs.Owners.{IsOwned};
+ghost use Rattle.ip_reass.specs.Table.{IsReady, held_all};
+
+use chain_ops::from_wire;
+use flat_model::Counters;
+use ip_out::{IpHead, read_head};
+use ip_reass::{Arrival, Reass};
+use mbuf_chain::{Chain, Pool};
+use mbuf_pool::{Sizes, Store};
+use params::{IP_HEADER, IP_MAX_PACKET};
+use std::alloc::Global;
+
+/// How far apart packets lie that are handed over together.
+const APART: usize = 1500;
+
+/// A pool of which all is free, and a table for it.
+fn ready(alloc: Global, mbufs: u32, clusters: u32) -> Option<(Pool, Reass)>
+    ensures { IfSome result (λ r. IsReady r.0 r.1) }
+{
+    let store = Store::boot(alloc, Sizes { mbufs, clusters }).ok()?;
+    let pool = Pool::over(store);
+    let table = Reass::boot(alloc, mbufs).ok()?;
+    Some((pool, table))
+}
+
+/// A packet stored beside a table. `None` where no buffer is free.
+fn received(pool: &mut Pool, table: &Reass, packet: &[u8]) -> Option<Chain>
+    requires ready { IsReady pool.old table.now }
+    requires short { length packet.now ≤ IP_MAX_PACKET }
+    ensures ready { IsReady pool.new table.now }
+    ensures owned { IfSome result (λ chain. IsOwned pool.new (chain ∷ held_all pool.new table.now.datagrams)) }
+    ensures headed { IfSome result (λ chain. (chain_of pool.new chain).front.header ≡ true) }
+{
+    let _ = table;
+    match from_wire(pool, packet) {
+        Ok(chain) => Some(chain),
+        Err(_) => None,
+    }
+}
+
+/// Stores a packet and reads its header. `None` where no buffer is free, or the header isn't right or tells another length.
+fn stored(pool: &mut Pool, table: &Reass, packet: &[u8]) -> Option<(Chain, IpHead)>
+    requires ready { IsReady pool.old table.now }
+    requires short { length packet.now ≤ IP_MAX_PACKET }
+    ensures ready { IsReady pool.new table.now }
+    ensures owned { IfSome result (λ r. IsOwned pool.new (r.0 ∷ held_all pool.new table.now.datagrams)) }
+    ensures headed { IfSome result (λ r. (chain_of pool.new r.0).front.header ≡ true) }
+    ensures total { IfSome result (λ r. length (string (chain_of pool.new r.0)) ≡ r.1.total) }
+    ensures header { IfSome result (λ r. IP_HEADER ≤ r.1.total) }
+    ensures offset { IfSome result (λ r. r.1.offset ≤ IP_MAX_PACKET) }
+{
+    let chain = received(pool, table, packet)?;
+    let Ok(head) = read_head(pool, &chain) else {
+        pool.free_chain(chain);
+        return None;
+    };
+    let total = u32::from(head.total);
+    if total != pool.len(&chain) || total < IP_HEADER || head.offset > IP_MAX_PACKET {
+        pool.free_chain(chain);
+        return None;
+    }
+    Some((chain, head))
+}
+
+/// A packet arrives as a fragment of the datagram `id`; a datagram that it makes whole is freed. Answers how many these
+/// are: 1 or 0.
+fn arrives(
+    pool: &mut Pool,
+    table: &mut Reass,
+    counters: &mut Counters,
+    packet: &[u8],
+    id: u16,
+) -> u32
+    requires ready { IsReady pool.old table.old }
+    requires short { length packet.now ≤ IP_MAX_PACKET }
+    ensures { IsReady pool.new table.new }
+{
+    let Some((chain, head)) = stored(pool, table, packet) else {
+        return 0;
+    };
+    match table.arrive(pool, counters, chain, IpHead { id, ..head }) {
+        Arrival::Kept => 0,
+        Arrival::Dropped(_) => 0,
+        Arrival::Whole(chain, _) => {
+            pool.free_chain(chain);
+            1
+        }
+    }
+}
+
+/// The packet at the beginning of some bytes, which may go on behind it.
+fn packet_in(bytes: &[u8]) -> &[u8]
+    requires { length bytes.now ≤ IP_MAX_PACKET }
+    ensures { length result.now ≤ IP_MAX_PACKET }
+{
+    if bytes.len() < 4 {
+        return bytes;
+    }
+    let total = u16::from_be_bytes([bytes[2], bytes[3]]);
+    &bytes[..bytes.len().min(total as usize)]
+}
+
+/// All packets of some bytes arrive, in the order in which they lie. Answers how many datagrams they made whole.
+fn all_arrive(pool: &mut Pool, table: &mut Reass, counters: &mut Counters, packets: &[u8]) -> u32
+    requires { IsReady pool.old table.old }
+    ensures { IsReady pool.new table.new }
+{
+    let mut whole = 0u32;
+    'packets: for bytes in packets.chunks(APART) {
+        let made = arrives(pool, table, counters, packet_in(bytes), 1);
+        whole = whole.saturating_add(made);
+    }
+    whole
+}
+
+/// Packets that lie 1,500 bytes apart arrive in their order as fragments, `times` times; what they make whole is freed.
+/// Answers how many datagrams that were:
+/// `uint32_t bsdudp_reassemble(const uint8_t *packets, size_t len, uint32_t times)`.
+#[unsafe(no_mangle)]
+pub extern "C" fn bsdudp_reassemble(alloc: Global, packets: &[u8], times: u32) -> u32 {
+    let Some((mut pool, mut table)) = ready(alloc, 64, 16) else {
+        return 0;
+    };
+    let mut counters = Counters::none();
+    let mut whole = 0u32;
+    'turns: for _ in 0..times {
+        let made = all_arrive(&mut pool, &mut table, &mut counters, packets);
+        whole = whole.saturating_add(made);
+    }
+    table.end(&mut pool);
+    whole
+}
+
+/// The same packets are stored, have their headers read, and are freed, `times` times. Answers how many were right:
+/// `uint32_t bsdudp_store_packets(const uint8_t *packets, size_t len, uint32_t times)`.
+#[unsafe(no_mangle)]
+pub extern "C" fn bsdudp_store_packets(alloc: Global, packets: &[u8], times: u32) -> u32 {
+    let Some((mut pool, table)) = ready(alloc, 64, 16) else {
+        return 0;
+    };
+    let mut right = 0u32;
+    'turns: for _ in 0..times {
+        let stored = all_stored(&mut pool, &table, packets);
+        right = right.saturating_add(stored);
+    }
+    table.end(&mut pool);
+    right
+}
+
+/// All packets of some bytes are stored, have their headers read, and are freed. Answers how many were right.
+fn all_stored(pool: &mut Pool, table: &Reass, packets: &[u8]) -> u32
+    requires { IsReady pool.old table.now }
+    ensures { IsReady pool.new table.now }
+{
+    let mut right = 0u32;
+    'packets: for bytes in packets.chunks(APART) {
+        let stored = stored_once(pool, table, packet_in(bytes));
+        right = right.saturating_add(stored);
+    }
+    right
+}
+
+/// A packet is stored, has its header read, and is freed. Answers 1 where it was right.
+fn stored_once(pool: &mut Pool, table: &Reass, packet: &[u8]) -> u32
+    requires ready { IsReady pool.old table.now }
+    requires short { length packet.now ≤ IP_MAX_PACKET }
+    ensures { IsReady pool.new table.now }
+{
+    match stored(pool, table, packet) {
+        Some((chain, _)) => {
+            pool.free_chain(chain);
+            1
+        }
+        None => 0,
+    }
+}
+
+/// Where `held` datagrams of one fragment each are unfinished, `times` times the fragment `first` arrives under a key
+/// that none of them has, and then `last`, which makes its datagram whole; that is freed. Answers how many were made
+/// whole: `uint32_t bsdudp_new_keys(const uint8_t *first, size_t first_len, const uint8_t *last, size_t last_len,
+/// uint16_t held, uint32_t times)`.
+#[unsafe(no_mangle)]
+pub extern "C" fn bsdudp_new_keys(
+    alloc: Global,
+    first: &[u8],
+    last: &[u8],
+    held: u16,
+    times: u32,
+) -> u32 {
+    if first.len() > IP_MAX_PACKET as usize || last.len() > IP_MAX_PACKET as usize {
+        return 0;
+    }
+    let Some((mut pool, mut table)) = ready(alloc, 65_535, 16) else {
+        return 0;
+    };
+    let mut counters = Counters::none();
+    'held: for id in 0..held {
+        let _ = arrives(&mut pool, &mut table, &mut counters, first, id);
+    }
+    let mut whole = 0u32;
+    'turns: for _ in 0..times {
+        let _ = arrives(&mut pool, &mut table, &mut counters, first, held);
+        let made = arrives(&mut pool, &mut table, &mut counters, last, held);
+        whole = whole.saturating_add(made);
+    }
+    table.end(&mut pool);
+    whole
+}
