@@ -35,13 +35,13 @@ fn fill(pool: &mut Pool, bytes: &[u8]) -> Result<Chain, NoBufs>
     let chain = fill_cluster(pool, true, front)?;
     let mut last = pool.first(&chain);
     'clusters: while !rest.is_empty() {
-        let (piece, behind) = rest.split_at(rest.len().min(CLUSTER_LEN));
+        let (piece, after) = rest.split_at(rest.len().min(CLUSTER_LEN));
         let Ok(back) = fill_cluster(pool, false, piece) else {
             pool.free_chain(chain);
             return Err(NoBufs);
         };
         last = pool.link(&chain, last, back);
-        rest = behind;
+        rest = after;
     }
     Ok(chain)
 }

@@ -23,7 +23,7 @@ pub extern "C" fn bsdudp_checksum(bytes: &[u8]) -> u16
     sum.finish()
 }
 
-/// The checksum of two pieces, one behind the other: `uint16_t bsdudp_checksum_of_two(const uint8_t *front,
+/// The checksum of two pieces, one after the other: `uint16_t bsdudp_checksum_of_two(const uint8_t *front,
 /// size_t front_len, const uint8_t *back, size_t back_len)`.
 #[unsafe(no_mangle)]
 pub extern "C" fn bsdudp_checksum_of_two(front: &[u8], back: &[u8]) -> u16

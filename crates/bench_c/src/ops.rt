@@ -9,7 +9,7 @@ use mbuf_chain::{Chain, Pool};
 use params::{IP_HEADER, IP_MAX_PACKET, IP_UDP_HEADERS};
 use std::alloc::Global;
 
-/// How many bytes a fragment has behind its header.
+/// How many bytes a fragment has after its header.
 const FRAGMENT: u32 = 1480;
 
 /// Makes a chain of the bytes and frees it. Answers whether there was one.
@@ -35,7 +35,7 @@ fn copy_once(pool: &mut Pool, chain: &Chain) -> bool
     true
 }
 
-/// Makes a fragment of a chain: a header of 20 bytes, and the range shared behind it. Frees it.
+/// Makes a fragment of a chain: a header of 20 bytes, and the range shared after it. Frees it.
 fn fragment_once(pool: &mut Pool, chain: &Chain, off: u32, len: u32) -> bool
     requires live { IsLive pool.old chain.now }
     requires some { 1 ≤ len }
@@ -136,7 +136,7 @@ pub extern "C" fn bsdudp_m_copym(alloc: Global, bytes: &[u8], times: u32) -> u32
     done
 }
 
-/// Makes a chain of the bytes, and its fragments of 1,480 bytes behind a header `times` times: as `bsdudp_from_user`.
+/// Makes a chain of the bytes, and its fragments of 1,480 bytes after a header `times` times: as `bsdudp_from_user`.
 #[unsafe(no_mangle)]
 pub extern "C" fn bsdudp_fragments(alloc: Global, bytes: &[u8], times: u32) -> u32
     requires { length bytes.now ≤ IP_MAX_PACKET }

@@ -93,7 +93,7 @@ fn arrives(
     }
 }
 
-/// The packet at the beginning of some bytes, which may go on behind it.
+/// The packet at the beginning of some bytes, which may go on after it.
 fn packet_in(bytes: &[u8]) -> &[u8]
     requires { length bytes.now ≤ IP_MAX_PACKET }
     ensures { length result.now ≤ IP_MAX_PACKET }

@@ -21,7 +21,7 @@ const SOURCE_PORT: u16 = 1024;
 
 const DESTINATION_PORT: u16 = 7;
 
-/// A packet with this data behind room for both headers.
+/// A packet with this data after room for both headers.
 fn packet_of(pool: &mut Pool, data: &[u8]) -> Result<Chain, NoBufs>
     requires { length data.now ≤ IP_MAX_PACKET }
     ensures { IfOk result (λ c. IsLive pool.new c) }

@@ -1,7 +1,7 @@
 //! The program: its words and the three standard streams go to `link_script`, which knows what they mean.
 #![tactic(auto)]
 
-use link_script::{Untold, program};
+use link_script::{Silent, program};
 use std::process::ExitCode;
 use std::{env, io};
 
@@ -13,7 +13,7 @@ fn words(rt: &HostRuntime) -> io::Result<Vec<String>> {
 
 fn main(rt: HostRuntime) -> ExitCode {
     let words = words(&rt);
-    let (mut reader, mut writer) = (Untold(rt.stdin()), Untold(rt.stdout()));
+    let (mut reader, mut writer) = (Silent(rt.stdin()), Silent(rt.stdout()));
     ExitCode::from(program(
         rt.alloc(),
         words,

@@ -4,7 +4,7 @@ use Rattle.std.specs.Prelude.{slice_set, nat_le, not}
 use Rattle.std.proofs.lemmas.Bool.{cond-true, cond-false, lt-ltb, le-ltb, le-leb, lt-leb, eq-eqb, ne_eqb, leb-true, not-true, and_parts}
 use Rattle.std.proofs.lemmas.List.{take_all, take-set-le, take_more, get_or-set_same, length-set, length-append, length-take}
 use Rattle.mbuf_chain.specs.declared.place.Place.{Place}
-use Rattle.mbuf_chain.specs.Chain.{Entry, Front, ChainView, PoolView, alone, entry_of, no_entry, chain_of, back_room, front_room, room_end, HasBackRoom, IsLive, IsPlace, with_chain, without, Adds, flat_bytes}
+use Rattle.mbuf_chain.specs.Chain.{Entry, Front, ChainView, PoolView, alone, entry_of, no_entry, chain_of, trailing_space, leading_space, room_end, HasTrailingSpace, IsLive, IsPlace, with_chain, without, Adds, flat_bytes}
 use Rattle.mbuf_chain.specs.Steps.{first_part, narrowed, with_front, with_back, with_entry, one_mbuf, empty_entry, joined}
 use Rattle.chain_ops.specs.Joins.{filled_up, cat}
 use Rattle.chain_ops.specs.Pulls.{has_room, moved}
@@ -17,19 +17,19 @@ use Rattle.chain_ops.proofs.Lists.{at_entry}
 use Rattle.chain_ops.proofs.Laws.Steps.{none_of}
 use Rattle.chain_ops.proofs.Laws.Makes.{makes_new, makes_in_place}
 
--- an entry with room behind its bytes is plain
-pub plain_with_room : (e : Entry) (n : ℕ) → n < back_room e → e.cluster ≡ None
+-- an entry with room after its bytes is plain
+pub plain_with_room : (e : Entry) (n : ℕ) → n < trailing_space e → e.cluster ≡ None
 plain_with_room e n h = go e.cluster h
   where
     go : (o : Option ℕ) → n < cond {A = ℕ} (is_some o) 0 (128 - e.start - length e.bytes) → o ≡ None
     go None h = refl
     go (Some c) h = absurd (omega arith)
 
-pub fill-goes : (e f : Entry) (fs : List Entry) → length f.bytes < back_room e → filled_up e (f ∷ fs) ≡ filled_up (with_back e f.bytes) fs
-fill-goes e f fs h = cond-true {A = List Entry} _ _ _ (lt-ltb (length f.bytes) (back_room e) h)
+pub fill-goes : (e f : Entry) (fs : List Entry) → length f.bytes < trailing_space e → filled_up e (f ∷ fs) ≡ filled_up (with_back e f.bytes) fs
+fill-goes e f fs h = cond-true {A = List Entry} _ _ _ (lt-ltb (length f.bytes) (trailing_space e) h)
 
-pub fill-stops : (e f : Entry) (fs : List Entry) → back_room e ≤ length f.bytes → filled_up e (f ∷ fs) ≡ e ∷ f ∷ fs
-fill-stops e f fs h = cond-false {A = List Entry} _ _ _ (le-ltb (length f.bytes) (back_room e) h)
+pub fill-stops : (e f : Entry) (fs : List Entry) → trailing_space e ≤ length f.bytes → filled_up e (f ∷ fs) ≡ e ∷ f ∷ fs
+fill-stops e f fs h = cond-false {A = List Entry} _ _ _ (le-ltb (length f.bytes) (trailing_space e) h)
 
 -- a join fills up the last entry
 pub cat_last : (es fs : List Entry) (i : ℕ) → i + 1 ≡ length es → cat es fs ≡ take i es ++ filled_up (Rattle.std.specs.Prelude.slice_index_or es i no_entry) fs
@@ -44,7 +44,7 @@ pub last_split : (es : List Entry) (i : ℕ) → i + 1 ≡ length es → take i 
 last_split es i e = sym (take_more es i no_entry (omega arith)) ∙ take_all (i + 1) es (omega arith)
 
 -- one more was moved
-pub fill_step : (es : List Entry) (i : ℕ) (f : Entry) (fs : List Entry) (xs : List ℕ) → i < length es → xs ≡ f.bytes → length f.bytes < back_room (Rattle.std.specs.Prelude.slice_index_or es i no_entry)
+pub fill_step : (es : List Entry) (i : ℕ) (f : Entry) (fs : List Entry) (xs : List ℕ) → i < length es → xs ≡ f.bytes → length f.bytes < trailing_space (Rattle.std.specs.Prelude.slice_index_or es i no_entry)
     → take i (slice_set es i (with_back (Rattle.std.specs.Prelude.slice_index_or es i no_entry) xs))
     ++ filled_up (Rattle.std.specs.Prelude.slice_index_or (slice_set es i (with_back (Rattle.std.specs.Prelude.slice_index_or es i no_entry) xs)) i no_entry) fs
     ≡ take i es ++ filled_up (Rattle.std.specs.Prelude.slice_index_or es i no_entry) (f ∷ fs)
@@ -55,7 +55,7 @@ fill_step es i f fs xs lt all room =
     ∙ ap (λ (zs : List Entry). take i es ++ zs) (sym (fill-goes e f fs room))
 
 -- what is left was linked
-pub fill_end : (es : List Entry) (i : ℕ) (f : Entry) (fs : List Entry) → i + 1 ≡ length es → back_room (Rattle.std.specs.Prelude.slice_index_or es i no_entry) ≤ length f.bytes
+pub fill_end : (es : List Entry) (i : ℕ) (f : Entry) (fs : List Entry) → i + 1 ≡ length es → trailing_space (Rattle.std.specs.Prelude.slice_index_or es i no_entry) ≤ length f.bytes
     → es ++ (f ∷ fs) ≡ take i es ++ filled_up (Rattle.std.specs.Prelude.slice_index_or es i no_entry) (f ∷ fs)
 fill_end es i f fs e full =
     let x : Entry = Rattle.std.specs.Prelude.slice_index_or es i no_entry in
@@ -80,10 +80,10 @@ first_split v at place first =
 pub first_bytes : (v : ChainView) (at : Place) → IsPlace v at → at.index ≡ 0 → length (flat_bytes v.entries) ≡ length (entry_of v at.index).bytes + length (flat_bytes (drop 1 v.entries))
 first_bytes v at place first = ap (λ (es : List Entry). length (flat_bytes es)) (first_split v at place first) ∙ length-append (entry_of v at.index).bytes (flat_bytes (drop 1 v.entries))
 
--- the first entry of a chain was moved behind the last one of another
+-- the first entry of a chain was moved after the last one of another
 pub cat_moved : (p q : PoolView) (c d : ℕ) (last from : Place) (len : ℕ)
     → q ≡ with_chain p c (with_entry (chain_of p c) last.index (with_back (entry_of (chain_of p c) last.index) (take len (drop 0 (entry_of (chain_of p d) from.index).bytes))))
-    → IsPlace (chain_of p c) last → IsPlace (chain_of p d) from → from.index ≡ 0 → len ≡ length (entry_of (chain_of p d) from.index).bytes → len < back_room (entry_of (chain_of p c) last.index)
+    → IsPlace (chain_of p c) last → IsPlace (chain_of p d) from → from.index ≡ 0 → len ≡ length (entry_of (chain_of p d) from.index).bytes → len < trailing_space (entry_of (chain_of p c) last.index)
     → take last.index (chain_of q c).entries ++ filled_up (entry_of (chain_of q c) last.index) (drop 1 (chain_of p d).entries)
     ≡ take last.index (chain_of p c).entries ++ filled_up (entry_of (chain_of p c) last.index) (chain_of p d).entries
 cat_moved p q c d last from len is place there first size room =
@@ -97,12 +97,12 @@ cat_moved p q c d last from len is place there first size room =
     ∙ ap (λ (es : List Entry). take last.index v.entries ++ filled_up (entry_of v last.index) es) (sym (first_split w from there first))
 
 -- bytes put in front of the first entry
-pub prepended_in : (p q : PoolView) (c : ℕ) (at : Place) (xs : List ℕ) → IsPlace (chain_of p c) at → at.index ≡ 0 → length xs ≤ front_room (chain_of p c) at.index
+pub prepended_in : (p q : PoolView) (c : ℕ) (at : Place) (xs : List ℕ) → IsPlace (chain_of p c) at → at.index ≡ 0 → length xs ≤ leading_space (chain_of p c) at.index
     → q ≡ with_chain p c (with_entry (chain_of p c) at.index (with_front (entry_of (chain_of p c) at.index) xs))
     → Makes (without p c) q c (prepended_front (chain_of p c) (length xs)) (prepended (chain_of p c) xs)
 prepended_in p q c at xs place first fits is =
     let v : ChainView = chain_of p c in
-    let test : nat_le (length xs) (front_room v 0) ≡ true = le-leb (length xs) (front_room v 0) (omega (arith, fits, ap (front_room v) first)) in
+    let test : nat_le (length xs) (leading_space v 0) ≡ true = le-leb (length xs) (leading_space v 0) (omega (arith, fits, ap (leading_space v) first)) in
     let is' : q ≡ with_chain p c (with_entry v 0 (with_front (entry_of v 0) xs)) = is ∙ ap (λ (i : ℕ). with_chain p c (with_entry v i (with_front (entry_of v i) xs))) first in
     let m = makes_in_place p q c (with_entry v 0 (with_front (entry_of v 0) xs)) is' in
     record {
@@ -111,7 +111,7 @@ prepended_in p q c at xs place first fits is =
       entries = m.entries ∙ set_first v.entries (with_front (entry_of v 0) xs) (omega (arith, place.within)) ∙ sym (cond-true {A = List Entry} _ _ _ test);
     }
 
--- a chain linked behind a new one, where the numbers are told by equations
+-- a chain linked after a new one, where the numbers are told by equations
 linked_as : (p r t : PoolView) (c c' d d' : ℕ) (w : ChainView) → c' ≡ c → d' ≡ d → IsLive p c → Adds p r d w
     → t ≡ with_chain (without r c') d' (joined (chain_of r d') (chain_of r c')) → Adds (without p c) t d' (joined w (chain_of p c))
 linked_as p r t c c' d d' w ec ed live a is =
@@ -119,13 +119,13 @@ linked_as p r t c c' d d' w ec ed live a is =
     (is ∙ ap (λ (k : ℕ). with_chain (without r k) d' (joined (chain_of r d') (chain_of r k))) ec)
 
 -- bytes put into an mbuf of their own in front
-pub prepended_new : (p r t : PoolView) (c c' d d' start : ℕ) (h : Bool) (xs : List ℕ) → h ≡ (chain_of p c).front.header → front_room (chain_of p c) 0 < length xs → start ≡ at_end h (length xs) → c' ≡ c → d' ≡ d → IsLive p c
+pub prepended_new : (p r t : PoolView) (c c' d d' start : ℕ) (h : Bool) (xs : List ℕ) → h ≡ (chain_of p c).front.header → leading_space (chain_of p c) 0 < length xs → start ≡ at_end h (length xs) → c' ≡ c → d' ≡ d → IsLive p c
     → Adds p r d (one_mbuf h (with_back (empty_entry start None) xs) d)
     → t ≡ with_chain (without r c') d' (joined (chain_of r d') (chain_of r c'))
     → Makes (without p c) t d' (prepended_front (chain_of p c) (length xs)) (prepended (chain_of p c) xs)
 prepended_new p r t c c' d d' start h xs eh lacks at ec ed live a is =
     let v : ChainView = chain_of p c in
-    let test : nat_le (length xs) (front_room v 0) ≡ false = lt-leb (length xs) (front_room v 0) lacks in
+    let test : nat_le (length xs) (leading_space v 0) ≡ false = lt-leb (length xs) (leading_space v 0) lacks in
     let m = makes_new (linked_as p r t c c' d d' _ ec ed live a is) in
     let at' : start ≡ at_end v.front.header (length xs) = at ∙ ap (λ (b : Bool). at_end b (length xs)) eh in
     record {
@@ -134,11 +134,11 @@ prepended_new p r t c c' d d' start h xs eh lacks at ec ed live a is =
       entries = m.entries ∙ ap (λ (s : ℕ). let e : Entry = record { bytes = xs; start = s; cluster = None } in e ∷ v.entries) at' ∙ sym (cond-false {A = List Entry} _ _ _ test);
     }
 
-pub need_none : (v : ChainView) (n : ℕ) → n ≤ front_room v 0 → prepend_need v n ≡ 0
-need_none v n h = cond-true {A = ℕ} _ 0 1 (le-leb n (front_room v 0) h)
+pub need_none : (v : ChainView) (n : ℕ) → n ≤ leading_space v 0 → prepend_need v n ≡ 0
+need_none v n h = cond-true {A = ℕ} _ 0 1 (le-leb n (leading_space v 0) h)
 
-pub need_one : (v : ChainView) (n : ℕ) → front_room v 0 < n → prepend_need v n ≡ 1
-need_one v n h = cond-false {A = ℕ} _ 0 1 (lt-leb n (front_room v 0) h)
+pub need_one : (v : ChainView) (n : ℕ) → leading_space v 0 < n → prepend_need v n ≡ 1
+need_one v n h = cond-false {A = ℕ} _ 0 1 (lt-leb n (leading_space v 0) h)
 
 pub low_at_most : (h : Bool) → room_low h ≤ 28
 low_at_most true = omega arith
@@ -208,7 +208,7 @@ pull_moved p q c d last from len left is place there first size some h =
     ∙ ap (λ (es : List Entry). take last.index v.entries ++ moved left (entry_of v last.index) es) (sym (first_split w from there first))
 
 -- the room that is left
-pub room_left : (e : Entry) (f : Entry) (len left : ℕ) → HasBackRoom e left → len ≡ length f.bytes → len ≤ left → HasBackRoom (with_back e (take len (drop 0 f.bytes))) (left - len)
+pub room_left : (e : Entry) (f : Entry) (len left : ℕ) → HasTrailingSpace e left → len ≡ length f.bytes → len ≤ left → HasTrailingSpace (with_back e (take len (drop 0 f.bytes))) (left - len)
 room_left e f len left room size h = omega (arith, room, size, length-append e.bytes (take len f.bytes), length-take len f.bytes)
 
 -- ---- a first entry with room
@@ -222,7 +222,7 @@ first_entry v = go v.entries
 pub room_plain : (e : Entry) (n : ℕ) → has_room e n ≡ true → e.cluster ≡ None
 room_plain e n h = none_of e.cluster (not-true (is_some e.cluster) (and_parts (not (is_some e.cluster)) (nat_le (e.start + n) 128) h).0)
 
-pub room_back : (e : Entry) (n : ℕ) → has_room e n ≡ true → length e.bytes ≤ n → HasBackRoom e (n - length e.bytes)
+pub room_back : (e : Entry) (n : ℕ) → has_room e n ≡ true → length e.bytes ≤ n → HasTrailingSpace e (n - length e.bytes)
 room_back e n h le =
     let fits : e.start + n ≤ 128 = leb-true (e.start + n) 128 (and_parts (not (is_some e.cluster)) (nat_le (e.start + n) 128) h).1 in
     let end : room_end e ≡ 128 = cond-false {A = ℕ} (is_some e.cluster) 2048 128 (ap (λ (o : Option ℕ). is_some o) (room_plain e n h)) in

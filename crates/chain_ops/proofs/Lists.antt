@@ -11,7 +11,7 @@ use Rattle.chain_ops.specs.Cursors.{IsCursor}
 use Rattle.chain_ops.specs.Copies.{Position, position_of, copied_entry, copied_from, copied, copied_all}
 
 -- ---- a walk over the entries
--- the entry at a place, and those behind it
+-- the entry at a place, and those after it
 pub at_entry : (v : ChainView) (at : Place) → IsPlace v at → drop at.index v.entries ≡ entry_of v at.index ∷ drop (at.index + 1) v.entries
 at_entry v at p = drop_more v.entries at.index no_entry p.within
 
@@ -21,12 +21,12 @@ flat_at v at p =
     ap (λ (es : List Entry). length (flat_bytes es)) (at_entry v at p)
     ∙ length-append (entry_of v at.index).bytes (flat_bytes (drop (at.index + 1) v.entries))
 
--- behind the last entry is none
-pub none_behind : (es : List Entry) (i : ℕ) → i + 1 ≡ length es → drop (i + 1) es ≡ []
-none_behind es i e = drop_all (i + 1) es (omega arith)
+-- after the last entry is none
+pub none_after : (es : List Entry) (i : ℕ) → i + 1 ≡ length es → drop (i + 1) es ≡ []
+none_after es i e = drop_all (i + 1) es (omega arith)
 
-pub flat_behind : (es : List Entry) (i : ℕ) → i + 1 ≡ length es → length (flat_bytes (drop (i + 1) es)) ≡ 0
-flat_behind es i e = ap (λ (xs : List Entry). length (flat_bytes xs)) (none_behind es i e)
+pub flat_after : (es : List Entry) (i : ℕ) → i + 1 ≡ length es → length (flat_bytes (drop (i + 1) es)) ≡ 0
+flat_after es i e = ap (λ (xs : List Entry). length (flat_bytes xs)) (none_after es i e)
 
 -- ---- where a byte lies
 pub position-stays : (e : Entry) (es : List Entry) (off : ℕ) → (off ≡ 0) ⊎ (off < length e.bytes) → position_of (e ∷ es) off ≡ record { entries = e ∷ es; skip = off }

@@ -3,7 +3,7 @@ use Rattle.std.proofs.Common.{◌≡◌, ℕ, ◌+◌, ◌-◌, ◌<◌, ◌≤�
 use Rattle.std.specs.Prelude.{◌⊎◌, nat_le}
 use Rattle.std.proofs.lemmas.Bool.{cases_lt, le-leb, lt-leb, cond-true, cond-false}
 use Rattle.std.proofs.lemmas.List.{length-append, take_all}
-use Rattle.mbuf_chain.specs.Chain.{Entry, ChainView, alone, front_room}
+use Rattle.mbuf_chain.specs.Chain.{Entry, ChainView, alone, leading_space}
 use Rattle.flat_model.specs.Layout as flat
 use Rattle.flat_model.specs.Layout.{Room, Plain, Cluster, is_cluster, next_room, size_of, laid_on, user, sent}
 use Rattle.chain_ops.specs.Prepends.{prepended}
@@ -17,26 +17,26 @@ abbrev view : List Entry → ChainView
 view es = record { front = alone true; entries = es; cells = [] }
 
 -- more than 72 bytes: an mbuf of their own
-apart : (hs : List ℕ) (es : List Entry) → length hs ≡ 28 → front_room (view es) 0 < 28 → laid (prepended (view es) hs) ≡ record { size = 28; cluster = None } ∷ laid es
+apart : (hs : List ℕ) (es : List Entry) → length hs ≡ 28 → leading_space (view es) 0 < 28 → laid (prepended (view es) hs) ≡ record { size = 28; cluster = None } ∷ laid es
 apart hs es len small =
-    let test : nat_le (length hs) (front_room (view es) 0) ≡ false = lt-leb (length hs) (front_room (view es) 0) (omega (arith, len, small)) in
+    let test : nat_le (length hs) (leading_space (view es) 0) ≡ false = lt-leb (length hs) (leading_space (view es) 0) (omega (arith, len, small)) in
     ap laid (cond-false {A = List Entry} _ _ _ test) ∙ ap (λ (n : ℕ). let x : flat.Entry = record { size = n; cluster = None } in x ∷ laid es) len
 
-within : (hs : List ℕ) (e : Entry) (es : List Entry) → length hs ≡ 28 → 28 ≤ front_room (view (e ∷ es)) 0
+within : (hs : List ℕ) (e : Entry) (es : List Entry) → length hs ≡ 28 → 28 ≤ leading_space (view (e ∷ es)) 0
     → laid (prepended (view (e ∷ es)) hs) ≡ record { size = 28 + length e.bytes; cluster = e.cluster } ∷ laid es
 within hs e es len large =
-    let test : nat_le (length hs) (front_room (view (e ∷ es)) 0) ≡ true = le-leb (length hs) (front_room (view (e ∷ es)) 0) (omega (arith, len, large)) in
+    let test : nat_le (length hs) (leading_space (view (e ∷ es)) 0) ≡ true = le-leb (length hs) (leading_space (view (e ∷ es)) 0) (omega (arith, len, large)) in
     let size : length (hs ++ e.bytes) ≡ 28 + length e.bytes = omega (arith, len, length-append hs e.bytes) in
     ap laid (cond-true {A = List Entry} _ _ _ test) ∙ ap (λ (n : ℕ). let x : flat.Entry = record { size = n; cluster = e.cluster } in x ∷ laid es) size
 
 -- the room in front of the first bytes
-room_small : (cs : List ℕ) (n : ℕ) (rooms : List Room) (xs : List ℕ) → 72 < n → n ≤ 100 → front_room (view (stored_first 56 true cs (Plain n ∷ rooms) xs)) 0 < 28
+room_small : (cs : List ℕ) (n : ℕ) (rooms : List Room) (xs : List ℕ) → 72 < n → n ≤ 100 → leading_space (view (stored_first 56 true cs (Plain n ∷ rooms) xs)) 0 < 28
 room_small cs n rooms xs low high = omega arith
 
-room_large : (cs : List ℕ) (n : ℕ) (rooms : List Room) (xs : List ℕ) → n ≤ 72 → 28 ≤ front_room (view (stored_first 56 true cs (Plain n ∷ rooms) xs)) 0
+room_large : (cs : List ℕ) (n : ℕ) (rooms : List Room) (xs : List ℕ) → n ≤ 72 → 28 ≤ leading_space (view (stored_first 56 true cs (Plain n ∷ rooms) xs)) 0
 room_large cs n rooms xs low = omega arith
 
-room_cluster : (cs : List ℕ) (n : ℕ) (rooms : List Room) (xs : List ℕ) → front_room (view (stored_first 56 true cs (Cluster n ∷ rooms) xs)) 0 < 28
+room_cluster : (cs : List ℕ) (n : ℕ) (rooms : List Room) (xs : List ℕ) → leading_space (view (stored_first 56 true cs (Cluster n ∷ rooms) xs)) 0 < 28
 room_cluster [] n rooms xs = omega arith
 room_cluster (c ∷ cs) n rooms xs = omega arith
 
@@ -48,11 +48,11 @@ user_small n h =
     let none : n - n ≡ 0 = omega arith in
     rooms_begin 56 n (omega arith) ∙ (λ j. room j ∷ rest_rooms (n - size_of (room j))) ∙ ap (λ (k : ℕ). Plain n ∷ rest_rooms k) none ∙ ap (λ (rs : List Room). Plain n ∷ rs) rest_none
 
-user_front : (cs xs : List ℕ) (n : ℕ) → 72 < n → front_room (view (stored_first 56 true cs (user n) xs)) 0 < 28
+user_front : (cs xs : List ℕ) (n : ℕ) → 72 < n → leading_space (view (stored_first 56 true cs (user n) xs)) 0 < 28
 user_front cs xs n h =
-    subst (λ (rooms : List Room). front_room (view (stored_first 56 true cs rooms xs)) 0 < 28) (sym (rooms_begin 56 n (omega arith))) (go (nat_le 208 n) (rest_rooms (n - size_of (next_room (2048 - 56) 100 n))))
+    subst (λ (rooms : List Room). leading_space (view (stored_first 56 true cs rooms xs)) 0 < 28) (sym (rooms_begin 56 n (omega arith))) (go (nat_le 208 n) (rest_rooms (n - size_of (next_room (2048 - 56) 100 n))))
   where
-    go : (b : Bool) (rooms : List Room) → front_room (view (stored_first 56 true cs (cond b (Cluster (min n (2048 - 56))) (Plain (min n 100)) ∷ rooms) xs)) 0 < 28
+    go : (b : Bool) (rooms : List Room) → leading_space (view (stored_first 56 true cs (cond b (Cluster (min n (2048 - 56))) (Plain (min n 100)) ∷ rooms) xs)) 0 < 28
     go true rooms = room_cluster cs (min n (2048 - 56)) rooms xs
     go false rooms = room_small cs (min n 100) rooms xs (omega arith) (omega arith)
 

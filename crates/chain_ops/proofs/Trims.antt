@@ -8,7 +8,7 @@ use Rattle.mbuf_chain.specs.Steps.{with_entry, narrowed}
 use Rattle.mbuf_chain.proofs.Laws.Maps.{insert-insert, insert_same}
 use Rattle.mbuf_chain.proofs.Laws.Owners.{shown_with}
 use Rattle.chain_ops.specs.Trims.{without_first, only_first}
-use Rattle.chain_ops.proofs.Lists.{at_entry, walk_set, none_behind}
+use Rattle.chain_ops.proofs.Lists.{at_entry, walk_set, none_after}
 
 -- from p to q the entries of chain c changed, and nothing else
 abbrev pub changed : PoolView → ℕ → List Entry → PoolView
@@ -35,7 +35,7 @@ entries_now q r c i e is = ap (λ (w : ChainView). w.entries) (shown_with q r c 
 -- a walk that has come to its last entry
 pub walk_end : (es : List Entry) (F : List Entry → List Entry) (i : ℕ) → i + 1 ≡ length es → F [] ≡ [] → take (i + 1) es ++ F (drop (i + 1) es) ≡ es
 walk_end es F i e none =
-    (λ j. take_all (i + 1) es (omega arith) j ++ F (none_behind es i e j)) ∙ ap (λ (xs : List Entry). es ++ xs) none ∙ append-nil es
+    (λ j. take_all (i + 1) es (omega arith) j ++ F (none_after es i e j)) ∙ ap (λ (xs : List Entry). es ++ xs) none ∙ append-nil es
 
 -- ---- bytes taken off the front
 pub trim_step : (v : ChainView) (at : Place) (left skip len : ℕ) → IsPlace v at → len ≡ length (entry_of v at.index).bytes → skip ≡ min left len
@@ -58,8 +58,8 @@ trim_nothing (e ∷ es) =
     let all : take (n - min 0 n) (drop (min 0 n) e.bytes) ≡ e.bytes =
     (λ j. take (zero_min n j) (drop (min_zero n j) e.bytes)) ∙ take_all n e.bytes (omega arith) in
     let here : narrowed e (min 0 n) (n - min 0 n) ≡ e = λ j. record { bytes = all j; start = zero_more e.start n j; cluster = e.cluster } in
-    let behind : without_first (0 - n) es ≡ es = ap (λ (k : ℕ). without_first k es) (nothing_less n) ∙ trim_nothing es in
-    λ j. here j ∷ behind j
+    let after : without_first (0 - n) es ≡ es = ap (λ (k : ℕ). without_first k es) (nothing_less n) ∙ trim_nothing es in
+    λ j. here j ∷ after j
   where
     min_zero : (n : ℕ) → min 0 n ≡ 0
     min_zero n = omega arith

@@ -105,7 +105,7 @@ pub counts_stay : (p q : PoolView) (c i k : ℕ) (f : Entry) → IsLive p c → 
     → references q k ≡ references p k
 counts_stay p q c i k f live lt is step = omega (arith, references-with p q c k (with_entry (chain_of p c) i f) live step, one_count k (chain_of p c).entries i f lt is)
 
--- ---- bytes behind the old end
+-- ---- bytes after the old end
 fuel : (k j : ℕ) (xs : List ℕ) → length xs ≤ k → length xs ≤ j → plain_pieces k xs ≡ plain_pieces j xs
 fuel zero zero xs a b = refl
 fuel zero (suc j) xs a b = sym (cond-true {A = List Entry} _ _ _ (eq-eqb (length xs) 0 (omega arith)))
@@ -150,7 +150,7 @@ pieces_counts k (suc most) xs = go (length xs == 0) (pieces_counts k most (drop 
 pub plain_counts : {p q : PoolView} {d : ℕ} {f : Rattle.mbuf_chain.specs.Chain.Front} (xs : List ℕ) (k : ℕ) → Makes p q d f (in_plain xs) → references q k ≡ references p k
 plain_counts {p} {q} {d} xs k m = omega (arith, references-adds k m.adds, ap (count_by (refers k)) m.entries, pieces_counts k (length xs) xs)
 
--- what is left behind the first mbuf
+-- what is left after the first mbuf
 drop-append : (n : ℕ) (xs ys : List ℕ) → drop n (xs ++ ys) ≡ drop n xs ++ drop (n - length xs) ys
 drop-append n xs ys = elim (cases_lt n (length xs)) [
   | inl l ↦ let none : 0 ≡ n - length xs = omega arith in drop-append-le n xs ys (omega arith) ∙ ap (λ (k : ℕ). drop n xs ++ drop k ys) none
@@ -214,12 +214,12 @@ across b r xs off l h =
     let z : off - length b ≡ 0 = omega arith in
     let none : drop (off + length x) b ≡ [] = drop_all (off + length x) b (omega (arith, count)) in
     let whole : n + length r ≡ length (b ++ r) - off = omega (arith, size) in
-    let behind : length y ≡ off + length xs - length b = omega (arith, rest) in
+    let after : length y ≡ off + length xs - length b = omega (arith, rest) in
     (λ j. (take off b ++ (x ++ none j)) ++ (take (z j) r ++ (take (length r - z j) y ++ drop (z j + length y) r)))
     ∙ (λ j. (take off b ++ append-nil x j) ++ (zero_take r j ++ (take (less (length r) j) y ++ drop (zero-more (length y) j) r)))
     ∙ append_assoc (take off b) x (take (length r) y ++ drop (length y) r)
     ∙ ap (λ (ys : List ℕ). take off b ++ ys) (sym (append_assoc x (take (length r) y) (drop (length y) r)))
-    ∙ (λ j. take off b ++ (sym (take-add n (length r) xs) j ++ drop (behind j) r))
+    ∙ (λ j. take off b ++ (sym (take-add n (length r) xs) j ++ drop (after j) r))
     ∙ ap (λ (k : ℕ). take off b ++ (take k xs ++ drop (off + length xs - length b) r)) whole
     ∙ sym (λ j. take-append-le off b r (omega arith) j ++ (take (length (b ++ r) - off) xs ++ drop_over (off + length xs) b r (omega arith) j))
   where
@@ -238,10 +238,10 @@ in_second b r xs off h =
     let y : drop (length b - off) xs ≡ xs = ap (λ (k : ℕ). drop k xs) n in
     let none : drop (off + 0) b ≡ [] = drop_all (off + 0) b (omega arith) in
     let left : length r - (off - length b) ≡ length (b ++ r) - off = omega (arith, size) in
-    let behind : off - length b + length xs ≡ off + length xs - length b = omega arith in
+    let after : off - length b + length xs ≡ off + length xs - length b = omega arith in
     let k : ℕ = off - length b in
     (λ j. (take off b ++ (x j ++ drop (off + length (x j)) b)) ++ (take k r ++ (take (length r - k) (y j) ++ drop (k + length (y j)) r)))
-    ∙ (λ j. (take_all off b h j ++ none j) ++ (take k r ++ (take (left j) xs ++ drop (behind j) r)))
+    ∙ (λ j. (take_all off b h j ++ none j) ++ (take k r ++ (take (left j) xs ++ drop (after j) r)))
     ∙ ap (λ (ys : List ℕ). ys ++ (take k r ++ (take (length (b ++ r) - off) xs ++ drop (off + length xs - length b) r))) (append-nil b)
     ∙ sym (append_assoc b (take k r) (take (length (b ++ r) - off) xs ++ drop (off + length xs - length b) r))
     ∙ ap (λ (ys : List ℕ). (ys ++ take k r) ++ (take (length (b ++ r) - off) xs ++ drop (off + length xs - length b) r)) (sym (take_all off b h))
@@ -261,7 +261,7 @@ overlaid_bytes (e ∷ es) off xs =
       | inr l ↦ in_second e.bytes (flat_bytes es) xs off l
     ]
 
--- bytes over a list, and behind it
+-- bytes over a list, and after it
 extended : (s xs : List ℕ) (off : ℕ) → (take off s ++ (take (length s - off) xs ++ drop (off + length xs) s)) ++ (replicate (off - length s) 0 ++ drop (length s - off) xs) ≡ written_bytes s off xs
 extended s xs off = go (cases_lt (length s) off) (cases_lt (length s - off) (length xs))
   where

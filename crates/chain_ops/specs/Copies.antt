@@ -4,7 +4,7 @@ use Rattle.params.specs.declared.TheConstants.{MBUF_HEADER}
 use Rattle.mbuf_chain.specs.Chain.{Entry}
 use Rattle.chain_ops.specs.Rooms.{room_low}
 
--- a copy of n of an entry's bytes, behind the first `skip`: on the same cluster, or from place `room` on in a plain mbuf
+-- a copy of n of an entry's bytes, after the first `skip`: on the same cluster, or from place `room` on in a plain mbuf
 abbrev pub copied_entry : ℕ → Entry → ℕ → ℕ → Entry
 copied_entry room e skip n = record { bytes = take n (drop skip e.bytes); start = if is_some e.cluster then e.start + skip else room; cluster = e.cluster }
 

@@ -19,7 +19,7 @@ rest_of header e off =
     else empty_entry (room_low true) None ∷ copied_entry MBUF_HEADER e off (length e.bytes - off) ∷ [])
     else copied_entry MBUF_HEADER e off (length e.bytes - off) ∷ []
 
--- the entries in front of the cut, and those behind it: the first entry that is as long as the offset left is cut
+-- the entries in front of the cut, and those after it: the first entry that is as long as the offset left is cut
 abbrev pub split_front : List Entry → ℕ → List Entry
 split_front [] off = []
 split_front (e ∷ es) off = if nat_lt (length e.bytes) off then e ∷ split_front es (off - length e.bytes) else narrowed e 0 off ∷ []

@@ -14,7 +14,7 @@ pub record AreFree (p : PoolView) (cs : List ℕ) : Type 0 where
   pub free : AllByRecursion (λ c. references p c ≡ 0) cs
   pub once : (c : ℕ) → times c cs ≤ 1
 
--- the bytes in mbufs of these rooms, behind a first one
+-- the bytes in mbufs of these rooms, after a first one
 abbrev pub stored : List ℕ → List Room → List ℕ → List Entry
 stored cs [] xs = []
 stored cs (Plain n ∷ rooms) xs = record { bytes = take n xs; start = MBUF_HEADER; cluster = None } ∷ stored cs rooms (drop n xs)

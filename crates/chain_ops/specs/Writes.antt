@@ -29,11 +29,11 @@ plain_pieces (suc most) xs = if length xs == 0 then [] else record { bytes = tak
 abbrev pub in_plain : List ℕ → List Entry
 in_plain xs = plain_pieces (length xs) xs
 
--- what goes behind the old end: zeros up to the offset, and the bytes that lie behind the end
+-- what goes after the old end: zeros up to the offset, and the bytes that lie after the end
 abbrev pub tail_of : ℕ → ℕ → List ℕ → List ℕ
 tail_of old off xs = replicate (off - old) 0 ++ drop (old - off) xs
 
--- the entries with the bytes written from `off` on; the room behind the last one isn't used
+-- the entries with the bytes written from `off` on; the room after the last one isn't used
 abbrev pub copied_back : List Entry → ℕ → List ℕ → List Entry
 copied_back es off xs = overlaid es off xs ++ in_plain (tail_of (length (flat_bytes es)) off xs)
 

@@ -49,7 +49,7 @@ pub fn trim_back(pool: &mut Pool, chain: &Chain, keep: u32)
 
 /// Takes the first `n` bytes off a chain, or where `n` is below 0 the last ones; all where it has fewer. No
 /// mbuf is freed: one that loses bytes at its front begins that much later, also where all go. It takes one step
-/// for each mbuf in front of the bytes that stay, or for each of the chain where bytes go behind (TCP/IP
+/// for each mbuf in front of the bytes that stay, or for each of the chain where bytes go after (TCP/IP
 /// Illustrated, volume 2, chapter 2).
 pub fn m_adj(pool: &mut Pool, chain: &Chain, n: i32)
     requires { IsLive pool.old chain.now }

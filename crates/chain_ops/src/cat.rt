@@ -57,7 +57,7 @@ fn join(pool: &mut Pool, chain: &Chain, last: Place, second: Chain) -> Place
     'mbufs: loop {
         let from = pool.first(&back);
         let len = pool.segment(&back, from).len;
-        if pool.back_room(chain, last) <= len {
+        if pool.trailing_space(chain, last) <= len {
             return pool.link(chain, last, back);
         }
         pool.append(chain, last, &back, from, 0, len);
@@ -70,7 +70,7 @@ fn join(pool: &mut Pool, chain: &Chain, last: Place, second: Chain) -> Place
 
 /// Joins a chain to another, whose last mbuf is told, as `m_cat` does. The answer is the place of the last mbuf
 /// then, so that many chains are joined in one walk over their mbufs.
-pub fn cat_behind(pool: &mut Pool, chain: &Chain, last: Place, second: Chain) -> Place
+pub fn cat_after(pool: &mut Pool, chain: &Chain, last: Place, second: Chain) -> Place
     requires front { IsLive pool.old chain.now }
     requires back { IsLive pool.old second }
     requires apart { chain.now ≢ second }
@@ -88,10 +88,10 @@ pub fn cat_behind(pool: &mut Pool, chain: &Chain, last: Place, second: Chain) ->
     last_from(pool, chain, from)
 }
 
-/// Joins a chain to another: as long as its first mbuf is shorter than the room behind the last bytes of the first
+/// Joins a chain to another: as long as its first mbuf is shorter than the room after the last bytes of the first
 /// chain, its bytes are moved there and it is freed, with its reference. What is left is linked, and loses its packet
 /// header; so is an mbuf that would fill the room exactly. A cluster takes nothing. It's never refused (TCP/IP
-/// Illustrated, volume 2, chapter 2). The mbufs of the first chain are walked for its last one: `cat_behind` is told
+/// Illustrated, volume 2, chapter 2). The mbufs of the first chain are walked for its last one: `cat_after` is told
 /// it.
 pub fn m_cat(pool: &mut Pool, chain: &Chain, second: Chain)
     requires front { IsLive pool.old chain.now }

@@ -46,8 +46,8 @@ pub fn is_writable(pool: &Pool, chain: &Chain, off: u32, len: u32) -> bool
     true
 }
 
-/// The bytes behind the first `count`, or none where there are fewer.
-fn behind(bytes: &[u8], count: u32) -> &[u8]
+/// The bytes after the first `count`, or none where there are fewer.
+fn after(bytes: &[u8], count: u32) -> &[u8]
     ensures { result.now ≡ drop count bytes.now }
 {
     &bytes[bytes.len().min(count as usize)..]
@@ -86,7 +86,7 @@ fn overlay(pool: &mut Pool, chain: &Chain, off: u32, bytes: &[u8])
     'mbufs: while !rest.is_empty() {
         let len = pool.segment(chain, at).len;
         overlay_mbuf(pool, chain, at, skip, rest);
-        rest = behind(rest, len.saturating_sub(skip));
+        rest = after(rest, len.saturating_sub(skip));
         skip = skip.saturating_sub(len);
         let Some(place) = pool.next(chain, at) else {
             return;
@@ -139,7 +139,7 @@ fn new_tail(pool: &mut Pool, gap: u32, bytes: &[u8]) -> Result<Chain, NoBufs>
 {
     let chain = new_piece(pool, gap, bytes)?;
     let mut last = pool.first(&chain);
-    let mut rest = behind(bytes, MLEN.saturating_sub(gap));
+    let mut rest = after(bytes, MLEN.saturating_sub(gap));
     let mut blank = gap.saturating_sub(MLEN);
     'mbufs: while blank as usize + rest.len() > 0 {
         let len = (blank + rest.len() as u32).min(MLEN);
@@ -148,7 +148,7 @@ fn new_tail(pool: &mut Pool, gap: u32, bytes: &[u8]) -> Result<Chain, NoBufs>
             return Err(NoBufs);
         };
         last = pool.link_counted(&chain, last, back, len);
-        rest = behind(rest, MLEN.saturating_sub(blank));
+        rest = after(rest, MLEN.saturating_sub(blank));
         blank = blank.saturating_sub(MLEN);
     }
     pool.laws();
@@ -156,7 +156,7 @@ fn new_tail(pool: &mut Pool, gap: u32, bytes: &[u8]) -> Result<Chain, NoBufs>
 }
 
 /// Writes bytes over those of a chain from `off` on, and lengthens it where it ends before them: bytes between its old
-/// end and `off` become 0, and what lies behind the old end goes into new plain mbufs; the room behind the old last
+/// end and `off` become 0, and what lies after the old end goes into new plain mbufs; the room after the old last
 /// bytes isn't used. `off` and the bytes are at most 65,535 together, and the range must be writable (`is_writable`).
 /// `NoBufs` comes exactly where fewer mbufs are free than the new bytes need, and changes nothing (TCP/IP Illustrated,
 /// volume 2, chapter 2).
@@ -183,7 +183,7 @@ pub fn m_copyback(pool: &mut Pool, chain: &Chain, off: u32, bytes: &[u8]) -> Res
         overlay(pool, chain, off, bytes);
         return Ok(());
     }
-    let rest = behind(bytes, len.saturating_sub(off));
+    let rest = after(bytes, len.saturating_sub(off));
     let tail = new_tail(pool, off.saturating_sub(len), rest)?;
     pool.laws();
     overlay(pool, chain, off, bytes);

@@ -42,7 +42,7 @@ pub fn cursor_at(pool: &Pool, chain: &Chain, off: u32) -> Cursor
     Cursor { off, place, skip }
 }
 
-/// Where the byte lies that is `by` bytes, 1 or more, behind that of a cursor. It takes one step for each mbuf
+/// Where the byte lies that is `by` bytes, 1 or more, after that of a cursor. It takes one step for each mbuf
 /// that is passed on the way.
 pub fn advance(pool: &Pool, chain: &Chain, from: Cursor, by: u32) -> Cursor
     requires live { IsLive pool.now chain.now }

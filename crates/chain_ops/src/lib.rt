@@ -19,7 +19,7 @@ mod tests;
 pub mod theorems;
 
 pub use adj::{m_adj, trim_back, trim_front};
-pub use cat::{cat_behind, m_cat};
+pub use cat::{cat_after, m_cat};
 pub use copyback::{is_writable, m_copyback};
 pub use copydata::m_copydata;
 pub use copym::{Extent, m_copym};

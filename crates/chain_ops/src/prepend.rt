@@ -42,7 +42,7 @@ pub fn m_prepend(pool: &mut Pool, chain: &mut Chain, bytes: &[u8]) -> Result<(),
     pool.laws();
     let first = pool.first(chain);
     let len = bytes.len() as u32;
-    if len <= pool.front_room(chain, first) {
+    if len <= pool.leading_space(chain, first) {
         pool.put_front(chain, first, bytes);
         return Ok(());
     }

@@ -1,6 +1,6 @@
 //! The first bytes of a chain brought into one mbuf.
 ghost use Rattle.std.specs.Prelude.{◌≡◌, ◌≢◌, ◌+◌, ◌-◌, ◌≤◌, ◌++◌, true, None, min, length, take, drop, OnOk, OnErr, IfErr, IsTrue};
-ghost use Rattle.mbuf_chain.specs.Chain.{IsLive, IsPlace, HasBackRoom, chain_of, entry_in, entry_of, with_chain, without, string, alone};
+ghost use Rattle.mbuf_chain.specs.Chain.{IsLive, IsPlace, HasTrailingSpace, chain_of, entry_in, entry_of, with_chain, without, string, alone};
 ghost use Rattle.mbuf_chain.specs.Steps.{empty_entry, joined};
 ghost use Rattle.chain_ops.specs.Rooms.{room_low};
 ghost use Rattle.chain_ops.specs.Makes.{Makes, HasMbufs, LacksMbufs};
@@ -28,9 +28,9 @@ pub enum Refusal {
     NoBufs,
 }
 
-/// Moves the first `n` bytes of a chain behind those of the last mbuf of another, and links what is left.
+/// Moves the first `n` bytes of a chain after those of the last mbuf of another, and links what is left.
 /// An mbuf that is emptied goes, and so does one without bytes that is passed. Where the number of the chain's bytes is
-/// told, no mbuf behind these is looked at; without a packet header in front it needn't be told.
+/// told, no mbuf after these is looked at; without a packet header in front it needn't be told.
 fn pull(pool: &mut Pool, into: &Chain, last: Place, second: Chain, n: u32, counted: bool, len: u32)
     requires front { IsLive pool.old into.now }
     requires back { IsLive pool.old second }
@@ -38,7 +38,7 @@ fn pull(pool: &mut Pool, into: &Chain, last: Place, second: Chain, n: u32, count
     requires place { IsPlace (chain_of pool.old into.now) last }
     requires last { last.index + 1 ≡ length (chain_of pool.old into.now).entries }
     requires plain { (entry_in pool.old into.now last).cluster ≡ None }
-    requires room { HasBackRoom (entry_in pool.old into.now last) n }
+    requires room { HasTrailingSpace (entry_in pool.old into.now last) n }
     requires len { counted ≡ true → len ≡ length (string (chain_of pool.old second)) }
     ensures { Makes (without (without pool.old second) into.now) pool.new into.now
         (chain_of pool.old into.now).front

@@ -22,7 +22,7 @@ fn find_cut(pool: &Pool, chain: &Chain, off: u32) -> (Place, u32)
     ensures within { result.1 ≤ length (entry_in pool.now chain.now result.0).bytes }
     ensures left { off + length (flat_bytes (drop result.0.index (chain_of pool.now chain.now).entries))
         ≡ result.1 + length (string (chain_of pool.now chain.now)) }
-    ensures behind { result.1 < length (flat_bytes (drop result.0.index (chain_of pool.now chain.now).entries)) }
+    ensures after { result.1 < length (flat_bytes (drop result.0.index (chain_of pool.now chain.now).entries)) }
     ensures front { split_front (chain_of pool.now chain.now).entries off
         ≡ take result.0.index (chain_of pool.now chain.now).entries
         ++ split_front (drop result.0.index (chain_of pool.now chain.now).entries) result.1 }
@@ -61,7 +61,7 @@ fn new_end(pool: &mut Pool, chain: &Chain, at: Place, off: u32, n: u32) -> Resul
     Ok(head)
 }
 
-/// A chain of an empty mbuf with packet header, and behind it one with the bytes of a plain mbuf.
+/// A chain of an empty mbuf with packet header, and after it one with the bytes of a plain mbuf.
 fn new_two(pool: &mut Pool, chain: &Chain, at: Place, off: u32, n: u32) -> Result<Chain, NoBufs>
     requires live { IsLive pool.old chain.now }
     requires place { IsPlace (chain_of pool.old chain.now) at }
@@ -115,9 +115,9 @@ fn new_head(
     new_two(pool, chain, at, off, n)
 }
 
-/// Cuts a chain in two behind its first `at` bytes, fewer than it has. The chain keeps these, the answer has the
+/// Cuts a chain in two after its first `at` bytes, fewer than it has. The chain keeps these, the answer has the
 /// others: of an mbuf that is cut through, a cluster is shared, and bytes of a plain one are copied. Where the chain
-/// has a packet header, both have one, and no mbuf behind the cut is looked at. `NoBufs` comes exactly where fewer mbufs are free than that takes, and
+/// has a packet header, both have one, and no mbuf after the cut is looked at. `NoBufs` comes exactly where fewer mbufs are free than that takes, and
 /// changes nothing (`m_split` of 4.4BSD; the details are this project's own).
 pub fn m_split(pool: &mut Pool, chain: &Chain, at: u32) -> Result<Chain, NoBufs>
     requires live { IsLive pool.old chain.now }

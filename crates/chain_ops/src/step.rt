@@ -20,7 +20,7 @@ pub(crate) fn room_low(header: bool) -> u32
     }
 }
 
-/// A chain of one mbuf that has a copy of `n` bytes of another mbuf, behind the first `skip`: a cluster is
+/// A chain of one mbuf that has a copy of `n` bytes of another mbuf, after the first `skip`: a cluster is
 /// shared.
 pub(crate) fn new_copy(
     pool: &mut Pool,
@@ -51,7 +51,7 @@ pub(crate) fn new_copy(
     Ok(copy)
 }
 
-/// Links a chain of one mbuf, a copy of `n` bytes of an mbuf of another chain behind the first `skip`, behind
+/// Links a chain of one mbuf, a copy of `n` bytes of an mbuf of another chain after the first `skip`, after
 /// the last mbuf of a chain. Answers its place.
 pub(crate) fn append_copy(
     pool: &mut Pool,
@@ -92,7 +92,7 @@ pub(crate) fn counted_len(pool: &Pool, chain: &Chain) -> (bool, u32)
     }
 }
 
-/// Links a chain behind the last mbuf of another. Where that one has a packet header, the number of its bytes is told.
+/// Links a chain after the last mbuf of another. Where that one has a packet header, the number of its bytes is told.
 pub(crate) fn link_rest(
     pool: &mut Pool,
     into: &Chain,

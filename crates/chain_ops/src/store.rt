@@ -127,7 +127,7 @@ fn store(pool: &mut Pool, bytes: &[u8], large: u32, ends: bool) -> Result<Chain,
     let mut last = pool.first(&chain);
     'rooms: while !rest.is_empty() {
         let next = room_len(MCLBYTES as usize, MLEN as usize, rest.len());
-        let (piece, behind) = rest.split_at(next);
+        let (piece, after) = rest.split_at(next);
         let Ok(back) = new_stored(
             pool,
             false,
@@ -140,7 +140,7 @@ fn store(pool: &mut Pool, bytes: &[u8], large: u32, ends: bool) -> Result<Chain,
             return Err(NoBufs);
         };
         last = pool.link_counted(&chain, last, back, next as u32);
-        rest = behind;
+        rest = after;
     }
     pool.laws();
     Ok(chain)

@@ -1,4 +1,4 @@
--- From the words behind a keyword to what they ask for: each keyword has one form.
+-- From the words after a keyword to what they ask for: each keyword has one form.
 use Rattle.std.proofs.Common.{◌≡◌, ℕ, ◌≤◌, List, ◌∷◌, length, if◌then◌else◌, codes, bytes_eq, Option, Some, None, sym, ap, ◌∙◌, subst, arith}
 use Rattle.std.specs.Prelude.{MatchOption, IfSome}
 use Rattle.flat_model.specs.Grammar.{words}

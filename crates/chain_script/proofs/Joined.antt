@@ -5,7 +5,7 @@ use Rattle.std.proofs.lemmas.Bool.{ne_eqb}
 use Rattle.params.specs.declared.TheConstants.{MHLEN}
 use Rattle.mbuf_chain.specs.Chain.{Entry, Front, ChainView, PoolView, IsLive, alone, chain_of, without, with_chain, references, string, entry_of}
 use Rattle.mbuf_chain.specs.Owners.{Moves}
-use Rattle.mbuf_chain.proofs.Laws.Owners.{moves_trans, moves_without, moves_with, moves_adds, moves_behind}
+use Rattle.mbuf_chain.proofs.Laws.Owners.{moves_trans, moves_without, moves_with, moves_adds, moves_after}
 use Rattle.mbuf_chain.proofs.Laws.Steps.{live_without}
 use Rattle.chain_ops.specs.Makes.{Makes, Parts, HasMbufs, LacksMbufs}
 use Rattle.chain_ops.specs.declared.copym.Extent.{Extent}
@@ -82,7 +82,7 @@ pull_lacks p slots i c n fits is short enough lack =
 -- ---- cuts
 moves_parted : (p q : PoolView) (c d : ℕ) (f g : Front) (es fs : List Entry) → IsLive p c → Parts p q c d f es g fs → Moves p (c ∷ []) q (c ∷ d ∷ [])
 moves_parted p q c d f g es fs live m =
-    moves_trans (moves_with p (with_chain p c (chain_of q c)) c (chain_of q c) live refl) (moves_behind (c ∷ []) (moves_adds m.made.adds))
+    moves_trans (moves_with p (with_chain p c (chain_of q c)) c (chain_of q c) live refl) (moves_after (c ∷ []) (moves_adds m.made.adds))
 
 split_lacks_is : (p : PoolView) (slots : List (Option ℕ)) (i c at : ℕ) → get_or slots i None ≡ Some c
     → lacks (machine_of p slots) (split_need (header_at (machine_of p slots) i) (entries_at (machine_of p slots) i) at) 0
@@ -118,7 +118,7 @@ split_lacks p slots to i c at fits is empty inside lack =
 moves_joined : (p q : PoolView) (c d : ℕ) (f : Front) (es : List Entry) → IsLive p c → IsLive p d → c ≢ d → Makes (without (without p d) c) q c f es
     → Moves p (c ∷ d ∷ []) q (c ∷ [])
 moves_joined p q c d f es lc ld ne m =
-    moves_trans (moves_behind (c ∷ []) (moves_without p (without p d) d ld refl))
+    moves_trans (moves_after (c ∷ []) (moves_without p (without p d) d ld refl))
     (moves_trans (moves_without (without p d) (without (without p d) c) c (live_without p (without p d) d refl c ne lc) refl) (moves_adds m.adds))
 
 pub join_done : (p q : PoolView) (slots : List (Option ℕ)) (i o c d : ℕ) → Fits p slots → i < length slots → o < length slots → i ≢ o

@@ -35,11 +35,11 @@ IsCall (Show slot) = slot < 64
 IsCall (Free slot) = slot < 64
 IsCall Usage = Unit {0}
 
--- the words behind the keyword ask for the request
+-- the words after the keyword ask for the request
 abbrev pub IsForm : List ℕ → List (List ℕ) → lines.Request → Type 0
 IsForm name args request = (lines.keyword request ≡ name) × lines.HasWords request args
 
--- what the words behind the keyword ask for
+-- what the words after the keyword ask for
 abbrev pub ReadsForm : List ℕ → List (List ℕ) → List ℕ → Option Call → Type 0
 ReadsForm name args room (Some call) = IsForm name args (request_of call room) × IsCall call
 ReadsForm name args room None = (request : lines.Request) → IsForm name args request → ⊥

@@ -47,12 +47,12 @@ keyword (Show slot) = codes "show"
 keyword (Free slot) = codes "free"
 keyword Ask_usage = codes "mbstat"
 
--- the words behind the slots of a copy
+-- the words after the slots of a copy
 abbrev pub IsExtentWords : List (List ℕ) → Extent → Type 0
 IsExtentWords args All = args ≡ codes "all" ∷ []
 IsExtentWords args (Part off len) = (o l : List ℕ) × (args ≡ o ∷ l ∷ []) × IsOffset o off × IsOffset l len
 
--- the words behind that one
+-- the words after that one
 abbrev pub HasWords : Request → List (List ℕ) → Type 0
 HasWords (User slot bytes) args = (s h : List ℕ) × (args ≡ s ∷ h ∷ []) × IsSlot s slot × IsHex h bytes
 HasWords (Wire slot bytes) args = (s h : List ℕ) × (args ≡ s ∷ h ∷ []) × IsSlot s slot × IsHex h bytes

@@ -87,12 +87,12 @@ TellsDone ss Ask_usage reply = (usage : Mbstat) × (reply ≡ Shown usage)
 TellsDone ss request reply = reply ≡ Ready
 
 -- it was refused for want of buffers or for a shared cluster, which strings don't tell, and nothing has changed
-abbrev pub IsUntold : List (Option (List ℕ)) → Reply → List (Option (List ℕ)) → Type 0
-IsUntold old reply new = ((reply ≡ No_buffers) ⊎ (reply ≡ Shared)) × (new ≡ old)
+abbrev pub IsSilent : List (Option (List ℕ)) → Reply → List (Option (List ℕ)) → Type 0
+IsSilent old reply new = ((reply ≡ No_buffers) ⊎ (reply ≡ Shared)) × (new ≡ old)
 
 abbrev pub TellsUnless : Option Reply → List (Option (List ℕ)) → Request → Reply → List (Option (List ℕ)) → Type 0
 TellsUnless (Some fault) old request reply new = (reply ≡ fault) × (new ≡ old)
-TellsUnless None old request reply new = IsUntold old reply new ⊎ (TellsDone old request reply × (new ≡ strings_after old request))
+TellsUnless None old request reply new = IsSilent old reply new ⊎ (TellsDone old request reply × (new ≡ strings_after old request))
 
 -- from the strings old a request may have this reply and lead to the strings new
 abbrev pub StringStep : List (Option (List ℕ)) → Request → Reply → List (Option (List ℕ)) → Type 0

@@ -17,13 +17,13 @@ use crate::reply::{TEXT, put_done, put_held};
 use crate::show::{show, usage};
 use mbuf_chain::{Chain, Pool};
 use mbuf_pool::{BootFault, Sizes, Store};
-use script_loop::{Answers, Buffer, Rooms};
+use script_loop::{Answers, Buffer, LineBuffers};
 use std::alloc::{AllocError, Global};
 
 /// How many slots there are.
 const SLOTS: usize = 64;
 
-/// Copies bytes out of a chain, and puts the line for them behind the text.
+/// Copies bytes out of a chain, and puts the line for them after the text.
 fn read_out(
     pool: &Pool,
     chains: &[Option<Chain>],
@@ -50,11 +50,11 @@ fn read_out(
     put_held(text, digits, to, outcome);
 }
 
-/// Makes the call that a line asks for, and puts its reply behind the text.
+/// Makes the call that a line asks for, and puts its reply after the text.
 fn make_call(
     pool: &mut Pool,
     chains: &mut [Option<Chain>],
-    rooms: &mut Rooms,
+    buffers: &mut LineBuffers,
     call: Call,
     text: &mut Buffer<TEXT>,
 )
@@ -65,11 +65,11 @@ fn make_call(
     ensures fits { Fits pool.new chains.new }
     ensures slots { length chains.new ≡ 64 }
     ensures step { (reply : Reply)
-        × Step (machine_of pool.old chains.old) (request_of call rooms.old.bytes.items) reply
+        × Step (machine_of pool.old chains.old) (request_of call buffers.old.bytes.items) reply
         (machine_of pool.new chains.new)
         × (text.new ≡ text.old ++ answer_text (Some reply)) }
 {
-    let bytes = rooms.bytes.as_slice();
+    let bytes = buffers.bytes.as_slice();
     match call {
         Call::User(slot, len) => put_done(text, user(pool, chains, slot as usize, &bytes[..len])),
         Call::Wire(slot, len) => put_done(text, wire(pool, chains, slot as usize, &bytes[..len])),
@@ -98,8 +98,8 @@ fn make_call(
         Call::ReadOut(slot, off, len) => read_out(
             pool,
             chains,
-            rooms.bytes.as_mut_slice(),
-            rooms.digits.as_mut_slice(),
+            buffers.bytes.as_mut_slice(),
+            buffers.digits.as_mut_slice(),
             slot as usize,
             off,
             len as usize,
@@ -111,11 +111,11 @@ fn make_call(
     }
 }
 
-/// Puts the answer to a line behind the text.
+/// Puts the answer to a line after the text.
 fn put_answer(
     pool: &mut Pool,
     chains: &mut [Option<Chain>],
-    rooms: &mut Rooms,
+    buffers: &mut LineBuffers,
     line: &[u8],
     text: &mut Buffer<TEXT>,
 )
@@ -127,8 +127,8 @@ fn put_answer(
     ensures says { (reply : List ℕ) × Says (machine_of pool.old chains.old) line.now reply (machine_of pool.new chains.new)
         × (text.new ≡ text.old ++ reply) }
 {
-    match call_of(line, rooms.bytes.as_mut_slice()) {
-        Some(call) => make_call(pool, chains, rooms, call, text),
+    match call_of(line, buffers.bytes.as_mut_slice()) {
+        Some(call) => make_call(pool, chains, buffers, call, text),
         None => text.append(b"? line\n"),
     }
 }
@@ -137,7 +137,7 @@ fn put_answer(
 pub struct Caller {
     pool: Pool,
     chains: Vec<Option<Chain>>,
-    rooms: Rooms,
+    buffers: LineBuffers,
     ghost slots: { vec_len chains ≡ 64 },
     ghost fits: { Fits pool chains.items },
 }
@@ -156,13 +156,13 @@ fn empty_slots(alloc: Global) -> Result<Vec<Option<Chain>>, AllocError>
 
 impl Caller {
     /// A pool without chains, and empty slots. `BadSizes` comes exactly where the sizes aren't those of a pool, and is
-    /// tested first; `Memory` where the host refuses memory. Nothing is left behind then.
+    /// tested first; `Memory` where the host refuses memory. Nothing is left after then.
     pub fn boot(alloc: Global, sizes: Sizes) -> Result<Caller, BootFault>
         ensures ok { IfOk result (λ c. machine_of c.pool c.chains.items ≡ booted sizes.mbufs sizes.clusters) }
         ensures bad { (result ≡ Err boot_fault.BadSizes) ↔ IsBad sizes }
     {
         let store = Store::boot(alloc, sizes)?;
-        let Ok(rooms) = Rooms::new(alloc) else {
+        let Ok(buffers) = LineBuffers::new(alloc) else {
             return Err(BootFault::Memory);
         };
         let Ok(chains) = empty_slots(alloc) else {
@@ -171,7 +171,7 @@ impl Caller {
         Ok(Caller {
             pool: Pool::over(store),
             chains,
-            rooms,
+            buffers,
         })
     }
 
@@ -182,7 +182,7 @@ impl Caller {
         let Caller {
             mut pool,
             mut chains,
-            rooms: _,
+            buffers: _,
         } = self;
         'slots: while let Some(slot) = chains.pop() {
             if let Some(chain) = slot {
@@ -205,7 +205,7 @@ impl Answers<TEXT> for Caller {
         put_answer(
             &mut self.pool,
             self.chains.as_mut_slice(),
-            &mut self.rooms,
+            &mut self.buffers,
             line,
             text,
         );

@@ -8,7 +8,7 @@ use crate::fault::Fault;
 use mbuf_chain::Usage;
 use script_loop::{Buffer, HELD, put_hex, put_number};
 
-/// Room for the longest reply behind those that are held: the layout of a chain of 65,535 mbufs, of which each takes 23
+/// Room for the longest reply after those that are held: the layout of a chain of 65,535 mbufs, of which each takes 23
 /// bytes at most.
 pub const TEXT: usize = HELD + 1_507_328;
 

@@ -23,7 +23,7 @@ use std::alloc::Global;
 ///
 /// `Read` where the reader answers an error: each whole line before it was answered. `Write` where the writer answers
 /// an error, or takes none of the bytes that it is given: a front of the replies was written. `TooManyLines` at a byte
-/// behind the 10,000,000th line, or one that makes a line longer than 1,048,576 bytes: each whole line before it was
+/// after the 10,000,000th line, or one that makes a line longer than 1,048,576 bytes: each whole line before it was
 /// answered.
 pub fn run_chains<R: Source, W: Sink>(
     alloc: Global,

@@ -11,7 +11,7 @@ const SIZES: Sizes = Sizes {
     clusters: 64,
 };
 
-/// Puts a text behind another; `{300 61}` in it stands for 300 times 61.
+/// Puts a text after another; `{300 61}` in it stands for 300 times 61.
 fn put_spelled(out: &mut String, text: &str) -> Result<(), Fail> {
     let Some((front, rest)) = text.split_once('{') else {
         out.push_str(text)?;

@@ -7,7 +7,7 @@ use Rattle.flat_model.specs.Overlay.{Map, Fragment}
 use Rattle.flat_model.specs.Whole.{bytes_below}
 use Rattle.flat_model.specs.Count.{counted}
 use Rattle.flat_model.specs.State.{State, Socket, Datagram, Key, Unfinished, change_socket, begun, begin_unfinished, set_bytes, end_unfinished, ends}
-use Rattle.flat_model.specs.Ledger.{Ledger, Affords, need_mbufs, reclaimed}
+use Rattle.flat_model.specs.Ledger.{Ledger, HasBuffers, need_mbufs, reclaimed}
 use Rattle.flat_model.specs.Arrival as Arrival
 use Rattle.flat_model.specs.Arrival.{Origin, By_wire, Looped}
 use Rattle.flat_model.specs.declared.address.Addr.{Addr}
@@ -50,17 +50,17 @@ module _ (M : Ledger) where
     pub packet : (s : State) → K s → K (Arrival.counts_packet s)
 
   module _ (K : State → Type 0) (closed : IsClosed K) where
-    pub kept_affords : (old new : State) (held : Weight) (n : Need) (answer : Bool) → K old → Affords M old held n answer new → K new
-    kept_affords old new held n true k (inl a) = subst K (sym a.1) k
-    kept_affords old new held n true k (inr a) = subst K (sym a.1) (closed.dropped old k)
-    kept_affords old new held n false k a = subst K (sym a.1) (closed.dropped old k)
+    pub kept_has_buffers : (old new : State) (held : Weight) (n : Need) (answer : Bool) → K old → HasBuffers M old held n answer new → K new
+    kept_has_buffers old new held n true k (inl a) = subst K (sym a.1) k
+    kept_has_buffers old new held n true k (inr a) = subst K (sym a.1) (closed.dropped old k)
+    kept_has_buffers old new held n false k a = subst K (sym a.1) (closed.dropped old k)
 
     kept_ends : (s new : State) (why : Why) → K s → new ≡ ends why s → K new
     kept_ends s new why k e = subst K (sym e) (closed.ended why s k)
 
     kept_tests : (old new : State) (held : Weight) (n : ℕ) (Then : State → Type 0) → K old → ((mid : State) → K mid → Then mid → K new) → Arrival.Tests M old held n new Then → K new
     kept_tests old new held n Then k goes t =
-        let at : K t.mid = kept_affords old t.mid held (need_mbufs n) t.answer k t.affords in
+        let at : K t.mid = kept_has_buffers old t.mid held (need_mbufs n) t.answer k t.has_buffers in
         by_choice t.goes_on (λ e h. goes t.mid at h) (λ e h. kept_ends t.mid new NoBufs at h)
 
     kept_appends : (held : Weight) (sender : Addr) (item : Item) (to : Socket) (old new : State) → K old → Arrival.Appends M held sender item to old new → K new

@@ -10,21 +10,21 @@ use Rattle.flat_model.specs.Event.{Reply, IsAddr}
 use Rattle.flat_model.specs.declared.errno.Errno.{Errno}
 use Rattle.flat_model.specs.declared.option.Opt.{Opt}
 use Rattle.flat_model.specs.declared.option.Opt.TheVariants.{Broadcast, ReusePort}
-use Rattle.flat_model.specs.State.{IsConfig, State, Socket, Datagram, loopback, everyone, socket_at, change_socket}
+use Rattle.flat_model.specs.State.{IsConfig, State, Socket, Datagram, loopback, limited_broadcast, socket_at, change_socket}
 use Rattle.flat_model.specs.declared.config.Config.{Config}
 use Rattle.flat_model.specs.Calls as Calls
-use Rattle.flat_model.specs.Calls.{Refuses, OnSocket, GetsPort, port_behind, unless_zero, is_ours, disconnected, set_option, source_for, fresh, read_address, read_addr}
+use Rattle.flat_model.specs.Calls.{Refuses, OnSocket, GetsPort, port_after, unless_zero, is_ours, disconnected, set_option, source_for, fresh, read_address, read_addr}
 use Rattle.flat_model.specs.Ledger.{Ledger}
 use Rattle.flat_model.specs.Arrival as Arrival
 use Rattle.flat_model.specs.Step.{ComesIn}
 use Rattle.flat_model.specs.declared.address.Addr.{Addr}
 use Rattle.flat_model.proofs.Each.{by_choice, by_case, each-map, each-filter, each-find}
-use Rattle.flat_model.proofs.Closed.{IsClosed, kept_affords, kept_arrives, counted-localout}
+use Rattle.flat_model.proofs.Closed.{IsClosed, kept_has_buffers, kept_arrives, counted-localout}
 
 -- an address to which a socket may send
 pub record IsTarget (a : Addr) : Type 0 where
   pub ip : a.ip < 4294967296
-  pub known : a.ip ≢ everyone
+  pub known : a.ip ≢ limited_broadcast
   pub port : a.port < 65536
 
 pub record IsSound (socket : Socket) : Type 0 where
@@ -73,7 +73,7 @@ module _ (M : Ledger) (c : Config) (out : List Item) (next count : ℕ) (boots :
   pub found : (fd : ℕ) (s : State) (me : Socket) → K s → socket_at fd s ≡ Some me → IsSound me
   found fd s me k e = (each-find IsSound (λ socket. socket.fd == fd) s.sockets me k.sockets e).0
 
-  port_small : (last : Option ℕ) (k : ℕ) → port_behind last k < 65536
+  port_small : (last : Option ℕ) (k : ℕ) → port_after last k < 65536
   port_small None k = omega arith
   port_small (Some last) k = omega arith
 
@@ -102,7 +102,7 @@ module _ (M : Ledger) (c : Config) (out : List Item) (next count : ℕ) (boots :
       go None h = default (to == loopback)
 
   pub target_read : (cc : Config) (a : Addr) → cc ≡ c → IsAddr a → IsTarget (read_addr cc a)
-  target_read cc a e is = record { ip = ip (a.ip == 0) (a.ip == everyone); known = known (a.ip == 0) (a.ip == everyone) refl; port = omega (arith, is.port) }
+  target_read cc a e is = record { ip = ip (a.ip == 0) (a.ip == limited_broadcast); known = known (a.ip == 0) (a.ip == limited_broadcast) refl; port = omega (arith, is.port) }
     where
       addr : cc.addr < 224 * 2 ^ 24
       addr = let at : cc.addr ≡ c.addr = ap (λ (x : Config). x.addr) e in omega (arith, boots.addr.high)
@@ -115,10 +115,10 @@ module _ (M : Ledger) (c : Config) (out : List Item) (next count : ℕ) (boots :
       ip false true = host_small cc.bcast bcast
       ip false false = omega (arith, is.ip)
 
-      known : (x y : Bool) → (a.ip == everyone) ≡ y → cond x cc.addr (cond y cc.bcast a.ip) ≢ everyone
+      known : (x y : Bool) → (a.ip == limited_broadcast) ≡ y → cond x cc.addr (cond y cc.bcast a.ip) ≢ limited_broadcast
       known true y ey = λ h. absurd (omega (arith, addr))
       known false true ey = λ h. absurd (omega (arith, bcast))
-      known false false ey = λ h. eqb-false a.ip everyone ey h
+      known false false ey = λ h. eqb-false a.ip limited_broadcast ey h
 
   zero_small : (a ip : ℕ) (bound : ℕ) → a < bound → unless_zero a ≡ Some ip → ip < bound
   zero_small zero ip bound h e = absurd (none-some ip e)
@@ -180,7 +180,7 @@ module _ (M : Ledger) (c : Config) (out : List Item) (next count : ℕ) (boots :
 
   pub comes_in : (packet : List ℕ) (old new : State) → K old → ComesIn M packet old new → K new
   comes_in packet old new k (answer, mid, a, h) =
-      let at : K mid = kept_affords M (IsKept c out next count) closed old mid nothing _ answer k a in
+      let at : K mid = kept_has_buffers M (IsKept c out next count) closed old mid nothing _ answer k a in
       by_choice h
       (λ e (clusters, taken, arrives). kept_arrives M (IsKept c out next count) closed (Arrival.By_wire (length packet)) nothing (record { bytes = packet; weight = weight_of (laid_on clusters (wire (length packet))) }) mid new at arrives)
       (λ e r. subst K (sym r) (closed.ended _ mid at))

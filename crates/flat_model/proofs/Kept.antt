@@ -6,13 +6,14 @@ use Rattle.std.proofs.lemmas.Bool.{eqb-true, eqb-false, ne_eqb, ltb-false, leb-t
 use Rattle.std.proofs.lemmas.Option.{none-some, same_Some}
 use Rattle.std.proofs.lemmas.List.{length-take, length-drop, length-map, length-append}
 use Rattle.std.proofs.lemmas.List.FromFn.{length-map-range_with_len}
+use Rattle.flat_model.specs.declared.lookup_key.LookupKey.{LookupKey}
 use Rattle.flat_model.specs.Weight.{Weight, Item, mbuf, ◌⊕◌, all_of}
 use Rattle.flat_model.specs.Layout.{Need}
 use Rattle.flat_model.specs.Header.{Head, head_of, total_of, u16_at, udp_bytes}
-use Rattle.flat_model.specs.Overlay.{Map, Fragment, behind, overlay}
+use Rattle.flat_model.specs.Overlay.{Map, Fragment, fragment_end, overlay}
 use Rattle.flat_model.specs.Whole.{bytes_below, byte_of, weight_of_pieces}
 use Rattle.flat_model.specs.State.{State, Socket, Datagram, Key, Unfinished, change_socket, is_key, socket_at, unfinished_at, begun, begin_unfinished, set_bytes, end_unfinished, ends}
-use Rattle.flat_model.specs.Ledger.{Affords, need_mbufs, reclaimed, weight_of_state, has_enough, free_mbufs, exact_ledger}
+use Rattle.flat_model.specs.Ledger.{HasBuffers, need_mbufs, reclaimed, weight_of_state, has_enough, free_mbufs, exact_ledger}
 use Rattle.flat_model.specs.Arrival as Arrival
 use Rattle.flat_model.specs.Arrival.{Origin, By_wire, Looped}
 use Rattle.flat_model.specs.Consistent.{Carries, IsQueued, IsSocket, IsMap, IsWaiting, IsOutput}
@@ -22,7 +23,7 @@ use Rattle.flat_model.specs.declared.counters.Why.{Why}
 use Rattle.flat_model.specs.declared.counters.Why.TheVariants.{NoBufs, UdpFullSocket}
 use Rattle.flat_model.specs.Fits as Fits
 use Rattle.flat_model.specs.Fits.{bytes_queued, memory_queued}
-use Rattle.flat_model.specs.Lookup.{Sought, best, receivers, matches, up_to_first}
+use Rattle.flat_model.specs.Lookup.{best, receivers, matches, up_to_first}
 use Rattle.std.specs.Option.{option_or}
 use Rattle.std.specs.Prelude.{⊤, option_to_list}
 use Rattle.std.proofs.lemmas.List.Sums.{sum_by-cons, sum_by-append}
@@ -73,9 +74,9 @@ none_found p (x ∷ xs) e = go (p x) refl (none_found p xs) e (count_cons p x xs
     go true t rest e n = absurd (none-some x (sym e))
     go false t rest e n = let zero_here : cond {A = ℕ} (p x) 1 0 ≡ 0 = ap (λ b. cond {A = ℕ} b 1 0) t in let later = rest e in omega arith
 
-find_behind : {X : Type 0} (p : X → Bool) (xs : List X) (y : X) → find p xs ≡ None → p y ≡ true → find p (xs ++ y ∷ []) ≡ Some y
-find_behind p [] y e t = ap (λ b. cond b (Some y) None) t
-find_behind p (x ∷ xs) y e t = go (p x) refl (find_behind p xs y) e
+find_after : {X : Type 0} (p : X → Bool) (xs : List X) (y : X) → find p xs ≡ None → p y ≡ true → find p (xs ++ y ∷ []) ≡ Some y
+find_after p [] y e t = ap (λ b. cond b (Some y) None) t
+find_after p (x ∷ xs) y e t = go (p x) refl (find_after p xs y) e
   where
     go : (b : Bool) → p x ≡ b → (find p xs ≡ None → p y ≡ true → find p (xs ++ y ∷ []) ≡ Some y) → cond b (Some x) (find p xs) ≡ None → cond b (Some x) (find p (xs ++ y ∷ [])) ≡ Some y
     go true s rest e = absurd (none-some x (sym e))
@@ -259,7 +260,7 @@ apart_some None = tt
 apart_some (Some x) = (tt, tt)
 
 -- those who hear a datagram are open sockets, no two the same
-hearers_in : (s : State) (destination : ℕ) (q : Sought) → ((fd : ℕ) → count_by (λ (x : Socket). x.fd == fd) s.sockets ≤ 1)
+hearers_in : (s : State) (destination : ℕ) (q : LookupKey) → ((fd : ℕ) → count_by (λ (x : Socket). x.fd == fd) s.sockets ≤ 1)
     → Each (AreIn s) (Arrival.hearers s destination q) × Apart (Arrival.hearers s destination q)
 hearers_in s destination q distinct = go (Arrival.is_broadcast s.config destination)
   where
@@ -375,19 +376,19 @@ module _ (c : Config) where
           mbufs = omega (arith, good.mbufs);
         }
 
-    pub good_affords : Good c held.mbufs old → Affords exact_ledger old held need true new → Good c (held.mbufs + need.mbufs) new × ((new ≡ old) ⊎ (new ≡ reclaimed old))
-    good_affords good (inl (h, e)) = (subst (Good c (held.mbufs + need.mbufs)) (sym e) (room_left old good h), inl e)
-    good_affords good (inr (h, e, again)) = (room_left new (subst (Good c held.mbufs) (sym e) (good_reclaimed held.mbufs old good)) again, inr e)
+    pub good_has_buffers : Good c held.mbufs old → HasBuffers exact_ledger old held need true new → Good c (held.mbufs + need.mbufs) new × ((new ≡ old) ⊎ (new ≡ reclaimed old))
+    good_has_buffers good (inl (h, e)) = (subst (Good c (held.mbufs + need.mbufs)) (sym e) (room_left old good h), inl e)
+    good_has_buffers good (inr (h, e, again)) = (room_left new (subst (Good c held.mbufs) (sym e) (good_reclaimed held.mbufs old good)) again, inr e)
 
-    pub good_lacks : Good c held.mbufs old → Affords exact_ledger old held need false new → Good c held.mbufs new
+    pub good_lacks : Good c held.mbufs old → HasBuffers exact_ledger old held need false new → Good c held.mbufs new
     good_lacks good (h, e, again) = subst (Good c held.mbufs) (sym e) (good_reclaimed held.mbufs old good)
 
   good_tests : (old : State) (held : Weight) (n : ℕ) (new : State) (Then : State → Type 0) (g : ℕ) → g ≤ held.mbufs → Good c held.mbufs old
       → ((mid : State) → Good c (held.mbufs + n) mid → ((mid ≡ old) ⊎ (mid ≡ reclaimed old)) → Then mid → Good c g new) → Arrival.Tests exact_ledger old held n new Then → Good c g new
-  good_tests old held n new Then g le good goes t = go t.answer refl t.affords
+  good_tests old held n new Then g le good goes t = go t.answer refl t.has_buffers
     where
-      go : (b : Bool) → t.answer ≡ b → Affords exact_ledger old held (need_mbufs n) b t.mid → Good c g new
-      go true e a = let at = good_affords old t.mid held (need_mbufs n) good a in goes t.mid at.0 at.1 (t.goes_on.yes e)
+      go : (b : Bool) → t.answer ≡ b → HasBuffers exact_ledger old held (need_mbufs n) b t.mid → Good c g new
+      go true e a = let at = good_has_buffers old t.mid held (need_mbufs n) good a in goes t.mid at.0 at.1 (t.goes_on.yes e)
       go false e a = good_ends g held.mbufs t.mid new NoBufs le (good_lacks old t.mid held (need_mbufs n) good a) (t.goes_on.no e)
 
   -- ---- what an arrival changes
@@ -531,15 +532,15 @@ module _ (c : Config) where
       → (y : Socket) → (y.fd == to.fd) ≡ false → socket_at y.fd old ≡ Some y → socket_at y.fd after ≡ Some y
   others_stay held sender item to old after t y other in_old = tested old (held ⊕ item.weight) item.weight.mbufs _ t (λ mid a in_mid. appended mid a in_mid) in_old
     where
-      afforded : (s new : State) (h : Weight) (n : Need) (b : Bool) → Affords exact_ledger s h n b new → socket_at y.fd s ≡ Some y → socket_at y.fd new ≡ Some y
-      afforded s new h n true (inl a) e = ap (socket_at y.fd) a.1 ∙ e
-      afforded s new h n true (inr a) e = ap (socket_at y.fd) a.1 ∙ e
-      afforded s new h n false a e = ap (socket_at y.fd) a.1 ∙ e
+      had_buffers : (s new : State) (h : Weight) (n : Need) (b : Bool) → HasBuffers exact_ledger s h n b new → socket_at y.fd s ≡ Some y → socket_at y.fd new ≡ Some y
+      had_buffers s new h n true (inl a) e = ap (socket_at y.fd) a.1 ∙ e
+      had_buffers s new h n true (inr a) e = ap (socket_at y.fd) a.1 ∙ e
+      had_buffers s new h n false a e = ap (socket_at y.fd) a.1 ∙ e
 
       tested : (s : State) (h : Weight) (n : ℕ) (Then : State → Type 0) → Arrival.Tests exact_ledger s h n after Then → ((mid : State) → Then mid → socket_at y.fd mid ≡ Some y → socket_at y.fd after ≡ Some y)
           → socket_at y.fd s ≡ Some y → socket_at y.fd after ≡ Some y
       tested s h n Then t goes e =
-          let at = afforded s t.mid h (need_mbufs n) t.answer t.affords e in
+          let at = had_buffers s t.mid h (need_mbufs n) t.answer t.has_buffers e in
           by_choice t.goes_on (λ p r. goes t.mid r at) (λ p r. ap (socket_at y.fd) r ∙ at)
 
       queued_at : (d : Datagram) (s : State) → after ≡ change_socket to.fd (Arrival.queued d) s → socket_at y.fd s ≡ Some y → socket_at y.fd after ≡ Some y
@@ -595,7 +596,7 @@ module _ (c : Config) where
       (λ e x. by_case x
       (λ e g.
       let sender : Addr = record { ip = source; port = u16_at 0 item.bytes } in
-      let q : Sought = record { local = Some destination; port = Some (u16_at 2 item.bytes); peer = Some sender } in
+      let q : LookupKey = record { local = Some destination; port = Some (u16_at 2 item.bytes); peer = Some sender } in
       let heard = hearers_in old destination q (good.distinct) in
       good_goes held sender (record item { bytes = udp_bytes item.bytes }) destination (Arrival.hearers old destination q) old new good shorter heard.0 heard.1 g)
       (λ why e g. good_ends held.mbufs (held.mbufs + item.weight.mbufs) old new why (omega arith) good g))
@@ -607,7 +608,7 @@ module _ (c : Config) where
 
   pub record FragmentFits (f : Fragment) : Type 0 where
     pub carries : Carries c f.weight (length f.bytes)
-    pub inside : behind f ≤ 65515
+    pub inside : fragment_end f ≤ 65515
 
   good_lays : (held : Weight) (k : Key) (f : Fragment) (u : Unfinished) (old new : State) → Good c (held.mbufs + f.weight.mbufs) old → unfinished_at k old ≡ Some u → FragmentFits f
       → Arrival.Lays exact_ledger held k f u old new → Good c held.mbufs new
@@ -645,7 +646,7 @@ module _ (c : Config) where
       (λ e t. good_tests old (held ⊕ f.weight) 1 new _ held.mbufs (omega arith) good
       (λ mid at from l.
       let none : unfinished_at k mid ≡ None = still_none mid e from in
-      good_lays held k f (begun k) (begin_unfinished k mid) new (good_begins (held.mbufs + f.weight.mbufs) k mid at none) (find_behind (is_key k) mid.unfinished (begun k) none (key_itself k)) fits l) t)
+      good_lays held k f (begun k) (begin_unfinished k mid) new (good_begins (held.mbufs + f.weight.mbufs) k mid at none) (find_after (is_key k) mid.unfinished (begun k) none (key_itself k)) fits l) t)
       (λ u e l. good_lays held k f u old new good e fits l)
     where
       still_none : (mid : State) → unfinished_at k old ≡ None → ((mid ≡ old) ⊎ (mid ≡ reclaimed old)) → unfinished_at k mid ≡ None

@@ -13,7 +13,7 @@ use Rattle.flat_model.specs.declared.option.Opt.{Opt}
 use Rattle.flat_model.specs.declared.option.Opt.TheVariants.{Broadcast, ReusePort}
 use Rattle.flat_model.specs.State.{State, Socket, Datagram, loopback, change_socket, socket_at}
 use Rattle.flat_model.specs.Calls as Calls
-use Rattle.flat_model.specs.Calls.{Refuses, GetsPort, IsNextPort, IsLowestFree, port_behind, unless_zero, is_ours, is_reached, disconnected, set_option, source_for, fresh, read_addr}
+use Rattle.flat_model.specs.Calls.{Refuses, GetsPort, IsNextPort, IsLowestFree, port_after, unless_zero, is_ours, is_reached, disconnected, set_option, source_for, fresh, read_addr}
 use Rattle.flat_model.specs.Fits.{bytes_queued}
 use Rattle.flat_model.specs.Consistent.{IsQueued, IsSocket, IsPeer}
 use Rattle.flat_model.specs.declared.address.Addr.{Addr}
@@ -117,14 +117,14 @@ module _ (c : Config) (host : is_ours c c.addr ≡ true) (lo : is_ours c loopbac
     pub some : 1 ≤ p
     pub small : p < 65536
 
-  port_range : (last : Option ℕ) (k : ℕ) → (1024 ≤ port_behind last k) × (port_behind last k ≤ 5000)
+  port_range : (last : Option ℕ) (k : ℕ) → (1024 ≤ port_after last k) × (port_after last k ≤ 5000)
   port_range None k = (omega arith, omega arith)
   port_range (Some last) k = (omega arith, omega arith)
 
   pub gets : (h : ℕ) (old new : State) (local asked : Option ℕ) (port : ℕ) → Good c h old → ((p : ℕ) → asked ≡ Some p → IsPort p) → GetsPort old local asked port new → Good c h new × IsPort port
   gets h old new local (Some q) port good small g = (subst (Good c h) (sym g.1) good, subst IsPort (sym g.0) (small q refl))
   gets h old new local None port good small g =
-      let here : port ≡ port_behind old.last_port g.0.turns = g.0.here in
+      let here : port ≡ port_after old.last_port g.0.turns = g.0.here in
       let range = port_range old.last_port g.0.turns in (
         subst (Good c h) (sym g.1) (record {
           config = good.config;

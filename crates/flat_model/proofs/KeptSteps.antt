@@ -17,7 +17,7 @@ use Rattle.flat_model.specs.declared.errno.Errno.{Errno}
 use Rattle.flat_model.specs.declared.errno.Errno.TheVariants.{NoBufs, DestinationRequired, MessageSize, Access}
 use Rattle.flat_model.specs.declared.errno.Lack.TheVariants.{Pool}
 use Rattle.flat_model.specs.Calls.{Refuses, OnSocket, is_ours, source_for}
-use Rattle.flat_model.specs.Ledger.{AreTaken, Affords, weight_of_state, exact_ledger}
+use Rattle.flat_model.specs.Ledger.{AreTaken, HasBuffers, weight_of_state, exact_ledger}
 use Rattle.flat_model.specs.Sending.{Sending, datagram, packet_for, head_for, packets, items, parts_of, is_looped, mtu_to}
 use Rattle.flat_model.specs.Send as Send
 use Rattle.flat_model.specs.Send.{need_to, to_link, to_self, enqueued, overflows, counts_send, spent, send_faults, address_faults, target}
@@ -35,7 +35,7 @@ use Rattle.flat_model.proofs.Decode.{length-udp}
 use Rattle.flat_model.proofs.Grid.{cuts_short}
 use Rattle.flat_model.proofs.Overlaid.{pieces_bag}
 use Rattle.flat_model.proofs.Laid.{ItemFits, parts_fit, items_fit, items_mbufs, length-packet, laid_mbufs, laid_carries, wire_is, wire_some}
-use Rattle.flat_model.proofs.Kept.{Good, less_held, good_affords, good_lacks, good_ends, good_arrives, good_all_arrive, weight_of_socket, weight_of_unfinished, weight_of_item, count-map, count-filter, mbufs-append, mbufs-filter, mbufs-map}
+use Rattle.flat_model.proofs.Kept.{Good, less_held, good_has_buffers, good_lacks, good_ends, good_arrives, good_all_arrive, weight_of_socket, weight_of_unfinished, weight_of_item, count-map, count-filter, mbufs-append, mbufs-filter, mbufs-map}
 use Rattle.flat_model.proofs.KeptCalls as KeptCalls
 use Rattle.flat_model.proofs.KeptCalls.{IsPort}
 
@@ -243,10 +243,10 @@ module _ (c : Config) (boots : IsConfig c) where
               never : false ≡ true → ⊥
               never e = cc
 
-      go : (answer : Bool) (mid : State) → first_fault (send_faults old me to (length bytes)) ≡ None → Affords exact_ledger old nothing (need_to old.config (target old me to).ip (length bytes)) answer mid
+      go : (answer : Bool) (mid : State) → first_fault (send_faults old me to (length bytes)) ≡ None → HasBuffers exact_ledger old nothing (need_to old.config (target old me to).ip (length bytes)) answer mid
           → Choice answer (Send.Goes exact_ledger fd me (target old me to) bytes mid reply new) (Refuses (NoBufs Pool) mid reply new) → Good c 0 new
       go true mid e a r =
-          let at = good_affords c old mid nothing (need_to old.config (target old me to).ip (length bytes)) good a in
+          let at = good_has_buffers c old mid nothing (need_to old.config (target old me to).ip (length bytes)) good a in
           let enough : Good c (need_to c (target old me to).ip (length bytes)).mbufs mid = less_held c _ _ mid (let same : (need_to old.config (target old me to).ip (length bytes)).mbufs ≡ (need_to c (target old me to).ip (length bytes)).mbufs = ap (λ (cc : Config). (need_to cc (target old me to).ip (length bytes)).mbufs) good.config in omega arith) at.0 in
           goes fd me (target old me to) bytes mid new reply is enough (short e) (r.yes refl)
       go false mid e a r = KeptCalls.refused c host lo mid new (NoBufs Pool) reply (good_lacks c old mid nothing _ good a) (r.no refl)
@@ -259,14 +259,14 @@ module _ (c : Config) (boots : IsConfig c) where
       rooms : List Room
       rooms = wire (length packet)
 
-      go : (answer : Bool) (mid : State) → Affords exact_ledger old nothing (need_of (wire (length packet))) answer mid
+      go : (answer : Bool) (mid : State) → HasBuffers exact_ledger old nothing (need_of (wire (length packet))) answer mid
           → Choice answer
           ((clusters : List ℕ) × AreTaken exact_ledger mid (need_of (wire (length packet))).clusters clusters
           × Arrival.Arrives exact_ledger (By_wire (length packet)) nothing (record { bytes = packet; weight = weight_of (laid_on clusters (wire (length packet))) }) mid new)
           (new ≡ ends Whys.NoBufs mid) → Good c 0 new
       go true mid a r =
           let taken = r.yes refl in
-          let at = good_affords c old mid nothing (need_of (wire (length packet))) good a in
+          let at = good_has_buffers c old mid nothing (need_of (wire (length packet))) good a in
           let size = laid_mbufs taken.0 (wire (length packet)) in
           good_arrives c (By_wire (length packet)) nothing (record { bytes = packet; weight = weight_of (laid_on taken.0 (wire (length packet))) }) mid new
           (less_held c (0 + length (laid_on taken.0 (wire (length packet)))) (0 + length (wire (length packet))) mid (omega arith) at.0)

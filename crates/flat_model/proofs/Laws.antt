@@ -7,9 +7,9 @@ pub use Rattle.flat_model.proofs.Kept.{count-append}
 pub use Rattle.flat_model.proofs.Weights.{nothing-both, both-nothing, both-assoc, all_of-append, mbufs-all_of, weight_of-append, times-both, times-all_of}
 -- ---- the same weight in another order, and that tests answer the same for it
 pub use Rattle.flat_model.proofs.Weights.{same_weight-refl, same_weight-sym, same_weight-trans, same_weight-both, same_weight-swap}
-pub use Rattle.flat_model.proofs.Weights.{count_of-same, free_mbufs-same, free_clusters-same, has_enough-same, affords-same}
--- ---- the books of a consistent state
-pub use Rattle.flat_model.proofs.Books.{free_and_held, references_are, none_held}
+pub use Rattle.flat_model.proofs.Weights.{count_of-same, free_mbufs-same, free_clusters-same, has_enough-same, has_buffers-same}
+-- ---- the accounts of a consistent state
+pub use Rattle.flat_model.proofs.Balance.{free_and_held, references_are, none_held}
 -- ---- sends: both parts of one are the whole, and the other way round
 pub use Rattle.flat_model.proofs.Putting.{put_goes, goes_put}
 -- ---- runs: one more event, and what a script prints

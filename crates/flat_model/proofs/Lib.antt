@@ -27,7 +27,7 @@ mod Laid
 mod Kept
 mod KeptCalls
 mod KeptSteps
-mod Books
+mod Balance
 mod Weights
 mod Putting
 pub mod Laws

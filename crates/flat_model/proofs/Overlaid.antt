@@ -5,7 +5,7 @@ use Rattle.std.specs.List.{AllByRecursion as Each, range_with_len, cons_option}
 use Rattle.std.proofs.lemmas.Bool.{eqb-true, eqb-false, ltb-true, leb-true, lt-ltb, le-leb, lt-leb, and_parts, and_from, cases_lt}
 use Rattle.std.proofs.lemmas.Option.{none-some, same_Some}
 use Rattle.flat_model.specs.Weight.{Weight, Covers, all_of}
-use Rattle.flat_model.specs.Overlay.{Held, Piece, Map, Fragment, empty, behind, stays, first_owned, brought, cut_back, is_within, lies, overlay}
+use Rattle.flat_model.specs.Overlay.{Held, Piece, Map, Fragment, empty, fragment_end, stays, first_owned, brought, cut_back, is_within, lies, overlay}
 use Rattle.flat_model.specs.Whole.{piece_at, pieces_below, weight_of_pieces}
 use Rattle.flat_model.specs.Consistent.{Carries, IsPlace, IsMap}
 use Rattle.flat_model.specs.declared.config.Config.{Config}
@@ -84,7 +84,7 @@ zeros at (suc n) = let rest = zeros (at + 1) n in omega arith
 pub pieces_none : (weight_of_pieces empty).mbufs ≡ 0
 pieces_none = pieces_mbufs empty ∙ zeros 0 65515
 
--- ---- a test that passes in front and fails behind, counted
+-- ---- a test that passes in front and fails after, counted
 
 none_pass : (p : ℕ → Bool) (at n : ℕ) → ((k : ℕ) → at ≤ k → k < at + n → p k ≡ false) → count_by p (range_with_len at n) ≡ 0
 none_pass p at zero h = refl
@@ -132,15 +132,15 @@ splits p at (suc n) closed k low high = go (splits p (at + 1) n (λ j i l m h. c
 
 -- ---- the fragment laid over the map
 
-module _ (c : Config) (bytes : Map) (f : Fragment) (is_map : IsMap c bytes) (carries : Carries c f.weight (length f.bytes)) (inside : behind f ≤ 65515) where
+module _ (c : Config) (bytes : Map) (f : Fragment) (is_map : IsMap c bytes) (carries : Carries c f.weight (length f.bytes)) (inside : fragment_end f ≤ 65515) where
   IsWithin : ℕ → Type 0
-  IsWithin offset = (f.offset ≤ offset) × (offset < behind f)
+  IsWithin offset = (f.offset ≤ offset) × (offset < fragment_end f)
 
-  within_is : (offset : ℕ) → is_within f offset ≡ true → (f.offset ≤ offset) × (offset < behind f)
-  within_is offset e = let parts = and_parts (nat_le f.offset offset) (nat_lt offset (behind f)) e in (leb-true _ _ parts.0, ltb-true _ _ parts.1)
+  within_is : (offset : ℕ) → is_within f offset ≡ true → (f.offset ≤ offset) × (offset < fragment_end f)
+  within_is offset e = let parts = and_parts (nat_le f.offset offset) (nat_lt offset (fragment_end f)) e in (leb-true _ _ parts.0, ltb-true _ _ parts.1)
 
-  is_inside : (offset : ℕ) → f.offset ≤ offset → offset < behind f → is_within f offset ≡ true
-  is_inside offset low high = and_from _ _ (le-leb f.offset offset low) (lt-ltb offset (behind f) high)
+  is_inside : (offset : ℕ) → f.offset ≤ offset → offset < fragment_end f → is_within f offset ≡ true
+  is_inside offset low high = and_from _ _ (le-leb f.offset offset low) (lt-ltb offset (fragment_end f) high)
 
   stays_is : (offset : ℕ) (b : Bool) → stays f.offset (bytes offset) ≡ true → (held : Held) × (bytes offset ≡ Some held) × (held.piece.first ≤ f.offset)
   stays_is offset b e = go (bytes offset) refl e
@@ -162,7 +162,7 @@ module _ (c : Config) (bytes : Map) (f : Fragment) (is_map : IsMap c bytes) (car
   fo = first_owned bytes f
 
   -- what stays lies in front of what the fragment owns
-  owned_from : (offset : ℕ) → f.offset ≤ offset → offset < behind f → (stays f.offset (bytes offset) ≡ true → offset < first_owned bytes f) × (stays f.offset (bytes offset) ≡ false → first_owned bytes f ≤ offset)
+  owned_from : (offset : ℕ) → f.offset ≤ offset → offset < fragment_end f → (stays f.offset (bytes offset) ≡ true → offset < first_owned bytes f) × (stays f.offset (bytes offset) ≡ false → first_owned bytes f ≤ offset)
   unfolding first_owned
   owned_from offset low high =
       let s = splits (λ k. stays f.offset (bytes k)) f.offset (length f.bytes) front_stays offset low high in (s.passes, s.fails)
@@ -174,13 +174,13 @@ module _ (c : Config) (bytes : Map) (f : Fragment) (is_map : IsMap c bytes) (car
   -- how something comes to lie at an offset
   record Stayed (offset : ℕ) (h : Held) : Type 0 where
     low : f.offset ≤ offset
-    high : offset < behind f
+    high : offset < fragment_end f
     was : bytes offset ≡ Some h
     early : h.piece.first ≤ f.offset
 
   record Brought (offset : ℕ) (h : Held) : Type 0 where
     low : f.offset ≤ offset
-    high : offset < behind f
+    high : offset < fragment_end f
     new : stays f.offset (bytes offset) ≡ false
     is : h ≡ brought bytes f offset
 
@@ -210,12 +210,12 @@ module _ (c : Config) (bytes : Map) (f : Fragment) (is_map : IsMap c bytes) (car
       go false None w at e = absurd (none-some h e)
       go false (Some g) w at e = inr (inr (record { old = g; was = at; outside = w; is = sym (same_Some _ _ e) }))
 
-  at_stayed : (offset : ℕ) (h : Held) → f.offset ≤ offset → offset < behind f → bytes offset ≡ Some h → h.piece.first ≤ f.offset → overlay bytes f offset ≡ Some h
+  at_stayed : (offset : ℕ) (h : Held) → f.offset ≤ offset → offset < fragment_end f → bytes offset ≡ Some h → h.piece.first ≤ f.offset → overlay bytes f offset ≡ Some h
   unfolding overlay
   at_stayed offset h low high at early =
       rw (is_inside offset low high) (rw at (ap (λ b. cond b (Some h) (Some (brought bytes f offset))) (le-leb h.piece.first f.offset early)))
 
-  at_brought : (offset : ℕ) → f.offset ≤ offset → offset < behind f → stays f.offset (bytes offset) ≡ false → overlay bytes f offset ≡ Some (brought bytes f offset)
+  at_brought : (offset : ℕ) → f.offset ≤ offset → offset < fragment_end f → stays f.offset (bytes offset) ≡ false → overlay bytes f offset ≡ Some (brought bytes f offset)
   unfolding overlay
   at_brought offset low high new = rw (is_inside offset low high) (go (bytes offset) new)
     where
@@ -227,36 +227,36 @@ module _ (c : Config) (bytes : Map) (f : Fragment) (is_map : IsMap c bytes) (car
   unfolding overlay
   at_kept offset h out at = rw out (rw at refl)
 
-  -- a piece that begins in the fragment, behind its first byte
+  -- a piece that begins in the fragment, after its first byte
   record Straddles (h : Held) : Type 0 where
     low : f.offset < h.piece.first
-    high : h.piece.first < behind f
+    high : h.piece.first < fragment_end f
 
   abbrev Cut : Held → Type 0
-  Cut h = (Straddles h × (cut_back f h ≡ record h { piece = record (h.piece) { first = behind f } })) ⊎ ((Straddles h → ⊥) × (cut_back f h ≡ h))
+  Cut h = (Straddles h × (cut_back f h ≡ record h { piece = record (h.piece) { first = fragment_end f } })) ⊎ ((Straddles h → ⊥) × (cut_back f h ≡ h))
 
-  cut : (h : Held) → (Straddles h × (cut_back f h ≡ record h { piece = record (h.piece) { first = behind f } })) ⊎ ((Straddles h → ⊥) × (cut_back f h ≡ h))
-  cut h = go (nat_lt f.offset h.piece.first && nat_lt h.piece.first (behind f)) refl
+  cut : (h : Held) → (Straddles h × (cut_back f h ≡ record h { piece = record (h.piece) { first = fragment_end f } })) ⊎ ((Straddles h → ⊥) × (cut_back f h ≡ h))
+  cut h = go (nat_lt f.offset h.piece.first && nat_lt h.piece.first (fragment_end f)) refl
     where
-      go : (b : Bool) → (nat_lt f.offset h.piece.first && nat_lt h.piece.first (behind f)) ≡ b
-          → (Straddles h × (cut_back f h ≡ record h { piece = record (h.piece) { first = behind f } })) ⊎ ((Straddles h → ⊥) × (cut_back f h ≡ h))
+      go : (b : Bool) → (nat_lt f.offset h.piece.first && nat_lt h.piece.first (fragment_end f)) ≡ b
+          → (Straddles h × (cut_back f h ≡ record h { piece = record (h.piece) { first = fragment_end f } })) ⊎ ((Straddles h → ⊥) × (cut_back f h ≡ h))
       go true e =
           let parts = and_parts _ _ e in
-          inl (record { low = ltb-true _ _ parts.0; high = ltb-true _ _ parts.1 }, ap (λ b. cond b (record h { piece = record (h.piece) { first = behind f } }) h) e)
-      go false e = inr (λ s. no (sym e ∙ and_from _ _ (lt-ltb _ _ s.low) (lt-ltb _ _ s.high)), ap (λ b. cond b (record h { piece = record (h.piece) { first = behind f } }) h) e)
+          inl (record { low = ltb-true _ _ parts.0; high = ltb-true _ _ parts.1 }, ap (λ b. cond b (record h { piece = record (h.piece) { first = fragment_end f } }) h) e)
+      go false e = inr (λ s. no (sym e ∙ and_from _ _ (lt-ltb _ _ s.low) (lt-ltb _ _ s.high)), ap (λ b. cond b (record h { piece = record (h.piece) { first = fragment_end f } }) h) e)
 
-  not_within : (offset : ℕ) → is_within f offset ≡ false → (offset < f.offset) ⊎ (behind f ≤ offset)
-  not_within offset e = go (cases_lt offset f.offset) (cases_lt offset (behind f))
+  not_within : (offset : ℕ) → is_within f offset ≡ false → (offset < f.offset) ⊎ (fragment_end f ≤ offset)
+  not_within offset e = go (cases_lt offset f.offset) (cases_lt offset (fragment_end f))
     where
-      go : (offset < f.offset) ⊎ (f.offset ≤ offset) → (offset < behind f) ⊎ (behind f ≤ offset) → (offset < f.offset) ⊎ (behind f ≤ offset)
+      go : (offset < f.offset) ⊎ (f.offset ≤ offset) → (offset < fragment_end f) ⊎ (fragment_end f ≤ offset) → (offset < f.offset) ⊎ (fragment_end f ≤ offset)
       go (inl h) k = inl h
       go (inr h) (inr k) = inr k
       go (inr h) (inl k) = no (sym e ∙ is_inside offset h k)
 
-  outside_is : (offset : ℕ) → (offset < f.offset) ⊎ (behind f ≤ offset) → is_within f offset ≡ false
+  outside_is : (offset : ℕ) → (offset < f.offset) ⊎ (fragment_end f ≤ offset) → is_within f offset ≡ false
   outside_is offset h = go (is_within f offset) refl h
     where
-      go : (b : Bool) → is_within f offset ≡ b → (offset < f.offset) ⊎ (behind f ≤ offset) → is_within f offset ≡ false
+      go : (b : Bool) → is_within f offset ≡ b → (offset < f.offset) ⊎ (fragment_end f ≤ offset) → is_within f offset ≡ false
       go false e h = e
       go true e (inl h) = let w = within_is offset e in absurd (omega (arith, w.0))
       go true e (inr h) = let w = within_is offset e in absurd (omega (arith, w.1))
@@ -268,7 +268,7 @@ module _ (c : Config) (bytes : Map) (f : Fragment) (is_map : IsMap c bytes) (car
   straddles_too g h e s = let same : g.piece.first ≡ h.piece.first = first_of g h e in record { low = omega (arith, s.low); high = omega (arith, s.high) }
 
   -- what lay at an offset, with a piece that loses nothing, is still there
-  still : (k : ℕ) (g h : Held) → bytes k ≡ Some g → g.piece ≡ h.piece → (Straddles h → ⊥) → (f.offset ≤ k → k < behind f → h.piece.first ≤ f.offset)
+  still : (k : ℕ) (g h : Held) → bytes k ≡ Some g → g.piece ≡ h.piece → (Straddles h → ⊥) → (f.offset ≤ k → k < fragment_end f → h.piece.first ≤ f.offset)
       → (x : Held) × (overlay bytes f k ≡ Some x) × (x.piece ≡ h.piece)
   still k g h at e not early = go (is_within f k) refl
     where
@@ -293,7 +293,7 @@ module _ (c : Config) (bytes : Map) (f : Fragment) (is_map : IsMap c bytes) (car
         carries = p.carries;
       }
 
-  brought_place : (offset : ℕ) → f.offset ≤ offset → offset < behind f → stays f.offset (bytes offset) ≡ false → IsPlace c (overlay bytes f) offset (brought bytes f offset)
+  brought_place : (offset : ℕ) → f.offset ≤ offset → offset < fragment_end f → stays f.offset (bytes offset) ≡ false → IsPlace c (overlay bytes f) offset (brought bytes f offset)
   brought_place offset low high new = record {
     inside = omega arith;
     first = (owned_from offset low high).1 new;
@@ -301,7 +301,7 @@ module _ (c : Config) (bytes : Map) (f : Fragment) (is_map : IsMap c bytes) (car
     carries = carries_less c f.weight (offset + 1 - first_owned bytes f) (length f.bytes) (omega (arith, owned_low)) carries;
   }
     where
-      fails : (k : ℕ) → first_owned bytes f ≤ k → k < behind f → {b : Bool} → stays f.offset (bytes k) ≡ b → stays f.offset (bytes k) ≡ false
+      fails : (k : ℕ) → first_owned bytes f ≤ k → k < fragment_end f → {b : Bool} → stays f.offset (bytes k) ≡ b → stays f.offset (bytes k) ≡ false
       fails k l m {b = false} e = e
       fails k l m {b = true} e = let below = (owned_from k (omega (arith, owned_low)) m).0 e in absurd (omega arith)
 
@@ -311,7 +311,7 @@ module _ (c : Config) (bytes : Map) (f : Fragment) (is_map : IsMap c bytes) (car
       p : IsPlace c bytes offset old
       p = is_map offset old was
 
-      go : (Straddles old × (cut_back f old ≡ record old { piece = record (old.piece) { first = behind f } })) ⊎ ((Straddles old → ⊥) × (cut_back f old ≡ old)) → (offset < f.offset) ⊎ (behind f ≤ offset)
+      go : (Straddles old × (cut_back f old ≡ record old { piece = record (old.piece) { first = fragment_end f } })) ⊎ ((Straddles old → ⊥) × (cut_back f old ≡ old)) → (offset < f.offset) ⊎ (fragment_end f ≤ offset)
           → IsPlace c (overlay bytes f) offset h
       go (inl (s, e)) (inl before) = absurd (let first : old.piece.first ≤ offset = p.first in omega (arith, s.low))
       go (inl (s, e)) (inr past) = subst (IsPlace c (overlay bytes f) offset) (sym (is ∙ e)) (record {
@@ -320,13 +320,13 @@ module _ (c : Config) (bytes : Map) (f : Fragment) (is_map : IsMap c bytes) (car
         filled = λ k low high.
             let at = p.filled k (omega (arith, s.high)) high in
             (cut_back f at.0, at_kept k at.0 (outside_is k (inr low)) at.1, trimmed at.0 at.2 (cut at.0));
-        carries = carries_less c old.piece.weight (offset + 1 - behind f) (offset + 1 - old.piece.first) (omega (arith, s.high)) p.carries;
+        carries = carries_less c old.piece.weight (offset + 1 - fragment_end f) (offset + 1 - old.piece.first) (omega (arith, s.high)) p.carries;
       })
         where
           trimmed : (g : Held) → g.piece ≡ old.piece
-              → (Straddles g × (cut_back f g ≡ record g { piece = record (g.piece) { first = behind f } })) ⊎ ((Straddles g → ⊥) × (cut_back f g ≡ g))
-              → (cut_back f g).piece ≡ record (old.piece) { first = behind f }
-          trimmed g same (inl (t, x)) = ap (λ (y : Held). y.piece) x ∙ ap (λ (q : Piece). record q { first = behind f }) same
+              → (Straddles g × (cut_back f g ≡ record g { piece = record (g.piece) { first = fragment_end f } })) ⊎ ((Straddles g → ⊥) × (cut_back f g ≡ g))
+              → (cut_back f g).piece ≡ record (old.piece) { first = fragment_end f }
+          trimmed g same (inl (t, x)) = ap (λ (y : Held). y.piece) x ∙ ap (λ (q : Piece). record q { first = fragment_end f }) same
           trimmed g same (inr (n, x)) = absurd (n (straddles_too g old same s))
       go (inr (n, e)) away = subst (IsPlace c (overlay bytes f) offset) (sym (is ∙ e)) (record {
         inside = p.inside;
@@ -335,7 +335,7 @@ module _ (c : Config) (bytes : Map) (f : Fragment) (is_map : IsMap c bytes) (car
         carries = p.carries;
       })
         where
-          early : (k : ℕ) → old.piece.first ≤ k → k < behind f → (f.offset < old.piece.first) ⊎ (old.piece.first ≤ f.offset) → old.piece.first ≤ f.offset
+          early : (k : ℕ) → old.piece.first ≤ k → k < fragment_end f → (f.offset < old.piece.first) ⊎ (old.piece.first ≤ f.offset) → old.piece.first ≤ f.offset
           early k low m (inr le) = le
           early k low m (inl lt) = absurd (n (record { low = lt; high = omega arith }))
 
@@ -369,7 +369,7 @@ module _ (c : Config) (bytes : Map) (f : Fragment) (is_map : IsMap c bytes) (car
       go false e true t = absurd (eqb-false _ _ e (sym (eqb-true _ _ t)))
 
   -- An offset where no cut piece begins now has as much as before, or the fragment's weight.
-  no_more : (offset : ℕ) → ((h : Held) → offset ≡ behind f → bytes offset ≡ Some h → Straddles h → ⊥)
+  no_more : (offset : ℕ) → ((h : Held) → offset ≡ fragment_end f → bytes offset ≡ Some h → Straddles h → ⊥)
       → starts offset (overlay bytes f offset) ≤ starts offset (bytes offset) + spike (first_owned bytes f) f.weight.mbufs offset
   no_more offset not = go (overlay bytes f offset) refl
     where
@@ -377,16 +377,16 @@ module _ (c : Config) (bytes : Map) (f : Fragment) (is_map : IsMap c bytes) (car
       same_start h g at e = let equal : starts offset (Some h) ≡ starts offset (bytes offset) = ap (λ x. starts offset (Some x)) e ∙ ap (starts offset) (sym at) in omega arith
 
       kept : (h old : Held) → bytes offset ≡ Some old → is_within f offset ≡ false → h ≡ cut_back f old
-          → (Straddles old × (cut_back f old ≡ record old { piece = record (old.piece) { first = behind f } })) ⊎ ((Straddles old → ⊥) × (cut_back f old ≡ old))
+          → (Straddles old × (cut_back f old ≡ record old { piece = record (old.piece) { first = fragment_end f } })) ⊎ ((Straddles old → ⊥) × (cut_back f old ≡ old))
           → starts offset (Some h) ≤ starts offset (bytes offset) + spike (first_owned bytes f) f.weight.mbufs offset
       kept h old at out is (inr (n, e)) = same_start h old at (is ∙ e)
       kept h old at out is (inl (s, e)) =
-          let shape : starts offset (Some h) ≡ spike (behind f) old.piece.weight.mbufs offset =
-          ap (λ x. starts offset (Some x)) (is ∙ e) ∙ starts_is offset (record old { piece = record (old.piece) { first = behind f } }) in
-          let none : spike (behind f) old.piece.weight.mbufs offset ≡ 0 = elsewhere (offset == behind f) refl in
+          let shape : starts offset (Some h) ≡ spike (fragment_end f) old.piece.weight.mbufs offset =
+          ap (λ x. starts offset (Some x)) (is ∙ e) ∙ starts_is offset (record old { piece = record (old.piece) { first = fragment_end f } }) in
+          let none : spike (fragment_end f) old.piece.weight.mbufs offset ≡ 0 = elsewhere (offset == fragment_end f) refl in
           omega arith
         where
-          elsewhere : (b : Bool) → (offset == behind f) ≡ b → cond b old.piece.weight.mbufs 0 ≡ 0
+          elsewhere : (b : Bool) → (offset == fragment_end f) ≡ b → cond b old.piece.weight.mbufs 0 ≡ 0
           elsewhere false t = refl
           elsewhere true t = absurd (not old (eqb-true _ _ t) at s)
 
@@ -406,8 +406,8 @@ module _ (c : Config) (bytes : Map) (f : Fragment) (is_map : IsMap c bytes) (car
   sum_of : (g h : ℕ → ℕ) → total (λ k. g k + h k) 0 65515 ≡ total g 0 65515 + total h 0 65515
   sum_of g h = total_add g h 0 65515
 
-  -- No piece is cut behind the fragment.
-  uncut : ((h : Held) → bytes (behind f) ≡ Some h → Straddles h → ⊥) → total (λ k. starts k (overlay bytes f k)) 0 65515 ≤ total (λ k. starts k (bytes k)) 0 65515 + f.weight.mbufs
+  -- No piece is cut after the fragment.
+  uncut : ((h : Held) → bytes (fragment_end f) ≡ Some h → Straddles h → ⊥) → total (λ k. starts k (overlay bytes f k)) 0 65515 ≤ total (λ k. starts k (bytes k)) 0 65515 + f.weight.mbufs
   uncut not =
       let le = total_le (λ k. starts k (overlay bytes f k)) (λ k. starts k (bytes k) + spike (first_owned bytes f) f.weight.mbufs k) 0 65515
       (λ k low high. no_more k (λ h e at s. not h (subst (λ j. bytes j ≡ Some h) e at) s)) in
@@ -415,16 +415,16 @@ module _ (c : Config) (bytes : Map) (f : Fragment) (is_map : IsMap c bytes) (car
       let most = total_spike_most (first_owned bytes f) f.weight.mbufs 0 65515 in
       omega arith
 
-  -- One is: it begins behind the fragment now, and no more where it began.
-  is_cut : (s : Held) → bytes (behind f) ≡ Some s → Straddles s → total (λ k. starts k (overlay bytes f k)) 0 65515 ≤ total (λ k. starts k (bytes k)) 0 65515 + f.weight.mbufs
+  -- One is: it begins after the fragment now, and no more where it began.
+  is_cut : (s : Held) → bytes (fragment_end f) ≡ Some s → Straddles s → total (λ k. starts k (overlay bytes f k)) 0 65515 ≤ total (λ k. starts k (bytes k)) 0 65515 + f.weight.mbufs
   is_cut s at straddles =
-      let le = total_le (λ k. starts k (overlay bytes f k) + spike p v k) (λ k. starts k (bytes k) + spike (first_owned bytes f) f.weight.mbufs k + spike (behind f) v k) 0 65515 (λ k low high. each k) in
+      let le = total_le (λ k. starts k (overlay bytes f k) + spike p v k) (λ k. starts k (bytes k) + spike (first_owned bytes f) f.weight.mbufs k + spike (fragment_end f) v k) 0 65515 (λ k low high. each k) in
       let left = sum_of (λ k. starts k (overlay bytes f k)) (spike p v) in
-      let right = sum_of (λ k. starts k (bytes k) + spike (first_owned bytes f) f.weight.mbufs k) (spike (behind f) v) in
+      let right = sum_of (λ k. starts k (bytes k) + spike (first_owned bytes f) f.weight.mbufs k) (spike (fragment_end f) v) in
       let inner = sum_of (λ k. starts k (bytes k)) (spike (first_owned bytes f) f.weight.mbufs) in
       let most = total_spike_most (first_owned bytes f) f.weight.mbufs 0 65515 in
       let here = total_spike p v 0 65515 (omega arith) (omega (arith, straddles.high)) in
-      let there = total_spike_most (behind f) v 0 65515 in
+      let there = total_spike_most (fragment_end f) v 0 65515 in
       omega arith
     where
       p : ℕ
@@ -436,55 +436,55 @@ module _ (c : Config) (bytes : Map) (f : Fragment) (is_map : IsMap c bytes) (car
       -- where the piece began
       at_first : (k : ℕ) → k ≡ s.piece.first → starts k (overlay bytes f k) + s.piece.weight.mbufs ≤ starts k (bytes k) + spike (first_owned bytes f) f.weight.mbufs k
       at_first k e =
-          let place = is_map (behind f) s at in
+          let place = is_map (fragment_end f) s at in
           let g = place.filled k (omega arith) (omega (arith, straddles.high)) in
           let gp : g.0.piece.first ≡ s.piece.first = ap (λ (q : Piece). q.first) g.2 in
           let gw : g.0.piece.weight.mbufs ≡ s.piece.weight.mbufs = ap (λ (q : Piece). q.weight.mbufs) g.2 in
           let was : starts k (bytes k) ≡ g.0.piece.weight.mbufs = ap (starts k) g.1 ∙ starts_is k g.0 ∙ spike_here g.0.piece.first g.0.piece.weight.mbufs k (e ∙ sym gp) in
           let low : f.offset ≤ k = omega (arith, straddles.low) in
-          let high : k < behind f = omega (arith, straddles.high) in
+          let high : k < fragment_end f = omega (arith, straddles.high) in
           let goes : stays f.offset (bytes k) ≡ false = ap (stays f.offset) g.1 ∙ lt-leb g.0.piece.first f.offset (omega (arith, straddles.low)) in
           let now : starts k (overlay bytes f k) ≡ spike (first_owned bytes f) f.weight.mbufs k = ap (starts k) (at_brought k low high goes) ∙ starts_is k (brought bytes f k) in
           omega arith
 
       -- where it begins now
-      at_behind : (k : ℕ) → k ≡ behind f → starts k (overlay bytes f k) ≤ s.piece.weight.mbufs
-      at_behind k e =
+      at_after : (k : ℕ) → k ≡ fragment_end f → starts k (overlay bytes f k) ≤ s.piece.weight.mbufs
+      at_after k e =
           let out : is_within f k ≡ false = outside_is k (inr (omega arith)) in
           go (cut s) (at_kept k s out (subst (λ j. bytes j ≡ Some s) (sym e) at))
         where
-          go : (Straddles s × (cut_back f s ≡ record s { piece = record (s.piece) { first = behind f } })) ⊎ ((Straddles s → ⊥) × (cut_back f s ≡ s)) → overlay bytes f k ≡ Some (cut_back f s)
+          go : (Straddles s × (cut_back f s ≡ record s { piece = record (s.piece) { first = fragment_end f } })) ⊎ ((Straddles s → ⊥) × (cut_back f s ≡ s)) → overlay bytes f k ≡ Some (cut_back f s)
               → starts k (overlay bytes f k) ≤ s.piece.weight.mbufs
           go (inr (n, x)) y = absurd (n straddles)
           go (inl (t, x)) y =
-              let is : starts k (overlay bytes f k) ≡ spike (behind f) s.piece.weight.mbufs k = ap (starts k) y ∙ ap (λ z. starts k (Some z)) x ∙ starts_is k (record s { piece = record (s.piece) { first = behind f } }) in
-              let one : spike (behind f) s.piece.weight.mbufs k ≡ s.piece.weight.mbufs = spike_here (behind f) s.piece.weight.mbufs k e in
+              let is : starts k (overlay bytes f k) ≡ spike (fragment_end f) s.piece.weight.mbufs k = ap (starts k) y ∙ ap (λ z. starts k (Some z)) x ∙ starts_is k (record s { piece = record (s.piece) { first = fragment_end f } }) in
+              let one : spike (fragment_end f) s.piece.weight.mbufs k ≡ s.piece.weight.mbufs = spike_here (fragment_end f) s.piece.weight.mbufs k e in
               omega arith
 
-      each : (k : ℕ) → starts k (overlay bytes f k) + spike p v k ≤ starts k (bytes k) + spike (first_owned bytes f) f.weight.mbufs k + spike (behind f) v k
-      each k = go (k == p) refl (k == behind f) refl
+      each : (k : ℕ) → starts k (overlay bytes f k) + spike p v k ≤ starts k (bytes k) + spike (first_owned bytes f) f.weight.mbufs k + spike (fragment_end f) v k
+      each k = go (k == p) refl (k == fragment_end f) refl
         where
-          go : (a : Bool) → (k == p) ≡ a → (b : Bool) → (k == behind f) ≡ b
+          go : (a : Bool) → (k == p) ≡ a → (b : Bool) → (k == fragment_end f) ≡ b
               → starts k (overlay bytes f k) + cond a v 0 ≤ starts k (bytes k) + spike (first_owned bytes f) f.weight.mbufs k + cond b v 0
           go true e b t = let le = at_first k (eqb-true k p e) in omega arith
-          go false e true t = let le = at_behind k (eqb-true k (behind f) t) in omega arith
-          go false e false t = let le = no_more k (λ h is at s. eqb-false k (behind f) t is) in omega arith
+          go false e true t = let le = at_after k (eqb-true k (fragment_end f) t) in omega arith
+          go false e false t = let le = no_more k (λ h is at s. eqb-false k (fragment_end f) t is) in omega arith
 
   pub overlay_mbufs : (weight_of_pieces (overlay bytes f)).mbufs ≤ (weight_of_pieces bytes).mbufs + f.weight.mbufs
   overlay_mbufs =
       let new = pieces_mbufs (overlay bytes f) in
       let old = pieces_mbufs bytes in
-      let le = go (bytes (behind f)) refl in
+      let le = go (bytes (fragment_end f)) refl in
       omega arith
     where
-      go : (x : Option Held) → bytes (behind f) ≡ x → total (λ k. starts k (overlay bytes f k)) 0 65515 ≤ total (λ k. starts k (bytes k)) 0 65515 + f.weight.mbufs
+      go : (x : Option Held) → bytes (fragment_end f) ≡ x → total (λ k. starts k (overlay bytes f k)) 0 65515 ≤ total (λ k. starts k (bytes k)) 0 65515 + f.weight.mbufs
       go None e = uncut (λ h at s. absurd (none-some h (sym e ∙ at)))
-      go (Some h) e = split (cases_lt f.offset h.piece.first) (cases_lt h.piece.first (behind f))
+      go (Some h) e = split (cases_lt f.offset h.piece.first) (cases_lt h.piece.first (fragment_end f))
         where
           whole : (Straddles h → ⊥) → total (λ k. starts k (overlay bytes f k)) 0 65515 ≤ total (λ k. starts k (bytes k)) 0 65515 + f.weight.mbufs
           whole n = uncut (λ g at s. n (subst Straddles (same_Some g h (sym at ∙ e)) s))
 
-          split : (f.offset < h.piece.first) ⊎ (h.piece.first ≤ f.offset) → (h.piece.first < behind f) ⊎ (behind f ≤ h.piece.first)
+          split : (f.offset < h.piece.first) ⊎ (h.piece.first ≤ f.offset) → (h.piece.first < fragment_end f) ⊎ (fragment_end f ≤ h.piece.first)
               → total (λ k. starts k (overlay bytes f k)) 0 65515 ≤ total (λ k. starts k (bytes k)) 0 65515 + f.weight.mbufs
           split (inl a) (inl b) = is_cut h e (record { low = a; high = b })
           split (inr a) b = whole (λ s. omega (arith, s.low))

@@ -5,10 +5,10 @@ use Rattle.std.proofs.lemmas.List.{take_all, length-take, length-drop}
 use Rattle.std.proofs.lemmas.Bool.{cases_lt, or_cases, eqb-true}
 use Rattle.flat_model.specs.Cuts.{Part, chunk, cuts}
 use Rattle.flat_model.specs.Header.{head_of, total_of}
-use Rattle.flat_model.specs.Overlay.{Fragment, behind}
+use Rattle.flat_model.specs.Overlay.{Fragment, fragment_end}
 use Rattle.flat_model.specs.Weight.{nothing}
 use Rattle.flat_model.specs.Laws.{bytes_of}
-use Rattle.flat_model.specs.State.{loopback, everyone}
+use Rattle.flat_model.specs.State.{loopback, limited_broadcast}
 use Rattle.flat_model.specs.declared.config.Config.{Config}
 use Rattle.flat_model.specs.Calls.{is_ours}
 use Rattle.flat_model.specs.Sending.{Sending, datagram, packet_for, head_for}
@@ -69,13 +69,13 @@ module _ (mtu : ℕ) (low : 28 ≤ mtu) (x : Sending) (p : Part) (is : IsSendabl
   read_whole first last =
       let f : Fragment = record { offset = p.offset; bytes = bytes_of (datagram x) p; more = p.more; weight = nothing } in
       let s : IsStretch (datagram x) f = part_is_stretch (datagram x) mtu p f (omega (arith, size_of_datagram)) low in_cuts refl refl refl in
-      let all : behind f ≡ length (datagram x) = s.last last in
+      let all : fragment_end f ≡ length (datagram x) = s.last last in
       ap (λ k. take p.size (drop k (datagram x))) first
       ∙ take_all p.size (datagram x) (omega (arith, length-take p.size (drop p.offset (datagram x)), length-drop p.offset (datagram x)))
 
 -- what is for us and came by the wire is for one of our two addresses
-pub here_is : (c : Config) (ip : ℕ) → (is_ours c ip || (ip == everyone)) ≡ true → ip ≢ loopback → ip ≢ everyone → (ip ≡ c.addr) ⊎ (ip ≡ c.bcast)
-here_is c ip e not_loopback not_everyone = outer (or_cases (is_ours c ip) _ e)
+pub here_is : (c : Config) (ip : ℕ) → (is_ours c ip || (ip == limited_broadcast)) ≡ true → ip ≢ loopback → ip ≢ limited_broadcast → (ip ≡ c.addr) ⊎ (ip ≡ c.bcast)
+here_is c ip e not_loopback not_limited_broadcast = outer (or_cases (is_ours c ip) _ e)
   where
     inner : ((ip == c.addr) ≡ true) ⊎ ((ip == c.bcast) ≡ true) → (ip ≡ c.addr) ⊎ (ip ≡ c.bcast)
     inner (inl h) = inl (eqb-true ip c.addr h)
@@ -85,6 +85,6 @@ here_is c ip e not_loopback not_everyone = outer (or_cases (is_ours c ip) _ e)
     ours (inl h) = inner (or_cases (ip == c.addr) _ h)
     ours (inr h) = absurd (not_loopback (eqb-true ip loopback h))
 
-    outer : (is_ours c ip ≡ true) ⊎ ((ip == everyone) ≡ true) → (ip ≡ c.addr) ⊎ (ip ≡ c.bcast)
+    outer : (is_ours c ip ≡ true) ⊎ ((ip == limited_broadcast) ≡ true) → (ip ≡ c.addr) ⊎ (ip ≡ c.bcast)
     outer (inl h) = ours (or_cases ((ip == c.addr) || (ip == c.bcast)) _ h)
-    outer (inr h) = absurd (not_everyone (eqb-true ip everyone h))
+    outer (inr h) = absurd (not_limited_broadcast (eqb-true ip limited_broadcast h))

@@ -5,16 +5,17 @@ use Rattle.std.specs.List.{AllByRecursion as Each}
 use Rattle.std.specs.Option.{option_or}
 use Rattle.std.proofs.lemmas.Bool.{or_parts, eqb-true, ltb-false, and_parts}
 use Rattle.std.proofs.lemmas.Option.{none-some}
+use Rattle.flat_model.specs.declared.lookup_key.LookupKey.{LookupKey}
 use Rattle.flat_model.specs.Weight.{Weight, Item, mbuf, ◌⊕◌}
 use Rattle.flat_model.specs.Cuts.{Part, cuts}
 use Rattle.flat_model.specs.Header.{Head, head_of, head_fault, total_of, udp_bytes, u16_at}
 use Rattle.flat_model.specs.Layout.{Need}
 use Rattle.flat_model.specs.Overlay.{Map, Fragment, Held, empty, overlay}
 use Rattle.flat_model.specs.Whole.{IsWhole, bytes_below}
-use Rattle.flat_model.specs.Lookup.{Sought, best, receivers, matches, wildcards, youngest, up_to_first, are_same}
-use Rattle.flat_model.specs.State.{State, Socket, Datagram, Key, Unfinished, loopback, everyone, change_socket, is_key, unfinished_at, begun, begin_unfinished, set_bytes, end_unfinished, ends}
+use Rattle.flat_model.specs.Lookup.{best, receivers, matches, wildcards, youngest, up_to_first, are_same}
+use Rattle.flat_model.specs.State.{State, Socket, Datagram, Key, Unfinished, loopback, limited_broadcast, change_socket, is_key, unfinished_at, begun, begin_unfinished, set_bytes, end_unfinished, ends}
 use Rattle.flat_model.specs.declared.config.Config.{Config}
-use Rattle.flat_model.specs.Ledger.{Ledger, Affords, need_mbufs, reclaimed}
+use Rattle.flat_model.specs.Ledger.{Ledger, HasBuffers, need_mbufs, reclaimed}
 use Rattle.flat_model.specs.Arrival as Arrival
 use Rattle.flat_model.specs.Arrival.{Origin, By_wire, Looped}
 use Rattle.flat_model.specs.Laws.{bytes_of}
@@ -101,10 +102,10 @@ module _ (S A B mtu : ℕ) (P : Sending → Part → Type 0) (Answered : Sending
     good_reclaimed : (s : State) → IsGood ports s → IsGood ports (reclaimed s)
     good_reclaimed s good = record { addr = good.addr; bcast = good.bcast; sockets = good.sockets; unfinished = tt }
 
-    pub good_affords : (old new : State) (held : Weight) (n : Need) (yes : Bool) → IsGood ports old → Affords M old held n yes new → IsGood ports new
-    good_affords old new held n true good (inl a) = subst (IsGood ports) (sym a.1) good
-    good_affords old new held n true good (inr a) = subst (IsGood ports) (sym a.1) (good_reclaimed old good)
-    good_affords old new held n false good a = subst (IsGood ports) (sym a.1) (good_reclaimed old good)
+    pub good_has_buffers : (old new : State) (held : Weight) (n : Need) (yes : Bool) → IsGood ports old → HasBuffers M old held n yes new → IsGood ports new
+    good_has_buffers old new held n true good (inl a) = subst (IsGood ports) (sym a.1) good
+    good_has_buffers old new held n true good (inr a) = subst (IsGood ports) (sym a.1) (good_reclaimed old good)
+    good_has_buffers old new held n false good a = subst (IsGood ports) (sym a.1) (good_reclaimed old good)
 
     pub good_ends : (s : State) → IsGood ports s → (new : State) → (why : Why) → new ≡ ends why s → IsGood ports new
     good_ends s good new why e = subst (IsGood ports) (sym e) (same_but_counters s (ends why s) good refl refl refl)
@@ -112,7 +113,7 @@ module _ (S A B mtu : ℕ) (P : Sending → Part → Type 0) (Answered : Sending
     good_tests : (old new : State) (held : Weight) (n : ℕ) (Then : State → Type 0) → IsGood ports old
         → ((mid : State) → IsGood ports mid → Then mid → IsGood ports new) → Arrival.Tests M old held n new Then → IsGood ports new
     good_tests old new held n Then good goes t =
-        let at : IsGood ports t.mid = good_affords old t.mid held (need_mbufs n) t.answer good t.affords in
+        let at : IsGood ports t.mid = good_has_buffers old t.mid held (need_mbufs n) t.answer good t.has_buffers in
         by_choice t.goes_on (λ e h. goes t.mid at h) (λ e h. good_ends t.mid at new NoBufs h)
 
     -- a datagram comes into the queue of the sockets with a descriptor
@@ -160,13 +161,13 @@ module _ (S A B mtu : ℕ) (P : Sending → Part → Type 0) (Answered : Sending
         no e = cc
     same_port (Some q) port e = ap Some (eqb-true q port e)
 
-    hears : (q : Sought) (port : ℕ) → q.port ≡ Some port → (to : Socket) → IsGoodSocket ports to → matches q to ≡ true → Hears port to
+    hears : (q : LookupKey) (port : ℕ) → q.port ≡ Some port → (to : Socket) → IsGoodSocket ports to → matches q to ≡ true → Hears port to
     hears q port at to g m =
         let first = and_parts _ _ m in
         let second = and_parts (are_same to.port q.port) _ first.0 in
         sym g.port ∙ same_port to.port port (subst (λ p. are_same to.port p ≡ true) at second.0)
 
-    each_matching : (q : Sought) (port : ℕ) → q.port ≡ Some port → (sockets : List Socket) → Each (IsGoodSocket ports) sockets → Each (Hears port) (filter (matches q) sockets)
+    each_matching : (q : LookupKey) (port : ℕ) → q.port ≡ Some port → (sockets : List Socket) → Each (IsGoodSocket ports) sockets → Each (Hears port) (filter (matches q) sockets)
     each_matching q port at [] g = tt
     each_matching q port at (to ∷ sockets) g = go (matches q to) refl (each_matching q port at sockets g.1)
       where
@@ -182,12 +183,12 @@ module _ (S A B mtu : ℕ) (P : Sending → Part → Type 0) (Answered : Sending
         go true rest = (h.0, tt)
         go false rest = (h.0, rest)
 
-    youngest_hears : (q : Sought) (port : ℕ) → q.port ≡ Some port → (k : ℕ) (sockets : List Socket) (to : Socket) → Each (IsGoodSocket ports) sockets → youngest k q sockets ≡ Some to → Hears port to
+    youngest_hears : (q : LookupKey) (port : ℕ) → q.port ≡ Some port → (k : ℕ) (sockets : List Socket) (to : Socket) → Each (IsGoodSocket ports) sockets → youngest k q sockets ≡ Some to → Hears port to
     youngest_hears q port at k sockets to g e =
         let found = each-find (IsGoodSocket ports) (λ socket. matches q socket && (wildcards q socket == k)) sockets to g e in
         hears q port at to found.0 (and_parts (matches q to) _ found.1).0
 
-    each_best : (q : Sought) (port : ℕ) → q.port ≡ Some port → (sockets : List Socket) → Each (IsGoodSocket ports) sockets → Each (Hears port) (option_to_list (best q sockets))
+    each_best : (q : LookupKey) (port : ℕ) → q.port ≡ Some port → (sockets : List Socket) → Each (IsGoodSocket ports) sockets → Each (Hears port) (option_to_list (best q sockets))
     each_best q port at sockets g = go (youngest 0 q sockets) (youngest 1 q sockets) (youngest 2 q sockets) refl refl refl
       where
         go : (x y z : Option Socket) → youngest 0 q sockets ≡ x → youngest 1 q sockets ≡ y → youngest 2 q sockets ≡ z → Each (Hears port) (option_to_list (option_or x (option_or y z)))
@@ -196,7 +197,7 @@ module _ (S A B mtu : ℕ) (P : Sending → Part → Type 0) (Answered : Sending
         go None None (Some to) ex ey ez = (youngest_hears q port at 2 sockets to g ez, tt)
         go None None None ex ey ez = tt
 
-    each_hearer : (s : State) (destination : ℕ) (q : Sought) (port : ℕ) → q.port ≡ Some port → IsGood ports s → Each (Hears port) (Arrival.hearers s destination q)
+    each_hearer : (s : State) (destination : ℕ) (q : LookupKey) (port : ℕ) → q.port ≡ Some port → IsGood ports s → Each (Hears port) (Arrival.hearers s destination q)
     each_hearer s destination q port at good = go (Arrival.is_broadcast s.config destination)
       where
         go : (b : Bool) → Each (Hears port) (cond b (receivers q s.sockets) (option_to_list (best q s.sockets)))
@@ -372,7 +373,7 @@ module _ (S A B mtu : ℕ) (P : Sending → Part → Type 0) (Answered : Sending
           (λ e p. good_pulls origin held item.weight _ (Arrival.counts_fragment old) new _ (same_but_counters old (Arrival.counts_fragment old) good refl refl refl)
           (λ w mid at j. good_joins held _ _ mid new at (is w) j) p)
 
-      good_here : (old : State) (ip : ℕ) → IsGood ports old → Arrival.is_for_us old.config ip ≡ true → ip ≢ loopback → ip ≢ everyone → IsHere ip
+      good_here : (old : State) (ip : ℕ) → IsGood ports old → Arrival.is_for_us old.config ip ≡ true → ip ≢ loopback → ip ≢ limited_broadcast → IsHere ip
       good_here old ip good ours a b = go (here_is old.config ip ours a b)
         where
           go : (ip ≡ old.config.addr) ⊎ (ip ≡ old.config.bcast) → IsHere ip
@@ -396,7 +397,7 @@ module _ (S A B mtu : ℕ) (P : Sending → Part → Type 0) (Answered : Sending
 
         here : IsHere (head_of item.bytes).destination
         here = good_here old (head_of item.bytes).destination good ours
-            (λ e. sendable.not_loopback (to_is ∙ e)) (λ e. sendable.not_everyone (to_is ∙ e))
+            (λ e. sendable.not_loopback (to_is ∙ e)) (λ e. sendable.not_limited_broadcast (to_is ∙ e))
 
         part_read : (w : Weight) → IsPartOf (Arrival.key_of (head_of item.bytes)) (record { offset = (head_of item.bytes).offset; bytes = (Arrival.carried item).bytes; more = (head_of item.bytes).more; weight = w })
         part_read w = record {

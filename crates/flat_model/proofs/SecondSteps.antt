@@ -305,7 +305,7 @@ module _ (S A B mtu : ℕ) (P : Sent.Sending → Part → Type 0) (Answered : Se
   sends fd to bytes me old new reply (ports, good) at h = by_case h
       (λ e (answer, mid, a, c).
       let me_is = found ports old fd me good at in
-      let then_good : IsGood ports mid = Second.good_affords S A B mtu P Answered M ports old mid nothing _ answer good a in
+      let then_good : IsGood ports mid = Second.good_has_buffers S A B mtu P Answered M ports old mid nothing _ answer good a in
       by_choice c
       (λ e g. goes fd me _ bytes mid new reply ports then_good me_is.0.local me_is.1 g)
       (λ e r. refused mid new _ reply (ports, then_good) r))
@@ -315,7 +315,7 @@ module _ (S A B mtu : ℕ) (P : Sent.Sending → Part → Type 0) (Answered : Se
 
   comes_in : (packet : List ℕ) (old new : State) → Good old → IsGoodPacket packet → ComesIn M packet old new → Good new
   comes_in packet old new (ports, good) is (answer, mid, a, c) =
-      let then_good : IsGood ports mid = Second.good_affords S A B mtu P Answered M ports old mid nothing _ answer good a in (
+      let then_good : IsGood ports mid = Second.good_has_buffers S A B mtu P Answered M ports old mid nothing _ answer good a in (
         ports,
         by_choice c
             (λ e (clusters, taken, arrives). Second.good_arrives S A B mtu P Answered M ports log low (By_wire (length packet)) nothing _ mid new then_good is arrives)

@@ -1,7 +1,7 @@
 -- What a send that goes by the wire has.
 use Rattle.std.specs.Prelude.{◌≢◌, ℕ, ◌<◌, ◌≤◌, length}
 use Rattle.flat_model.specs.Sending.{Sending}
-use Rattle.flat_model.specs.State.{loopback, everyone}
+use Rattle.flat_model.specs.State.{loopback, limited_broadcast}
 
 -- its numbers are in range, and its destination is on the wire
 pub record IsSendable (mtu : ℕ) (x : Sending) : Type 0 where
@@ -12,4 +12,4 @@ pub record IsSendable (mtu : ℕ) (x : Sending) : Type 0 where
   pub port : x.port < 65536
   pub short : length x.bytes ≤ 9216
   pub not_loopback : x.to.ip ≢ loopback
-  pub not_everyone : x.to.ip ≢ everyone
+  pub not_limited_broadcast : x.to.ip ≢ limited_broadcast

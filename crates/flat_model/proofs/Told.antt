@@ -18,7 +18,7 @@ use Rattle.flat_model.specs.State.{IsConfig, State, Socket, Datagram, boot, loop
 use Rattle.flat_model.specs.declared.config.Config.{Config}
 use Rattle.flat_model.specs.Calls.{Refuses, OnSocket, GetsPort, source_for}
 use Rattle.flat_model.specs.Count.{one_more}
-use Rattle.flat_model.specs.Ledger.{Ledger, Affords}
+use Rattle.flat_model.specs.Ledger.{Ledger, HasBuffers}
 use Rattle.flat_model.specs.Send as Send
 use Rattle.flat_model.specs.Send.{target, to_link, to_self, enqueued, counts_send, spent, overflows, send_faults}
 use Rattle.flat_model.specs.Arrival as Arrival
@@ -30,7 +30,7 @@ use Rattle.flat_model.proofs.Sendable.{IsSendable}
 use Rattle.flat_model.specs.Wire.{packet_out, given, IsAnswered}
 use Rattle.flat_model.specs.declared.address.Addr.{Addr}
 use Rattle.flat_model.proofs.Each.{by_choice, by_case, each-append, each-weaker, each-find, none_passed}
-use Rattle.flat_model.proofs.Closed.{IsClosed, kept_affords, kept_all}
+use Rattle.flat_model.proofs.Closed.{IsClosed, kept_has_buffers, kept_all}
 use Rattle.flat_model.proofs.Decode.{length-udp}
 use Rattle.flat_model.proofs.First as First
 use Rattle.flat_model.proofs.First.{IsTarget, IsSound, IsKept}
@@ -283,7 +283,7 @@ module _ (L : Ledger) (c : Config) (boots : IsConfig c) where
             port = got.1;
             short = short;
             not_loopback = λ h. eqb-false x.to.ip loopback (or_parts (x.to.ip == named.config.addr) (x.to.ip == loopback) e).1 h;
-            not_everyone = aim.known;
+            not_limited_broadcast = aim.known;
           }
 
           answered : length before.output + length parts ≤ 50 → is_looped named.config x.to.ip ≡ false → IsAnswered L c (turns ++ turn ∷ []) new port (target before me to) bytes
@@ -355,10 +355,10 @@ module _ (L : Ledger) (c : Config) (boots : IsConfig c) where
   some_addr None h a e = absurd (none-some a e)
   some_addr (Some b) h a e = subst IsAddr (same_Some b a e) h
 
-  affords_sockets : (old new : State) (held : Weight) (n : Need) (answer : Bool) → Affords L old held n answer new → new.sockets ≡ old.sockets
-  affords_sockets old new held n true (inl h) = ap (λ (s : State). s.sockets) h.1
-  affords_sockets old new held n true (inr h) = ap (λ (s : State). s.sockets) h.1
-  affords_sockets old new held n false h = ap (λ (s : State). s.sockets) h.1
+  has_buffers_sockets : (old new : State) (held : Weight) (n : Need) (answer : Bool) → HasBuffers L old held n answer new → new.sockets ≡ old.sockets
+  has_buffers_sockets old new held n true (inl h) = ap (λ (s : State). s.sockets) h.1
+  has_buffers_sockets old new held n true (inr h) = ap (λ (s : State). s.sockets) h.1
+  has_buffers_sockets old new held n false h = ap (λ (s : State). s.sockets) h.1
 
   module _ (turns : List Turn) (old new : State) (reply : Reply) (told : IsTold turns old) (leads : Leads L (boot c) turns old) where
     abbrev Now : State → Type 0
@@ -403,10 +403,10 @@ module _ (L : Ledger) (c : Config) (boots : IsConfig c) where
         (λ e (answer, mid, a, rest).
         let passed = none_passed (send_faults old me to (length bytes)) e in
         let short : length bytes ≤ 9216 = ltb-false _ _ passed.1.0 in
-        let k : Now mid = kept_affords L Now (First.closed L c old.output old.next_id old.counters.ip_localout boots) old mid nothing _ answer told.kept a in
+        let k : Now mid = kept_has_buffers L Now (First.closed L c old.output old.next_id old.counters.ip_localout boots) old mid nothing _ answer told.kept a in
         let sound : IsSound me = First.found L c old.output old.next_id old.counters.ip_localout boots fd old me told.kept at in
         let aim : IsTarget (target old me to) = target_is old me to told.kept.config sound (some_addr to is.0) in
-        let same : mid.sockets ≡ old.sockets = affords_sockets old mid nothing _ answer a in
+        let same : mid.sockets ≡ old.sockets = has_buffers_sockets old mid nothing _ answer a in
         by_choice rest
         (λ e (port, named, clusters, g, taken, left). leaves turns fd to me bytes old mid new reply told leads at is step k same sound aim short port named clusters g left)
         (λ e r. silent (Send fd to bytes) is step (subst Now (sym r.1) k) refl))

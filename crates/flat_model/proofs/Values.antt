@@ -1,5 +1,6 @@
 -- The definitions at worked values.
 use Rattle.std.specs.Prelude.{◌≡◌, refl, ℕ, Bool, true, false, List, [], ◌∷◌, ◌++◌, map, Option, Some, None}
+use Rattle.flat_model.specs.declared.lookup_key.LookupKey.{LookupKey}
 use Rattle.flat_model.specs.Weight.{Item, mbuf, times, all_of}
 use Rattle.flat_model.specs.Sending.{items}
 use Rattle.flat_model.specs.Cuts.{cuts}
@@ -8,7 +9,7 @@ use Rattle.flat_model.specs.Checksum.{folded_sum}
 use Rattle.flat_model.specs.Header.{packet, udp, head_of, head_fault, udp_fault, udp_bytes}
 use Rattle.flat_model.specs.Overlay.{Map, Fragment, Held, empty, overlay, first_owned, is_covered}
 use Rattle.flat_model.specs.Whole.{bytes_below}
-use Rattle.flat_model.specs.Lookup.{Sought, best, receivers}
+use Rattle.flat_model.specs.Lookup.{best, receivers}
 use Rattle.flat_model.specs.State.{Socket}
 use Rattle.flat_model.specs.Calls.{fresh}
 use Rattle.flat_model.specs.declared.address.Addr.{Addr}
@@ -119,7 +120,7 @@ found (Some socket) = socket.fd
 other : Addr
 other = record { ip = 167772162; port = 5000 }
 
-from_other : Sought
+from_other : LookupKey
 from_other = record { local = Some 167772161; port = Some 7; peer = Some other }
 
 -- equal scores go to the youngest, and fewer wildcards go first

@@ -10,7 +10,7 @@ use Rattle.flat_model.specs.Event.{Event, Reply, Open, Bind, Connect, Send, Rece
 use Rattle.flat_model.specs.declared.usage.Mbstat.{Mbstat}
 use Rattle.flat_model.specs.declared.address.Addr.{Addr}
 use Rattle.flat_model.specs.State.{State, Socket, Key, Unfinished, begun, begin_unfinished, end_unfinished}
-use Rattle.flat_model.specs.Ledger.{Ledger, Affords, AreTaken, need_mbufs, exact_ledger, loose_ledger}
+use Rattle.flat_model.specs.Ledger.{Ledger, HasBuffers, AreTaken, need_mbufs, exact_ledger, loose_ledger}
 use Rattle.flat_model.specs.Arrival as Arrival
 use Rattle.flat_model.specs.Arrival.{Origin, By_wire, Looped}
 use Rattle.flat_model.specs.Send as Send
@@ -40,10 +40,10 @@ same : {P : Type 0} → P → P
 same p = p
 
 module _ (L M : Ledger) (weaker : IsWeaker L M) where
-  affords : (old new : State) (held : Weight) (need : Need) (yes : Bool) → Affords L old held need yes new → Affords M old held need yes new
-  affords old new held need true (inl (h, e)) = inl (weaker.has _ _ _ _ h, e)
-  affords old new held need true (inr (h, e, again)) = inr (weaker.has _ _ _ _ h, e, weaker.has _ _ _ _ again)
-  affords old new held need false (h, e, again) = (weaker.has _ _ _ _ h, e, weaker.has _ _ _ _ again)
+  has_buffers : (old new : State) (held : Weight) (need : Need) (yes : Bool) → HasBuffers L old held need yes new → HasBuffers M old held need yes new
+  has_buffers old new held need true (inl (h, e)) = inl (weaker.has _ _ _ _ h, e)
+  has_buffers old new held need true (inr (h, e, again)) = inr (weaker.has _ _ _ _ h, e, weaker.has _ _ _ _ again)
+  has_buffers old new held need false (h, e, again) = (weaker.has _ _ _ _ h, e, weaker.has _ _ _ _ again)
 
   taken : (s : State) (n : ℕ) (clusters : List ℕ) → AreTaken L s n clusters → AreTaken M s n clusters
   taken s n clusters t = record { number = t.number; distinct = t.distinct; free = λ k d h. weaker.may_take s nothing _ (t.free k d h) }
@@ -52,7 +52,7 @@ module _ (L M : Ledger) (weaker : IsWeaker L M) where
   tests old held n new P Q f t = record {
     answer = t.answer;
     mid = t.mid;
-    affords = affords old t.mid held (need_mbufs n) t.answer t.affords;
+    has_buffers = has_buffers old t.mid held (need_mbufs n) t.answer t.has_buffers;
     goes_on = choice (f t.mid) same t.goes_on;
   }
 
@@ -119,14 +119,14 @@ module _ (L M : Ledger) (weaker : IsWeaker L M) where
 
   sends : (fd : ℕ) (to : Option Addr) (bytes : List ℕ) (me : Socket) (old new : State) (reply : Reply) → Send.Sends L fd to bytes me old reply new → Send.Sends M fd to bytes me old reply new
   sends fd to bytes me old new reply = by_value
-      (λ (answer, mid, a, c). (answer, mid, affords old mid nothing _ answer a, choice (goes fd me _ bytes mid new reply) same c))
+      (λ (answer, mid, a, c). (answer, mid, has_buffers old mid nothing _ answer a, choice (goes fd me _ bytes mid new reply) same c))
       (λ errno r. r)
 
   comes_in : (packet : List ℕ) (old new : State) → ComesIn L packet old new → ComesIn M packet old new
   comes_in packet old new (answer, mid, a, c) = (
     answer,
     mid,
-    affords old mid nothing _ answer a,
+    has_buffers old mid nothing _ answer a,
     choice (λ (clusters, t, r). (clusters, taken mid _ clusters t, arrives (By_wire (length packet)) nothing (record { bytes = packet; weight = weight_of (laid_on clusters (wire (length packet))) }) mid new r)) same c,
   )
 

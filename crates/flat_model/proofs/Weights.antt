@@ -8,7 +8,7 @@ use Rattle.std.proofs.lemmas.List.Elements.{filter_map-append}
 use Rattle.flat_model.specs.Weight.{Weight, nothing, ◌⊕◌, all_of, times, SameWeight}
 use Rattle.flat_model.specs.Layout.{Entry, Need, weight_of}
 use Rattle.flat_model.specs.State.{State}
-use Rattle.flat_model.specs.Ledger.{weight_of_state, count_of, free_mbufs, free_clusters, has_enough, exact_ledger, Affords}
+use Rattle.flat_model.specs.Ledger.{weight_of_state, count_of, free_mbufs, free_clusters, has_enough, exact_ledger, HasBuffers}
 use Rattle.flat_model.proofs.Kept.{count-append}
 
 -- ---- equations
@@ -80,7 +80,7 @@ module _ (s : State) (held other : Weight) (same : SameWeight held other) where
   pub has_enough-same : (need : Need) → has_enough s held need ≡ has_enough s other need
   has_enough-same need = λ i. nat_le need.mbufs (free_mbufs-same i) && nat_le need.clusters (free_clusters-same i)
 
-pub affords-same : (old new : State) (held other : Weight) (need : Need) (answer : Bool) → SameWeight held other → Affords exact_ledger old held need answer new → Affords exact_ledger old other need answer new
-affords-same old new held other need true same (inl h) = inl (h.0 ∙ has_enough-same old held other same need, h.1)
-affords-same old new held other need true same (inr h) = inr (h.0 ∙ has_enough-same old held other same need, h.1, h.2 ∙ has_enough-same new held other same need)
-affords-same old new held other need false same h = (h.0 ∙ has_enough-same old held other same need, h.1, h.2 ∙ has_enough-same new held other same need)
+pub has_buffers-same : (old new : State) (held other : Weight) (need : Need) (answer : Bool) → SameWeight held other → HasBuffers exact_ledger old held need answer new → HasBuffers exact_ledger old other need answer new
+has_buffers-same old new held other need true same (inl h) = inl (h.0 ∙ has_enough-same old held other same need, h.1)
+has_buffers-same old new held other need true same (inr h) = inr (h.0 ∙ has_enough-same old held other same need, h.1, h.2 ∙ has_enough-same new held other same need)
+has_buffers-same old new held other need false same h = (h.0 ∙ has_enough-same old held other same need, h.1, h.2 ∙ has_enough-same new held other same need)

@@ -78,7 +78,7 @@ comes = (
     when refl (
       [],
       record { number = refl; distinct = λ c. omega arith; free = λ k d h. absurd (omega arith) },
-      at_none (when refl (unless refl (when refl (at_none (when refl (record { answer = true; mid = _; affords = inl (refl, refl); goes_on = when refl refl })))))),
+      at_none (when refl (unless refl (when refl (at_none (when refl (record { answer = true; mid = _; has_buffers = inl (refl, refl); goes_on = when refl refl })))))),
     ),
   ),
 )

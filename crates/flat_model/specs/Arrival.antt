@@ -3,18 +3,19 @@
 -- Every test of the ledger counts the state and what the step holds beside it: the item in hand, and `held`.
 use Rattle.std.specs.Prelude.{◌≡◌, ◌⊎◌, ℕ, ◌+◌, ◌≤◌, ◌%◌, Bool, ◌==◌, nat_lt, nat_le, ◌&&◌, ◌||◌, not, if◌then◌else◌, List, [], ◌∷◌, ◌++◌, take, drop, length, Some, option_to_list}
 use Rattle.params.specs.declared.TheConstants.{IP_HEADER, IP_MAX_DATA, PROTOCOL_UDP, FRAGMENT_UNIT, MINCLSIZE, MAX_PROTOCOL_HEADER}
+use Rattle.flat_model.specs.declared.lookup_key.LookupKey.{LookupKey}
 use Rattle.flat_model.specs.Choice.{Choice, Case}
 use Rattle.flat_model.specs.Weight.{Weight, Item, Covers, IsSubBag, mbuf, ◌⊕◌, all_of}
 use Rattle.flat_model.specs.Header.{Head, head_of, head_fault, total_of, udp_fault, udp_bytes, u16_at}
 use Rattle.flat_model.specs.Overlay.{Map, Fragment, overlay, is_covered}
 use Rattle.flat_model.specs.Whole.{IsWhole, bytes_below, weight_of_pieces}
-use Rattle.flat_model.specs.Lookup.{Sought, best, receivers}
+use Rattle.flat_model.specs.Lookup.{best, receivers}
 use Rattle.flat_model.specs.Fits.{fits}
 use Rattle.flat_model.specs.Count.{one_more}
-use Rattle.flat_model.specs.State.{State, Socket, Datagram, Key, Unfinished, everyone, change_socket, unfinished_at, begun, begin_unfinished, set_bytes, end_unfinished, ends}
+use Rattle.flat_model.specs.State.{State, Socket, Datagram, Key, Unfinished, limited_broadcast, change_socket, unfinished_at, begun, begin_unfinished, set_bytes, end_unfinished, ends}
 use Rattle.flat_model.specs.declared.config.Config.{Config}
 use Rattle.flat_model.specs.Calls.{is_ours}
-use Rattle.flat_model.specs.Ledger.{Ledger, Affords, need_mbufs}
+use Rattle.flat_model.specs.Ledger.{Ledger, HasBuffers, need_mbufs}
 use Rattle.flat_model.specs.declared.address.Addr.{Addr}
 use Rattle.flat_model.specs.declared.counters.Why.{Why}
 use Rattle.flat_model.specs.declared.counters.Why.TheVariants.{CantForward, BadFragment, FragmentDropped, NoProtocol, UdpNoPort, UdpNoPortBroadcast, UdpFullSocket, NoBufs}
@@ -26,7 +27,7 @@ pub data Origin : Type 0 where
 
 -- one of the two broadcast addresses
 abbrev pub is_broadcast : Config → ℕ → Bool
-is_broadcast c ip = (ip == c.bcast) || (ip == everyone)
+is_broadcast c ip = (ip == c.bcast) || (ip == limited_broadcast)
 
 -- ---- what a delivery adds
 
@@ -35,7 +36,7 @@ abbrev pub queued : Datagram → Socket → Socket
 queued d socket = record socket { queue = socket.queue ++ d ∷ [] }
 
 -- who hears a datagram: many for a broadcast, else one
-abbrev pub hearers : State → ℕ → Sought → List Socket
+abbrev pub hearers : State → ℕ → LookupKey → List Socket
 hearers s destination q =
     if is_broadcast s.config destination then receivers q s.sockets else option_to_list (best q s.sockets)
 
@@ -49,7 +50,7 @@ no_port s destination = if is_broadcast s.config destination then UdpNoPortBroad
 abbrev pub key_of : Head → Key
 key_of h = record { source = h.source; destination = h.destination; id = h.id; protocol = h.protocol }
 
--- A fragment of n bytes that none can be: without a byte, one with others behind it that is no multiple of 8, or one
+-- A fragment of n bytes that none can be: without a byte, one with others after it that is no multiple of 8, or one
 -- that reaches past the longest datagram.
 abbrev pub is_bad_fragment : Head → ℕ → Bool
 is_bad_fragment h n = (n == 0) || (h.more && not (n % FRAGMENT_UNIT == 0)) || nat_lt IP_MAX_DATA (h.offset + n)
@@ -82,13 +83,13 @@ counts_packet s = record s { counters = record (s.counters) { ip_total = one_mor
 
 -- an address that this machine hears
 abbrev pub is_for_us : Config → ℕ → Bool
-is_for_us c ip = is_ours c ip || (ip == everyone)
+is_for_us c ip = is_ours c ip || (ip == limited_broadcast)
 
--- more come behind it, or some in front
+-- more come after it, or some in front
 abbrev pub is_fragment : Head → Bool
 is_fragment h = h.more || nat_lt 0 h.offset
 
--- what a packet carries behind its header, cut to its total length; the cut leaves its weight
+-- what a packet carries after its header, cut to its total length; the cut leaves its weight
 abbrev pub carried : Item → Item
 carried item = record item { bytes = drop IP_HEADER (take (total_of item.bytes) item.bytes) }
 
@@ -100,7 +101,7 @@ module _ (L : Ledger) where
   pub record Tests (old : State) (held : Weight) (n : ℕ) (new : State) (Then : State → Type 0) : Type 0 where
     pub answer : Bool
     pub mid : State
-    pub affords : Affords L old held (need_mbufs n) answer mid
+    pub has_buffers : HasBuffers L old held (need_mbufs n) answer mid
     pub goes_on : Choice answer (Then mid) (new ≡ ends NoBufs mid)
 
   -- ---- delivery
@@ -133,7 +134,7 @@ module _ (L : Ledger) where
       Choice (protocol == PROTOCOL_UDP)
       (Case (udp_fault source destination item.bytes)
       (let sender : Addr = record { ip = source; port = u16_at 0 item.bytes } in
-      let q : Sought = record { local = Some destination; port = Some (u16_at 2 item.bytes); peer = Some sender } in
+      let q : LookupKey = record { local = Some destination; port = Some (u16_at 2 item.bytes); peer = Some sender } in
       GoesTo held sender (record item { bytes = udp_bytes item.bytes }) destination (hearers old destination q) old new)
       (λ why. new ≡ ends why old))
       (new ≡ ends NoProtocol old)

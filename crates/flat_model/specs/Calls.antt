@@ -3,6 +3,7 @@
 -- `recvfrom`: chapter 16). Where an order or a list is this project's own, its definition says so.
 use Rattle.std.specs.Prelude.{◌≡◌, ℕ, zero, suc, ◌+◌, ◌-◌, ◌*◌, ◌<◌, ◌≤◌, ◌%◌, ◌/◌, ◌^◌, Bool, true, false, ◌==◌, nat_lt, ◌&&◌, ◌||◌, not, if◌then◌else◌, List, [], ◌∷◌, take, length, filter, Option, Some, None, is_some, IsSome, IsNone, unwrap_or}
 use Rattle.params.specs.declared.TheConstants.{FIRST_EPHEMERAL_PORT, LAST_EPHEMERAL_PORT, FIRST_DESCRIPTOR}
+use Rattle.flat_model.specs.declared.lookup_key.LookupKey.{LookupKey}
 use Rattle.flat_model.specs.Choice.{Choice, Case}
 use Rattle.flat_model.specs.Header.{first_fault}
 use Rattle.flat_model.specs.Event.{Reply, Done, Opened, Received, Refused}
@@ -10,9 +11,9 @@ use Rattle.flat_model.specs.declared.errno.Errno.{Errno}
 use Rattle.flat_model.specs.declared.option.Opt.{Opt}
 use Rattle.flat_model.specs.declared.errno.Errno.TheVariants.{BadDescriptor, Invalid, TooManyFiles, WouldBlock, AddressInUse, AddressNotAvailable, HostUnreachable}
 use Rattle.flat_model.specs.declared.option.Opt.TheVariants.{Broadcast, ReusePort}
-use Rattle.flat_model.specs.State.{State, Socket, Datagram, loopback, everyone, socket_at, change_socket}
+use Rattle.flat_model.specs.State.{State, Socket, Datagram, loopback, limited_broadcast, socket_at, change_socket}
 use Rattle.flat_model.specs.declared.config.Config.{Config}
-use Rattle.flat_model.specs.Lookup.{Sought, best, exact}
+use Rattle.flat_model.specs.Lookup.{best, exact}
 use Rattle.flat_model.specs.declared.address.Addr.{Addr}
 
 -- ---- refusals
@@ -33,7 +34,7 @@ OnSocket fd old reply new Call = Case (socket_at fd old) (Refuses BadDescriptor 
 
 -- 0.0.0.0 is read as this machine, 255.255.255.255 as its broadcast address
 abbrev pub read_address : Config → ℕ → ℕ
-read_address c ip = if ip == 0 then c.addr else (if ip == everyone then c.bcast else ip)
+read_address c ip = if ip == 0 then c.addr else (if ip == limited_broadcast then c.bcast else ip)
 
 -- the same of an address with a port
 abbrev pub read_addr : Config → Addr → Addr
@@ -67,19 +68,19 @@ is_in_use s local port = is_some (best (record { local = local; port = Some port
 abbrev pub ephemeral_ports : ℕ
 ephemeral_ports = LAST_EPHEMERAL_PORT - FIRST_EPHEMERAL_PORT + 1
 
--- the k-th port behind the last one chosen, in the circle 1024 .. 5000
-abbrev pub port_behind : Option ℕ → ℕ → ℕ
-port_behind None k = FIRST_EPHEMERAL_PORT + k % ephemeral_ports
-port_behind (Some last) k = FIRST_EPHEMERAL_PORT + (last - (FIRST_EPHEMERAL_PORT - 1) + k) % ephemeral_ports
+-- the k-th port after the last one chosen, in the circle 1024 .. 5000
+abbrev pub port_after : Option ℕ → ℕ → ℕ
+port_after None k = FIRST_EPHEMERAL_PORT + k % ephemeral_ports
+port_after (Some last) k = FIRST_EPHEMERAL_PORT + (last - (FIRST_EPHEMERAL_PORT - 1) + k) % ephemeral_ports
 
 -- The next ephemeral port: the first in the circle that is not in use. One is always found, since fewer sockets can
 -- be open than the circle has ports.
 pub record IsNextPort (s : State) (local : Option ℕ) (port : ℕ) : Type 0 where
   pub turns : ℕ
   pub within : turns < ephemeral_ports
-  pub here : port ≡ port_behind s.last_port turns
+  pub here : port ≡ port_after s.last_port turns
   pub free : is_in_use s local port ≡ false
-  pub passed : (k : ℕ) → k < turns → is_in_use s local (port_behind s.last_port k) ≡ true
+  pub passed : (k : ℕ) → k < turns → is_in_use s local (port_after s.last_port k) ≡ true
 
 -- the port asked for, or where there is none the next ephemeral one, which is chosen then
 abbrev pub GetsPort : State → Option ℕ → Option ℕ → ℕ → State → Type 0
@@ -120,7 +121,7 @@ lacks_reuse_port (Some found) = not found.reuse_port
 -- finds; or, where this socket has ReusePort, the one that a lookup without wildcards finds, if it lacks the option.
 abbrev pub is_taken : State → Socket → Option ℕ → ℕ → Bool
 is_taken s me local port =
-    let q : Sought = record { local = local; port = Some port; peer = None } in
+    let q : LookupKey = record { local = local; port = Some port; peer = None } in
     if me.reuse_port then lacks_reuse_port (exact q s.sockets) else is_some (best q s.sockets)
 
 -- what a bind is refused for

@@ -1,4 +1,4 @@
--- What holds of every state that the machine reaches, so that its books are never overdrawn (this project's own).
+-- What holds of every state that the machine reaches, so that its accounts are never overdrawn (this project's own).
 use Rattle.std.specs.Prelude.{◌≡◌, ℕ, ◌+◌, ◌-◌, ◌<◌, ◌≤◌, true, ◌==◌, length, count_by, Some, None}
 use Rattle.std.specs.List.{AllByRecursion as Each}
 use Rattle.params.specs.declared.TheConstants.{FIRST_DESCRIPTOR, MAX_SOCKETS, UDP_RECEIVE_SPACE, IP_MAX_DATA, FRAGMENT_TICKS, OUTPUT_QUEUE_PACKETS, FIRST_EPHEMERAL_PORT, LAST_EPHEMERAL_PORT}

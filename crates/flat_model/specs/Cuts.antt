@@ -1,10 +1,10 @@
--- How a datagram of n bytes behind its IP header is cut for a link (RFC 791, section 2.3 "Fragmentation" and the
+-- How a datagram of n bytes after its IP header is cut for a link (RFC 791, section 2.3 "Fragmentation" and the
 -- procedure of section 3.2; volume 2, chapter 10). The IP header of each packet is 20 bytes long.
 use Rattle.std.specs.Prelude.{ℕ, ◌+◌, ◌-◌, ◌*◌, ◌/◌, min, Bool, false, nat_lt, nat_le, if◌then◌else◌, List, [], ◌∷◌, map}
 use Rattle.std.specs.List.{range_with_len}
 use Rattle.params.specs.declared.TheConstants.{IP_HEADER, FRAGMENT_UNIT}
 
--- one packet's share: from which byte on, how many bytes, and whether more come behind it
+-- one packet's share: from which byte on, how many bytes, and whether more come after it
 pub record Part : Type 0 where
   pub offset : ℕ
   pub size : ℕ

@@ -66,7 +66,7 @@ keyword Ask_usage = codes "mbstat"
 abbrev pub IsEnd : List ℕ → List ℕ → Addr → Type 0
 IsEnd a p address = IsAddress a address.ip × IsPort p address.port
 
--- the words behind that one
+-- the words after that one
 abbrev pub HasArguments : Event → List (List ℕ) → Type 0
 HasArguments Open args = args ≡ []
 HasArguments (Bind fd address) args =

@@ -1,4 +1,4 @@
--- The bytes of a packet: its IP header (RFC 791, section 3.1), and the UDP header behind it (RFC 768). All
+-- The bytes of a packet: its IP header (RFC 791, section 3.1), and the UDP header after it (RFC 768). All
 -- numbers are big-endian.
 use Rattle.std.specs.Prelude.{ℕ, ◌+◌, ◌*◌, ◌/◌, ◌%◌, Bool, false, nat_lt, ◌==◌, not, if◌then◌else◌, List, [], ◌∷◌, ◌++◌, length, take, drop, slice_index, Option, Some, None}
 use Rattle.params.specs.declared.TheConstants.{IP_HEADER, UDP_HEADER, IP_DEFAULT_TTL, PROTOCOL_UDP}
@@ -42,7 +42,7 @@ flag set worth = if set then worth else 0
 abbrev pub front_bytes : Head → ℕ → List ℕ
 front_bytes h n = 69 ∷ 0 ∷ two_bytes (IP_HEADER + n) ++ two_bytes h.id ++ two_bytes (flag h.more 8192 + h.offset / 8) ++ IP_DEFAULT_TTL ∷ h.protocol ∷ []
 
--- the eight bytes behind the checksum
+-- the eight bytes after the checksum
 abbrev pub address_bytes : ℕ → ℕ → List ℕ
 address_bytes source destination = four_bytes source ++ four_bytes destination
 
@@ -104,7 +104,7 @@ udp source destination source_port destination_port s =
     front ++ two_bytes (not_zero (checksum (pseudo_header source destination n ++ front ++ 0 ∷ 0 ∷ s))) ++ s
 
 -- Why a datagram is refused (`udp_input` of volume 2, chapter 23): fewer than 8 bytes, a UDP length above what
--- is carried or below 8, or a checksum that is there and wrong. Bytes behind the UDP length count for nothing.
+-- is carried or below 8, or a checksum that is there and wrong. Bytes after the UDP length count for nothing.
 abbrev pub udp_fault : ℕ → ℕ → List ℕ → Option Why
 udp_fault source destination bytes =
     let n : ℕ = u16_at 4 bytes in

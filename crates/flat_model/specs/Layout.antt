@@ -1,5 +1,5 @@
 -- Into which buffers bytes go, and how many buffers a send needs. The sizes are those of volume 2, chapter 2: a
--- plain mbuf holds 108 bytes, or 100 behind a packet header, a cluster 2048, and from 208 bytes on a cluster is
+-- plain mbuf holds 108 bytes, or 100 after a packet header, a cluster 2048, and from 208 bytes on a cluster is
 -- taken. The layouts are this project's own, after `sosend` (chapter 16) and `m_devget` (chapter 2).
 use Rattle.std.specs.Prelude.{ℕ, zero, suc, ◌+◌, ◌-◌, ◌*◌, min, max, Bool, true, false, nat_lt, nat_le, if◌then◌else◌, List, [], ◌∷◌, length, drop, sum_by, count_by, filter_map, Option, Some, None}
 use Rattle.params.specs.declared.TheConstants.{MLEN, MHLEN, MINCLSIZE, MCLBYTES, CLUSTER_LEADING_SPACE, IP_HEADER, UDP_HEADER, IP_UDP_HEADERS}
@@ -77,9 +77,9 @@ weight_of entries = record { mbufs = length entries; bag = filter_map (λ entry.
 unfoldable pub meets_from : {X : Type 0} → (X → ℕ) → ℕ → List X → ℕ → ℕ → List X
 meets_from size at [] a b = []
 meets_from size at (x ∷ xs) a b =
-    let behind : ℕ = at + size x in
-    let later = meets_from size behind xs a b in
-    if nat_lt (max at a) (min behind b) then x ∷ later else later
+    let after : ℕ = at + size x in
+    let later = meets_from size after xs a b in
+    if nat_lt (max at a) (min after b) then x ∷ later else later
 
 -- the mbufs of a layout that share a byte with the range from a up to b
 abbrev pub meets : List Room → ℕ → ℕ → List Room
@@ -98,7 +98,7 @@ abbrev pub need_of : List Room → Need
 need_of rooms = record { mbufs = length rooms; clusters = count_by is_cluster rooms }
 
 -- What a later fragment takes: one mbuf for its header, and one for each mbuf in which its bytes lie. The part's
--- offsets count from behind the IP header, which is 20 bytes long. Clusters are shared.
+-- offsets count from after the IP header, which is 20 bytes long. Clusters are shared.
 abbrev pub need_of_part : List Room → Part → ℕ
 need_of_part rooms p = 1 + length (meets rooms (IP_HEADER + p.offset) (IP_HEADER + p.offset + p.size))
 

@@ -61,7 +61,7 @@ usage_of s =
       most = fold max 0 counts;
     }
 
--- the ledger that keeps the books: each answer is the right one
+-- the ledger that keeps the accounts: each answer is the right one
 abbrev pub exact_ledger : Ledger
 exact_ledger = record {
   has = λ s held need yes. yes ≡ has_enough s held need;
@@ -90,10 +90,10 @@ reclaimed s = record s { unfinished = []; counters = record (s.counters) { ip_re
 
 -- A test, and the state that it leaves. Where the buffers are too few, all unfinished datagrams are dropped and the
 -- test is made once more: that answer stands. Where none was held, this drops nothing and the answer is the same.
-abbrev pub Affords : Ledger → State → Weight → Need → Bool → State → Type 0
-Affords L old held need true new =
+abbrev pub HasBuffers : Ledger → State → Weight → Need → Bool → State → Type 0
+HasBuffers L old held need true new =
     (L.has old held need true × (new ≡ old)) ⊎ (L.has old held need false × (new ≡ reclaimed old) × L.has new held need true)
-Affords L old held need false new = L.has old held need false × (new ≡ reclaimed old) × L.has new held need false
+HasBuffers L old held need false new = L.has old held need false × (new ≡ reclaimed old) × L.has new held need false
 
 -- so many mbufs, and no cluster
 abbrev pub need_mbufs : ℕ → Need

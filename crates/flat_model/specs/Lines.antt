@@ -7,7 +7,7 @@ whole_lines_after begun [] = []
 whole_lines_after begun (byte ∷ bytes) =
     if byte == 10 then begun ∷ whole_lines_after [] bytes else whole_lines_after (begun ++ byte ∷ []) bytes
 
--- what stands behind the last byte 10, where `begun` came before the bytes
+-- what stands after the last byte 10, where `begun` came before the bytes
 abbrev pub begun_after : List ℕ → List ℕ → List ℕ
 begun_after begun [] = begun
 begun_after begun (byte ∷ bytes) =

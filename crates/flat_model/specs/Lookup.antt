@@ -6,10 +6,6 @@ use Rattle.flat_model.specs.State.{Socket}
 use Rattle.flat_model.specs.declared.address.Addr.{Addr}
 use Rattle.flat_model.specs.declared.lookup_key.LookupKey.{LookupKey}
 
--- what is looked for
-abbrev pub Sought : Type 0
-Sought = LookupKey
-
 -- the same address and port
 abbrev pub is_addr : Addr → Addr → Bool
 is_addr a b = (a.ip == b.ip) && (a.port == b.port)
@@ -32,27 +28,27 @@ one_sided _ _ = 1
 
 -- The socket has the port that is looked for, and nothing that is set on both sides differs. A socket without a
 -- port is never found.
-abbrev pub matches : Sought → Socket → Bool
+abbrev pub matches : LookupKey → Socket → Bool
 matches q socket = are_same socket.port q.port && agree ◌==◌ socket.local q.local && agree is_addr socket.peer q.peer
 
 -- how many of the two sides, local and foreign, are set in one of the two alone: 0, 1 or 2
-abbrev pub wildcards : Sought → Socket → ℕ
+abbrev pub wildcards : LookupKey → Socket → ℕ
 wildcards q socket = one_sided socket.local q.local + one_sided socket.peer q.peer
 
 -- the score of a socket: its wildcards, where it matches
-abbrev pub score : Sought → Socket → Option ℕ
+abbrev pub score : LookupKey → Socket → Option ℕ
 score q socket = if matches q socket then Some (wildcards q socket) else None
 
 -- the youngest that matches with so many wildcards
-abbrev pub youngest : ℕ → Sought → List Socket → Option Socket
+abbrev pub youngest : ℕ → LookupKey → List Socket → Option Socket
 youngest k q sockets = find (λ socket. matches q socket && (wildcards q socket == k)) sockets
 
 -- the one that is found: of those with the fewest wildcards the youngest
-abbrev pub best : Sought → List Socket → Option Socket
+abbrev pub best : LookupKey → List Socket → Option Socket
 best q sockets = option_or (youngest 0 q sockets) (option_or (youngest 1 q sockets) (youngest 2 q sockets))
 
 -- the youngest that matches with no wildcard
-abbrev pub exact : Sought → List Socket → Option Socket
+abbrev pub exact : LookupKey → List Socket → Option Socket
 exact = youngest 0
 
 -- up to the first that passes, and with it
@@ -62,5 +58,5 @@ up_to_first passes (x ∷ xs) = if passes x then x ∷ [] else x ∷ up_to_first
 
 -- All that hear a broadcast (the loop of `udp_input`, volume 2, chapter 23): those that match, the youngest first,
 -- up to the first one without the option ReusePort, which is the last.
-abbrev pub receivers : Sought → List Socket → List Socket
+abbrev pub receivers : LookupKey → List Socket → List Socket
 receivers q sockets = up_to_first (λ socket. not socket.reuse_port) (filter (matches q) sockets)

@@ -17,7 +17,7 @@ pub record Held : Type 0 where
   pub byte : ℕ
   pub piece : Piece
 
--- the bytes that have come, by their offset behind the IP header
+-- the bytes that have come, by their offset after the IP header
 abbrev pub Map : Type 0
 Map = ℕ → Option Held
 
@@ -25,16 +25,16 @@ Map = ℕ → Option Held
 abbrev pub empty : Map
 empty offset = None
 
--- a fragment as it comes: the bytes behind its IP header, and the weight of its mbufs
+-- a fragment as it comes: the bytes after its IP header, and the weight of its mbufs
 pub record Fragment : Type 0 where
   pub offset : ℕ
   pub bytes : List ℕ
   pub more : Bool
   pub weight : Weight
 
--- the first offset behind the fragment
-abbrev pub behind : Fragment → ℕ
-behind f = f.offset + length f.bytes
+-- the first offset after the fragment
+abbrev pub fragment_end : Fragment → ℕ
+fragment_end f = f.offset + length f.bytes
 
 -- Who wins: what a piece brought stays where the piece begins no later than a fragment at a; else the fragment takes it.
 abbrev pub stays : ℕ → Option Held → Bool
@@ -48,7 +48,7 @@ first_owned map f = f.offset + count_by (λ offset. stays f.offset (map offset))
 
 -- nothing is left for the fragment
 abbrev pub is_covered : Map → Fragment → Bool
-is_covered map f = nat_le (behind f) (first_owned map f)
+is_covered map f = nat_le (fragment_end f) (first_owned map f)
 
 -- what the fragment brings to an offset
 abbrev pub brought : Map → Fragment → ℕ → Held
@@ -57,16 +57,16 @@ brought map f offset = record {
   piece = record { first = first_owned map f; more = f.more; weight = f.weight };
 }
 
--- a piece that begins inside the fragment and reaches past it loses its front, and begins behind the fragment then
+-- a piece that begins inside the fragment and reaches past it loses its front, and begins after the fragment then
 abbrev pub cut_back : Fragment → Held → Held
 cut_back f held =
-    if nat_lt f.offset held.piece.first && nat_lt held.piece.first (behind f)
-    then record held { piece = record (held.piece) { first = behind f } }
+    if nat_lt f.offset held.piece.first && nat_lt held.piece.first (fragment_end f)
+    then record held { piece = record (held.piece) { first = fragment_end f } }
     else held
 
 -- the offset is one of the fragment's
 abbrev pub is_within : Fragment → ℕ → Bool
-is_within f offset = nat_le f.offset offset && nat_lt offset (behind f)
+is_within f offset = nat_le f.offset offset && nat_lt offset (fragment_end f)
 
 -- what lies at an offset then, by whether it is one of the fragment's, and what lay there before
 abbrev pub lies : Map → Fragment → ℕ → Bool → Option Held → Option Held

@@ -16,6 +16,6 @@ abbrev pub Leads : Ledger → State → List Turn → State → Type 0
 Leads L old [] new = new ≡ old
 Leads L old (turn ∷ turns) new = IsEvent turn.event × (mid : State) × StepBy L old turn.event turn.reply mid × Leads L mid turns new
 
--- these turns lead from the start to this state, by the machine that keeps exact books
+-- these turns lead from the start to this state, by the machine that keeps exact accounts
 abbrev pub Run : Config → List Turn → State → Type 0
 Run config turns new = Leads exact_ledger (boot config) turns new

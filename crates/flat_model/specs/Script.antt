@@ -58,6 +58,6 @@ pub record IsPrintOfRun (L : Ledger) (serves : Event → Bool) (old : State) (li
 abbrev pub all_events : Event → Bool
 all_events event = true
 
--- this is printed for the lines by a run of the machine that keeps exact books: by its turns, which `Run` leads through
+-- this is printed for the lines by a run of the machine that keeps exact accounts: by its turns, which `Run` leads through
 abbrev pub PrintsRun : Config → List (List ℕ) → List ℕ → State → Type 0
 PrintsRun config lines printed new = IsPrintOfRun exact_ledger all_events (boot config) lines printed new

@@ -17,7 +17,7 @@ use Rattle.flat_model.specs.State.{State, Socket, change_socket}
 use Rattle.flat_model.specs.declared.config.Config.{Config}
 use Rattle.flat_model.specs.Calls.{Refuses, Unless, GetsPort, connect_faults, read_addr, source_for}
 use Rattle.flat_model.specs.Sending.{Sending, packets, parts_of, is_looped, mtu_to}
-use Rattle.flat_model.specs.Ledger.{Ledger, Affords, AreTaken}
+use Rattle.flat_model.specs.Ledger.{Ledger, HasBuffers, AreTaken}
 use Rattle.flat_model.specs.Arrival.{AllArrive}
 use Rattle.flat_model.specs.declared.address.Addr.{Addr}
 
@@ -105,5 +105,5 @@ module _ (L : Ledger) where
   Sends fd to bytes me old reply new = Unless (send_faults old me to (length bytes)) old reply new (
       let a : Addr = target old me to in
       (yes : Bool) × (mid : State)
-      × Affords L old nothing (need_to old.config a.ip (length bytes)) yes mid
+      × HasBuffers L old nothing (need_to old.config a.ip (length bytes)) yes mid
       × Choice yes (Goes fd me a bytes mid reply new) (Refuses (NoBufs Pool) mid reply new))

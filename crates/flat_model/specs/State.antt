@@ -18,8 +18,8 @@ abbrev pub loopback : ℕ
 loopback = LOOPBACK
 
 -- 255.255.255.255
-abbrev pub everyone : ℕ
-everyone = LIMITED_BROADCAST
+abbrev pub limited_broadcast : ℕ
+limited_broadcast = LIMITED_BROADCAST
 
 -- an address that a host may have: 1.0.0.0 to 223.255.255.255, and not in 127/8
 pub record IsHost (address : ℕ) : Type 0 where

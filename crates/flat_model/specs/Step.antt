@@ -9,7 +9,7 @@ use Rattle.flat_model.specs.Count.{more_by}
 use Rattle.flat_model.specs.Event.{Event, Reply, Open, Bind, Connect, Send, Receive, Close, Set_option, Comes, Transmit, Tick, Ask_counters, Ask_usage, Done, Given, Counted, Shown}
 use Rattle.flat_model.specs.declared.usage.Mbstat.{Mbstat}
 use Rattle.flat_model.specs.State.{State, Unfinished, ends}
-use Rattle.flat_model.specs.Ledger.{Ledger, Affords, AreTaken, exact_ledger, loose_ledger}
+use Rattle.flat_model.specs.Ledger.{Ledger, HasBuffers, AreTaken, exact_ledger, loose_ledger}
 use Rattle.flat_model.specs.Calls.{OnSocket, Opens, Closes, Binds, Connects, Receives, SetsOption}
 use Rattle.flat_model.specs.Send.{Sends}
 use Rattle.flat_model.specs.Arrival.{By_wire, Arrives}
@@ -34,7 +34,7 @@ module _ (L : Ledger) where
   abbrev pub ComesIn : List ℕ → State → State → Type 0
   ComesIn packet old new =
       (yes : Bool) × (mid : State)
-      × Affords L old nothing (need_of (wire (length packet))) yes mid
+      × HasBuffers L old nothing (need_of (wire (length packet))) yes mid
       × Choice yes
       ((clusters : List ℕ)
       × AreTaken L mid (need_of (wire (length packet))).clusters clusters

@@ -5,7 +5,7 @@ use Rattle.params.specs.declared.TheConstants.{IP_MAX_DATA}
 use Rattle.flat_model.specs.Weight.{Weight, all_of}
 use Rattle.flat_model.specs.Overlay.{Held, Piece, Map}
 
--- It has a byte at each offset below n and at no other, and the piece at its end has no more behind it.
+-- It has a byte at each offset below n and at no other, and the piece at its end has no more after it.
 pub record IsWhole (bytes : Map) (n : ℕ) : Type 0 where
   pub some : 0 < n
   pub filled : (offset : ℕ) → offset < n → IsSome (bytes offset)

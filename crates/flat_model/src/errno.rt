@@ -58,7 +58,7 @@ pub enum Errno {
 impl Lack {
     ghost use Rattle.flat_model.specs.Errnos.{lack_name};
 
-    /// The word for it behind `ENOBUFS`.
+    /// The word for it after `ENOBUFS`.
     pub fn name(self) -> &'static str
         ensures { result.now ≡ lack_name self }
     {

@@ -27,7 +27,7 @@ pub use lookup_key::LookupKey;
 pub use need::Need;
 pub use option::Opt;
 pub use theorems::{
-    books_balance, cuts_join, exact_is_loose, leads_on, overlay_order, printed_is_run,
+    accounts_balance, cuts_join, exact_is_loose, leads_on, overlay_order, printed_is_run,
     received_law, states_are_consistent, wire_law,
 };
 pub use usage::Mbstat;

@@ -38,7 +38,7 @@ pub fn received_law()
     ensures { ReceivedLaw exact_ledger exact_ledger }
 {}
 
-/// The machine that keeps exact books of its buffers does nothing that the machine without books may not do:
+/// The machine that keeps exact accounts of its buffers does nothing that the machine without accounts may not do:
 /// each of its steps is a step of that one, and so each of its runs is a run.
 pub fn exact_is_loose()
     ensures step { (old new : State) (event : Event) (reply : Reply) →
@@ -47,7 +47,7 @@ pub fn exact_is_loose()
         Run config turns new → Leads loose_ledger (boot config) turns new }
 {}
 
-/// What holds of every state that the machine reaches: its books are never overdrawn, what it holds refers
+/// What holds of every state that the machine reaches: its accounts are never overdrawn, what it holds refers
 /// to clusters of the pool and has room for its bytes, descriptors and keys differ, and every number is
 /// within its limits. It holds at the start, and every step of the exact machine keeps it.
 pub fn states_are_consistent()
@@ -78,9 +78,9 @@ pub fn printed_is_run()
         Prints all_events Step (boot config) lines printed new → PrintsRun config lines printed new }
 {}
 
-/// The books balance: free and held mbufs are all that there are, the counts of all clusters add up to the
+/// The accounts balance: free and held mbufs are all that there are, the counts of all clusters add up to the
 /// references, and where nothing is held everything is free and nothing refers to a cluster.
-pub fn books_balance()
+pub fn accounts_balance()
     ensures mbufs { (s : State) → IsConsistent s →
         free_mbufs s nothing + (weight_of_state s).mbufs ≡ s.config.mbufs }
     ensures references { (s : State) → IsConsistent s →

@@ -4,7 +4,7 @@ use Rattle.std.specs.Prelude.{nat_lt, nat_le, ◌&&◌, count_by, slice_index}
 use Rattle.std.specs.List.{range_with_len}
 use Rattle.std.proofs.lemmas.List.Sums.{sum_by-cons}
 use Rattle.std.proofs.lemmas.Bool.{le-ltb}
-use Rattle.flat_model.specs.Overlay.{Held, Map, Fragment, behind, stays, is_within, first_owned, overlay}
+use Rattle.flat_model.specs.Overlay.{Held, Map, Fragment, fragment_end, stays, is_within, first_owned, overlay}
 
 module _ (map : Map) (f : Fragment) (k : ℕ) where
   pub place_new : map k ≡ None → is_within f k ≡ true → (first : ℕ) → first_owned map f ≡ first
@@ -25,12 +25,12 @@ module _ (map : Map) (f : Fragment) (k : ℕ) where
   unfolding overlay
   place_over h e w s first o = rw (w, e, s, o) refl
 
-  pub place_cut : (h : Held) → map k ≡ Some h → is_within f k ≡ false → (nat_lt f.offset h.piece.first && nat_lt h.piece.first (behind f)) ≡ true
-      → Some (record h { piece = record (h.piece) { first = behind f } }) ≡ overlay map f k
+  pub place_cut : (h : Held) → map k ≡ Some h → is_within f k ≡ false → (nat_lt f.offset h.piece.first && nat_lt h.piece.first (fragment_end f)) ≡ true
+      → Some (record h { piece = record (h.piece) { first = fragment_end f } }) ≡ overlay map f k
   unfolding overlay
   place_cut h e w s = rw (w, e, s) refl
 
-  pub place_same : (h : Held) → map k ≡ Some h → is_within f k ≡ false → (nat_lt f.offset h.piece.first && nat_lt h.piece.first (behind f)) ≡ false → Some h ≡ overlay map f k
+  pub place_same : (h : Held) → map k ≡ Some h → is_within f k ≡ false → (nat_lt f.offset h.piece.first && nat_lt h.piece.first (fragment_end f)) ≡ false → Some h ≡ overlay map f k
   unfolding overlay
   place_same h e w s = rw (w, e, s) refl
 
@@ -49,9 +49,9 @@ count_next p at (suc n) later b h e l = go b e
     go true t = let one : cond {A = ℕ} (p at) 1 0 ≡ 1 = ap (λ x. cond {A = ℕ} x 1 0) t in omega (arith, sum_by-cons (λ k. cond {A = ℕ} (p k) 1 0) at (range_with_len (at + 1) n), same)
     go false t = let none : cond {A = ℕ} (p at) 1 0 ≡ 0 = ap (λ x. cond {A = ℕ} x 1 0) t in omega (arith, sum_by-cons (λ k. cond {A = ℕ} (p k) 1 0) at (range_with_len (at + 1) n), same)
 
--- nothing lies behind the table, before and after
-pub place_behind : (map : Map) (f : Fragment) (k n : ℕ) → n ≤ k → behind f ≤ n → map k ≡ None → overlay map f k ≡ None
-place_behind map f k n le inside e = sym (place_none map f k e (outside (nat_le f.offset k) (nat_lt k (behind f)) (le-ltb k (behind f) (omega arith))))
+-- nothing lies after the table, before and after
+pub place_next : (map : Map) (f : Fragment) (k n : ℕ) → n ≤ k → fragment_end f ≤ n → map k ≡ None → overlay map f k ≡ None
+place_next map f k n le inside e = sym (place_none map f k e (outside (nat_le f.offset k) (nat_lt k (fragment_end f)) (le-ltb k (fragment_end f) (omega arith))))
   where
     outside : (a b : Bool) → b ≡ false → (a && b) ≡ false
     outside true b e = e

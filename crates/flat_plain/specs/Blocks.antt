@@ -3,7 +3,7 @@ use Rattle.std.specs.Prelude.{false, [], List, map}
 use Rattle.flat_model.specs.State.{Socket}
 use Rattle.flat_model.specs.Lookup as Lookup
 use Rattle.flat_plain.specs.declared.lookup.Pcb.{Pcb}
-use Rattle.flat_plain.specs.declared.lookup.Sought.{Sought}
+use Rattle.flat_plain.specs.declared.lookup.PlainKey.{PlainKey}
 
 abbrev pub socket_of : Pcb → Socket
 socket_of b = record { fd = b.fd; local = b.local; port = b.port; peer = b.peer; broadcast = false; reuse_port = b.reuse_port; queue = [] }
@@ -11,5 +11,5 @@ socket_of b = record { fd = b.fd; local = b.local; port = b.port; peer = b.peer;
 abbrev pub sockets_of : List Pcb → List Socket
 sockets_of blocks = map socket_of blocks
 
-abbrev pub sought_of : Sought → Lookup.Sought
-sought_of q = record { local = q.local; port = q.port; peer = q.peer }
+abbrev pub plain_key_of : PlainKey → Lookup.PlainKey
+plain_key_of q = record { local = q.local; port = q.port; peer = q.peer }

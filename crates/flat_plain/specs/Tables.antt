@@ -14,14 +14,14 @@ abbrev pub held_of : Option Cell → Option Held
 held_of None = None
 held_of (Some cell) = Some (record { byte = cell.byte; piece = record { first = cell.first; more = cell.more; weight = weight_at cell.mbufs cell.clusters } })
 
--- nothing lies behind the table's end
+-- nothing lies after the table's end
 abbrev pub map_of : List (Option Cell) → Map
 map_of cells offset = held_of (slice_index_or cells offset None)
 
 abbrev pub fragment_of : Fragment → List ℕ → Overlay.Fragment
 fragment_of f bytes = record { offset = f.offset; bytes = bytes; more = f.more; weight = weight_at f.mbufs f.clusters }
 
--- whether more come behind the piece that lies there
+-- whether more come after the piece that lies there
 abbrev pub more_of : Option Held → Bool
 more_of None = false
 more_of (Some held) = held.piece.more

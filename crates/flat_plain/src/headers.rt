@@ -179,7 +179,7 @@ fn joined(alloc: Global, front: &[u8], middle: &[u8], back: &[u8]) -> Result<Vec
     Ok(bytes)
 }
 
-/// A datagram of at most 65,507 bytes behind its UDP header.
+/// A datagram of at most 65,507 bytes after its UDP header.
 pub fn udp(
     alloc: Global,
     source: Addr,

@@ -11,7 +11,7 @@ pub struct Cell {
     pub byte: u8,
     /// The least offset that the piece owns.
     pub first: u32,
-    /// Whether more come behind the piece.
+    /// Whether more come after the piece.
     pub more: bool,
     /// How many mbufs the piece has.
     pub mbufs: u32,
@@ -48,7 +48,7 @@ fn staying(cells: &[Option<Cell>], offset: u32, at: u32, n: u32) -> u32
     }
 }
 
-/// Where a fragment begins, whether more come behind it, and what it weighs.
+/// Where a fragment begins, whether more come after it, and what it weighs.
 #[derive(Clone, Copy, Debug, PartialEq, Eq)]
 pub struct Fragment {
     pub offset: u32,
@@ -69,10 +69,10 @@ fn is_within(fragment: Fragment, bytes: &[u8], k: u32) -> bool
 }
 
 // Whether a piece begins between these two offsets.
-fn begins_between(first: u32, offset: u32, behind: u32) -> bool
-    ensures { result ≡ (nat_lt offset first && nat_lt first behind) }
+fn begins_between(first: u32, offset: u32, after: u32) -> bool
+    ensures { result ≡ (nat_lt offset first && nat_lt first after) }
 {
-    offset < first && first < behind
+    offset < first && first < after
 }
 
 // What lies at an offset once the fragment is laid over it.
@@ -84,7 +84,7 @@ fn laid(old: Option<Cell>, k: u32, fragment: Fragment, first: u32, bytes: &[u8])
         held_of result
         ≡ Overlay.overlay map (fragment_of fragment bytes.now) k }
 {
-    let behind = fragment.offset + bytes.len() as u32;
+    let after = fragment.offset + bytes.len() as u32;
     let within = is_within(fragment, bytes, k);
     let clusters = fragment.clusters;
     match old {
@@ -115,11 +115,11 @@ fn laid(old: Option<Cell>, k: u32, fragment: Fragment, first: u32, bytes: &[u8])
                     clusters,
                 });
             }
-            if begins_between(cell.first, fragment.offset, behind) {
+            if begins_between(cell.first, fragment.offset, after) {
                 let clusters = cell.clusters;
                 return Some(Cell {
                     byte: cell.byte,
-                    first: behind,
+                    first: after,
                     more: cell.more,
                     mbufs: cell.mbufs,
                     clusters,
@@ -192,7 +192,7 @@ fn is_empty_from(cells: &[Option<Cell>], n: usize) -> bool
     true
 }
 
-// Whether more come behind the piece that lies there.
+// Whether more come after the piece that lies there.
 fn has_more(cell: Option<Cell>) -> bool
     ensures { result ≡ more_of (held_of cell) }
 {
@@ -227,7 +227,7 @@ mod tests {
     use std::process::Abort;
     use std::test::Fail;
 
-    // A piece of so many equal bytes; all but the last piece have more behind them.
+    // A piece of so many equal bytes; all but the last piece have more after them.
     fn lay(rt: &impl Abort, cells: &mut [Option<Cell>], offset: u32, bytes: &[u8], more: bool) {
         assert!(rt; cells.len() <= 100);
         assert!(rt; bytes.len() <= cells.len());
@@ -270,7 +270,7 @@ mod tests {
         Ok(bytes)
     }
 
-    // Each fragment wins over those that begin behind it: first c, then d in front of it, then e.
+    // Each fragment wins over those that begin after it: first c, then d in front of it, then e.
     #[test]
     fn newer_in_front(rt: HostRuntime) -> Result<(), Fail> {
         let alloc = rt.alloc();
@@ -334,7 +334,7 @@ mod tests {
         Ok(())
     }
 
-    // A last piece that has more behind it makes nothing whole, nor one with bytes behind it.
+    // A last piece that has more after it makes nothing whole, nor one with bytes after it.
     #[test]
     fn not_whole(rt: HostRuntime) {
         assert_eq!(rt; whole(&[None; 8]), None);

@@ -8,11 +8,11 @@ use std::alloc::{AllocError, Global};
 /// One packet's share of a datagram.
 #[derive(Clone, Copy, Debug, PartialEq, Eq)]
 pub struct Part {
-    /// From which byte on, behind the IP header.
+    /// From which byte on, after the IP header.
     pub offset: u32,
     /// How many bytes.
     pub size: u32,
-    /// Whether more come behind it.
+    /// Whether more come after it.
     pub more: bool,
 }
 
@@ -30,7 +30,7 @@ fn part_at(n: u32, chunk: u32, i: u32) -> Part
     }
 }
 
-/// The parts of n bytes behind an IP header, for a link that takes packets of `mtu` bytes.
+/// The parts of n bytes after an IP header, for a link that takes packets of `mtu` bytes.
 pub fn cuts(alloc: Global, n: u32, mtu: u32) -> Result<Vec<Part>, AllocError>
     requires short { n ≤ 65535 }
     requires least { 28 ≤ mtu }
@@ -61,7 +61,7 @@ mod tests {
     use std::process::Abort;
     use std::test::Fail;
 
-    // The offsets of the parts, and that the last one alone has none behind it.
+    // The offsets of the parts, and that the last one alone has none after it.
     fn has_offsets(rt: &impl Abort, parts: &[Part], offsets: &[u32], n: u32) {
         assert_eq!(rt; parts.len(), offsets.len());
         let mut at = 0;

@@ -4,7 +4,7 @@ ghost use Rattle.std.specs.Option.{ForSome};
 ghost use Rattle.flat_model.specs.Calls as Calls;
 ghost use Rattle.flat_plain.specs.Ports.{state_of};
 
-use crate::lookup::{Pcb, Sought, best};
+use crate::lookup::{Pcb, PlainKey, best};
 
 // How many ports are in the circle.
 const CIRCLE: u16 = 3977;
@@ -14,7 +14,7 @@ fn is_in_use(pcbs: &[Pcb], last: Option<u16>, local: Option<u32>, port: u16) -> 
     ensures { result ≡ Calls.is_in_use (state_of pcbs.now last) local port }
 {
     best(
-        Sought {
+        PlainKey {
             local,
             port: Some(port),
             peer: None,
@@ -24,12 +24,12 @@ fn is_in_use(pcbs: &[Pcb], last: Option<u16>, local: Option<u32>, port: u16) -> 
     .is_some()
 }
 
-// The k-th port behind the last one chosen.
-fn port_behind(last: Option<u16>, k: u16) -> u16
+// The k-th port after the last one chosen.
+fn port_after(last: Option<u16>, k: u16) -> u16
     requires known { ForSome last (λ p. 1024 ≤ p) }
     requires small { ForSome last (λ p. p ≤ 5000) }
     requires turns { k < 3977 }
-    ensures { result ≡ Calls.port_behind last k }
+    ensures { result ≡ Calls.port_after last k }
 {
     match last {
         None => 1024 + k % CIRCLE,
@@ -44,10 +44,10 @@ pub fn next_port(pcbs: &[Pcb], last: Option<u16>, local: Option<u32>) -> Option<
     requires small { ForSome last (λ p. p ≤ 5000) }
     ensures found { IfSome result (λ port. Calls.IsNextPort (state_of pcbs.now last) local port) }
     ensures none { IfNone result ((k : ℕ) → k < 3977 →
-        Calls.is_in_use (state_of pcbs.now last) local (Calls.port_behind last k) ≡ true) }
+        Calls.is_in_use (state_of pcbs.now last) local (Calls.port_after last k) ≡ true) }
 {
     for k in 0..CIRCLE {
-        let port = port_behind(last, k);
+        let port = port_after(last, k);
         if !is_in_use(pcbs, last, local, port) {
             return Some(port);
         }

@@ -87,7 +87,7 @@ pub fn user(alloc: Global, n: u32) -> Result<Vec<Room>, AllocError>
     layout(alloc, 1992, 100, n)
 }
 
-/// The layout of n bytes to send behind the 28 bytes of their headers, for at most 65,507 bytes.
+/// The layout of n bytes to send after the 28 bytes of their headers, for at most 65,507 bytes.
 pub fn sent(alloc: Global, n: u32) -> Result<Vec<Room>, AllocError>
     requires { n ≤ 65507 }
     ensures rooms { IfOk result (λ v. rooms_of v.items ≡ Layout.sent n) }
@@ -119,9 +119,9 @@ fn meets_from(rooms: &[Room], at: u64, a: u64, b: u64) -> u64
     match rooms {
         [] => 0,
         [room, rest @ ..] => {
-            let behind = at + room.size() as u64;
-            let later = meets_from(rest, behind, a, b);
-            if at.max(a) < behind.min(b) {
+            let after = at + room.size() as u64;
+            let later = meets_from(rest, after, a, b);
+            if at.max(a) < after.min(b) {
                 later + 1
             } else {
                 later

@@ -43,11 +43,11 @@ fn add_met(
     match entries {
         [] => Ok(()),
         [entry, rest @ ..] => {
-            let behind = at + entry.size as u64;
-            if at.max(a) < behind.min(b) {
+            let after = at + entry.size as u64;
+            if at.max(a) < after.min(b) {
                 add(weight, 1, &[entry.cluster])?;
             }
-            add_met(weight, rest, behind, a, b)?;
+            add_met(weight, rest, after, a, b)?;
             Ok(())
         }
     }
@@ -88,8 +88,8 @@ pub fn later_weight(alloc: Global, entries: &[Entry], part: Part) -> Result<Weig
         bag: Vec::new(alloc),
     };
     let from = 20 + part.offset as u64;
-    let behind = from + part.size as u64;
-    add_met(&mut weight, entries, 0, from, behind)?;
+    let after = from + part.size as u64;
+    add_met(&mut weight, entries, 0, from, after)?;
     Ok(weight)
 }
 

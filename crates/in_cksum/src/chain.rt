@@ -7,11 +7,11 @@ ghost use Rattle.in_cksum.specs.Partial.{sum_of};
 use crate::Sum;
 use mbuf_chain::{Chain, Pool};
 
-/// The checksum of what was added to `start`, and behind it of `len` bytes of a chain from `off` on, to be
+/// The checksum of what was added to `start`, and after it of `len` bytes of a chain from `off` on, to be
 /// written big-endian.
 ///
 /// It makes no difference how the chain is cut, and empty mbufs count for nothing. No byte is copied. It takes
-/// one step for each mbuf up to the last byte, and none behind it (`in_cksum` of TCP/IP Illustrated volume 2,
+/// one step for each mbuf up to the last byte, and none after it (`in_cksum` of TCP/IP Illustrated volume 2,
 /// chapter 8; RFC 1071).
 #[tactic(auto, using(mbuf_chain::proofs::Iterators::concat_pieces))]
 pub fn cksum_chain(pool: &Pool, chain: &Chain, off: u32, len: u32, start: Sum) -> u16

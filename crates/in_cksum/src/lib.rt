@@ -83,7 +83,7 @@ impl Sum {
         }
     }
 
-    /// Adds `bytes`, of any length, behind those that were added before.
+    /// Adds `bytes`, of any length, after those that were added before.
     // Inlined, so that a caller's sum stays in registers.
     #[inline(always)]
     pub fn add(&mut self, bytes: &[u8])
@@ -134,16 +134,16 @@ mod tests {
     fn the_standards_example_at_each_cut(rt: HostRuntime) {
         assert_eq!(rt; sum_slice(&EXAMPLE), 0xddf2);
         for first in 0..=EXAMPLE.len() {
-            let (front, behind) = EXAMPLE.split_at(first);
+            let (front, rest) = EXAMPLE.split_at(first);
             assert_eq!(rt;
-                checksum_of_pieces(&[front, behind]),
+                checksum_of_pieces(&[front, rest]),
                 0x220d,
                 "cut at {first}"
             );
-            for second in 0..=behind.len() {
-                let (middle, back) = behind.split_at(second);
+            for second in 0..=rest.len() {
+                let (middle, back) = rest.split_at(second);
                 let checksum = checksum_of_pieces(&[front, middle, back]);
-                assert_eq!(rt; checksum, 0x220d, "cut at {first} and {second} behind it");
+                assert_eq!(rt; checksum, 0x220d, "cut at {first} and {second} after it");
             }
         }
     }

@@ -10,11 +10,11 @@ use Rattle.flat_model.specs.Sending.{items, later_weight}
 use Rattle.std.proofs.lemmas.List.{length-map}
 use Rattle.mbuf_chain.specs.Chain.{Entry, ChainView, PoolView, IsLive, chain_of, no_chain, entry_of, no_entry, flat_bytes, string, alone, held_mbufs, with_chain, without, Adds}
 use Rattle.mbuf_chain.specs.Owners.{Moves, IsOwned, times, live_at}
-use Rattle.mbuf_chain.specs.Train.{TrainView, Car, cars, numbers, IsHeld}
+use Rattle.mbuf_chain.specs.Train.{TrainView, QueuedPacket, queued_packets, numbers, IsHeld}
 use Rattle.mbuf_chain.proofs.Laws.Maps.{insert_same}
 use Rattle.mbuf_chain.proofs.Laws.Owners.{times-append, times_same, times_other, live_one, live_at_most, live_adds, moves_adds, moves_trans, moves_beside, moves_nothing, moves_reordered, owned_more}
 use Rattle.mbuf_chain.proofs.Laws.Steps.{adds_in_place, live_beside}
-use Rattle.mbuf_chain.proofs.Laws.Trains.{Beside, beside_moves, length-cars}
+use Rattle.mbuf_chain.proofs.Laws.Trains.{Beside, beside_moves, length-queued_packets}
 use Rattle.chain_ops.specs.Makes.{Makes}
 use Rattle.chain_ops.specs.Copies.{copied_entry, copied_all}
 use Rattle.chain_ops.specs.Weights.{laid, HaveBytes}
@@ -129,7 +129,7 @@ second_sent {p} {q} {r} {s} c d t u one f m held =
     (λ k. omega (arith, times-append k (numbers s t) (numbers s u), ap (times k) b.numbers)) in
     record {
       held = b.held;
-      same_packets = ap (map (λ (car : Car). item_of car.entries)) b.cars;
+      same_packets = ap (map (λ (queued_packet : QueuedPacket). item_of queued_packet.entries)) b.queued_packets;
       moves = moves_trans one (moves_trans f.moves last);
     }
 
@@ -158,6 +158,6 @@ items_length es f (p ∷ ps) = ap suc (go ps)
 pub is_cut : (p : PoolView) (t : TrainView) (v : ChainView) (h : IpHead) (mtu : ℕ) → IsHeld p t → packets p t ≡ packets_of v h mtu → nat_lt 1 t.len ≡ nat_lt 1 (length (parts_of v mtu))
 is_cut p t v h mtu held is =
     let n : t.len ≡ length (parts_of v mtu) =
-    sym (length-cars p t held) ∙ sym (length-map (cars p t) (λ (car : Car). item_of car.entries)) ∙ ap (λ (xs : List Item). length xs) is
+    sym (length-queued_packets p t held) ∙ sym (length-map (queued_packets p t) (λ (queued_packet : QueuedPacket). item_of queued_packet.entries)) ∙ ap (λ (xs : List Item). length xs) is
     ∙ items_length (laid v.entries) (part_bytes h (drop 20 (string v))) (parts_of v mtu) in
     ap (nat_lt 1) n

@@ -67,24 +67,24 @@ div_times x c some = elim (div_cases x c (x / c) some) [
 pub mul_more : (k c : ℕ) → (k + 1) * c ≡ k * c + c
 mul_more k c = omega arith
 
--- how many of the later parts the bytes from `at` up to `behind` meet
-pub closed : (n c at behind m : ℕ) → 0 < c → at < behind → behind ≤ 20 + n → ((i : ℕ) → i ≤ m → (0 < i) → i * c < n)
-    → sum_by (here at behind) (map (part n c) (range_with_len 1 m)) ≡ min m ((behind - 21) / c) - ((at - 20) / c - 1)
-closed n c at behind zero some l h all = omega arith
-closed n c at behind (suc m) some l h all =
+-- how many of the later parts the bytes from `at` up to `after` meet
+pub closed : (n c at after m : ℕ) → 0 < c → at < after → after ≤ 20 + n → ((i : ℕ) → i ≤ m → (0 < i) → i * c < n)
+    → sum_by (here at after) (map (part n c) (range_with_len 1 m)) ≡ min m ((after - 21) / c) - ((at - 20) / c - 1)
+closed n c at after zero some l h all = omega arith
+closed n c at after (suc m) some l h all =
     let j : ℕ = m + 1 in
-    let ih = closed n c at behind m some l h (λ i le. all i (omega arith)) in
+    let ih = closed n c at after m some l h (λ i le. all i (omega arith)) in
     let up : suc m ≡ m + 1 = omega arith in
-    let more = sum_by-map-range_with_len_more (here at behind) (part n c) 1 m j (omega arith) in
-    let is = here_is (max at (20 + j * c)) (min behind (20 + j * c + min c (n - j * c))) in
+    let more = sum_by-map-range_with_len_more (here at after) (part n c) 1 m j (omega arith) in
+    let is = here_is (max at (20 + j * c)) (min after (20 + j * c + min c (n - j * c))) in
     omega (
       arith,
       ih,
-      ap (λ (k : ℕ). sum_by (here at behind) (map (part n c) (range_with_len 1 k))) up,
+      ap (λ (k : ℕ). sum_by (here at after) (map (part n c) (range_with_len 1 k))) up,
       more,
       is,
       all j (omega arith) (omega arith),
-      div_cases (behind - 21) c j some,
+      div_cases (after - 21) c j some,
       div_cases (at - 20) c (j + 1) some,
       mul_more m c,
       mul_more j c,
@@ -99,18 +99,18 @@ cut_long : (n mtu : ℕ) → mtu < n + 28 → later_parts n mtu ≡ drop 1 (map 
 unfolding cuts
 cut_long n mtu h = ap (λ (xs : List Part). drop 1 xs) (cond-false {A = List Part} (nat_le (20 + (n + 8)) mtu) _ _ (lt-leb (20 + (n + 8)) mtu (omega arith)))
 
-behind_first : (f : ℕ → Part) (k : ℕ) → drop 1 (map f (range_with_len 0 k)) ≡ map f (range_with_len 1 (k - 1))
-behind_first f zero = refl
-behind_first f (suc k) = let e : k ≡ suc k - 1 = omega arith in ap (λ (n : ℕ). map f (range_with_len 1 n)) e
+after_first : (f : ℕ → Part) (k : ℕ) → drop 1 (map f (range_with_len 0 k)) ≡ map f (range_with_len 1 (k - 1))
+after_first f zero = refl
+after_first f (suc k) = let e : k ≡ suc k - 1 = omega arith in ap (λ (n : ℕ). map f (range_with_len 1 n)) e
 
 pub counts_none : (n mtu : ℕ) → n ≤ 65507 → n + 28 ≤ mtu → Counts n mtu 131072 0
 counts_none n mtu short h = record {
   parts = sym (ap (λ (xs : List Part). length xs) (cut_short n mtu h));
-  counts = λ at behind l b. ap (sum_by (here at behind)) (cut_short n mtu h) ∙ omega (arith, div_below (behind - 21) 131072 1 (omega arith) (omega arith));
+  counts = λ at after l b. ap (sum_by (here at after)) (cut_short n mtu h) ∙ omega (arith, div_below (after - 21) 131072 1 (omega arith) (omega arith));
 }
 
 pub counts_some : (n mtu c : ℕ) → n ≤ 65507 → 68 ≤ mtu → mtu < n + 28 → c ≡ chunk mtu → Counts n mtu c ((n + 8 + (c - 1)) / c - 1)
-counts_some n mtu c short least h e = go (cut_long n mtu h ∙ behind_first (part (n + 8) (chunk mtu)) (chunks (n + 8) (chunk mtu)) ∙ ap (λ (k : ℕ). map (part (n + 8) k) (range_with_len 1 (chunks (n + 8) k - 1))) (sym e))
+counts_some n mtu c short least h e = go (cut_long n mtu h ∙ after_first (part (n + 8) (chunk mtu)) (chunks (n + 8) (chunk mtu)) ∙ ap (λ (k : ℕ). map (part (n + 8) k) (range_with_len 1 (chunks (n + 8) k - 1))) (sym e))
   where
     big : 48 ≤ c
     big = omega (arith, e)
@@ -118,17 +118,17 @@ counts_some n mtu c short least h e = go (cut_long n mtu h ∙ behind_first (par
     go : later_parts n mtu ≡ map (part (n + 8) c) (range_with_len 1 (chunks (n + 8) c - 1)) → Counts n mtu c ((n + 8 + (c - 1)) / c - 1)
     go is = record {
       parts = sym (ap (λ (xs : List Part). length xs) is ∙ length-map-range_with_len (part (n + 8) c) 1 (chunks (n + 8) c - 1));
-      counts = λ at behind l b.
+      counts = λ at after l b.
           let m : ℕ = chunks (n + 8) c - 1 in
           let inside : (i : ℕ) → i ≤ m → 0 < i → i * c < n + 8 = λ i le some. elim (div_cases (n + 8 + (c - 1)) c (i + 1) (omega (arith, big))) [
             | inl lt ↦ absurd (omega (arith, lt.1, le))
             | inr ge ↦ omega (arith, ge.0, mul_more i c, big)
           ] in
-          let most : (behind - 21) / c ≤ m = elim (div_cases (n + 8 + (c - 1)) c ((behind - 21) / c + 1) (omega (arith, big))) [
-            | inl lt ↦ absurd (omega (arith, lt.0, mul_more ((behind - 21) / c) c, big, div_times (behind - 21) c (omega (arith, big))))
+          let most : (after - 21) / c ≤ m = elim (div_cases (n + 8 + (c - 1)) c ((after - 21) / c + 1) (omega (arith, big))) [
+            | inl lt ↦ absurd (omega (arith, lt.0, mul_more ((after - 21) / c) c, big, div_times (after - 21) c (omega (arith, big))))
             | inr ge ↦ omega (arith, ge.1)
           ] in
-          ap (sum_by (here at behind)) is ∙ closed (n + 8) c at behind m (omega (arith, big)) l (omega (arith, b)) inside ∙ omega (arith, most);
+          ap (sum_by (here at after)) is ∙ closed (n + 8) c at after m (omega (arith, big)) l (omega (arith, b)) inside ∙ omega (arith, most);
     }
 
 -- ---- the rooms

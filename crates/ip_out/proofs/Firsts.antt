@@ -12,7 +12,7 @@ use Rattle.mbuf_chain.specs.declared.place.Place.{Place}
 use Rattle.mbuf_chain.specs.Chain.{Entry, ChainView, PoolView, IsLive, IsUnshared, chain_of, entry_of, entry_in, no_entry, flat_bytes, string, with_chain, held_mbufs, mbufs_of}
 use Rattle.mbuf_chain.specs.Steps.{narrowed, overwritten, with_entry, with_entry_in}
 use Rattle.mbuf_chain.specs.Owners.{Moves, times, live_at, IsOwned}
-use Rattle.mbuf_chain.specs.Train.{TrainView, Car, car_of, cars, numbers, IsHeld}
+use Rattle.mbuf_chain.specs.Train.{TrainView, QueuedPacket, queued_packet_of, queued_packets, numbers, IsHeld}
 use Rattle.mbuf_chain.proofs.Laws.Owners.{owned_more, moves_trans, moves_beside, times_same, moves_within, live_at_most, live_one, shown_with}
 use Rattle.mbuf_chain.proofs.Laws.Steps.{live_shown}
 use Rattle.mbuf_chain.proofs.Laws.Accounts.{held_moves}
@@ -108,7 +108,7 @@ written {p} {q} {r} {s} {t} c k at hdr m held live is_r index is_s =
     record {
       live = live_shown r s c w is_s;
       shown = shown_with r s c w is_s ∙ (λ i. with_entry (shown_r i) (index i) (overwritten (entry_of (shown_r i) (index i)) 0 hdr));
-      beside = record { held = two.held; numbers = same; cars = two.cars ∙ one.cars };
+      beside = record { held = two.held; numbers = same; queued_packets = two.queued_packets ∙ one.queued_packets };
       apart = ap (times c) same ∙ apart;
       moves = subst (λ (xs : List ℕ). Moves p (c ∷ []) s (c ∷ xs)) (sym same) (moves_trans first (moves_trans then_r then_s));
     }
@@ -116,12 +116,12 @@ written {p} {q} {r} {s} {t} c k at hdr m held live is_r index is_s =
 -- ---- all packets
 pub packets_are : {p q s : PoolView} {t : TrainView} (z : PoolView) (u : TrainView) (c n size k count mtu : ℕ) (h h0 : IpHead) (hdr : List ℕ) → IsDatagram (chain_of p c) → n + 20 ≡ length (string (chain_of p c)) → IsCut n mtu size count
     → IsLater p q t (chain_of p c) h (parts_to n size count) → k ≡ 20 + min size n → h0 ≡ head_for h (part n size 0) → hdr ≡ head_bytes h0 → length hdr ≡ 20 → Written p q s t c k hdr
-    → cars z u ≡ insert (cars s t) 0 (record { number = c; entries = (chain_of s c).entries; tag = 0 }) → packets z u ≡ packets_of (chain_of p c) h mtu
-packets_are {p} {q} {s} {t} z u c n size k count mtu h h0 hdr d len is_cut l ek eh eb el w in_cars =
+    → queued_packets z u ≡ insert (queued_packets s t) 0 (record { number = c; entries = (chain_of s c).entries; tag = 0 }) → packets z u ≡ packets_of (chain_of p c) h mtu
+packets_are {p} {q} {s} {t} z u c n size k count mtu h h0 hdr d len is_cut l ek eh eb el w in_queued_packets =
     let v : ChainView = chain_of p c in
-    let f : Car → Item = λ car. item_of car.entries in
-    let x : Car = record { number = c; entries = (chain_of s c).entries; tag = 0 } in
-    let all : packets z u ≡ f x ∷ packets q t = ap (map f) in_cars ∙ ap (λ (xs : List Car). f x ∷ map f xs) w.beside.cars in
+    let f : QueuedPacket → Item = λ queued_packet. item_of queued_packet.entries in
+    let x : QueuedPacket = record { number = c; entries = (chain_of s c).entries; tag = 0 } in
+    let all : packets z u ≡ f x ∷ packets q t = ap (map f) in_queued_packets ∙ ap (λ (xs : List QueuedPacket). f x ∷ map f xs) w.beside.queued_packets in
     let fits : min size n ≡ (part n size 0).size = omega arith in
     let first : f x ≡ record { bytes = hdr ++ take (min size n) (drop 20 (string v)); weight = weight_of (laid v.entries) } =
     ap (λ (y : ChainView). item_of y.entries) w.shown ∙ first_is v.entries k (min size n) hdr d.room ek el in
@@ -139,10 +139,10 @@ cluster_written [] k hdr plain = refl
 cluster_written (e ∷ es) k hdr plain = plain
 
 pub begun_plain : {p q s : PoolView} {t : TrainView} (z : PoolView) (u : TrainView) (c k : ℕ) (hdr : List ℕ) → IsDatagram (chain_of p c) → BeginPlain q t → Written p q s t c k hdr
-    → cars z u ≡ insert (cars s t) 0 (record { number = c; entries = (chain_of s c).entries; tag = 0 }) → BeginPlain z u
-begun_plain {p} {q} {s} {t} z u c k hdr d later w in_cars =
-    let x : Car = record { number = c; entries = (chain_of s c).entries; tag = 0 } in
-    subst AreBegunPlain (sym (in_cars ∙ ap (λ (xs : List Car). x ∷ xs) w.beside.cars))
+    → queued_packets z u ≡ insert (queued_packets s t) 0 (record { number = c; entries = (chain_of s c).entries; tag = 0 }) → BeginPlain z u
+begun_plain {p} {q} {s} {t} z u c k hdr d later w in_queued_packets =
+    let x : QueuedPacket = record { number = c; entries = (chain_of s c).entries; tag = 0 } in
+    subst AreBegunPlain (sym (in_queued_packets ∙ ap (λ (xs : List QueuedPacket). x ∷ xs) w.beside.queued_packets))
     (ap (λ (v : ChainView). (entry_of v 0).cluster) w.shown ∙ cluster_written (chain_of p c).entries k hdr d.plain, later)
 
 pub string_long : (es : List Entry) → 20 ≤ length (slice_index_or es 0 no_entry).bytes → 20 ≤ length (flat_bytes es)

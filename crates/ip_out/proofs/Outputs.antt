@@ -14,10 +14,10 @@ use Rattle.flat_model.specs.Layout as flat
 use Rattle.flat_model.specs.Layout.{weight_of, entries_met}
 use Rattle.mbuf_chain.specs.Chain.{Entry, ChainView, PoolView, IsLive, chain_of, no_chain, no_entry, flat_bytes, string, alone, held_mbufs, mbufs_of}
 use Rattle.mbuf_chain.specs.Owners.{Moves}
-use Rattle.mbuf_chain.specs.Train.{TrainView, Car, car_of, cars, numbers, IsHeld}
+use Rattle.mbuf_chain.specs.Train.{TrainView, QueuedPacket, queued_packet_of, queued_packets, numbers, IsHeld}
 use Rattle.mbuf_chain.proofs.Laws.Owners.{moves_trans}
 use Rattle.mbuf_chain.proofs.Laws.Accounts.{held_moves}
-use Rattle.mbuf_chain.proofs.Laws.Trains.{beside_adds, moves_new, length-cars}
+use Rattle.mbuf_chain.proofs.Laws.Trains.{beside_adds, moves_new, length-queued_packets}
 use Rattle.ledger.specs.Accounts as ledger
 use Rattle.ledger.specs.Accounts.{item_of}
 use Rattle.chain_ops.specs.Makes.{Makes}
@@ -133,14 +133,14 @@ kept_moves {p} {q} c m live =
     let shown : chain_of q c ≡ chain_of p c = ap (λ (o : Option ChainView). unwrap_or o no_chain) e in
     (shown, e ∙ live ∙ ap {B = Option ChainView} Some (sym shown))
 
-pub weigh_numbers : (q : PoolView) (xs : List ℕ) → sum_by (λ (k : ℕ). mbufs_of (chain_of q k)) xs ≡ sum_by (λ (it : Item). it.weight.mbufs) (map (λ (car : Car). item_of car.entries) (map (car_of q) xs))
+pub weigh_numbers : (q : PoolView) (xs : List ℕ) → sum_by (λ (k : ℕ). mbufs_of (chain_of q k)) xs ≡ sum_by (λ (it : Item). it.weight.mbufs) (map (λ (queued_packet : QueuedPacket). item_of queued_packet.entries) (map (queued_packet_of q) xs))
 weigh_numbers q [] = refl
 weigh_numbers q (x ∷ xs) =
     omega (
       arith,
       weigh_numbers q xs,
       sum_by-cons (λ (k : ℕ). mbufs_of (chain_of q k)) x xs,
-      sum_by-cons (λ (it : Item). it.weight.mbufs) (item_of (chain_of q x).entries) (map (λ (car : Car). item_of car.entries) (map (car_of q) xs)),
+      sum_by-cons (λ (it : Item). it.weight.mbufs) (item_of (chain_of q x).entries) (map (λ (queued_packet : QueuedPacket). item_of queued_packet.entries) (map (queued_packet_of q) xs)),
     )
 
 pub weigh_parts : (v : ChainView) (h : IpHead) (ps : List Part) → sum_by (λ (it : Item). it.weight.mbufs) (map (later_item v h) ps) ≡ sum_by (part_need v) ps
@@ -152,26 +152,26 @@ held_later {p} {q} {t} {v} {h} {ps} l =
     omega (arith, held_moves l.moves (λ k. omega arith), weigh_numbers q (numbers q t), ap (sum_by (λ (it : Item). it.weight.mbufs)) l.items, weigh_parts v h ps)
 
 -- ---- the train grows
-plain_more : (cs : List Car) (c : Car) → AreBegunPlain cs → (slice_index_or c.entries 0 no_entry).cluster ≡ None → AreBegunPlain (cs ++ c ∷ [])
+plain_more : (cs : List QueuedPacket) (c : QueuedPacket) → AreBegunPlain cs → (slice_index_or c.entries 0 no_entry).cluster ≡ None → AreBegunPlain (cs ++ c ∷ [])
 plain_more [] c all one = (one, tt)
 plain_more (x ∷ cs) c all one = (all.0, plain_more cs c all.1 one)
 
 pub later_more : {p q r s : PoolView} {t u : TrainView} {v : ChainView} {h : IpHead} {ps qs : List Part} {d : ℕ} {es : List Entry} (x : Part) → IsLater p q t v h ps → Makes q r d (alone true) es
     → (slice_index_or es 0 no_entry).cluster ≡ None → item_of es ≡ later_item v h x → qs ≡ ps ++ x ∷ []
-    → cars s u ≡ insert (cars r t) t.len (record { number = d; entries = (chain_of r d).entries; tag = 0 }) → IsHeld s u → Moves r (d ∷ numbers r t) s (numbers s u) → IsLater p s u v h qs
-later_more {p} {q} {r} {s} {t} {u} {v} {h} {ps} {qs} {d} {es} x l m first is more in_cars held moves =
+    → queued_packets s u ≡ insert (queued_packets r t) t.len (record { number = d; entries = (chain_of r d).entries; tag = 0 }) → IsHeld s u → Moves r (d ∷ numbers r t) s (numbers s u) → IsLater p s u v h qs
+later_more {p} {q} {r} {s} {t} {u} {v} {h} {ps} {qs} {d} {es} x l m first is more in_queued_packets held moves =
     let beside = beside_adds t m.adds l.held in
-    let f : Car → Item = λ car. item_of car.entries in
-    let c : Car = record { number = d; entries = (chain_of r d).entries; tag = 0 } in
-    let at : t.len ≡ length (cars r t) = sym (length-cars r t beside.held) in
-    let cars_are : cars s u ≡ cars q t ++ c ∷ [] =
-    in_cars ∙ ap (λ (k : ℕ). insert (cars r t) k c) at ∙ insert_end (cars r t) c ∙ ap (λ (xs : List Car). xs ++ c ∷ []) beside.cars in
+    let f : QueuedPacket → Item = λ queued_packet. item_of queued_packet.entries in
+    let c : QueuedPacket = record { number = d; entries = (chain_of r d).entries; tag = 0 } in
+    let at : t.len ≡ length (queued_packets r t) = sym (length-queued_packets r t beside.held) in
+    let queued_packets_are : queued_packets s u ≡ queued_packets q t ++ c ∷ [] =
+    in_queued_packets ∙ ap (λ (k : ℕ). insert (queued_packets r t) k c) at ∙ insert_end (queued_packets r t) c ∙ ap (λ (xs : List QueuedPacket). xs ++ c ∷ []) beside.queued_packets in
     let item : f c ≡ later_item v h x = ap item_of m.entries ∙ is in
     record {
       held = held;
       moves = moves_trans l.moves (moves_trans (moves_new t m.adds l.held) moves);
-      items = ap (map f) cars_are ∙ map-append f (cars q t) (c ∷ []) ∙ (λ i. l.items i ++ item i ∷ []) ∙ sym (map-append (later_item v h) ps (x ∷ [])) ∙ ap (map (later_item v h)) (sym more);
-      plain = subst AreBegunPlain (sym cars_are) (plain_more (cars q t) c l.plain (ap (λ (fs : List Entry). (slice_index_or fs 0 no_entry).cluster) m.entries ∙ first));
+      items = ap (map f) queued_packets_are ∙ map-append f (queued_packets q t) (c ∷ []) ∙ (λ i. l.items i ++ item i ∷ []) ∙ sym (map-append (later_item v h) ps (x ∷ [])) ∙ ap (map (later_item v h)) (sym more);
+      plain = subst AreBegunPlain (sym queued_packets_are) (plain_more (queued_packets q t) c l.plain (ap (λ (fs : List Entry). (slice_index_or fs 0 no_entry).cluster) m.entries ∙ first));
     }
 
 pub parts_more : (n c i : ℕ) → 0 < i → parts_to n c (i + 1) ≡ parts_to n c i ++ part n c i ∷ []

@@ -8,15 +8,15 @@ use Rattle.std.proofs.lemmas.List.Edits.{insert_end}
 use Rattle.flat_model.specs.Weight.{Item}
 use Rattle.mbuf_chain.specs.Chain.{PoolView, IsLive, chain_of, alone}
 use Rattle.mbuf_chain.specs.Owners.{Moves, IsOwned, times}
-use Rattle.mbuf_chain.specs.Train.{TrainView, Car, no_car, car_of, cars, car_at, numbers, IsHeld}
-use Rattle.mbuf_chain.proofs.Laws.Owners.{moves_trans, moves_beside, moves_behind, owned_beside, owned_after, times-append, live_at_most, live_owned, times_same}
-use Rattle.mbuf_chain.proofs.Laws.Trains.{Beside, beside_moves, length-cars, none_left}
+use Rattle.mbuf_chain.specs.Train.{TrainView, QueuedPacket, no_queued_packet, queued_packet_of, queued_packets, queued_packet_at, numbers, IsHeld}
+use Rattle.mbuf_chain.proofs.Laws.Owners.{moves_trans, moves_beside, moves_after, owned_beside, owned_after, times-append, live_at_most, live_owned, times_same}
+use Rattle.mbuf_chain.proofs.Laws.Trains.{Beside, beside_moves, length-queued_packets, none_left}
 use Rattle.ledger.specs.Accounts.{item_of}
 use Rattle.ip_out.specs.Packets.{packets}
 use Rattle.ip_out.specs.Inside.{IsMoving}
 
 pub packets_len : (p : PoolView) (t : TrainView) → IsHeld p t → length (packets p t) ≡ t.len
-packets_len p t h = length-map (cars p t) (λ (car : Car). item_of car.entries) ∙ length-cars p t h
+packets_len p t h = length-map (queued_packets p t) (λ (queued_packet : QueuedPacket). item_of queued_packet.entries) ∙ length-queued_packets p t h
 
 -- a packet was taken from the train
 pub record IsTaken (p : PoolView) (t u : TrainView) (r : PoolView) (t' u'' : TrainView) (c : ℕ) : Type 0 where
@@ -28,18 +28,18 @@ pub record IsTaken (p : PoolView) (t u : TrainView) (r : PoolView) (t' u'' : Tra
   pub moves : Moves p (numbers p t ++ numbers p u) r (numbers r u'' ++ (c ∷ numbers r t'))
   pub items : packets r t' ++ item_of (chain_of r c).entries ∷ packets r u'' ≡ packets p t ++ packets p u
 
-pub first_out : (p r : PoolView) (u u' : TrainView) (c tag : ℕ) → IsHeld p u → 0 < u.len → cars r u' ≡ remove (cars p u) 0 → car_at p u 0 ≡ record { number = c; entries = (chain_of r c).entries; tag = tag }
+pub first_out : (p r : PoolView) (u u' : TrainView) (c tag : ℕ) → IsHeld p u → 0 < u.len → queued_packets r u' ≡ remove (queued_packets p u) 0 → queued_packet_at p u 0 ≡ record { number = c; entries = (chain_of r c).entries; tag = tag }
     → packets p u ≡ item_of (chain_of r c).entries ∷ packets r u'
-first_out p r u u' c tag held some left is = go (cars p u) refl
+first_out p r u u' c tag held some left is = go (queued_packets p u) refl
   where
-    go : (xs : List Car) → cars p u ≡ xs → packets p u ≡ item_of (chain_of r c).entries ∷ packets r u'
-    go [] e = absurd (omega (arith, length-cars p u held, some, ap length e))
+    go : (xs : List QueuedPacket) → queued_packets p u ≡ xs → packets p u ≡ item_of (chain_of r c).entries ∷ packets r u'
+    go [] e = absurd (omega (arith, length-queued_packets p u held, some, ap length e))
     go (x ∷ xs) e =
-        let one : item_of x.entries ≡ item_of (chain_of r c).entries = ap (λ (y : Car). item_of y.entries) (sym (ap (λ (cs : List Car). slice_index_or cs 0 no_car) e) ∙ is) in
-        let more : xs ≡ cars r u' = sym (left ∙ ap (λ (cs : List Car). remove cs 0) e) in
-        ap (map (λ (car : Car). item_of car.entries)) e ∙ (λ i. one i ∷ map (λ (car : Car). item_of car.entries) (more i))
+        let one : item_of x.entries ≡ item_of (chain_of r c).entries = ap (λ (y : QueuedPacket). item_of y.entries) (sym (ap (λ (cs : List QueuedPacket). slice_index_or cs 0 no_queued_packet) e) ∙ is) in
+        let more : xs ≡ queued_packets r u' = sym (left ∙ ap (λ (cs : List QueuedPacket). remove cs 0) e) in
+        ap (map (λ (queued_packet : QueuedPacket). item_of queued_packet.entries)) e ∙ (λ i. one i ∷ map (λ (queued_packet : QueuedPacket). item_of queued_packet.entries) (more i))
 
-pub takes : (p q r : PoolView) (t u t' u' u'' : TrainView) (c tag : ℕ) → IsMoving p t u q t' u' → 0 < u'.len → cars r u'' ≡ remove (cars q u') 0 → car_at q u' 0 ≡ record { number = c; entries = (chain_of r c).entries; tag = tag }
+pub takes : (p q r : PoolView) (t u t' u' u'' : TrainView) (c tag : ℕ) → IsMoving p t u q t' u' → 0 < u'.len → queued_packets r u'' ≡ remove (queued_packets q u') 0 → queued_packet_at q u' 0 ≡ record { number = c; entries = (chain_of r c).entries; tag = tag }
     → IsHeld r u'' → Moves q (numbers q u') r (c ∷ numbers r u'') → IsTaken p t u r t' u'' c
 takes p q r t u t' u' u'' c tag m some left is held moves =
     let b : Beside q r t' = beside_moves t' moves m.owned m.queue in
@@ -56,18 +56,18 @@ takes p q r t u t' u' u'' c tag m some left is held moves =
       owned = λ k. omega (arith, all k, whole k);
       moves = moves_trans m.moves (moves_beside (numbers q t' ++ numbers q u') (numbers r u'' ++ (c ∷ numbers r t')) (numbers q t') moves
           (λ k. times-append k (numbers q t') (numbers q u')) (λ k. all k ∙ times-append k (numbers q t') (c ∷ numbers r u'')));
-      items = (λ i. map (λ (car : Car). item_of car.entries) (b.cars i) ++ (sym (first_out q r u' u'' c tag m.rest some left is)) i) ∙ m.items;
+      items = (λ i. map (λ (queued_packet : QueuedPacket). item_of queued_packet.entries) (b.queued_packets i) ++ (sym (first_out q r u' u'' c tag m.rest some left is)) i) ∙ m.items;
     }
 
-pub puts : (p r s : PoolView) (t u t' u'' w : TrainView) (c : ℕ) → IsTaken p t u r t' u'' c → t'.len < 50 → cars s w ≡ insert (cars r t') t'.len (record { number = c; entries = (chain_of r c).entries; tag = 0 })
+pub puts : (p r s : PoolView) (t u t' u'' w : TrainView) (c : ℕ) → IsTaken p t u r t' u'' c → t'.len < 50 → queued_packets s w ≡ insert (queued_packets r t') t'.len (record { number = c; entries = (chain_of r c).entries; tag = 0 })
     → IsHeld s w → w.len ≡ t'.len + 1 → Moves r (c ∷ numbers r t') s (numbers s w) → IsMoving p t u s w u''
 puts p r s t u t' u'' w c m few is held len moves =
-    let f : Car → Item = λ car. item_of car.entries in
-    let x : Car = record { number = c; entries = (chain_of r c).entries; tag = 0 } in
+    let f : QueuedPacket → Item = λ queued_packet. item_of queued_packet.entries in
+    let x : QueuedPacket = record { number = c; entries = (chain_of r c).entries; tag = 0 } in
     let b : Beside r s u'' = beside_moves u'' moves m.owned m.rest in
     let whole : IsOwned s (numbers r u'' ++ numbers s w) = owned_beside (numbers r u'') moves m.owned in
-    let cars_are : cars s w ≡ cars r t' ++ x ∷ [] = is ∙ ap (λ (k : ℕ). insert (cars r t') k x) (sym (length-cars r t' m.beside)) ∙ insert_end (cars r t') x in
-    let items_are : packets s w ≡ packets r t' ++ f x ∷ [] = ap (map f) cars_are ∙ map-append f (cars r t') (x ∷ []) in
+    let queued_packets_are : queued_packets s w ≡ queued_packets r t' ++ x ∷ [] = is ∙ ap (λ (k : ℕ). insert (queued_packets r t') k x) (sym (length-queued_packets r t' m.beside)) ∙ insert_end (queued_packets r t') x in
+    let items_are : packets s w ≡ packets r t' ++ f x ∷ [] = ap (map f) queued_packets_are ∙ map-append f (queued_packets r t') (x ∷ []) in
     let all : (k : ℕ) → times k (numbers s w ++ numbers s u'') ≡ times k (numbers r u'' ++ numbers s w) =
     λ k. omega (arith, times-append k (numbers s w) (numbers s u''), times-append k (numbers r u'') (numbers s w), ap (times k) b.numbers) in
     record {
@@ -76,21 +76,21 @@ puts p r s t u t' u'' w c m few is held len moves =
       owned = λ k. omega (arith, all k, whole k);
       moves = moves_trans m.moves (moves_beside (numbers r u'' ++ (c ∷ numbers r t')) (numbers s w ++ numbers s u'') (numbers r u'') moves
           (λ k. times-append k (numbers r u'') (c ∷ numbers r t')) (λ k. all k ∙ times-append k (numbers r u'') (numbers s w)));
-      items = (λ i. items_are i ++ map f (b.cars i)) ∙ append_assoc (packets r t') (f x ∷ []) (packets r u'') ∙ m.items;
+      items = (λ i. items_are i ++ map f (b.queued_packets i)) ∙ append_assoc (packets r t') (f x ∷ []) (packets r u'') ∙ m.items;
       room = omega (arith, len, few);
     }
 
 -- a packet at the end of a train
-pub pushed : (r s : PoolView) (t w : TrainView) (c : ℕ) → IsHeld r t → cars s w ≡ insert (cars r t) t.len (record { number = c; entries = (chain_of r c).entries; tag = 0 })
+pub pushed : (r s : PoolView) (t w : TrainView) (c : ℕ) → IsHeld r t → queued_packets s w ≡ insert (queued_packets r t) t.len (record { number = c; entries = (chain_of r c).entries; tag = 0 })
     → packets s w ≡ packets r t ++ item_of (chain_of r c).entries ∷ []
 pushed r s t w c held is =
-    let f : Car → Item = λ car. item_of car.entries in
-    let x : Car = record { number = c; entries = (chain_of r c).entries; tag = 0 } in
-    let cars_are : cars s w ≡ cars r t ++ x ∷ [] = is ∙ ap (λ (k : ℕ). insert (cars r t) k x) (sym (length-cars r t held)) ∙ insert_end (cars r t) x in
-    ap (map f) cars_are ∙ map-append f (cars r t) (x ∷ [])
+    let f : QueuedPacket → Item = λ queued_packet. item_of queued_packet.entries in
+    let x : QueuedPacket = record { number = c; entries = (chain_of r c).entries; tag = 0 } in
+    let queued_packets_are : queued_packets s w ≡ queued_packets r t ++ x ∷ [] = is ∙ ap (λ (k : ℕ). insert (queued_packets r t) k x) (sym (length-queued_packets r t held)) ∙ insert_end (queued_packets r t) x in
+    ap (map f) queued_packets_are ∙ map-append f (queued_packets r t) (x ∷ [])
 
 pub none_wait : (p : PoolView) (t : TrainView) → t.len ≡ 0 → packets p t ≡ []
-none_wait p t e = ap (λ (xs : List ℕ). map (λ (car : Car). item_of car.entries) (map (car_of p) xs)) (none_left p t e)
+none_wait p t e = ap (λ (xs : List ℕ). map (λ (queued_packet : QueuedPacket). item_of queued_packet.entries) (map (queued_packet_of p) xs)) (none_left p t e)
 
 -- ---- the end: the rest is freed
 pub taken_50 : (xs ys : List Item) → length xs ≤ 50 → (length ys ≡ 0) ⊎ (length xs ≡ 50) → take 50 (xs ++ ys) ≡ xs
@@ -114,10 +114,10 @@ pub record IsEnqueued (p : PoolView) (t u : TrainView) (s : PoolView) (w : Train
 pub enqueued : (p q s : PoolView) (t u t' u' : TrainView) → IsMoving p t u q t' u' → (u'.len ≡ 0) ⊎ (t'.len ≡ 50) → Moves q (numbers q u') s [] → IsEnqueued p t u s t'
 enqueued p q s t u t' u' m ends freed =
     let b : Beside q s t' = beside_moves t' freed m.owned m.queue in
-    let f : Car → Item = λ car. item_of car.entries in
+    let f : QueuedPacket → Item = λ queued_packet. item_of queued_packet.entries in
     record {
       queue = b.held;
-      items = ap (map f) b.cars ∙ sym (ap (take 50) (sym m.items) ∙ taken_50 (packets q t') (packets q u') (omega (arith, packets_len q t' m.queue, m.room)) (elim ends [
+      items = ap (map f) b.queued_packets ∙ sym (ap (take 50) (sym m.items) ∙ taken_50 (packets q t') (packets q u') (omega (arith, packets_len q t' m.queue, m.room)) (elim ends [
         | inl e ↦ inl (omega (arith, packets_len q u' m.rest, e))
         | inr e ↦ inr (omega (arith, packets_len q t' m.queue, e))
       ]));

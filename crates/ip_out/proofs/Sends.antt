@@ -6,7 +6,7 @@ use Rattle.std.proofs.lemmas.List.{take_all}
 use Rattle.flat_model.specs.Weight.{Item}
 use Rattle.mbuf_chain.specs.Chain.{PoolView, IsLive, without}
 use Rattle.mbuf_chain.specs.Owners.{Moves, IsOwned, times}
-use Rattle.mbuf_chain.specs.Train.{TrainView, Car, cars, numbers, IsHeld}
+use Rattle.mbuf_chain.specs.Train.{TrainView, QueuedPacket, queued_packets, numbers, IsHeld}
 use Rattle.mbuf_chain.proofs.Laws.Owners.{times-append, times_same, moves_beside, moves_without, owned_more, owned_beside}
 use Rattle.mbuf_chain.proofs.Laws.Trains.{Beside, beside_moves}
 use Rattle.ledger.specs.Accounts.{item_of}
@@ -30,7 +30,7 @@ aside {p} {q} {ys} c t m live held apart =
     record {
       held = b.held;
       same_numbers = b.numbers;
-      same_packets = ap (map (λ (car : Car). item_of car.entries)) b.cars;
+      same_packets = ap (map (λ (queued_packet : QueuedPacket). item_of queued_packet.entries)) b.queued_packets;
       owned = λ k. omega (arith, same k, after k);
       moves = moves_beside (c ∷ numbers p t) (numbers q t ++ ys) (numbers p t) m (λ k. omega arith) (λ k. same k ∙ times-append k (numbers p t) ys);
     }

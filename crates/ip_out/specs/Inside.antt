@@ -19,7 +19,7 @@ use Rattle.ip_out.specs.Packets.{packets, part_bytes, BeginPlain}
 abbrev pub here : ℕ → ℕ → Part → ℕ
 here at end p = if nat_lt (max at (20 + p.offset)) (min end (20 + p.offset + p.size)) then 1 else 0
 
--- the parts of a send of n bytes behind the first
+-- the parts of a send of n bytes after the first
 abbrev pub later_parts : ℕ → ℕ → List Part
 later_parts n mtu = drop 1 (cuts (n + 8) mtu)
 
@@ -38,7 +38,7 @@ head_entry h = record { bytes = head_bytes h; start = 28; cluster = None }
 abbrev pub later_item : ChainView → IpHead → Part → Item
 later_item v h p = record { bytes = part_bytes h (drop IP_HEADER (string v)) p; weight = later_weight (laid v.entries) p }
 
--- the parts behind the first, up to part i
+-- the parts after the first, up to part i
 abbrev pub parts_to : ℕ → ℕ → ℕ → List Part
 parts_to n c i = map (part n c) (range_with_len 1 (i - 1))
 

@@ -8,7 +8,7 @@ use Rattle.flat_model.specs.Cuts.{Part, cuts}
 use Rattle.flat_model.specs.Layout.{entries_met}
 use Rattle.flat_model.specs.Sending.{items}
 use Rattle.mbuf_chain.specs.Chain.{PoolView, ChainView, string, entry_of, no_entry}
-use Rattle.mbuf_chain.specs.Train.{TrainView, Car, cars}
+use Rattle.mbuf_chain.specs.Train.{TrainView, QueuedPacket, queued_packets}
 use Rattle.chain_ops.specs.Weights.{laid, HaveBytes}
 use Rattle.ledger.specs.Accounts.{item_of}
 use Rattle.ip_out.specs.declared.head.IpHead.{IpHead}
@@ -16,7 +16,7 @@ use Rattle.ip_out.specs.Headings.{head_bytes}
 
 -- the chains of a train as packets, in order: their bytes and what they weigh
 abbrev pub packets : PoolView → TrainView → List Item
-packets p t = map (λ (car : Car). item_of car.entries) (cars p t)
+packets p t = map (λ (queued_packet : QueuedPacket). item_of queued_packet.entries) (queued_packets p t)
 
 -- the header of the packet of one part
 abbrev pub head_for : IpHead → Part → IpHead
@@ -26,7 +26,7 @@ head_for h p = record h { total = IP_HEADER + p.size; more = p.more; offset = p.
 abbrev pub part_bytes : IpHead → List ℕ → Part → List ℕ
 part_bytes h carried p = head_bytes (head_for h p) ++ take p.size (drop p.offset carried)
 
--- the parts of a datagram that lies in a chain behind 20 bytes for its header
+-- the parts of a datagram that lies in a chain after 20 bytes for its header
 abbrev pub parts_of : ChainView → ℕ → List Part
 parts_of v mtu = cuts (length (string v) - IP_HEADER) mtu
 
@@ -52,8 +52,8 @@ pub record IsDatagram (v : ChainView) : Type 0 where
   pub most : length (string v) ≤ IP_MAX_PACKET
 
 -- each packet of a train begins in a plain mbuf
-abbrev pub AreBegunPlain : List Car → Type 0
-AreBegunPlain cs = AllByRecursion (λ (car : Car). (slice_index_or car.entries 0 no_entry).cluster ≡ None) cs
+abbrev pub AreBegunPlain : List QueuedPacket → Type 0
+AreBegunPlain cs = AllByRecursion (λ (queued_packet : QueuedPacket). (slice_index_or queued_packet.entries 0 no_entry).cluster ≡ None) cs
 
 abbrev pub BeginPlain : PoolView → TrainView → Type 0
-BeginPlain p t = AreBegunPlain (cars p t)
+BeginPlain p t = AreBegunPlain (queued_packets p t)

@@ -70,7 +70,7 @@ fn header_mbuf(pool: &mut Pool, head: IpHead) -> Result<Chain, NoBufs>
     Ok(front)
 }
 
-/// A fragment: an mbuf with a header, and behind it a copy of `size` bytes of a chain from a cursor on.
+/// A fragment: an mbuf with a header, and after it a copy of `size` bytes of a chain from a cursor on.
 fn fragment(
     pool: &mut Pool,
     chain: &Chain,
@@ -82,7 +82,7 @@ fn fragment(
     requires offset { head.offset ≤ MAX_OFFSET }
     requires unit { head.offset % FRAGMENT_UNIT ≡ 0 }
     requires cursor { IsCursor (chain_of pool.old chain.now) from }
-    requires behind { 0 < from.off }
+    requires after { 0 < from.off }
     requires some { 0 < size }
     requires within { from.off + size ≤ length (string (chain_of pool.old chain.now)) }
     ensures ok { IfOk result (λ d. Makes pool.old pool.new d (alone true)
@@ -104,7 +104,7 @@ fn fragment(
     Ok(front)
 }
 
-/// The packets of the parts behind the first. The chain is walked once.
+/// The packets of the parts after the first. The chain is walked once.
 fn later(
     pool: &mut Pool,
     chain: &Chain,
@@ -147,9 +147,9 @@ fn later(
     Ok(train)
 }
 
-/// Cuts a datagram, which lies in a chain behind 20 bytes for its header, into the packets for a link that takes
-/// packets of `mtu` bytes. The first is the chain itself, trimmed behind; each other has an mbuf for its header, and
-/// behind it a copy that shares clusters. All are made, or none: `NoBufs` comes exactly where fewer mbufs are free
+/// Cuts a datagram, which lies in a chain after 20 bytes for its header, into the packets for a link that takes
+/// packets of `mtu` bytes. The first is the chain itself, trimmed after; each other has an mbuf for its header, and
+/// after it a copy that shares clusters. All are made, or none: `NoBufs` comes exactly where fewer mbufs are free
 /// than the later ones take, and then the chain is freed.
 pub(crate) fn fragments(
     pool: &mut Pool,

@@ -15,7 +15,7 @@ const MAX_SHARED: u32 = MHLEN - IP_UDP_HEADERS;
 /// More bytes than any packet has: what a packet carries that isn't cut.
 const UNCUT: u32 = 131_072;
 
-/// How many fragments behind the first, which begin at 20 + `chunk`, 20 + 2 `chunk` and so on, share a byte with
+/// How many fragments after the first, which begin at 20 + `chunk`, 20 + 2 `chunk` and so on, share a byte with
 /// the bytes of the packet from `at` up to `end`.
 fn later_met(chunk: u32, at: u32, end: u32) -> u32
     requires chunk { 48 ≤ chunk }
@@ -28,7 +28,7 @@ fn later_met(chunk: u32, at: u32, end: u32) -> u32
     last.saturating_sub(before)
 }
 
-/// How many bytes each fragment but the last carries of a send of `n` bytes, and how many fragments there are behind
+/// How many bytes each fragment but the last carries of a send of `n` bytes, and how many fragments there are after
 /// the first.
 fn cut_of(n: u32, mtu: u32) -> (u32, u32)
     requires short { n ≤ UDP_MAX_DATA }
@@ -80,7 +80,7 @@ fn count(n: u32, mtu: u32) -> Need
 }
 
 /// How many free mbufs and clusters a send of `n` bytes takes where the longest packet has `mtu` bytes: those of the
-/// datagram, and for each fragment behind the first an mbuf for its header and one for each mbuf in which its bytes
+/// datagram, and for each fragment after the first an mbuf for its header and one for each mbuf in which its bytes
 /// lie. Clusters are shared. At most 65,507 bytes; `mtu` at least 68.
 ///
 /// It takes one step for each mbuf of the datagram, however many fragments there are (`sosend`, `ip_output` of

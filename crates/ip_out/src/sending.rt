@@ -17,12 +17,12 @@ use params::MIN_MTU;
 /// Sends a datagram: cuts it into packets of at most `mtu` bytes, which is at least 68, writes their headers, and puts
 /// them into the output queue. The chain is spent on each answer.
 ///
-/// The datagram lies in the chain behind 20 bytes for the IP header, whatever they are; these lie in the first mbuf,
+/// The datagram lies in the chain after 20 bytes for the IP header, whatever they are; these lie in the first mbuf,
 /// which is plain and has a packet header. No mbuf is empty, and the whole has at most 65,535 bytes. Of `head`, total
 /// length, offset and "more fragments" count for nothing: each packet has its own.
 ///
-/// All packets are made before any is queued. The first is the chain itself, trimmed behind; each other has an mbuf for
-/// its header, and behind it copies that share clusters. It takes one step for each mbuf and each packet.
+/// All packets are made before any is queued. The first is the chain itself, trimmed after; each other has an mbuf for
+/// its header, and after it copies that share clusters. It takes one step for each mbuf and each packet.
 ///
 /// Refused: `Lack::Pool` exactly where fewer mbufs are free than the later packets take; nothing is queued then, and
 /// the chain is freed. `Lack::Queue` where the queue has no room for all; those that fit are queued, the others freed

@@ -9,7 +9,7 @@ use Rattle.flat_model.specs.Whole.{weight_of_pieces}
 use Rattle.flat_model.specs.Overlay.{Fragment}
 use Rattle.flat_model.specs.State.{State, Socket, Key, Unfinished, is_key, begun, begin_unfinished, ends}
 use Rattle.flat_model.specs.Count.{counted, counts_more}
-use Rattle.flat_model.specs.Ledger.{exact_ledger, Affords, need_mbufs}
+use Rattle.flat_model.specs.Ledger.{exact_ledger, HasBuffers, need_mbufs}
 use Rattle.flat_model.specs.Arrival.{Origin, By_wire, Looped, Tests, Lays, Joins, FragmentArrives, is_bad_fragment, counts_fragment}
 use Rattle.flat_model.specs.Arrival as flat
 use Rattle.flat_model.specs.declared.counters.Counters.{Counters}
@@ -230,13 +230,13 @@ pub tests_of : (rest : State) (held : Weight) (new : State) (k : Key) (f : Fragm
 tests_of rest held new k f w p q ds es c d true t joins ended = record {
   answer = true;
   mid = machine q es t.mid rest;
-  affords = t.affords;
+  has_buffers = t.has_buffers;
   goes_on = record { yes = λ e. subst (λ (x : Counters). Joins exact_ledger held k f (machine q es x rest) new) t.counts (joins refl); no = λ e. absurd (false≢true (sym e)) };
 }
 tests_of rest held new k f w p q ds es c d false t joins ended = record {
   answer = false;
   mid = machine q es t.mid rest;
-  affords = t.affords;
+  has_buffers = t.has_buffers;
   goes_on = record { yes = λ e. absurd (false≢true e); no = λ e. ended refl ∙ ap (λ (x : Counters). machine q es x rest) t.counts };
 }
 
@@ -300,21 +300,21 @@ pub none_found_in : (p : PoolView) (k k' : Key) (slice ds : List Datagram) → s
 none_found_in p k k' slice ds same e none = none_by_key p k ds (subst (λ (zs : List Datagram). find (has_key k) zs ≡ None) same (subst (λ (j : Key). find (has_key j) slice ≡ None) e none))
 
 -- ---- the header's mbuf
-pub pulled_lacking : (rest : State) (held w : Weight) (p q r : PoolView) (ds es : List Datagram) (c mid d : Counters) (answer : Bool) → answer ≡ false → Affords exact_ledger (machine p ds c rest) (held ⊕ w) (need_mbufs 1) answer (machine q es mid rest)
+pub pulled_lacking : (rest : State) (held w : Weight) (p q r : PoolView) (ds es : List Datagram) (c mid d : Counters) (answer : Bool) → answer ≡ false → HasBuffers exact_ledger (machine p ds c rest) (held ⊕ w) (need_mbufs 1) answer (machine q es mid rest)
     → unfinished r es ≡ unfinished q es → d ≡ counted NoBufs mid → IsPulled p ds c w false r es d rest held
 pulled_lacking rest held w p q r ds es c mid d answer refused af shows counts = record {
   mid = mid;
-  affords = subst (λ (us : List Unfinished). Affords exact_ledger (machine p ds c rest) (held ⊕ w) (need_mbufs 1) false (record rest { unfinished = us; counters = mid })) (sym shows)
-      (subst (λ (b : Bool). Affords exact_ledger (machine p ds c rest) (held ⊕ w) (need_mbufs 1) b (machine q es mid rest)) refused af);
+  has_buffers = subst (λ (us : List Unfinished). HasBuffers exact_ledger (machine p ds c rest) (held ⊕ w) (need_mbufs 1) false (record rest { unfinished = us; counters = mid })) (sym shows)
+      (subst (λ (b : Bool). HasBuffers exact_ledger (machine p ds c rest) (held ⊕ w) (need_mbufs 1) b (machine q es mid rest)) refused af);
   counts = counts;
 }
 
-pub pulled_done : (rest : State) (held w : Weight) (p q r : PoolView) (ds es : List Datagram) (c mid : Counters) (answer : Bool) → answer ≡ true → Affords exact_ledger (machine p ds c rest) (held ⊕ w) (need_mbufs 1) answer (machine q es mid rest)
+pub pulled_done : (rest : State) (held w : Weight) (p q r : PoolView) (ds es : List Datagram) (c mid : Counters) (answer : Bool) → answer ≡ true → HasBuffers exact_ledger (machine p ds c rest) (held ⊕ w) (need_mbufs 1) answer (machine q es mid rest)
     → unfinished r es ≡ unfinished q es → IsPulled p ds c w true r es mid rest held
 pulled_done rest held w p q r ds es c mid answer agrees af shows = record {
   mid = mid;
-  affords = subst (λ (us : List Unfinished). Affords exact_ledger (machine p ds c rest) (held ⊕ w) (need_mbufs 1) true (record rest { unfinished = us; counters = mid })) (sym shows)
-      (subst (λ (b : Bool). Affords exact_ledger (machine p ds c rest) (held ⊕ w) (need_mbufs 1) b (machine q es mid rest)) agrees af);
+  has_buffers = subst (λ (us : List Unfinished). HasBuffers exact_ledger (machine p ds c rest) (held ⊕ w) (need_mbufs 1) true (record rest { unfinished = us; counters = mid })) (sym shows)
+      (subst (λ (b : Bool). HasBuffers exact_ledger (machine p ds c rest) (held ⊕ w) (need_mbufs 1) b (machine q es mid rest)) agrees af);
   counts = refl;
 }
 
@@ -346,7 +346,7 @@ pub good_small : (h : IpHead) (n : ℕ) → is_bad_fragment (flat_head h) n ≡ 
 good_small h n e = ltb-false _ _ (or_parts _ _ e).1
 
 -- ---- what waits after a test
-distinct_then : (rest : State) (w : Weight) (p q : PoolView) (ds es : List Datagram) (c mid : Counters) → AreDistinct p ds → Affords exact_ledger (machine p ds c rest) w (need_mbufs 1) true (machine q es mid rest) → AreDistinct q es
+distinct_then : (rest : State) (w : Weight) (p q : PoolView) (ds es : List Datagram) (c mid : Counters) → AreDistinct p ds → HasBuffers exact_ledger (machine p ds c rest) w (need_mbufs 1) true (machine q es mid rest) → AreDistinct q es
 distinct_then rest w p q ds es c mid distinct (inl a) = λ k. omega (arith, distinct k, ap (λ (s : State). count_by (is_key k) s.unfinished) a.1)
 distinct_then rest w p q ds es c mid distinct (inr a) = λ k. omega (arith, ap (λ (s : State). count_by (is_key k) s.unfinished) a.1)
 
@@ -373,7 +373,7 @@ module _ (rest : State) (held : Weight) (new : State) (h : IpHead) (p q r : Pool
 
   pub some_cluster : (origin : Origin) → CameBy origin (chain_of p n) → is_some (entry_of (chain_of p n) 0).cluster ≡ true → IsPulled p ds c1 (weight_at p n) true q es d rest held → FragmentArrives exact_ledger origin held (flat_head h) (carried_at p n) (machine p ds c rest) new
   some_cluster origin came cluster tested =
-      let there : AreDistinct r es = distinct_same q r es t.shows (distinct_then rest (held ⊕ weight_at p n) p q ds es c1 tested.mid distinct tested.affords) in
+      let there : AreDistinct r es = distinct_same q r es t.shows (distinct_then rest (held ⊕ weight_at p n) p q ds es c1 tested.mid distinct tested.has_buffers) in
       let holds = holds_of origin (chain_of p n) came cluster in
       let weight : weight_of (pulled_entries (chain_of p n)) ≡ flat.pulled_up (20 + len) (weight_at p n) =
       ap weight_of (cond-true _ _ _ cluster) ∙ (pulled_is (chain_of p n) cluster (omega (arith, long)) holds ∙ ap (λ (m : ℕ). flat.pulled_up m (weight_at p n)) long) in

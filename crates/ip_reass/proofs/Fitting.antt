@@ -5,7 +5,7 @@ use Rattle.std.proofs.lemmas.List.Elements.{recursion_from_All}
 use Rattle.mbuf_chain.specs.Chain.{ChainView, PoolView, IsLive, chain_of, entry_of, no_entry}
 use Rattle.mbuf_chain.specs.Owners.{times}
 use Rattle.mbuf_chain.specs.Frames.{IsBounded, Fits}
-use Rattle.mbuf_chain.specs.Train.{TrainView, car_of, numbers, IsHeld}
+use Rattle.mbuf_chain.specs.Train.{TrainView, queued_packet_of, numbers, IsHeld}
 use Rattle.mbuf_chain.proofs.Laws.Owners.{times_same, live_owned}
 use Rattle.chain_ops.specs.Weights.{IsFit, AreFit}
 use Rattle.ip_reass.specs.Fragments.{queued_of, queued}
@@ -27,13 +27,13 @@ chain_fits p c b live = recursion_from_All IsFit (chain_of p c).entries (λ i d 
 pub all_fit : (p : PoolView) (t : TrainView) → IsBounded p → IsHeld p t → AllFit (queued p t)
 all_fit p t b h = go (numbers p t) (λ k l. live_owned p (numbers p t) k h.owned l)
   where
-    go : (xs : List ℕ) → ((k : ℕ) → 0 < times k xs → IsLive p k) → AllFit (map queued_of (map (car_of p) xs))
+    go : (xs : List ℕ) → ((k : ℕ) → 0 < times k xs → IsLive p k) → AllFit (map queued_of (map (queued_packet_of p) xs))
     go [] live = tt
     go (x ∷ xs) live = (chain_fits p x b (live x (omega (arith, times_same x xs))), go xs (λ k l. live k (omega (arith, l))))
 
 pub all_some : (p : PoolView) (t : TrainView) → IsBounded p → IsHeld p t → AllSome (queued p t)
 all_some p t b h = go (numbers p t) (λ k l. live_owned p (numbers p t) k h.owned l)
   where
-    go : (xs : List ℕ) → ((k : ℕ) → 0 < times k xs → IsLive p k) → AllSome (map queued_of (map (car_of p) xs))
+    go : (xs : List ℕ) → ((k : ℕ) → 0 < times k xs → IsLive p k) → AllSome (map queued_of (map (queued_packet_of p) xs))
     go [] live = tt
     go (x ∷ xs) live = (b.some x (live x (omega (arith, times_same x xs))), go xs (λ k l. live k (omega (arith, l))))

@@ -9,13 +9,13 @@ use Rattle.flat_model.specs.Layout as flat
 use Rattle.flat_model.specs.Overlay.{Fragment}
 use Rattle.flat_model.specs.Whole.{IsWhole, weight_of_pieces}
 use Rattle.flat_model.specs.Arrival.{IsJoin}
-use Rattle.mbuf_chain.specs.Chain.{Entry, Front, ChainView, PoolView, IsLive, chain_of, no_chain, without, flat_bytes, back_room}
+use Rattle.mbuf_chain.specs.Chain.{Entry, Front, ChainView, PoolView, IsLive, chain_of, no_chain, without, flat_bytes, trailing_space}
 use Rattle.mbuf_chain.specs.Steps.{with_back}
 use Rattle.mbuf_chain.specs.Owners as owners
 use Rattle.mbuf_chain.specs.Owners.{IsOwned, Moves}
 use Rattle.mbuf_chain.specs.Frames.{SameAt}
-use Rattle.mbuf_chain.specs.Train.{TrainView, car_at, numbers, cars, IsHeld}
-use Rattle.mbuf_chain.proofs.Laws.Owners.{times_same, moves_trans, moves_beside, moves_behind, moves_without, moves_adds, owned_more, owned_after, live_first, live_at_most, live_same, live_one, live_from, same_beside}
+use Rattle.mbuf_chain.specs.Train.{TrainView, queued_packet_at, numbers, queued_packets, IsHeld}
+use Rattle.mbuf_chain.proofs.Laws.Owners.{times_same, moves_trans, moves_beside, moves_after, moves_without, moves_adds, owned_more, owned_after, live_first, live_at_most, live_same, live_one, live_from, same_beside}
 use Rattle.mbuf_chain.proofs.Laws.Steps.{live_without}
 use Rattle.mbuf_chain.proofs.Laws.Trains.{Beside, beside}
 use Rattle.chain_ops.specs.Makes.{Makes}
@@ -25,7 +25,7 @@ use Rattle.chain_ops.proofs.Laws.Strings.{cat_bytes}
 use Rattle.chain_ops.proofs.Laws.Joins.{cat_length, cat_bag, cat_fit, covers_fit}
 use Rattle.ledger.specs.Accounts.{weight_of}
 use Rattle.flat_model.proofs.Laws.{times-both}
-use Rattle.ip_reass.specs.Fragments.{QueuedFragment, queued_of, queued, fragment_of, fragments, joined, joined_behind, IsQueue, map_of}
+use Rattle.ip_reass.specs.Fragments.{QueuedFragment, queued_of, queued, fragment_of, fragments, joined, joined_after, IsQueue, map_of}
 use Rattle.ip_reass.specs.Inside.{bytes_of, queued_at, AllFit, AllSome}
 use Rattle.ip_reass.proofs.Steps.{fragments_are, length-queued, queued_is}
 use Rattle.ip_reass.proofs.Edits.{map-remove}
@@ -33,11 +33,11 @@ use Rattle.ip_reass.proofs.Whole.{bytes_are}
 use Rattle.ip_reass.specs.Weighs.{weight_is}
 
 -- ---- the lists
-pub joined_next : (es : List Entry) (qs : List QueuedFragment) → 0 < length qs → joined_behind es qs ≡ joined_behind (cat es (queued_at qs 0).entries) (remove qs 0)
+pub joined_next : (es : List Entry) (qs : List QueuedFragment) → 0 < length qs → joined_after es qs ≡ joined_after (cat es (queued_at qs 0).entries) (remove qs 0)
 joined_next es [] l = absurd (omega arith)
 joined_next es (q ∷ qs) l = refl
 
-pub joined_first : (qs : List QueuedFragment) → 0 < length qs → joined qs ≡ joined_behind (queued_at qs 0).entries (remove qs 0)
+pub joined_first : (qs : List QueuedFragment) → 0 < length qs → joined qs ≡ joined_after (queued_at qs 0).entries (remove qs 0)
 joined_first [] l = absurd (omega arith)
 joined_first (q ∷ qs) l = refl
 
@@ -46,7 +46,7 @@ pub record Joins (p q : PoolView) (t : TrainView) (c : ℕ) (r : PoolView) (u : 
   pub live : IsLive r c
   pub held : IsHeld r u
   pub apart : owners.times c (numbers r u) ≡ 0
-  pub cars_are : cars r u ≡ cars q u
+  pub queued_packets_are : queued_packets r u ≡ queued_packets q u
   pub moves : Moves p (c ∷ numbers p t) r (c ∷ numbers r u)
 
 -- the chain in hand while another comes out of the train
@@ -73,7 +73,7 @@ in_hand p q t u c d held live apart m =
 
 pub joins : (p q r : PoolView) (t u : TrainView) (c d : ℕ) (f : Front) (es : List Entry) → InHand p q u c d → Moves p (numbers p t) q (d ∷ numbers q u) → IsHeld q u → Makes (without (without q d) c) r c f es → Joins p q t c r u
 joins p q r t u c d f es h m held made =
-    let step : Moves q (c ∷ d ∷ []) r (c ∷ []) = moves_trans (moves_behind (c ∷ []) (moves_without q (without q d) d h.other refl))
+    let step : Moves q (c ∷ d ∷ []) r (c ∷ []) = moves_trans (moves_after (c ∷ []) (moves_without q (without q d) d h.other refl))
     (moves_trans (moves_without (without q d) (without (without q d) c) c (live_without q (without q d) d refl c h.apart h.live) refl) (moves_adds made.adds)) in
     let same : SameAt q r (numbers q u) = same_beside (numbers q u) step held.owned (λ k l. omega (arith, h.owned k, live_at_most q k, l)) in
     let b : Beside q r u = beside q r u same held in
@@ -83,12 +83,12 @@ joins p q r t u c d f es h m held made =
       live = live_first r c (numbers r u) owned;
       held = b.held;
       apart = omega (arith, owned c, live_at_most r c, times_same c (numbers r u));
-      cars_are = b.cars;
+      queued_packets_are = b.queued_packets;
       moves = moves_trans (moves_beside (c ∷ numbers p t) (c ∷ d ∷ numbers q u) (c ∷ []) m (λ k. omega arith) (λ k. omega arith)) all;
     }
 
 -- ---- the bytes
-all_bytes : (es : List Entry) (cs : List QueuedFragment) → flat_bytes (joined_behind es cs) ≡ flat_bytes es ++ bytes_of (map fragment_of cs)
+all_bytes : (es : List Entry) (cs : List QueuedFragment) → flat_bytes (joined_after es cs) ≡ flat_bytes es ++ bytes_of (map fragment_of cs)
 all_bytes es [] = sym (append-nil (flat_bytes es))
 all_bytes es (q ∷ cs) = all_bytes (cat es q.entries) cs ∙ (ap (λ (xs : List ℕ). xs ++ bytes_of (map fragment_of cs)) (cat_bytes es q.entries) ∙ append_assoc (flat_bytes es) (flat_bytes q.entries) (bytes_of (map fragment_of cs)))
 
@@ -107,7 +107,7 @@ laid_bag (e ∷ es) = ap (cons_option e.cluster) (laid_bag es)
 laid_mbufs : (es : List Entry) → (flat.weight_of (laid es)).mbufs ≡ (weight_of es).mbufs
 laid_mbufs es = length-map es _
 
-all_mbufs : (es : List Entry) (cs : List QueuedFragment) → length (joined_behind es cs) ≤ length es + (queue_weight cs).mbufs
+all_mbufs : (es : List Entry) (cs : List QueuedFragment) → length (joined_after es cs) ≤ length es + (queue_weight cs).mbufs
 all_mbufs es [] = omega arith
 all_mbufs es (q ∷ cs) = omega (arith, all_mbufs (cat es q.entries) cs, cat_length es q.entries)
 
@@ -122,13 +122,13 @@ cat_times c es fs =
       times-both c (flat.weight_of (laid es)) (flat.weight_of (laid fs)),
     )
 
-all_times : (c : ℕ) (es : List Entry) (cs : List QueuedFragment) → times c (weight_of (joined_behind es cs)).bag ≤ times c (weight_of es).bag + times c (queue_weight cs).bag
+all_times : (c : ℕ) (es : List Entry) (cs : List QueuedFragment) → times c (weight_of (joined_after es cs)).bag ≤ times c (weight_of es).bag + times c (queue_weight cs).bag
 all_times c es [] = omega arith
 all_times c es (q ∷ cs) = omega (arith, all_times c (cat es q.entries) cs, cat_times c es q.entries, times-both c (weight_of q.entries) (queue_weight cs))
 
 filled_some : (e : Entry) (fs : List Entry) → 0 < length (filled_up e fs)
 filled_some e [] = omega arith
-filled_some e (f ∷ fs) = go (nat_lt (length f.bytes) (back_room e)) (filled_some (with_back e f.bytes) fs)
+filled_some e (f ∷ fs) = go (nat_lt (length f.bytes) (trailing_space e)) (filled_some (with_back e f.bytes) fs)
   where
     go : (b : Bool) → 0 < length (filled_up (with_back e f.bytes) fs) → 0 < length (cond b (filled_up (with_back e f.bytes) fs) (e ∷ f ∷ fs))
     go true ih = ih
@@ -139,11 +139,11 @@ cat_some [] fs l = absurd (omega arith)
 cat_some (e ∷ []) fs l = filled_some e fs
 cat_some (e ∷ f ∷ es) fs l = omega arith
 
-all_some : (es : List Entry) (cs : List QueuedFragment) → 0 < length es → 0 < length (joined_behind es cs)
+all_some : (es : List Entry) (cs : List QueuedFragment) → 0 < length es → 0 < length (joined_after es cs)
 all_some es [] l = l
 all_some es (q ∷ cs) l = all_some (cat es q.entries) cs (cat_some es q.entries l)
 
-all_fit : (es : List Entry) (cs : List QueuedFragment) → AreFit es → AllFit cs → AreFit (joined_behind es cs)
+all_fit : (es : List Entry) (cs : List QueuedFragment) → AreFit es → AllFit cs → AreFit (joined_after es cs)
 all_fit es [] f a = f
 all_fit es (q ∷ cs) f a = all_fit (cat es q.entries) cs (cat_fit es q.entries f a.0) a.1
 
@@ -172,7 +172,7 @@ join_is p t n is some fit w =
     go (q ∷ qs) s f l = record {
       mbufs = all_mbufs q.entries qs;
       bag = λ c. omega (arith, all_times c q.entries qs, times-both c (weight_of q.entries) (queue_weight qs));
-      covers = subst (Covers (weight_of (joined_behind q.entries qs))) (sym l) (covers_of (joined_behind q.entries qs) (all_some q.entries qs s.0) (all_fit q.entries qs f.0 f.1));
+      covers = subst (Covers (weight_of (joined_after q.entries qs))) (sym l) (covers_of (joined_after q.entries qs) (all_some q.entries qs s.0) (all_fit q.entries qs f.0 f.1));
     }
 
 -- **the bytes of the join are those of the map, in order**
@@ -182,11 +182,11 @@ joined_bytes p t n is w = (bytes_are (fragments p t) n is.apart w).0 ∙ (ap byt
 pub joined_len : (p : PoolView) (t : TrainView) (n : ℕ) → IsQueue p t → IsWhole (map_of (fragments p t)) n → n ≡ length (flat_bytes (joined (queued p t)))
 joined_len p t n is w = (bytes_are (fragments p t) n is.apart w).1 ∙ ap (λ (xs : List ℕ). length xs) (ap bytes_of (fragments_are p t) ∙ sym (queue_bytes (queued p t)))
 
-pub entries_more : (p q r : PoolView) (t u : TrainView) (c d tag : ℕ) (f : Front) (whole : List Entry) → IsHeld p t → 0 < t.len → chain_of q c ≡ chain_of p c → car_at p t 0 ≡ record { number = d; entries = (chain_of q d).entries; tag = tag }
-    → cars q u ≡ remove (cars p t) 0 → cars r u ≡ cars q u → Makes (without (without q d) c) r c f (cat (chain_of q c).entries (chain_of q d).entries) → joined_behind (chain_of p c).entries (queued p t) ≡ whole → joined_behind (chain_of r c).entries (queued r u) ≡ whole
+pub entries_more : (p q r : PoolView) (t u : TrainView) (c d tag : ℕ) (f : Front) (whole : List Entry) → IsHeld p t → 0 < t.len → chain_of q c ≡ chain_of p c → queued_packet_at p t 0 ≡ record { number = d; entries = (chain_of q d).entries; tag = tag }
+    → queued_packets q u ≡ remove (queued_packets p t) 0 → queued_packets r u ≡ queued_packets q u → Makes (without (without q d) c) r c f (cat (chain_of q c).entries (chain_of q d).entries) → joined_after (chain_of p c).entries (queued p t) ≡ whole → joined_after (chain_of r c).entries (queued r u) ≡ whole
 entries_more p q r t u c d tag f whole held some shown taken gone kept made is =
-    let first : queued_at (queued p t) 0 ≡ queued_of (car_at p t 0) = queued_is p t 0 held some in
+    let first : queued_at (queued p t) 0 ≡ queued_of (queued_packet_at p t 0) = queued_is p t 0 held some in
     let e : (chain_of r c).entries ≡ cat (chain_of p c).entries (queued_at (queued p t) 0).entries =
     made.entries ∙ (λ i. cat (shown i).entries (sym (first ∙ ap queued_of taken) i).entries) in
-    let left : queued r u ≡ remove (queued p t) 0 = ap (map queued_of) (kept ∙ gone) ∙ map-remove queued_of (cars p t) 0 in
-    (λ i. joined_behind (e i) (left i)) ∙ (sym (joined_next (chain_of p c).entries (queued p t) (omega (arith, length-queued p t held))) ∙ is)
+    let left : queued r u ≡ remove (queued p t) 0 = ap (map queued_of) (kept ∙ gone) ∙ map-remove queued_of (queued_packets p t) 0 in
+    (λ i. joined_after (e i) (left i)) ∙ (sym (joined_next (chain_of p c).entries (queued p t) (omega (arith, length-queued p t held))) ∙ is)

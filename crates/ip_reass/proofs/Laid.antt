@@ -62,15 +62,15 @@ count_stretch test r a (suc n) hit miss =
     ]
 
 -- ---- a byte that isn't the fragment's
-pub cut_none : (f : Fragment) (c : Held) → (c.piece.first ≤ f.offset) ⊎ (flat.behind f ≤ c.piece.first) → Some (cut_back f c) ≡ Some c
+pub cut_none : (f : Fragment) (c : Held) → (c.piece.first ≤ f.offset) ⊎ (flat.fragment_end f ≤ c.piece.first) → Some (cut_back f c) ≡ Some c
 cut_none f c (inl l) = ap Some (cond-false _ _ _ (and_left _ _ (le-ltb f.offset c.piece.first l)))
-cut_none f c (inr l) = ap Some (cond-false _ _ _ (and_right _ _ (le-ltb c.piece.first (flat.behind f) l)))
+cut_none f c (inr l) = ap Some (cond-false _ _ _ (and_right _ _ (le-ltb c.piece.first (flat.fragment_end f) l)))
 
-pub cut_some : (f : Fragment) (c : Held) → f.offset < c.piece.first → c.piece.first < flat.behind f → cut_back f c ≡ record c { piece = record (c.piece) { first = flat.behind f } }
-cut_some f c l m = cond-true _ _ _ (and_from _ _ (lt-ltb f.offset c.piece.first l) (lt-ltb c.piece.first (flat.behind f) m))
+pub cut_some : (f : Fragment) (c : Held) → f.offset < c.piece.first → c.piece.first < flat.fragment_end f → cut_back f c ≡ record c { piece = record (c.piece) { first = flat.fragment_end f } }
+cut_some f c l m = cond-true _ _ _ (and_from _ _ (lt-ltb f.offset c.piece.first l) (lt-ltb c.piece.first (flat.fragment_end f) m))
 
 -- fragments that begin after the fragment stay
-pub left_alone : (m : Map) (f : Fragment) (low : ℕ) (ps : List Fragment) (k : ℕ) → Apart low ps → flat.behind f ≤ low → lies m f k false (map_of ps k) ≡ map_of ps k
+pub left_alone : (m : Map) (f : Fragment) (low : ℕ) (ps : List Fragment) (k : ℕ) → Apart low ps → flat.fragment_end f ≤ low → lies m f k false (map_of ps k) ≡ map_of ps k
 left_alone m f low [] k a l = refl
 left_alone m f low (p ∷ ps) k a l =
     let g : p.offset ≤ end_of p = omega arith in
@@ -81,20 +81,20 @@ left_alone m f low (p ∷ ps) k a l =
     ]
 
 -- what is left of the fragments after, from where the fragment ends
-pub left_from_known : (m : Map) (f : Fragment) (low : ℕ) (ps : List Fragment) (k : ℕ) → Apart low ps → AllAbove f.offset ps → flat.behind f ≤ k → map_of (left_from (flat.behind f) ps) k ≡ lies m f k false (map_of ps k)
+pub left_from_known : (m : Map) (f : Fragment) (low : ℕ) (ps : List Fragment) (k : ℕ) → Apart low ps → AllAbove f.offset ps → flat.fragment_end f ≤ k → map_of (left_from (flat.fragment_end f) ps) k ≡ lies m f k false (map_of ps k)
 left_from_known m f low [] k a u l = refl
-left_from_known m f low (p ∷ ps) k a u l = elim (left (flat.behind f) p ps) [
-  | left_whole h is ↦ ap (λ (qs : List Fragment). map_of qs k) is ∙ sym (left_alone m f (flat.behind f) (p ∷ ps) k (h, a.1, a.2) (omega arith))
+left_from_known m f low (p ∷ ps) k a u l = elim (left (flat.fragment_end f) p ps) [
+  | left_whole h is ↦ ap (λ (qs : List Fragment). map_of qs k) is ∙ sym (left_alone m f (flat.fragment_end f) (p ∷ ps) k (h, a.1, a.2) (omega arith))
   | left_none h is ↦ ap (λ (qs : List Fragment). map_of qs k) is ∙ (left_from_known m f (end_of p) ps k a.2 u.1 l ∙ ap (lies m f k false) (sym (known_past p ps k (omega arith))))
   | left_cut h n is ↦
-      let e = flat.behind f in
-      let q : Fragment = trimmed (flat.behind f - p.offset) p in
-      let long = end_trimmed (flat.behind f - p.offset) p (omega arith) in
+      let e = flat.fragment_end f in
+      let q : Fragment = trimmed (flat.fragment_end f - p.offset) p in
+      let long = end_trimmed (flat.fragment_end f - p.offset) p (omega arith) in
       ap (λ (qs : List Fragment). map_of qs k) is
       ∙ elim (cases_lt k (end_of p)) [
         | inl b ↦
-            let first : p.offset + (flat.behind f - p.offset) ≡ flat.behind f = omega arith in
-            let mine : own q k ≡ record (own p k) { piece = record ((own p k).piece) { first = flat.behind f } } = λ i. record { byte = byte_trimmed (flat.behind f - p.offset) p k (omega arith) i; piece = record { first = first i; more = p.more; weight = p.weight } } in
+            let first : p.offset + (flat.fragment_end f - p.offset) ≡ flat.fragment_end f = omega arith in
+            let mine : own q k ≡ record (own p k) { piece = record ((own p k).piece) { first = flat.fragment_end f } } = λ i. record { byte = byte_trimmed (flat.fragment_end f - p.offset) p k (omega arith) i; piece = record { first = first i; more = p.more; weight = p.weight } } in
             known_here q ps k (omega arith) (omega (arith, long)) ∙ (ap Some (mine ∙ sym (cut_some f (own p k) u.0 h)) ∙ ap (lies m f k false) (sym (known_here p ps k (omega arith) b)))
         | inr b ↦ known_past q ps k (omega (arith, long)) ∙ (sym (left_alone m f (end_of p) ps k a.2 (omega arith)) ∙ ap (lies m f k false) (sym (known_past p ps k b)))
       ]
@@ -111,13 +111,13 @@ module _ (f : Fragment) (xs ys : List Fragment) (w : Around f.offset xs ys) wher
   all : Map
   all = map_of (xs ++ ys)
 
-  stays_here : (k : ℕ) → f.offset ≤ k → k < flat.behind f → k < reach 0 xs → stays f.offset (map_of (xs ++ ys) k) ≡ true
+  stays_here : (k : ℕ) → f.offset ≤ k → k < flat.fragment_end f → k < reach 0 xs → stays f.offset (map_of (xs ++ ys) k) ≡ true
   stays_here k l m r = elim (covered f.offset 0 xs k w.before w.upto l r) [
     | inl z ↦ absurd (omega arith)
     | inr (c, e) ↦ ap (stays f.offset) (known_left xs ys k c e) ∙ le-leb c.piece.first f.offset (begins_upto f.offset xs k c w.upto e)
   ]
 
-  goes_here : (k : ℕ) → f.offset ≤ k → k < flat.behind f → reach 0 xs ≤ k → stays f.offset (map_of (xs ++ ys) k) ≡ false
+  goes_here : (k : ℕ) → f.offset ≤ k → k < flat.fragment_end f → reach 0 xs ≤ k → stays f.offset (map_of (xs ++ ys) k) ≡ false
   goes_here k l m r = ap (stays f.offset) (known_right xs ys k (nothing_past 0 xs k w.before r)) ∙ go (none_or_some (map_of ys k))
     where
       go : (map_of ys k ≡ None) ⊎ ((c : Held) × (map_of ys k ≡ Some c)) → stays f.offset (map_of ys k) ≡ false
@@ -130,20 +130,20 @@ module _ (f : Fragment) (xs ys : List Fragment) (w : Around f.offset xs ys) wher
   first_is = ap (λ (n : ℕ). f.offset + n) (count_stretch (λ k. stays f.offset (map_of (xs ++ ys) k)) (reach 0 xs) f.offset (length f.bytes) (λ k l m r. stays_here k l m r) (λ k l m r. goes_here k l m r))
 
   pub covered_yes : length f.bytes ≤ reach 0 xs - f.offset → is_covered (map_of (xs ++ ys)) f ≡ true
-  covered_yes l = le-leb (flat.behind f) (first_owned (map_of (xs ++ ys)) f) (omega (arith, first_is))
+  covered_yes l = le-leb (flat.fragment_end f) (first_owned (map_of (xs ++ ys)) f) (omega (arith, first_is))
 
   pub covered_no : reach 0 xs - f.offset < length f.bytes → is_covered (map_of (xs ++ ys)) f ≡ false
-  covered_no l = lt-leb (flat.behind f) (first_owned (map_of (xs ++ ys)) f) (omega (arith, first_is))
+  covered_no l = lt-leb (flat.fragment_end f) (first_owned (map_of (xs ++ ys)) f) (omega (arith, first_is))
 
-  inside : (k : ℕ) → f.offset ≤ k → k < flat.behind f → is_within f k ≡ true
-  inside k l m = and_from _ _ (le-leb f.offset k l) (lt-ltb k (flat.behind f) m)
+  inside : (k : ℕ) → f.offset ≤ k → k < flat.fragment_end f → is_within f k ≡ true
+  inside k l m = and_from _ _ (le-leb f.offset k l) (lt-ltb k (flat.fragment_end f) m)
 
-  outside : (k : ℕ) → (k < f.offset) ⊎ (flat.behind f ≤ k) → is_within f k ≡ false
+  outside : (k : ℕ) → (k < f.offset) ⊎ (flat.fragment_end f ≤ k) → is_within f k ≡ false
   outside k (inl l) = and_left _ _ (lt-leb f.offset k l)
-  outside k (inr l) = and_right _ _ (le-ltb k (flat.behind f) l)
+  outside k (inr l) = and_right _ _ (le-ltb k (flat.fragment_end f) l)
 
   abbrev pub new_parts : ℕ → List Fragment
-  new_parts cut = xs ++ trimmed cut f ∷ left_from (flat.behind f) ys
+  new_parts cut = xs ++ trimmed cut f ∷ left_from (flat.fragment_end f) ys
 
   over : (k : ℕ) (b : Bool) (o : Option Held) → is_within f k ≡ b → map_of (xs ++ ys) k ≡ o → overlay (map_of (xs ++ ys)) f k ≡ lies (map_of (xs ++ ys)) f k b o
   unfolding overlay
@@ -161,7 +161,7 @@ module _ (f : Fragment) (xs ys : List Fragment) (w : Around f.offset xs ys) wher
       go false h = over k false (Some c) h (known_left xs ys k c e) ∙ cut_none f c (inl first)
 
   -- what isn't known in front is brought
-  brought_here : (k : ℕ) → f.offset ≤ k → k < flat.behind f → map_of xs k ≡ None → overlay (map_of (xs ++ ys)) f k ≡ Some (brought (map_of (xs ++ ys)) f k)
+  brought_here : (k : ℕ) → f.offset ≤ k → k < flat.fragment_end f → map_of xs k ≡ None → overlay (map_of (xs ++ ys)) f k ≡ Some (brought (map_of (xs ++ ys)) f k)
   brought_here k l m e = go (map_of ys k) refl
     where
       go : (o : Option Held) → map_of ys k ≡ o → overlay (map_of (xs ++ ys)) f k ≡ Some (brought (map_of (xs ++ ys)) f k)
@@ -171,8 +171,8 @@ module _ (f : Fragment) (xs ys : List Fragment) (w : Around f.offset xs ys) wher
   -- **the fragments before, what they leave of the new one, and what it leaves of the fragments after, are the overlay**
   pub laid_at : (cut k : ℕ) → cut ≡ reach 0 xs - f.offset → cut < length f.bytes → map_of (new_parts cut) k ≡ overlay (map_of (xs ++ ys)) f k
   laid_at cut k is_cut some = elim (none_or_some (map_of xs k)) [
-    | inr (c, e) ↦ known_left xs (trimmed cut f ∷ left_from (flat.behind f) ys) k c e ∙ sym (early_stays k c e)
-    | inl e ↦ known_right xs (trimmed cut f ∷ left_from (flat.behind f) ys) k e ∙ rest k e
+    | inr (c, e) ↦ known_left xs (trimmed cut f ∷ left_from (flat.fragment_end f) ys) k c e ∙ sym (early_stays k c e)
+    | inl e ↦ known_right xs (trimmed cut f ∷ left_from (flat.fragment_end f) ys) k e ∙ rest k e
   ]
     where
       q : Fragment
@@ -184,20 +184,20 @@ module _ (f : Fragment) (xs ys : List Fragment) (w : Around f.offset xs ys) wher
         | inl m ↦ elim (covered f.offset 0 xs k w.before w.upto l m) [ inl z ↦ absurd (omega arith) | inr r ↦ absurd (let g : Some r.0 ≡ None = sym r.1 ∙ e in cc) ]
       ]
 
-      rest : (k : ℕ) → map_of xs k ≡ None → map_of (trimmed cut f ∷ left_from (flat.behind f) ys) k ≡ overlay (map_of (xs ++ ys)) f k
+      rest : (k : ℕ) → map_of xs k ≡ None → map_of (trimmed cut f ∷ left_from (flat.fragment_end f) ys) k ≡ overlay (map_of (xs ++ ys)) f k
       rest k e = elim (place f k) [
         | below b ↦
-            known_below (trimmed cut f) (left_from (flat.behind f) ys) k (omega arith)
-            ∙ (left_from_none (reach 0 xs) (flat.behind f) ys k w.after (omega arith)
+            known_below (trimmed cut f) (left_from (flat.fragment_end f) ys) k (omega arith)
+            ∙ (left_from_none (reach 0 xs) (flat.fragment_end f) ys k w.after (omega arith)
             ∙ sym (over k false None (outside k (inl b)) (known_right xs ys k e ∙ nothing_upto f.offset ys k w.above (omega arith))))
         | past b ↦
-            known_past (trimmed cut f) (left_from (flat.behind f) ys) k (omega (arith, end_trimmed cut f (omega arith)))
+            known_past (trimmed cut f) (left_from (flat.fragment_end f) ys) k (omega (arith, end_trimmed cut f (omega arith)))
             ∙ (left_from_known (map_of (xs ++ ys)) f (reach 0 xs) ys k w.after w.above b ∙ sym (over k false (map_of ys k) (outside k (inr b)) (known_right xs ys k e)))
         | within b d ↦
             let clear : reach 0 xs ≤ k = uncovered k e b in
             let first : f.offset + cut ≡ first_owned (map_of (xs ++ ys)) f = omega (arith, first_is) in
             let mine : own (trimmed cut f) k ≡ brought (map_of (xs ++ ys)) f k = λ i. record { byte = byte_trimmed cut f k (omega arith) i; piece = record { first = first i; more = f.more; weight = f.weight } } in
-            known_here (trimmed cut f) (left_from (flat.behind f) ys) k (omega arith) (omega (arith, end_trimmed cut f (omega arith)))
+            known_here (trimmed cut f) (left_from (flat.fragment_end f) ys) k (omega arith) (omega (arith, end_trimmed cut f (omega arith)))
             ∙ (ap Some mine ∙ sym (brought_here k b d e))
       ]
 
@@ -206,8 +206,8 @@ module _ (f : Fragment) (xs ys : List Fragment) (w : Around f.offset xs ys) wher
 
   pub laid_apart : (cut : ℕ) → cut ≡ reach 0 xs - f.offset → cut < length f.bytes → Apart 0 (new_parts cut)
   laid_apart cut is_cut some =
-      apart_join 0 xs (trimmed cut f ∷ left_from (flat.behind f) ys) w.before (
+      apart_join 0 xs (trimmed cut f ∷ left_from (flat.fragment_end f) ys) w.before (
         omega arith,
         omega (arith, length-drop cut f.bytes),
-        apart_lower (flat.behind f) (end_of (trimmed cut f)) (left_from (flat.behind f) ys) (omega (arith, end_trimmed cut f (omega arith))) (left_from_apart (reach 0 xs) (flat.behind f) ys w.after),
+        apart_lower (flat.fragment_end f) (end_of (trimmed cut f)) (left_from (flat.fragment_end f) ys) (omega (arith, end_trimmed cut f (omega arith))) (left_from_apart (reach 0 xs) (flat.fragment_end f) ys w.after),
       )

@@ -6,7 +6,7 @@ use Rattle.std.proofs.lemmas.List.{take-append-drop, take_at, drop_at, length-ta
 use Rattle.flat_model.specs.Overlay.{Fragment, overlay, is_covered}
 use Rattle.mbuf_chain.specs.Chain.{ChainView, PoolView, IsLive, chain_of, without, flat_bytes, string, no_chain}
 use Rattle.mbuf_chain.specs.Owners.{times, Moves}
-use Rattle.mbuf_chain.specs.Train.{TrainView, numbers, cars, IsHeld}
+use Rattle.mbuf_chain.specs.Train.{TrainView, numbers, queued_packets, IsHeld}
 use Rattle.mbuf_chain.proofs.Laws.Owners.{moves_trans, moves_beside, moves_without, live_same, live_one, live_from}
 use Rattle.mbuf_chain.proofs.Laws.Trains.{Beside, beside_without}
 use Rattle.chain_ops.specs.Trims.{without_first}
@@ -43,16 +43,16 @@ pub record Settled (p : PoolView) (t : TrainView) (i n c : ℕ) (q : QueuedFragm
 
 pub settled : (p r q s : PoolView) (t u w : TrainView) (c i n offset e tag : ℕ) (more : Bool) → i ≤ t.len → IsHeld p t
     → Changed p t c (record (chain_of p c) { entries = without_first n (chain_of p c).entries }) r → queued q u ≡ take i (queued r t) ++ cut_to e (drop i (queued r t)) → Moves r (numbers r t) q (numbers q u)
-    → e ≡ offset + length (string (chain_of p c)) → tag / 2 ≡ offset + n → eqb (tag % 2) 1 ≡ more → cars s w ≡ insert (cars q u) i (record { number = c; entries = (chain_of q c).entries; tag = tag }) → Moves q (c ∷ numbers q u) s (numbers s w)
+    → e ≡ offset + length (string (chain_of p c)) → tag / 2 ≡ offset + n → eqb (tag % 2) 1 ≡ more → queued_packets s w ≡ insert (queued_packets q u) i (record { number = c; entries = (chain_of q c).entries; tag = tag }) → Moves q (c ∷ numbers q u) s (numbers s w)
     → Settled p t i n c (arrived p c offset more) s w
 settled p r q s t u w c i n offset e tag more place held change cleared moves ends half odd put goes =
     let wait : Waits c (record (chain_of p c) { entries = without_first n (chain_of p c).entries }) q u = waits r q t u c (record (chain_of p c) { entries = without_first n (chain_of p c).entries }) change.live change.shown change.apart moves in
-    let same : queued r t ≡ queued p t = ap (map queued_of) change.cars_are in
+    let same : queued r t ≡ queued p t = ap (map queued_of) change.queued_packets_are in
     let long : length (take i (queued p t)) ≡ i = length-take-le i (queued p t) (omega (arith, length-queued p t held)) in
     let mine : queued_of (record { number = c; entries = (chain_of q c).entries; tag = tag }) ≡ cut n (arrived p c offset more) = λ j. record { offset = half j; more = odd j; entries = (wait.shown j).entries } in
     record {
       queue_is =
-          ap (map queued_of) put ∙ (map-insert queued_of (cars q u) i _
+          ap (map queued_of) put ∙ (map-insert queued_of (queued_packets q u) i _
           ∙ ((λ j. insert ((cleared ∙ λ k. take i (same k) ++ cut_to (ends k) (drop i (same k))) j) i (mine j))
           ∙ insert_at (take i (queued p t)) (cut_to (offset + length (string (chain_of p c))) (drop i (queued p t))) i _ long));
       moves = moves_trans change.moves (moves_trans (moves_beside (c ∷ numbers r t) (c ∷ numbers q u) (c ∷ []) moves (λ k. omega arith) (λ k. omega arith)) goes);
@@ -140,7 +140,7 @@ pub record Covered (p : PoolView) (t : TrainView) (c : ℕ) (f : Fragment) (r : 
 
 pub queue_same : (p r : PoolView) (t : TrainView) → Beside p r t → IsQueue p t → IsQueue r t
 queue_same p r t b is =
-    let e : fragments r t ≡ fragments p t = ap (map fragment_in) b.cars in
+    let e : fragments r t ≡ fragments p t = ap (map fragment_in) b.queued_packets in
     record { held = b.held; apart = subst (Apart 0) (sym e) is.apart; small = subst (AllEnd 65515) (sym e) is.small }
 
 pub covered_in : (p r : PoolView) (t : TrainView) (i c : ℕ) (f : Fragment) → IsQueue p t → IsLive p c → times c (numbers p t) ≡ 0 → AllUpto f.offset (take i (fragments p t)) → AllAbove f.offset (drop i (fragments p t))
@@ -151,7 +151,7 @@ covered_in p r t i c f is live apart upto above none gone =
     let whole : take i (fragments p t) ++ drop i (fragments p t) ≡ fragments p t = take-append-drop i (fragments p t) in
     record {
       covered = ap (λ (zs : List Fragment). is_covered (map_of zs) f) (sym whole) ∙ covered_yes f (take i (fragments p t)) (drop i (fragments p t)) w' none;
-      queue_is = ap (map queued_of) b.cars;
+      queue_is = ap (map queued_of) b.queued_packets;
       is = queue_same p r t b is;
       moves = moves_beside (c ∷ numbers p t) (numbers r t) (numbers p t) (moves_without p r c live gone) (λ k. omega arith) (λ k. omega (arith, ap (times k) b.numbers));
     }

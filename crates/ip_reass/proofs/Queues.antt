@@ -88,7 +88,7 @@ leaves_here k f qs i q Kept now l n e h = h ∙ sym (laid_here k f qs i l n e)
 leaves_here k f qs i q (Whole c x) now l n e h = (h.0 ∙ ap (λ (fs : List QueuedFragment). joined (laid f fs)) (sym (under_here k f qs i l n e)), h.1 ∙ sym (without_here k f qs i l n e))
 leaves_here k f qs i q (Dropped why) now l n e h = h.0
 
--- and where a new one stands behind the others
+-- and where a new one stands after the others
 set_end : {X : Type 0} (xs : List X) (x y : X) → set (xs ++ x ∷ []) (length xs) y ≡ xs ++ y ∷ []
 set_end [] x y = refl
 set_end (z ∷ zs) x y = ap (λ ws. z ∷ ws) (set_end zs x y)

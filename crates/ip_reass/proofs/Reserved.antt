@@ -6,7 +6,7 @@ use Rattle.flat_model.specs.Weight.{Weight, ◌⊕◌}
 use Rattle.flat_model.specs.Overlay.{Fragment}
 use Rattle.flat_model.specs.State.{State, Key, Unfinished, is_key, begun, begin_unfinished}
 use Rattle.flat_model.specs.Count.{counted}
-use Rattle.flat_model.specs.Ledger.{exact_ledger, Affords, need_mbufs}
+use Rattle.flat_model.specs.Ledger.{exact_ledger, HasBuffers, need_mbufs}
 use Rattle.flat_model.specs.Arrival.{Lays}
 use Rattle.flat_model.specs.declared.counters.Counters.{Counters}
 use Rattle.flat_model.specs.declared.counters.Why.TheVariants.{NoBufs}
@@ -67,12 +67,12 @@ freed p q r ds es c st is gone =
 
 -- ---- the two ends of the test for a key's mbuf
 pub lacking : (rest : State) (held : Weight) (new : State) (k : Key) (f : Fragment) (w : Weight) (p q r : PoolView) (ds es : List Datagram) (c mid d : Counters) (result : Arrival) (answer : Bool) → answer ≡ false
-    → Affords exact_ledger (machine p ds c rest) (held ⊕ w) (need_mbufs 1) answer (machine q es mid rest) → unfinished r es ≡ unfinished q es → d ≡ counted NoBufs mid → new ≡ machine r es d rest → BeginsAt p ds c k f w result r es d rest held new
+    → HasBuffers exact_ledger (machine p ds c rest) (held ⊕ w) (need_mbufs 1) answer (machine q es mid rest) → unfinished r es ≡ unfinished q es → d ≡ counted NoBufs mid → new ≡ machine r es d rest → BeginsAt p ds c k f w result r es d rest held new
 lacking rest held new k f w p q r ds es c mid d result answer refused af shows counts is = record {
   tests = record {
     answer = answer;
     mid = machine q es mid rest;
-    affords = af;
+    has_buffers = af;
     goes_on = record {
       yes = λ e. absurd (false≢true (sym refused ∙ e));
       no = λ e. is ∙ (λ j. record rest { unfinished = shows j; counters = counts j });
@@ -82,7 +82,7 @@ lacking rest held new k f w p q r ds es c mid d result answer refused af shows c
 
 -- what is left of the datagrams after a test
 pub none_then : (rest : State) (w : Weight) (k : Key) (p q : PoolView) (ds es : List Datagram) (c mid : Counters) (answer : Bool) → find (is_key k) (unfinished p ds) ≡ None
-    → Affords exact_ledger (machine p ds c rest) w (need_mbufs 1) answer (machine q es mid rest) → count_by (is_key k) (unfinished q es) ≡ 0
+    → HasBuffers exact_ledger (machine p ds c rest) w (need_mbufs 1) answer (machine q es mid rest) → count_by (is_key k) (unfinished q es) ≡ 0
 none_then rest w k p q ds es c mid true none (inl a) = ap (λ (s : State). count_by (is_key k) s.unfinished) a.1 ∙ none_found (is_key k) (unfinished p ds) none
 none_then rest w k p q ds es c mid true none (inr a) = ap (λ (s : State). count_by (is_key k) s.unfinished) a.1
 none_then rest w k p q ds es c mid false none a = ap (λ (s : State). count_by (is_key k) s.unfinished) a.1
@@ -114,7 +114,7 @@ began p q ds es n h i k is owns adds e i_is =
     }
 
 pub begins_here : (rest : State) (held : Weight) (new : State) (k : Key) (w : Weight) (p q r : PoolView) (ds es hs : List Datagram) (c mid d : Counters) (n i offset : ℕ) (more : Bool) (result : Arrival) (t : PoolView) (ts : List Datagram) (answer : Bool) → answer ≡ true
-    → find (is_key k) (unfinished p ds) ≡ None → Affords exact_ledger (machine p ds c rest) (held ⊕ w) (need_mbufs 1) answer (machine q es mid rest) → chain_of r n ≡ chain_of p n → Began q es n k r hs i
+    → find (is_key k) (unfinished p ds) ≡ None → HasBuffers exact_ledger (machine p ds c rest) (held ⊕ w) (need_mbufs 1) answer (machine q es mid rest) → chain_of r n ≡ chain_of p n → Began q es n k r hs i
     → (is_key k (unfinished_of r (datagram_at hs i)) ≡ true → count_by (is_key k) (unfinished r hs) ≤ 1 → Lays exact_ledger held k (fragment_of (arrived r n offset more)) (unfinished_of r (datagram_at hs i)) (machine r hs mid rest) new)
     → BeginsAt p ds c k (fragment_of (arrived p n offset more)) w result t ts d rest held new
 begins_here rest held new k w p q r ds es hs c mid d n i offset more result t ts answer agrees none af chain b step =
@@ -133,7 +133,7 @@ begins_here rest held new k w p q r ds es hs c mid d n i offset more result t ts
       tests = record {
         answer = answer;
         mid = machine q es mid rest;
-        affords = af;
+        has_buffers = af;
         goes_on = record {
           yes = λ e. c';
           no = λ e. absurd (false≢true (sym e ∙ agrees));

@@ -5,9 +5,9 @@ use Rattle.std.proofs.lemmas.List.{get_or-map, drop_all, set_split, length-map, 
 use Rattle.flat_model.specs.Overlay.{Fragment}
 use Rattle.mbuf_chain.specs.Chain.{Entry, ChainView, PoolView, IsLive, chain_of, with_chain}
 use Rattle.mbuf_chain.specs.Owners.{times, Moves}
-use Rattle.mbuf_chain.specs.Train.{TrainView, Car, no_car, car_at, numbers, cars, IsHeld}
+use Rattle.mbuf_chain.specs.Train.{TrainView, QueuedPacket, no_queued_packet, queued_packet_at, numbers, queued_packets, IsHeld}
 use Rattle.mbuf_chain.proofs.Laws.Owners.{moves_trans, moves_beside, moves_with, live_with, shown_with}
-use Rattle.mbuf_chain.proofs.Laws.Trains.{Beside, beside_with, FreedCar, length-cars}
+use Rattle.mbuf_chain.proofs.Laws.Trains.{Beside, beside_with, FreedPacket, length-queued_packets}
 use Rattle.chain_ops.specs.Trims.{without_first}
 use Rattle.ip_reass.specs.Fragments.{QueuedFragment, queued_of, queued, queued_end, cut, cut_to, fragment_of, fragment_in, fragments, AllEnd}
 use Rattle.ip_reass.specs.Inside.{queued_at, no_queued}
@@ -15,18 +15,18 @@ use Rattle.ip_reass.proofs.Edits.{insert_remove, take-remove, drop-remove, map-r
 
 -- ---- fragments by place
 pub length-queued : (p : PoolView) (t : TrainView) → IsHeld p t → length (queued p t) ≡ t.len
-length-queued p t h = length-map (cars p t) queued_of ∙ length-cars p t h
+length-queued p t h = length-map (queued_packets p t) queued_of ∙ length-queued_packets p t h
 
-pub queued_is : (p : PoolView) (t : TrainView) (i : ℕ) → IsHeld p t → i < t.len → queued_at (queued p t) i ≡ queued_of (car_at p t i)
-queued_is p t i h l = get_or-map queued_of (cars p t) i no_car no_queued (omega (arith, length-cars p t h))
+pub queued_is : (p : PoolView) (t : TrainView) (i : ℕ) → IsHeld p t → i < t.len → queued_at (queued p t) i ≡ queued_of (queued_packet_at p t i)
+queued_is p t i h l = get_or-map queued_of (queued_packets p t) i no_queued_packet no_queued (omega (arith, length-queued_packets p t h))
 
 -- the fragments of a queue
 pub fragments_are : (p : PoolView) (t : TrainView) → fragments p t ≡ map fragment_of (queued p t)
-fragments_are p t = go (cars p t)
+fragments_are p t = go (queued_packets p t)
   where
-    go : (cs : List Car) → map fragment_in cs ≡ map fragment_of (map queued_of cs)
+    go : (cs : List QueuedPacket) → map fragment_in cs ≡ map fragment_of (map queued_of cs)
     go [] = refl
-    go (car ∷ cs) = ap (λ (fs : List Fragment). fragment_in car ∷ fs) (go cs)
+    go (queued_packet ∷ cs) = ap (λ (fs : List Fragment). fragment_in queued_packet ∷ fs) (go cs)
 
 abbrev pub AllWithin : ℕ → List QueuedFragment → Type 0
 AllWithin n [] = Unit {0}
@@ -44,11 +44,11 @@ AllWithin-remove n (q ∷ qs) zero a = a.1
 AllWithin-remove n (q ∷ qs) (suc i) a = (a.0, AllWithin-remove n qs i a.1)
 
 pub within_of : (n : ℕ) (p : PoolView) (t : TrainView) → AllEnd n (fragments p t) → AllWithin n (queued p t)
-within_of n p t a = go (cars p t) a
+within_of n p t a = go (queued_packets p t) a
   where
-    go : (cs : List Car) → AllEnd n (map fragment_in cs) → AllWithin n (map queued_of cs)
+    go : (cs : List QueuedPacket) → AllEnd n (map fragment_in cs) → AllWithin n (map queued_of cs)
     go [] a = tt
-    go (car ∷ cs) a = (a.0, go cs a.1)
+    go (queued_packet ∷ cs) a = (a.0, go cs a.1)
 
 pub queued_cut : (c n tag : ℕ) (es : List Entry) → queued_of (record { number = c; entries = without_first n es; tag = tag + 2 * n }) ≡ cut n (queued_of (record { number = c; entries = es; tag = tag }))
 queued_cut c n tag es =
@@ -57,8 +57,8 @@ queued_cut c n tag es =
     λ i. record { offset = half i; more = eqb (odd i) 1; entries = without_first n es }
 
 -- ---- a fragment freed
-pub queue_freed : (p q r : PoolView) (t u : TrainView) (i : ℕ) → FreedCar p t q r u → cars q u ≡ remove (cars p t) i → queued r u ≡ remove (queued p t) i
-queue_freed p q r t u i f gone = ap (map queued_of) (f.cars ∙ gone) ∙ map-remove queued_of (cars p t) i
+pub queue_freed : (p q r : PoolView) (t u : TrainView) (i : ℕ) → FreedPacket p t q r u → queued_packets q u ≡ remove (queued_packets p t) i → queued r u ≡ remove (queued p t) i
+queue_freed p q r t u i f gone = ap (map queued_of) (f.queued_packets ∙ gone) ∙ map-remove queued_of (queued_packets p t) i
 
 pub fragments_freed : (p r : PoolView) (t u : TrainView) (i : ℕ) → queued r u ≡ remove (queued p t) i → fragments r u ≡ remove (fragments p t) i
 fragments_freed p r t u i e =
@@ -70,7 +70,7 @@ pub record Changed (q : PoolView) (u : TrainView) (c : ℕ) (v : ChainView) (r :
   pub shown : chain_of r c ≡ v
   pub held : IsHeld r u
   pub apart : times c (numbers r u) ≡ 0
-  pub cars_are : cars r u ≡ cars q u
+  pub queued_packets_are : queued_packets r u ≡ queued_packets q u
   pub moves : Moves q (c ∷ numbers q u) r (c ∷ numbers r u)
 
 pub changed : (q r : PoolView) (u : TrainView) (c : ℕ) (v : ChainView) → IsLive q c → times c (numbers q u) ≡ 0 → IsHeld q u → r ≡ with_chain q c v → Changed q u c v r
@@ -81,7 +81,7 @@ changed q r u c v live apart holds is =
       shown = shown_with q r c v is;
       held = b.held;
       apart = ap (times c) b.numbers ∙ apart;
-      cars_are = b.cars;
+      queued_packets_are = b.queued_packets;
       moves = moves_beside (c ∷ numbers q u) (c ∷ numbers r u) (numbers q u) (moves_with q r c v live is) (λ k. omega arith) (λ k. omega (arith, ap (times k) b.numbers));
     }
 
@@ -90,18 +90,18 @@ pub record Trimmed (p : PoolView) (t : TrainView) (i n : ℕ) (s : PoolView) (w 
   pub queue_is : queued s w ≡ set (queued p t) i (cut n (queued_at (queued p t) i))
   pub moves : Moves p (numbers p t) s (numbers s w)
 
-pub trimmed_at : (p q r s : PoolView) (t u w : TrainView) (c i n tag : ℕ) → i < t.len → IsHeld p t → cars q u ≡ remove (cars p t) i → car_at p t i ≡ record { number = c; entries = (chain_of q c).entries; tag = tag } → Moves p (numbers p t) q (c ∷ numbers q u)
-    → Changed q u c (record (chain_of q c) { entries = without_first n (chain_of q c).entries }) r → cars s w ≡ insert (cars r u) i (record { number = c; entries = (chain_of r c).entries; tag = tag + 2 * n }) → Moves r (c ∷ numbers r u) s (numbers s w) → Trimmed p t i n s w
+pub trimmed_at : (p q r s : PoolView) (t u w : TrainView) (c i n tag : ℕ) → i < t.len → IsHeld p t → queued_packets q u ≡ remove (queued_packets p t) i → queued_packet_at p t i ≡ record { number = c; entries = (chain_of q c).entries; tag = tag } → Moves p (numbers p t) q (c ∷ numbers q u)
+    → Changed q u c (record (chain_of q c) { entries = without_first n (chain_of q c).entries }) r → queued_packets s w ≡ insert (queued_packets r u) i (record { number = c; entries = (chain_of r c).entries; tag = tag + 2 * n }) → Moves r (c ∷ numbers r u) s (numbers s w) → Trimmed p t i n s w
 trimmed_at p q r s t u w c i n tag place held gone took moved change put moves =
-    let within : i < length (cars p t) = omega (arith, length-cars p t held) in
+    let within : i < length (queued_packets p t) = omega (arith, length-queued_packets p t held) in
     let within' : i < length (queued p t) = omega (arith, length-queued p t held) in
     let was : queued_at (queued p t) i ≡ queued_of (record { number = c; entries = (chain_of q c).entries; tag = tag }) = queued_is p t i held place ∙ ap queued_of took in
     let is : queued_of (record { number = c; entries = (chain_of r c).entries; tag = tag + 2 * n }) ≡ cut n (queued_at (queued p t) i) =
     ap (λ (v : ChainView). queued_of (record { number = c; entries = v.entries; tag = tag + 2 * n })) change.shown ∙ (queued_cut c n tag (chain_of q c).entries ∙ ap (cut n) (sym was)) in
     record {
       queue_is =
-          ap (map queued_of) (put ∙ ap (λ (xs : List Car). insert xs i (record { number = c; entries = (chain_of r c).entries; tag = tag + 2 * n })) (change.cars_are ∙ gone))
-          ∙ (map-insert queued_of (remove (cars p t) i) i _ ∙ (ap (λ (xs : List QueuedFragment). insert xs i (queued_of (record { number = c; entries = (chain_of r c).entries; tag = tag + 2 * n }))) (map-remove queued_of (cars p t) i)
+          ap (map queued_of) (put ∙ ap (λ (xs : List QueuedPacket). insert xs i (record { number = c; entries = (chain_of r c).entries; tag = tag + 2 * n })) (change.queued_packets_are ∙ gone))
+          ∙ (map-insert queued_of (remove (queued_packets p t) i) i _ ∙ (ap (λ (xs : List QueuedFragment). insert xs i (queued_of (record { number = c; entries = (chain_of r c).entries; tag = tag + 2 * n }))) (map-remove queued_of (queued_packets p t) i)
           ∙ (insert_remove (queued p t) i _ within' ∙ ap (set (queued p t) i) is)));
       moves = moves_trans moved (moves_trans change.moves moves);
     }

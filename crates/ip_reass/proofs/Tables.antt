@@ -76,7 +76,7 @@ emptied p q d owns holds is =
     let b : Beside p q d.fragments = beside_without p q d.holder d.fragments is (apart_first p d.holder (numbers p d.fragments) owns) holds in
     record {
       held_q = b.held;
-      queue_is = ap (map queued_of) b.cars;
+      queue_is = ap (map queued_of) b.queued_packets;
       moves = moves_beside (held p d) (numbers q d.fragments) (numbers p d.fragments) (moves_without p q d.holder (live_first p d.holder (numbers p d.fragments) owns) is) (λ k. omega arith) (λ k. omega (arith, ap (times k) b.numbers));
     }
 

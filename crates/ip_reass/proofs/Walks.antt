@@ -3,17 +3,17 @@ use Rattle.std.proofs.Common.{◌≡◌, ℕ, zero, suc, ◌+◌, ◌/◌, ◌%�
 use Rattle.std.proofs.lemmas.List.{get_or-map, length-map}
 use Rattle.flat_model.specs.Overlay.{Fragment}
 use Rattle.mbuf_chain.specs.Chain.{PoolView, flat_bytes}
-use Rattle.mbuf_chain.specs.Train.{TrainView, no_car, car_at, cars, IsHeld}
-use Rattle.mbuf_chain.proofs.Laws.Trains.{length-cars}
+use Rattle.mbuf_chain.specs.Train.{TrainView, no_queued_packet, queued_packet_at, queued_packets, IsHeld}
+use Rattle.mbuf_chain.proofs.Laws.Trains.{length-queued_packets}
 use Rattle.ip_reass.specs.Fragments.{fragment_in, fragments, end_of, Apart, AllEnd}
 use Rattle.ip_reass.specs.Inside.{fragment_at, no_fragment, reach, AllUpto, AllAbove}
 
 -- ---- fragments by place
 pub length-fragments : (p : PoolView) (t : TrainView) → IsHeld p t → length (fragments p t) ≡ t.len
-length-fragments p t h = length-map (cars p t) fragment_in ∙ length-cars p t h
+length-fragments p t h = length-map (queued_packets p t) fragment_in ∙ length-queued_packets p t h
 
-pub fragment_is : (p : PoolView) (t : TrainView) (i : ℕ) → IsHeld p t → i < t.len → fragment_at (fragments p t) i ≡ fragment_in (car_at p t i)
-fragment_is p t i h l = get_or-map fragment_in (cars p t) i no_car no_fragment (omega (arith, length-cars p t h))
+pub fragment_is : (p : PoolView) (t : TrainView) (i : ℕ) → IsHeld p t → i < t.len → fragment_at (fragments p t) i ≡ fragment_in (queued_packet_at p t i)
+fragment_is p t i h l = get_or-map fragment_in (queued_packets p t) i no_queued_packet no_fragment (omega (arith, length-queued_packets p t h))
 
 pub end_at : (n : ℕ) (ps : List Fragment) (i : ℕ) → AllEnd n ps → i < length ps → end_of (fragment_at ps i) ≤ n
 end_at n [] i a l = absurd (omega arith)
@@ -65,11 +65,11 @@ found_more a i n e f ps h l m is is_n =
     subst (λ (k : ℕ). Found a k f ps) s (record { upto = upto_more a i ps h.upto l m; end = is ∙ sym (reach_take 0 i ps l) })
 
 -- ---- what a walk reads
-pub starts_at : (p : PoolView) (t : TrainView) (i tag : ℕ) → IsHeld p t → i < t.len → tag ≡ (car_at p t i).tag → tag / 2 ≡ (fragment_at (fragments p t) i).offset
+pub starts_at : (p : PoolView) (t : TrainView) (i tag : ℕ) → IsHeld p t → i < t.len → tag ≡ (queued_packet_at p t i).tag → tag / 2 ≡ (fragment_at (fragments p t) i).offset
 starts_at p t i tag h l e = ap (λ (n : ℕ). n / 2) e ∙ ap (λ (q : Fragment). q.offset) (sym (fragment_is p t i h l))
 
-pub ends_at : (p : PoolView) (t : TrainView) (i tag n : ℕ) → IsHeld p t → i < t.len → tag ≡ (car_at p t i).tag → n ≡ length (flat_bytes (car_at p t i).entries) → tag / 2 + n ≡ end_of (fragment_at (fragments p t) i)
+pub ends_at : (p : PoolView) (t : TrainView) (i tag n : ℕ) → IsHeld p t → i < t.len → tag ≡ (queued_packet_at p t i).tag → n ≡ length (flat_bytes (queued_packet_at p t i).entries) → tag / 2 + n ≡ end_of (fragment_at (fragments p t) i)
 ends_at p t i tag n h l e f = omega (arith, starts_at p t i tag h l e, f, ap (λ (q : Fragment). length q.bytes) (fragment_is p t i h l))
 
-pub more_at : (p : PoolView) (t : TrainView) (i tag : ℕ) → IsHeld p t → i < t.len → tag ≡ (car_at p t i).tag → eqb (tag % 2) 1 ≡ (fragment_at (fragments p t) i).more
+pub more_at : (p : PoolView) (t : TrainView) (i tag : ℕ) → IsHeld p t → i < t.len → tag ≡ (queued_packet_at p t i).tag → eqb (tag % 2) 1 ≡ (fragment_at (fragments p t) i).more
 more_at p t i tag h l e = ap (λ (n : ℕ). eqb (n % 2) 1) e ∙ ap (λ (q : Fragment). q.more) (sym (fragment_is p t i h l))

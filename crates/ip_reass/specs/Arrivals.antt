@@ -7,7 +7,7 @@ use Rattle.flat_model.specs.Header.{Head}
 use Rattle.flat_model.specs.Overlay.{Fragment}
 use Rattle.flat_model.specs.State.{State, Key, is_key, begun, begin_unfinished}
 use Rattle.flat_model.specs.Count.{counted}
-use Rattle.flat_model.specs.Ledger.{exact_ledger, Affords, need_mbufs}
+use Rattle.flat_model.specs.Ledger.{exact_ledger, HasBuffers, need_mbufs}
 use Rattle.flat_model.specs.Arrival.{Origin, By_wire, Looped, Tests, Lays, WholeArrives}
 use Rattle.flat_model.specs.declared.counters.Counters.{Counters}
 use Rattle.flat_model.specs.declared.counters.Why.TheVariants.{NoBufs}
@@ -32,7 +32,7 @@ flat_head h = record { id = h.id; more = h.more; offset = h.offset; protocol = h
 abbrev pub key_in : IpHead → Key
 key_in h = record { source = h.src; destination = h.dst; id = h.id; protocol = h.proto }
 
--- what a packet carries behind its IP header, with the weight of its chain
+-- what a packet carries after its IP header, with the weight of its chain
 abbrev pub carried_at : PoolView → ℕ → Item
 carried_at p c = record { bytes = drop IP_HEADER (string (chain_of p c)); weight = weight_at p c }
 
@@ -81,7 +81,7 @@ pub record BeginsAt (p : PoolView) (ds : List Datagram) (c : Counters) (k : Key)
 -- The header of chain v was pulled up: from p, ds and counters c on to q, es and d.
 pub record IsPulled (p : PoolView) (ds : List Datagram) (c : Counters) (w : Weight) (answer : Bool) (q : PoolView) (es : List Datagram) (d : Counters) (rest : State) (held : Weight) : Type 0 where
   pub mid : Counters
-  pub affords : Affords exact_ledger (machine p ds c rest) (held ⊕ w) (need_mbufs 1) answer (machine q es mid rest)
+  pub has_buffers : HasBuffers exact_ledger (machine p ds c rest) (held ⊕ w) (need_mbufs 1) answer (machine q es mid rest)
   pub counts : d ≡ (if answer then mid else counted NoBufs mid)
 
 -- ---- layouts

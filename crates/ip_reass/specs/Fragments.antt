@@ -6,7 +6,7 @@ use Rattle.chain_ops.specs.Trims.{without_first}
 use Rattle.chain_ops.specs.Joins.{cat}
 use Rattle.flat_model.specs.Overlay.{Piece, Held, Map, Fragment}
 use Rattle.mbuf_chain.specs.Chain.{Entry, PoolView, flat_bytes}
-use Rattle.mbuf_chain.specs.Train.{Car, TrainView, cars, IsHeld}
+use Rattle.mbuf_chain.specs.Train.{QueuedPacket, TrainView, queued_packets, IsHeld}
 use Rattle.ledger.specs.Accounts.{weight_of}
 
 -- ---- a queue of fragments
@@ -22,12 +22,12 @@ abbrev pub fragment_of : QueuedFragment → Fragment
 fragment_of q = record { offset = q.offset; bytes = flat_bytes q.entries; more = q.more; weight = weight_of q.entries }
 
 -- a chain in a train of fragments: its tag is the offset times 2, plus 1 where more come after it
-abbrev pub queued_of : Car → QueuedFragment
-queued_of car = record { offset = car.tag / 2; more = car.tag % 2 == 1; entries = car.entries }
+abbrev pub queued_of : QueuedPacket → QueuedFragment
+queued_of queued_packet = record { offset = queued_packet.tag / 2; more = queued_packet.tag % 2 == 1; entries = queued_packet.entries }
 
 -- the fragments of a train, in order
 abbrev pub queued : PoolView → TrainView → List QueuedFragment
-queued p t = map queued_of (cars p t)
+queued p t = map queued_of (queued_packets p t)
 
 -- the first offset after a queued fragment
 abbrev pub queued_end : QueuedFragment → ℕ
@@ -54,24 +54,24 @@ laid_after end f (q ∷ qs) =
 abbrev pub laid : QueuedFragment → List QueuedFragment → List QueuedFragment
 laid f qs = laid_after 0 f qs
 
--- entries, and the queued fragments joined behind them one after another (`m_cat`)
-abbrev pub joined_behind : List Entry → List QueuedFragment → List Entry
-joined_behind es [] = es
-joined_behind es (q ∷ qs) = joined_behind (cat es q.entries) qs
+-- entries, and the queued fragments joined after them one after another (`m_cat`)
+abbrev pub joined_after : List Entry → List QueuedFragment → List Entry
+joined_after es [] = es
+joined_after es (q ∷ qs) = joined_after (cat es q.entries) qs
 
 -- the mbufs of the queue's fragments, joined in order
 abbrev pub joined : List QueuedFragment → List Entry
 joined [] = []
-joined (q ∷ qs) = joined_behind q.entries qs
+joined (q ∷ qs) = joined_after q.entries qs
 
 -- ---- what the flat machine sees of it
 
 -- the fragments of a train
-abbrev pub fragment_in : Car → Fragment
-fragment_in car = fragment_of (queued_of car)
+abbrev pub fragment_in : QueuedPacket → Fragment
+fragment_in queued_packet = fragment_of (queued_of queued_packet)
 
 abbrev pub fragments : PoolView → TrainView → List Fragment
-fragments p t = map fragment_in (cars p t)
+fragments p t = map fragment_in (queued_packets p t)
 
 -- the first offset after a fragment
 abbrev pub end_of : Fragment → ℕ

@@ -5,8 +5,8 @@ use Rattle.chain_ops.specs.Weights.{AreFit}
 use Rattle.flat_model.specs.Weight.{nothing}
 use Rattle.flat_model.specs.Overlay.{Fragment}
 use Rattle.mbuf_chain.specs.Chain.{PoolView, chain_of}
-use Rattle.mbuf_chain.specs.Train.{TrainView, IsCar}
-use Rattle.mbuf_chain.specs.declared.car.CarPlace.{CarPlace}
+use Rattle.mbuf_chain.specs.Train.{TrainView, IsQueuedPlace}
+use Rattle.mbuf_chain.specs.declared.queued_packet.QueuedPlace.{QueuedPlace}
 use Rattle.ip_reass.specs.Fragments.{QueuedFragment, end_of}
 
 -- a chain as a fragment that begins at the offset
@@ -14,14 +14,14 @@ abbrev pub arrived : PoolView → ℕ → ℕ → Bool → QueuedFragment
 arrived p c offset more = record { offset = offset; more = more; entries = (chain_of p c).entries }
 
 -- a place among the fragments of a train, told by the one in front of it, where there is one
-abbrev pub IsFront : PoolView → TrainView → Option CarPlace → Type 0
+abbrev pub IsFront : PoolView → TrainView → Option QueuedPlace → Type 0
 IsFront p t None = Unit {0}
-IsFront p t (Some at) = IsCar p t at
+IsFront p t (Some at) = IsQueuedPlace p t at
 
 -- how many fragments stand in front of it
-abbrev pub behind : Option CarPlace → ℕ
-behind None = 0
-behind (Some at) = at.index + 1
+abbrev pub after : Option QueuedPlace → ℕ
+after None = 0
+after (Some at) = at.index + 1
 
 -- where the last one ends
 abbrev pub reach : ℕ → List Fragment → ℕ

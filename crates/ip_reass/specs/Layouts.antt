@@ -31,7 +31,7 @@ goes_by k q = (q.key.source == k.source) && (q.key.destination == k.destination)
 abbrev pub with_laid : QueuedFragment → KeyedQueue → KeyedQueue
 with_laid f q = record { key = q.key; fragments = laid f q.fragments }
 
--- a fragment laid in the queue with its key, or in a new one behind the others
+-- a fragment laid in the queue with its key, or in a new one after the others
 abbrev pub laid_under : Key → QueuedFragment → List KeyedQueue → List KeyedQueue
 laid_under k f [] = with_laid f (record { key = k; fragments = [] }) ∷ []
 laid_under k f (q ∷ qs) = if goes_by k q then with_laid f q ∷ qs else q ∷ laid_under k f qs

@@ -8,9 +8,9 @@ use Rattle.flat_model.specs.Whole.{weight_of_pieces}
 use Rattle.mbuf_chain.specs.Chain.{PoolView}
 use Rattle.mbuf_chain.specs.Owners.{IsOwned}
 use Rattle.mbuf_chain.specs.Frames.{SameAt}
-use Rattle.mbuf_chain.specs.Train.{TrainView, car_of, numbers, cars}
+use Rattle.mbuf_chain.specs.Train.{TrainView, queued_packet_of, numbers, queued_packets}
 use Rattle.mbuf_chain.proofs.Laws.Owners.{times-append, times_same, chain_same, same_part, owned_same}
-use Rattle.mbuf_chain.specs.Kept.{numbers_same, cars_same, held_same}
+use Rattle.mbuf_chain.specs.Kept.{numbers_same, queued_packets_same, held_same}
 use Rattle.ledger.specs.Accounts.{weight_of, weight_at, weight_owned}
 use Rattle.flat_model.proofs.Laws.{times-both, all_of-append}
 use Rattle.flat_model.specs.Overlay.{Fragment}
@@ -30,7 +30,7 @@ length-unfinished p ds = length-map ds (unfinished_of p)
 -- ---- a step of somebody else
 queue_same : (p q : PoolView) (t : TrainView) → SameAt p q (numbers p t) → IsQueue p t → IsQueue q t
 queue_same p q t s is =
-    let e : fragments q t ≡ fragments p t = ap (map fragment_in) (cars_same p q t s) in
+    let e : fragments q t ≡ fragments p t = ap (map fragment_in) (queued_packets_same p q t s) in
     record { held = held_same p q t s is.held; apart = subst (Apart 0) (sym e) is.apart; small = subst (AllEnd 65515) (sym e) is.small }
 
 first_same : (p q : PoolView) (d : Datagram) (ds : List Datagram) → SameAt p q (held_all p (d ∷ ds)) → SameAt p q (held p d)
@@ -70,22 +70,22 @@ ready_same p q r s is = record { table = table_same p q r.datagrams s is.table; 
 pub unfinished_same : (p q : PoolView) (ds : List Datagram) → SameAt p q (held_all p ds) → unfinished q ds ≡ unfinished p ds
 unfinished_same p q [] s = refl
 unfinished_same p q (d ∷ ds) s =
-    let one : cars q d.fragments ≡ cars p d.fragments = cars_same p q d.fragments (train_same p q d (first_same p q d ds s)) in
+    let one : queued_packets q d.fragments ≡ queued_packets p d.fragments = queued_packets_same p q d.fragments (train_same p q d (first_same p q d ds s)) in
     λ j. record { key = (unfinished_of p d).key; ticks = d.ticks; bytes = map_of (map fragment_in (one j)) } ∷ unfinished_same p q ds (rest_same p q d ds s) j
 
 pub queues_same : (p q : PoolView) (ds : List Datagram) → SameAt p q (held_all p ds) → queues q ds ≡ queues p ds
 queues_same p q [] s = refl
 queues_same p q (d ∷ ds) s =
-    let one : cars q d.fragments ≡ cars p d.fragments = cars_same p q d.fragments (train_same p q d (first_same p q d ds s)) in
+    let one : queued_packets q d.fragments ≡ queued_packets p d.fragments = queued_packets_same p q d.fragments (train_same p q d (first_same p q d ds s)) in
     λ j. record { key = d.key; fragments = map queued_of (one j) } ∷ queues_same p q ds (rest_same p q d ds s) j
 
 -- ---- what they weigh
-cars_weigh : (p : PoolView) (xs : List ℕ) → all_of (λ (q : Fragment). q.weight) (map fragment_in (map (car_of p) xs)) ≡ weight_owned p xs
-cars_weigh p [] = refl
-cars_weigh p (x ∷ xs) = ap (λ (w : Weight). weight_at p x ⊕ w) (cars_weigh p xs)
+queued_packets_weigh : (p : PoolView) (xs : List ℕ) → all_of (λ (q : Fragment). q.weight) (map fragment_in (map (queued_packet_of p) xs)) ≡ weight_owned p xs
+queued_packets_weigh p [] = refl
+queued_packets_weigh p (x ∷ xs) = ap (λ (w : Weight). weight_at p x ⊕ w) (queued_packets_weigh p xs)
 
 one_weighs : (p : PoolView) (d : Datagram) → IsUnfinished p d → weight_owned p (held p d) ≡ mbuf ⊕ weight_of_pieces (map_of (fragments p d.fragments))
-one_weighs p d is = λ j. is.holder j ⊕ (sym (cars_weigh p (numbers p d.fragments)) ∙ sym (weight_is (fragments p d.fragments) is.queue.apart is.queue.small)) j
+one_weighs p d is = λ j. is.holder j ⊕ (sym (queued_packets_weigh p (numbers p d.fragments)) ∙ sym (weight_is (fragments p d.fragments) is.queue.apart is.queue.small)) j
 
 -- **the chains weigh what the flat machine says**
 pub table_weighs : (p : PoolView) (ds : List Datagram) → AllUnfinished p ds → SameWeight (weight_owned p (held_all p ds)) (all_of (λ (u : Unfinished). mbuf ⊕ weight_of_pieces u.bytes) (unfinished p ds))

@@ -1,19 +1,23 @@
-//! A place among the fragments of a datagram, told by the fragment in front of it: what stands behind that one is found,
+//! A place among the fragments of a datagram, told by the fragment in front of it: what stands after that one is found,
 //! taken out or put in with no further walk.
 ghost use Rattle.std.specs.Prelude.{◌≡◌, ◌+◌, ◌<◌, ◌∷◌, true, length, insert, remove, MatchOption};
 ghost use Rattle.mbuf_chain.specs.Chain.{IsLive, chain_of, alone};
 ghost use Rattle.mbuf_chain.specs.Owners.{times, Moves};
-ghost use Rattle.mbuf_chain.specs.Train.{cars, car_at, numbers, IsCar, IsHeld};
-ghost use Rattle.ip_reass.specs.Inside.{IsFront, behind};
+ghost use Rattle.mbuf_chain.specs.Train.{queued_packets, queued_packet_at, numbers, IsQueuedPlace, IsHeld};
+ghost use Rattle.ip_reass.specs.Inside.{IsFront, after};
 
-use mbuf_chain::{CarPlace, Chain, Pool, Train};
+use mbuf_chain::{Chain, Pool, QueuedPlace, Train};
 
-/// The place of the fragment behind this one: of the first, where none stands in front.
-pub(crate) fn next_after(pool: &Pool, train: &Train, front: Option<CarPlace>) -> Option<CarPlace>
+/// The place of the fragment after this one: of the first, where none stands in front.
+pub(crate) fn next_after(
+    pool: &Pool,
+    train: &Train,
+    front: Option<QueuedPlace>,
+) -> Option<QueuedPlace>
     requires front { IsFront pool.now train.now front }
     requires held { IsHeld pool.now train.now }
-    ensures { MatchOption result (train.now.len ≡ behind front) (λ at. (at.index ≡ behind front)
-        × IsCar pool.now train.now at) }
+    ensures { MatchOption result (train.now.len ≡ after front) (λ at. (at.index ≡ after front)
+        × IsQueuedPlace pool.now train.now at) }
 {
     match front {
         None => train.first(pool),
@@ -21,17 +25,17 @@ pub(crate) fn next_after(pool: &Pool, train: &Train, front: Option<CarPlace>) ->
     }
 }
 
-/// Takes the fragment behind this one out: its chain and its tag.
+/// Takes the fragment after this one out: its chain and its tag.
 pub(crate) fn take_after(
     pool: &mut Pool,
     train: &mut Train,
-    front: Option<CarPlace>,
+    front: Option<QueuedPlace>,
 ) -> (Chain, u32)
     requires front { IsFront pool.old train.old front }
-    requires more { behind front < train.old.len }
+    requires more { after front < train.old.len }
     requires held { IsHeld pool.old train.old }
-    ensures cars { cars pool.new train.new ≡ remove (cars pool.old train.old) (behind front) }
-    ensures taken { car_at pool.old train.old (behind front) ≡
+    ensures queued_packets { queued_packets pool.new train.new ≡ remove (queued_packets pool.old train.old) (after front) }
+    ensures taken { queued_packet_at pool.old train.old (after front) ≡
         record {
           number = result.0;
           entries = (chain_of pool.new result.0).entries;
@@ -50,11 +54,11 @@ pub(crate) fn take_after(
     }
 }
 
-/// Puts a fragment in behind this one, with a tag.
+/// Puts a fragment in after this one, with a tag.
 pub(crate) fn insert_after(
     pool: &mut Pool,
     train: &mut Train,
-    front: Option<CarPlace>,
+    front: Option<QueuedPlace>,
     chain: Chain,
     tag: u32,
 )
@@ -63,8 +67,8 @@ pub(crate) fn insert_after(
     requires headed { (chain_of pool.old chain).front.header ≡ true }
     requires held { IsHeld pool.old train.old }
     requires apart { times chain (numbers pool.old train.old) ≡ 0 }
-    ensures cars { cars pool.new train.new ≡
-        insert (cars pool.old train.old) (behind front)
+    ensures queued_packets { queued_packets pool.new train.new ≡
+        insert (queued_packets pool.old train.old) (after front)
         (record { number = chain; entries = (chain_of pool.old chain).entries; tag = tag }) }
     ensures front { IsFront pool.new train.new front }
     ensures held { IsHeld pool.new train.new }

@@ -5,22 +5,22 @@ ghost use Rattle.flat_model.specs.Overlay.{overlay, is_covered};
 ghost use Rattle.flat_model.specs.Whole.{IsWhole};
 ghost use Rattle.mbuf_chain.specs.Chain.{IsLive, chain_of, string, alone, flat_bytes};
 ghost use Rattle.mbuf_chain.specs.Owners.{times, Moves};
-ghost use Rattle.mbuf_chain.specs.Train.{numbers, IsCar, IsHeld};
+ghost use Rattle.mbuf_chain.specs.Train.{numbers, IsQueuedPlace, IsHeld};
 ghost use Rattle.ip_reass.specs.Fragments.{AllEnd, IsQueue, cut, cut_to, fragment_of, fragments, joined, laid, map_of, queued, queued_end};
-ghost use Rattle.ip_reass.specs.Inside.{AllAbove, AllUpto, IsFront, arrived, behind, queued_at, reach};
+ghost use Rattle.ip_reass.specs.Inside.{AllAbove, AllUpto, IsFront, arrived, after, queued_at, reach};
 
 use crate::place::{insert_after, next_after, take_after};
-use chain_ops::{cat_behind, trim_front};
-use mbuf_chain::{CarPlace, Chain, Pool, Train};
+use chain_ops::{cat_after, trim_front};
+use mbuf_chain::{Chain, Pool, QueuedPlace, Train};
 use params::{IP_MAX_DATA, IP_MAX_PACKET};
 
 /// The last of the fragments that begin no later than an offset, and where it ends.
-fn find(pool: &Pool, train: &Train, offset: u32) -> (Option<CarPlace>, u32)
+fn find(pool: &Pool, train: &Train, offset: u32) -> (Option<QueuedPlace>, u32)
     requires { IsQueue pool.now train.now }
     ensures front { IsFront pool.now train.now result.0 }
-    ensures upto { AllUpto offset (take (behind result.0) (fragments pool.now train.now)) }
-    ensures above { AllAbove offset (drop (behind result.0) (fragments pool.now train.now)) }
-    ensures end { result.1 ≡ reach 0 (take (behind result.0) (fragments pool.now train.now)) }
+    ensures upto { AllUpto offset (take (after result.0) (fragments pool.now train.now)) }
+    ensures above { AllAbove offset (drop (after result.0) (fragments pool.now train.now)) }
+    ensures end { result.1 ≡ reach 0 (take (after result.0) (fragments pool.now train.now)) }
 {
     let mut front = None;
     let mut end = 0;
@@ -36,8 +36,8 @@ fn find(pool: &Pool, train: &Train, offset: u32) -> (Option<CarPlace>, u32)
 }
 
 /// Where the fragment at a place begins.
-fn begins(pool: &Pool, train: &Train, at: CarPlace) -> u32
-    requires place { IsCar pool.now train.now at }
+fn begins(pool: &Pool, train: &Train, at: QueuedPlace) -> u32
+    requires place { IsQueuedPlace pool.now train.now at }
     requires held { IsHeld pool.now train.now }
     ensures { result ≡ (queued_at (queued pool.now train.now) at.index).offset }
 {
@@ -45,8 +45,8 @@ fn begins(pool: &Pool, train: &Train, at: CarPlace) -> u32
 }
 
 /// The first offset after the fragment at a place.
-fn ends(pool: &Pool, train: &Train, at: CarPlace) -> u32
-    requires place { IsCar pool.now train.now at }
+fn ends(pool: &Pool, train: &Train, at: QueuedPlace) -> u32
+    requires place { IsQueuedPlace pool.now train.now at }
     requires held { IsHeld pool.now train.now }
     requires small { AllEnd IP_MAX_DATA (fragments pool.now train.now) }
     ensures { result ≡ queued_end (queued_at (queued pool.now train.now) at.index) }
@@ -54,12 +54,12 @@ fn ends(pool: &Pool, train: &Train, at: CarPlace) -> u32
     begins(pool, train, at) + train.len_at(pool, at)
 }
 
-/// Takes the fragment behind a place out and frees it.
-fn free_after(pool: &mut Pool, train: &mut Train, front: Option<CarPlace>)
+/// Takes the fragment after a place out and frees it.
+fn free_after(pool: &mut Pool, train: &mut Train, front: Option<QueuedPlace>)
     requires front { IsFront pool.old train.old front }
-    requires more { behind front < train.old.len }
+    requires more { after front < train.old.len }
     requires held { IsHeld pool.old train.old }
-    ensures queue { queued pool.new train.new ≡ remove (queued pool.old train.old) (behind front) }
+    ensures queue { queued pool.new train.new ≡ remove (queued pool.old train.old) (after front) }
     ensures front { IsFront pool.new train.new front }
     ensures held { IsHeld pool.new train.new }
     ensures len { train.new.len + 1 ≡ train.old.len }
@@ -69,15 +69,15 @@ fn free_after(pool: &mut Pool, train: &mut Train, front: Option<CarPlace>)
     pool.free_chain(chain);
 }
 
-/// Cuts the first n bytes off the fragment behind a place, as `m_adj` does.
-fn trim_after(pool: &mut Pool, train: &mut Train, front: Option<CarPlace>, n: u32)
+/// Cuts the first n bytes off the fragment after a place, as `m_adj` does.
+fn trim_after(pool: &mut Pool, train: &mut Train, front: Option<QueuedPlace>, n: u32)
     requires front { IsFront pool.old train.old front }
-    requires more { behind front < train.old.len }
+    requires more { after front < train.old.len }
     requires held { IsHeld pool.old train.old }
     requires small { AllEnd IP_MAX_DATA (fragments pool.old train.old) }
-    requires within { n ≤ length (flat_bytes (queued_at (queued pool.old train.old) (behind front)).entries) }
+    requires within { n ≤ length (flat_bytes (queued_at (queued pool.old train.old) (after front)).entries) }
     ensures queue { queued pool.new train.new ≡
-        slice_set (queued pool.old train.old) (behind front) (cut n (queued_at (queued pool.old train.old) (behind front))) }
+        slice_set (queued pool.old train.old) (after front) (cut n (queued_at (queued pool.old train.old) (after front))) }
     ensures front { IsFront pool.new train.new front }
     ensures held { IsHeld pool.new train.new }
     ensures len { train.new.len ≡ train.old.len }
@@ -89,13 +89,13 @@ fn trim_after(pool: &mut Pool, train: &mut Train, front: Option<CarPlace>, n: u3
     insert_after(pool, train, front, chain, moved);
 }
 
-/// What lies below an offset goes from the fragments behind a place: whole fragments, and the front of one.
-fn clear(pool: &mut Pool, train: &mut Train, front: Option<CarPlace>, end: u32)
+/// What lies below an offset goes from the fragments after a place: whole fragments, and the front of one.
+fn clear(pool: &mut Pool, train: &mut Train, front: Option<QueuedPlace>, end: u32)
     requires front { IsFront pool.old train.old front }
     requires held { IsHeld pool.old train.old }
     requires small { AllEnd IP_MAX_DATA (fragments pool.old train.old) }
     ensures queue { queued pool.new train.new ≡
-        take (behind front) (queued pool.old train.old) ++ cut_to end (drop (behind front) (queued pool.old train.old)) }
+        take (after front) (queued pool.old train.old) ++ cut_to end (drop (after front) (queued pool.old train.old)) }
     ensures front { IsFront pool.new train.new front }
     ensures held { IsHeld pool.new train.new }
     ensures len { train.new.len ≤ train.old.len }
@@ -123,12 +123,12 @@ fn tag_of(offset: u32, more: bool) -> u32
     if more { 2 * offset + 1 } else { 2 * offset }
 }
 
-/// Puts what is left of a chain behind a place, and takes what it holds from the fragments after it.
+/// Puts what is left of a chain after a place, and takes what it holds from the fragments after it.
 fn settle(
     pool: &mut Pool,
     train: &mut Train,
     chain: Chain,
-    front: Option<CarPlace>,
+    front: Option<QueuedPlace>,
     offset: u32,
     skip: u32,
     len: u32,
@@ -144,8 +144,8 @@ fn settle(
     requires left { skip < len }
     requires within { offset + len ≤ IP_MAX_DATA }
     ensures queue { let f = arrived pool.old chain offset more in
-        queued pool.new train.new ≡ take (behind front) (queued pool.old train.old)
-        ++ cut skip f ∷ cut_to (queued_end f) (drop (behind front) (queued pool.old train.old)) }
+        queued pool.new train.new ≡ take (after front) (queued pool.old train.old)
+        ++ cut skip f ∷ cut_to (queued_end f) (drop (after front) (queued pool.old train.old)) }
     ensures held { IsHeld pool.new train.new }
     ensures moves { Moves pool.old (chain ∷ numbers pool.old train.old) pool.new (numbers pool.new train.new) }
 {
@@ -225,7 +225,7 @@ pub(crate) fn join(pool: &mut Pool, train: Train) -> Chain
     let mut last = pool.last(&chain);
     'fragments: while rest.len() > 0 {
         let (next, _) = rest.take(pool, 0);
-        last = cat_behind(pool, &chain, last, next);
+        last = cat_after(pool, &chain, last, next);
     }
     rest.free(pool);
     chain

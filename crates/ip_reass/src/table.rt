@@ -117,7 +117,7 @@ fn free_beyond(pool: &mut Pool, table: &mut Vec<Datagram>, kept: usize)
     }
 }
 
-/// Takes a tick from each, and puts those that have none left behind the others. The answer is how many go on.
+/// Takes a tick from each, and puts those that have none left after the others. The answer is how many go on.
 fn age(table: &mut [Datagram]) -> usize
     ensures within { result ≤ length table.new }
     ensures kept { take result table.new ≡ aged table.old }

@@ -107,7 +107,7 @@ fn three_fragments(rt: HostRuntime) -> Result<(), Fail> {
             b"aaaaaaaaaaaaaaaaaaaaaaaaaaaaaaaacccc----",
             8,
         ),
-        // one with more to come lies behind the last: never whole
+        // one with more to come lies after the last: never whole
         (
             [(8, false, b'b', 8), (16, true, b'c', 8), (0, true, b'a', 8)],
             [Kept, Kept, Kept],

@@ -5,7 +5,7 @@ use Rattle.flat_model.specs.Weight.{Weight, Item, mbuf, nothing, ◌⊕◌, all_
 use Rattle.flat_model.specs.Whole.{weight_of_pieces}
 use Rattle.flat_model.specs.State.{State, Socket, Datagram, Unfinished}
 use Rattle.flat_model.specs.Layout.{Need}
-use Rattle.flat_model.specs.Ledger.{weight_of_state, exact_ledger, Affords, reclaimed}
+use Rattle.flat_model.specs.Ledger.{weight_of_state, exact_ledger, HasBuffers, reclaimed}
 use Rattle.flat_model.specs.declared.counters.Counters.{Counters}
 use Rattle.mbuf_chain.specs.Chain.{PoolView}
 use Rattle.mbuf_chain.specs.Owners.{IsOwned, Moves}
@@ -25,7 +25,7 @@ pub reserves_at_once : {p : PoolView} {need : Need} (s : State) (held : Weight) 
     → Reserves s held need true (record s { unfinished = us; counters = c }) p
 reserves_at_once {p} {need} s held us c enough is_us is_c b =
     subst (λ (m : State). Reserves s held need true m p) (λ i. record s { unfinished = is_us i; counters = is_c i })
-    (record { affords = inl (sym (test_is p s held need b ∙ enough), refl); accounted = b })
+    (record { has_buffers = inl (sym (test_is p s held need b ∙ enough), refl); accounted = b })
 
 -- ---- all that waited is given back, and the test is made once more
 shifts_reclaimed : (p q : PoolView) (s : State) (held : Weight) (waited : List ℕ) → SameWeight (weight_owned p waited) (weight_of_unfinished s.unfinished) → Shifts s held (weight_owned p waited) (reclaimed s) held (weight_owned q [])
@@ -38,11 +38,11 @@ shifts_reclaimed p q s held waited w =
       bag = λ c. omega (arith, w.bag c, times-both c (weight_of_state s) held, times-both c (weight_of_state (reclaimed s)) held, times-both c (queued ⊕ u) out, times-both c queued u, times-both c (queued ⊕ nothing) out, times-both c queued nothing);
     }
 
-affords_again : (p q : PoolView) (s : State) (held : Weight) (need : Need) (answer : Bool) → IsAccounted p s held → IsAccounted q (reclaimed s) held
-    → are_free p need.mbufs need.clusters ≡ false → answer ≡ are_free q need.mbufs need.clusters → Affords exact_ledger s held need answer (reclaimed s)
-affords_again p q s held need true b after lacking is =
+has_buffers_again : (p q : PoolView) (s : State) (held : Weight) (need : Need) (answer : Bool) → IsAccounted p s held → IsAccounted q (reclaimed s) held
+    → are_free p need.mbufs need.clusters ≡ false → answer ≡ are_free q need.mbufs need.clusters → HasBuffers exact_ledger s held need answer (reclaimed s)
+has_buffers_again p q s held need true b after lacking is =
     inr (sym (test_is p s held need b ∙ lacking), refl, is ∙ sym (test_is q (reclaimed s) held need after))
-affords_again p q s held need false b after lacking is =
+has_buffers_again p q s held need false b after lacking is =
     (sym (test_is p s held need b ∙ lacking), refl, is ∙ sym (test_is q (reclaimed s) held need after))
 
 no_length : {A : Type 0} (xs : List A) → length xs ≡ 0 → xs ≡ []
@@ -66,4 +66,4 @@ reserves_again {p} {q} {need} {waited} {us} {vs} {c} {d} s held answer g lacking
     let none : [] ≡ vs = sym (no_length vs g.none) in
     let counted : (reclaimed s).counters ≡ d = (λ i. record (is_c i) { ip_reclaimed = more_by (length (is_us i)) (is_c i).ip_reclaimed }) ∙ sym g.counters in
     subst (λ (m : State). Reserves s held need answer m q) (λ i. record s { unfinished = none i; counters = counted i })
-    (record { affords = affords_again p q s held need answer b after lacking is; accounted = after })
+    (record { has_buffers = has_buffers_again p q s held need answer b after lacking is; accounted = after })

@@ -5,7 +5,7 @@ use Rattle.mbuf_chain.specs.Chain.{PoolView, held_mbufs, free_clusters}
 use Rattle.flat_model.specs.Weight.{Weight}
 use Rattle.flat_model.specs.State.{State}
 use Rattle.flat_model.specs.Layout.{Need}
-use Rattle.flat_model.specs.Ledger.{exact_ledger, Affords}
+use Rattle.flat_model.specs.Ledger.{exact_ledger, HasBuffers}
 use Rattle.ledger.specs.Accounts.{IsAccounted}
 
 -- so many mbufs and clusters are free
@@ -14,5 +14,5 @@ are_free p mbufs clusters = nat_le mbufs (p.mbufs - held_mbufs p) && nat_le clus
 
 -- the exact machine's test of what is needed may have this answer and leave `after`, and q accounts for that
 pub record Reserves (s : State) (held : Weight) (need : Need) (answer : Bool) (after : State) (q : PoolView) : Type 0 where
-  pub affords : Affords exact_ledger s held need answer after
+  pub has_buffers : HasBuffers exact_ledger s held need answer after
   pub accounted : IsAccounted q after held

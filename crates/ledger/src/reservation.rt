@@ -27,7 +27,7 @@ fn are_free(pool: &Pool, mbufs: u32, clusters: u32) -> bool
 /// `true` says that they are free now, so that the caller takes them without a refusal. Nothing is set aside: a call
 /// of somebody else in between may take them.
 ///
-/// After a clause of `Affords` in the definitions of the ledger (`ip_drain` of TCP/IP Illustrated, volume 2, chapter
+/// After a clause of `HasBuffers` in the definitions of the ledger (`ip_drain` of TCP/IP Illustrated, volume 2, chapter
 /// 10). The clause holds for each state whose accounts the pool keeps, and for each weight held beside it.
 pub fn reserve<R: Waiting>(
     pool: &mut Pool,

@@ -9,7 +9,7 @@ use Rattle.flat_model.specs.declared.counters.Counters.{Counters}
 abbrev pub texts : Counters → List Counter → List ℕ
 texts c items = flat_map count_text (map (λ counter. count (counter_name counter) (value_of counter c)) items)
 
--- behind the text of some counters, that of one more
+-- after the text of some counters, that of one more
 pub texts-more : (c : Counters) (items : List Counter) (one : Counter) → texts c (items ++ one ∷ []) ≡ texts c items ++ count_text (count (counter_name one) (value_of one c))
 texts-more c [] one = append-nil _
 texts-more c (item ∷ items) one =

@@ -11,7 +11,7 @@ use Rattle.link_script.specs.Requests.{event_of}
 use Rattle.link_script.specs.declared.request.Request.{Request}
 use Rattle.link_script.proofs.KeywordLemmas.{index-word}
 
--- what a keyword and the words behind it ask for, the line asks for
+-- what a keyword and the words after it ask for, the line asks for
 pub Asks-form : (text name : List ℕ) (word : Keyword) (args : List (List ℕ)) (room : List ℕ) (r : Option Request)
     → length text ≤ 131200 → words text ≡ name ∷ args → name ≡ word_of word → ReadsForm word args room r
     → MatchOption r ((event : Event) → Asks all_events text event → ⊥) (λ request. Asks all_events text (event_of request room))

@@ -1,5 +1,5 @@
 -- The words of the command line (this project's own). How they're cut into options and values is told by crate clap: `fault_of` has
--- the faults that it finds in words, and `subcommand_of` what the words behind a subcommand give.
+-- the faults that it finds in words, and `subcommand_of` what the words after a subcommand give.
 use Rattle.std.specs.Prelude.{◌≡◌, ◌≢◌, ◌⊎◌, ℕ, ◌-◌, true, List, [], length, slice_get, codes, Option, Some, None, Result, Ok, Err}
 use Rattle.clap.specs.Words.{App, Rule, Row, new_app, new_rule, with_rule, with_subcommand, first_of, subcommand_of, fault_of}
 use Rattle.flat_model.specs.Grammar.{IsNumber, IsAddress}

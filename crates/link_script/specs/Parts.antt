@@ -1,4 +1,4 @@
--- What a keyword and the words behind it ask for.
+-- What a keyword and the words after it ask for.
 use Rattle.std.specs.Prelude.{◌≡◌, ℕ, List, Option, Some, None, codes}
 use Rattle.flat_model.specs.Event.{Event}
 use Rattle.flat_model.specs.Grammar.{keyword, HasArguments}
@@ -22,7 +22,7 @@ word_of line.Tick = codes "tick"
 word_of line.Stat = codes "stat"
 word_of line.MbStat = codes "mbstat"
 
--- the keyword and the words behind it ask for the event
+-- the keyword and the words after it ask for the event
 abbrev pub IsForm : Keyword → List (List ℕ) → Event → Type 0
 IsForm word args event = (keyword event ≡ word_of word) × HasArguments event args
 

@@ -11,9 +11,9 @@ use crate::reply::{
     TEXT, put_counters, put_done, put_given, put_opened, put_received, put_sent, put_usage,
 };
 use crate::request::{Request, request_of};
-use script_loop::{Answers, Buffer, Rooms};
+use script_loop::{Answers, Buffer, LineBuffers};
 
-/// Receives at most `most` bytes, and puts the reply behind the text.
+/// Receives at most `most` bytes, and puts the reply after the text.
 fn receive<M: Machine>(
     machine: &mut M,
     text: &mut Buffer<TEXT>,
@@ -35,7 +35,7 @@ fn receive<M: Machine>(
     put_received(text, digits, taken, outcome);
 }
 
-/// Lets the link take the oldest packet, and puts the reply behind the text.
+/// Lets the link take the oldest packet, and puts the reply after the text.
 fn transmit<M: Machine>(
     machine: &mut M,
     text: &mut Buffer<TEXT>,
@@ -53,38 +53,43 @@ fn transmit<M: Machine>(
     put_given(text, digits, bytes, given);
 }
 
-/// Makes the call that a request asks for, and puts its reply behind the text.
-fn call<M: Machine>(machine: &mut M, rooms: &mut Rooms, request: Request, text: &mut Buffer<TEXT>)
+/// Makes the call that a request asks for, and puts its reply after the text.
+fn call<M: Machine>(
+    machine: &mut M,
+    buffers: &mut LineBuffers,
+    request: Request,
+    text: &mut Buffer<TEXT>,
+)
     requires text { length text.old ≤ 65536 }
     requires fits { room_of request ≤ 65535 }
     ensures { (reply : Reply)
-        × M.may_step (M.state machine.old) (event_of request rooms.old.bytes.items) reply (M.state machine.new)
+        × M.may_step (M.state machine.old) (event_of request buffers.old.bytes.items) reply (M.state machine.new)
         × (text.new ≡ text.old ++ answer_text (Some reply)) }
 {
     match request {
         Request::Socket => put_opened(text, machine.socket()),
         Request::Bind(fd, local) => put_done(text, machine.bind(fd, local)),
         Request::Connect(fd, peer) => put_done(text, machine.connect(fd, peer)),
-        Request::Send(fd, to, len) => put_sent(text, machine.sendto(fd, to, &rooms.bytes[..len])),
+        Request::Send(fd, to, len) => put_sent(text, machine.sendto(fd, to, &buffers.bytes[..len])),
         Request::Receive(fd, most) => receive(
             machine,
             text,
-            rooms.bytes.as_mut_slice(),
-            rooms.digits.as_mut_slice(),
+            buffers.bytes.as_mut_slice(),
+            buffers.digits.as_mut_slice(),
             fd,
             most,
         ),
         Request::Close(fd) => put_done(text, machine.close(fd)),
         Request::SetOption(fd, option, on) => put_done(text, machine.setsockopt(fd, option, on)),
         Request::Packet(len) => {
-            machine.rx(&rooms.bytes[..len]);
+            machine.rx(&buffers.bytes[..len]);
             put_done(text, Ok(()));
         }
         Request::Transmit => transmit(
             machine,
             text,
-            rooms.bytes.as_mut_slice(),
-            rooms.digits.as_mut_slice(),
+            buffers.bytes.as_mut_slice(),
+            buffers.digits.as_mut_slice(),
         ),
         Request::Tick => {
             machine.tick();
@@ -95,15 +100,20 @@ fn call<M: Machine>(machine: &mut M, rooms: &mut Rooms, request: Request, text: 
     }
 }
 
-/// Puts the machine's answer to a line behind the text.
-fn put_answer<M: Machine>(machine: &mut M, rooms: &mut Rooms, line: &[u8], text: &mut Buffer<TEXT>)
+/// Puts the machine's answer to a line after the text.
+fn put_answer<M: Machine>(
+    machine: &mut M,
+    buffers: &mut LineBuffers,
+    line: &[u8],
+    text: &mut Buffer<TEXT>,
+)
     requires { length text.old ≤ 65536 }
     ensures { (reply : List ℕ)
         × Says M.may_step (M.state machine.old) line.now reply (M.state machine.new)
         × (text.new ≡ text.old ++ reply) }
 {
-    match request_of(line, rooms.bytes.as_mut_slice()) {
-        Some(request) => call(machine, rooms, request, text),
+    match request_of(line, buffers.bytes.as_mut_slice()) {
+        Some(request) => call(machine, buffers, request, text),
         None => text.append(b"? line\n"),
     }
 }
@@ -111,7 +121,7 @@ fn put_answer<M: Machine>(machine: &mut M, rooms: &mut Rooms, line: &[u8], text:
 /// A machine, and the memory for the work on one line.
 pub struct Caller<M> {
     pub machine: M,
-    pub rooms: Rooms,
+    pub buffers: LineBuffers,
 }
 
 impl<M: Machine> Answers<TEXT> for Caller<M> {
@@ -122,6 +132,6 @@ impl<M: Machine> Answers<TEXT> for Caller<M> {
     ghost may_answer = { Says M.may_step };
 
     fn answer(&mut self, line: &[u8], text: &mut Buffer<TEXT>) {
-        put_answer(&mut self.machine, &mut self.rooms, line, text);
+        put_answer(&mut self.machine, &mut self.buffers, line, text);
     }
 }

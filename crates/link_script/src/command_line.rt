@@ -104,7 +104,7 @@ fn serve<R: Source, W: Sink>(
 /// Does what the words ask for, the program's name first, and answers the status. `run` serves the script from the
 /// reader to the writer, on a machine with the configuration that its options name: `--addr` and `--bcast` the addresses,
 /// `--mtu`, `--mbufs`, `--clusters`, and `--id` the first identification. Each comes at most once, in any order, its value
-/// in the next word or behind `=`. Else it's 10.0.0.1, 10.0.0.255, 1500, 512, 64 and 1. `chain` serves the script of calls
+/// in the next word or after `=`. Else it's 10.0.0.1, 10.0.0.255, 1500, 512, 64 and 1. `chain` serves the script of calls
 /// on chains, over a pool whose sizes `--mbufs` and `--clusters` name in the same way.
 ///
 /// `words` is an error where they couldn't be had: `OutOfMemory` for want of memory, and another one where a word isn't

@@ -17,7 +17,7 @@ pub use command_line::program;
 pub use flat_model::Config;
 pub use laws::{lines_law, prints_law};
 pub use runs::run;
-pub use script_loop::{RunFault, Sink, Source, Untold};
+pub use script_loop::{RunFault, Silent, Sink, Source};
 
 #[cfg(test)]
 mod tests;

@@ -9,7 +9,7 @@ ghost use Rattle.flat_model.specs.Replies.{opened_reply, done_reply, sent_reply,
 use flat_model::{Addr, Counter, Counters, Errno, Mbstat};
 use script_loop::{Buffer, HELD, put_hex, put_number};
 
-/// Room for the longest line of reply, behind those that are held.
+/// Room for the longest line of reply, after those that are held.
 pub const TEXT: usize = HELD + 131_200;
 
 fn put_address(text: &mut Buffer<TEXT>, ip: u32)
@@ -26,7 +26,7 @@ fn put_address(text: &mut Buffer<TEXT>, ip: u32)
     put_number(text, ip % 0x0100);
 }
 
-/// What was lacking, behind the name of a refusal.
+/// What was lacking, after the name of a refusal.
 fn put_lack(text: &mut Buffer<TEXT>, errno: Errno)
     requires { length text.old + 6 ≤ 196736 }
     ensures items { text.new ≡ text.old ++ lack_text errno }
@@ -104,7 +104,7 @@ pub fn put_received(
     text.append(b"\n");
 }
 
-/// Puts the digits of a number behind the text, twenty of them at most.
+/// Puts the digits of a number after the text, twenty of them at most.
 fn put_long(text: &mut Buffer<TEXT>, n: u64)
     requires { length text.old + 20 ≤ 196736 }
     ensures items { text.new ≡ text.old ++ decimal n }
@@ -147,7 +147,7 @@ pub fn put_given(text: &mut Buffer<TEXT>, digits: &mut [u8], room: &[u8], given:
     text.append(b"\n");
 }
 
-/// Puts a counter behind the text, where it isn't 0.
+/// Puts a counter after the text, where it isn't 0.
 fn put_count(text: &mut Buffer<TEXT>, counter: Counter, value: u64)
     requires { length text.old + 37 ≤ 196736 }
     ensures items { text.new ≡ text.old ++ count_text (count (counter_name counter) value) }
@@ -174,7 +174,7 @@ pub fn put_counters(text: &mut Buffer<TEXT>, counters: &Counters)
     text.append(b"\n");
 }
 
-/// Puts what is free of all behind the text.
+/// Puts what is free of all after the text.
 fn put_share(text: &mut Buffer<TEXT>, free: u32, all: u32)
     requires { length text.old + 21 ≤ 196736 }
     ensures items { text.new ≡ text.old ++ share_text free all }

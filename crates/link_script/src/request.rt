@@ -161,7 +161,7 @@ fn packet_of(rest: Option<&[u8]>, room: &mut [u8]) -> Option<Request>
     Some(Request::Packet(len))
 }
 
-/// What a keyword and the words behind it ask for.
+/// What a keyword and the words after it ask for.
 fn form_of(word: Keyword, rest: Option<&[u8]>, room: &mut [u8]) -> Option<Request>
     requires { length room.old ≡ 65535 }
     ensures form { ReadsForm word (left rest.entry) room.new result }

@@ -11,7 +11,7 @@ use crate::caller::Caller;
 use crate::machine::Machine;
 use flat_model::Config;
 use net_stack::Stack;
-use script_loop::{Rooms, RunFault, Sink, Source, serve_script};
+use script_loop::{LineBuffers, RunFault, Sink, Source, serve_script};
 use std::alloc::Global;
 
 /// Serves a script on a machine, and spends it.
@@ -27,15 +27,15 @@ fn serve_machine<M: Machine, R: Source, W: Sink>(
         (R.remaining reader.old) (R.remaining reader.new) (W.contents writer.old) (W.contents writer.new) result }
     ensures started { IsServed result }
 {
-    let Ok(rooms) = Rooms::new(alloc) else {
+    let Ok(buffers) = LineBuffers::new(alloc) else {
         machine.end();
         return Err(RunFault::Memory);
     };
-    let mut caller = Caller { machine, rooms };
+    let mut caller = Caller { machine, buffers };
     let outcome = serve_script(alloc, &mut caller, reader, writer);
     let Caller {
         machine,
-        rooms: _rooms,
+        buffers: _buffers,
     } = caller;
     machine.end();
     outcome
@@ -72,7 +72,7 @@ fn run_on<M: Machine, R: Source, W: Sink>(
 ///
 /// `Read` where the reader answers an error: each whole line before it was answered. `Write` where the writer answers
 /// an error, or takes none of the bytes that it is given: a front of the replies was written. `TooManyLines` at a byte
-/// behind the 10,000,000th line, or one that makes a line longer than 1,048,576 bytes: each whole line before it was
+/// after the 10,000,000th line, or one that makes a line longer than 1,048,576 bytes: each whole line before it was
 /// answered.
 pub fn run<R: Source, W: Sink>(
     alloc: Global,

@@ -1,5 +1,5 @@
 use crate::command_line::DEFAULTS;
-use crate::{Config, RunFault, Sink, Source, Untold, program, run};
+use crate::{Config, RunFault, Silent, Sink, Source, program, run};
 use std::alloc::Global;
 use std::io::{self, Read, Write};
 use std::process::Abort;
@@ -82,7 +82,7 @@ const BOUND: &str = "socket\nbind 3 0.0.0.0 7\n";
 #[test]
 fn answers_scripts(rt: HostRuntime) -> Result<(), Fail> {
     for (script, want) in [
-        // an empty datagram, and none behind it
+        // an empty datagram, and none after it
         (
             "rx 4500001c00010000401166ce0a0000020a000001138800070008d84c\nrecvfrom 3 9\nrecvfrom 3 9\n",
             "ok\nfrom 10.0.0.2 5000 -\nerror 35 EWOULDBLOCK\n",
@@ -135,14 +135,14 @@ fn ends_where_a_stream_fails(rt: HostRuntime) -> Result<(), Fail> {
     let outcome = run(
         rt.alloc(),
         DEFAULTS,
-        &mut Untold(Breaking(b"socket\nsoc")),
+        &mut Silent(Breaking(b"socket\nsoc")),
         &mut written,
     );
     assert_eq!(rt; outcome, Err(RunFault::Read));
     assert_eq!(rt; written.as_slice(), b"ok 3\n".as_slice());
 
     for errs in [true, false] {
-        let mut slow = Untold(Slow::new(errs));
+        let mut slow = Silent(Slow::new(errs));
         let outcome = run(rt.alloc(), DEFAULTS, &mut b"socket\n".as_slice(), &mut slow);
         assert_eq!(rt; outcome, Err(RunFault::Write));
         assert_eq!(rt; slow.0.taken.as_slice(), b"ok".as_slice());
@@ -152,7 +152,7 @@ fn ends_where_a_stream_fails(rt: HostRuntime) -> Result<(), Fail> {
     let outcome = run(
         rt.alloc(),
         DEFAULTS,
-        &mut Untold(Endless(b'a')),
+        &mut Silent(Endless(b'a')),
         &mut written,
     );
     assert_eq!(rt; outcome, Err(RunFault::TooManyLines));
@@ -244,7 +244,7 @@ fn refuses_configurations(rt: HostRuntime) -> Result<(), Fail> {
 /// Where an allocation of `run` is refused, nothing is read or written. `rt try --test --fail-alloc N` refuses the Nth.
 #[test]
 fn takes_memory_first(rt: HostRuntime) -> Result<(), Fail> {
-    let mut slow = Untold(Slow::new(true));
+    let mut slow = Silent(Slow::new(true));
     let mut script = b"socket\n".as_slice();
     match run(rt.alloc(), DEFAULTS, &mut script, &mut slow) {
         Err(RunFault::Memory) => {

@@ -50,8 +50,8 @@ run_inner xs a len skip keep le within =
     (λ k lt. let e : a + (skip + k) ≡ a + skip + k = omega arith in run_at xs a len (skip + k) (omega arith) ∙ ap (λ j. get_or xs j 0) e)
 
 -- ---- what a write leaves of a run that ends, begins or goes on where it writes
-pub written_behind : (xs : List ℕ) (a len : ℕ) (ws : List ℕ) → a + len + length ws ≤ length xs → take (len + length ws) (drop a (over xs (a + len) ws)) ≡ take len (drop a xs) ++ ws
-written_behind xs a len ws fits =
+pub written_after : (xs : List ℕ) (a len : ℕ) (ws : List ℕ) → a + len + length ws ≤ length xs → take (len + length ws) (drop a (over xs (a + len) ws)) ≡ take len (drop a xs) ++ ws
+written_after xs a len ws fits =
     run_split (over xs (a + len) ws) a len (length ws) ∙ (λ i. run_apart xs (a + len) ws a len fits (omega arith) (inr (omega arith)) i ++ run_written xs (a + len) ws fits i)
 
 pub written_before : (xs : List ℕ) (a b len : ℕ) (ws : List ℕ) → b + length ws ≡ a → a + len ≤ length xs → take (len + length ws) (drop b (over xs b ws)) ≡ ws ++ take len (drop a xs)

@@ -68,10 +68,10 @@ parts s t x a b r (y ∷ ys) (z ∷ zs) chain linked last some some' once next =
     let follows = follow_split s ys (z ∷ zs) chain.1 in
     let apart : (k : ℕ) → 0 < weigh (is_at k) (z ∷ zs) → SameCell s t k = λ k p. r.others k (λ e. absurd (omega (arith, once x, last_in y ys, ap (λ (j : ℕ). weigh (is_at j) (y ∷ ys)) last, subst (λ (j : ℕ). 0 < weigh (is_at j) (z ∷ zs)) e p))) in
     let first : b ≡ z = same_Some b z (sym next ∙ both.1.0) in
-    let behind : IsLinked t (Some z) (z ∷ zs) = links_kept s t (Some z) (z ∷ zs) apart (refl, both.1.1, both.1.2, both.1.3) in
+    let after : IsLinked t (Some z) (z ∷ zs) = links_kept s t (Some z) (z ∷ zs) apart (refl, both.1.1, both.1.2, both.1.3) in
     record {
       front = ((refl, both.0.1, both.0.2, both.0.3), follow_like s t r.likes ys follows.0);
-      back = (behind, follow_like s t r.likes zs follows.1.1);
+      back = (after, follow_like s t r.likes zs follows.1.1);
       front_first = sym (same_Some a y linked.0);
       back_first = sym first;
       bare = subst (λ (j : ℕ). IsFollower (head_of s j)) (sym first) follows.1.0;
@@ -85,7 +85,7 @@ pub record IsCut (s t : StoreView) (a b keep kept whole : ℕ) : Type 0 where
   pub adds : Adds (with_chain (pool_of s) a (first_part keep (chain_of (pool_of s) a))) (pool_of t) b (second_part keep (chain_of (pool_of s) a))
 
 bare_front : (h : Head) → IsFollower h → front_of h ≡ alone false
-bare_front h f = λ i. record { header = is_some (f.packet i); behind = f.behind i; tag = arrival_of (f.packet i) }
+bare_front h f = λ i. record { header = is_some (f.packet i); after = f.after i; tag = arrival_of (f.packet i) }
 
 pub cut_made : (s t : StoreView) (a b keep x kept whole : ℕ) → IsPool s → IsLive (pool_of s) a → 0 < keep → keep < length (chain_of (pool_of s) a).entries → x ≡ last_of (take keep (cells_from s (Some a))) → kept ≡ weigh (len_at s) (take keep (cells_from s (Some a))) → whole ≡ packet_len (head_of s a)
     → (head_of s x).next ≡ Some b → is_out s x ≡ true → IsFit (head_of s x) → SetsHead s t x (record (head_of s x) { next = None }) → IsStore t → IsCut s t a b keep kept whole

@@ -32,10 +32,10 @@ ones_drop zero l le = omega arith
 ones_drop (suc n) [] le = absurd (omega arith)
 ones_drop (suc n) (x ∷ xs) le = omega (arith, ones_drop n xs (omega arith))
 
--- an mbuf on the way, and what stands behind it
+-- an mbuf on the way, and what stands after it
 pub record OnWay (s : StoreView) (l : List ℕ) (i at : ℕ) : Type 0 where
   pub here : drop (i - 1) l ≡ at ∷ cells_from s (head_of s at).next
-  pub behind : cells_from s (head_of s at).next ≡ drop i l
+  pub after : cells_from s (head_of s at).next ≡ drop i l
   pub whole : IsWhole s (head_of s at).next
 
 pub on_way : (s : StoreView) (l : List ℕ) (i at : ℕ) → 1 ≤ i → IsWhole s (Some at) → cells_from s (Some at) ≡ drop (i - 1) l → OnWay s l i at
@@ -43,14 +43,14 @@ on_way s l i at some whole rest =
     let w = walk_on s (Some at) at refl whole in
     let here : drop (i - 1) l ≡ at ∷ cells_from s (head_of s at).next = sym rest ∙ w.cells in
     let same : suc (i - 1) ≡ i = omega arith in
-    record { here = here; behind = sym (drop_more (i - 1) at l _ here) ∙ ap (λ (n : ℕ). drop n l) same; whole = w.whole }
+    record { here = here; after = sym (drop_more (i - 1) at l _ here) ∙ ap (λ (n : ℕ). drop n l) same; whole = w.whole }
 
 pub has_next : (s : StoreView) (l : List ℕ) (i at : ℕ) (h : Head) → OnWay s l i at → h ≡ head_of s at → i < weigh one l → IsSome h.next
 has_next s l i at h w e lt = go h.next refl
   where
     go : (o : Option ℕ) → h.next ≡ o → IsSome h.next
     go (Some n) is = subst (λ (o : Option ℕ). IsSome o) (sym is) refl
-    go None is = absurd (omega (arith, ones_drop i l (omega arith), ap (weigh one) (sym w.behind ∙ walk_end s (head_of s at).next (ap (λ (y : Head). y.next) (sym e) ∙ is))))
+    go None is = absurd (omega (arith, ones_drop i l (omega arith), ap (weigh one) (sym w.after ∙ walk_end s (head_of s at).next (ap (λ (y : Head). y.next) (sym e) ∙ is))))
 
 -- the next one
 pub record NextOn (s : StoreView) (l : List ℕ) (i next : ℕ) : Type 0 where
@@ -63,7 +63,7 @@ pub next_on : (s : StoreView) (l : List ℕ) (i at next : ℕ) (h : Head) → On
 next_on s l i at next h w e is =
     let next_is : (head_of s at).next ≡ Some next = ap (λ (y : Head). y.next) (sym e) ∙ is in
     let whole : IsWhole s (Some next) = subst (IsWhole s) next_is w.whole in
-    let rest : cells_from s (Some next) ≡ drop i l = ap (cells_from s) (sym next_is) ∙ w.behind in
+    let rest : cells_from s (Some next) ≡ drop i l = ap (cells_from s) (sym next_is) ∙ w.after in
     let step = walk_on s (Some next) next refl whole in
     let more : drop (suc i) l ≡ cells_from s (head_of s next).next = drop_more i next l _ (sym rest ∙ step.cells) in
     let same : suc i ≡ i + 1 = omega arith in

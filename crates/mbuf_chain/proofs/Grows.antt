@@ -4,7 +4,7 @@ use Rattle.std.proofs.lemmas.Bool.{cases_eq, eq-eqb, ne_eqb}
 use Rattle.mbuf_pool.specs.Cells.{Head, PacketHeader}
 use Rattle.mbuf_pool.specs.Store.{StoreView, head_of, is_out}
 use Rattle.mbuf_chain.specs.declared.place.Place.{Place}
-use Rattle.mbuf_chain.specs.Chain.{Entry, chain_of, IsLive, IsPlace, with_chain, entry_of, room_start, room_end, front_room, back_room}
+use Rattle.mbuf_chain.specs.Chain.{Entry, chain_of, IsLive, IsPlace, with_chain, entry_of, room_start, room_end, leading_space, trailing_space}
 use Rattle.mbuf_chain.specs.Steps.{with_entry, with_front, with_back}
 use Rattle.mbuf_chain.specs.Cells.{weigh, one, entry_from, IsFollower, AllFollow, IsChain, pool_of, IsPool, room_low, room_high, with_segment, WritesPlace}
 use Rattle.mbuf_chain.proofs.Focused.{open_on, enter}
@@ -16,16 +16,16 @@ most : (o : Option ℕ) → cond {A = ℕ} (is_some o) 2048 128 ≤ 2048
 most None = omega arith
 most (Some d) = omega arith
 
--- ---- behind
-pub record FitsBehind (s : StoreView) (at : Place) (h : Head) (n : ℕ) : Type 0 where
+-- ---- after
+pub record FitsAfter (s : StoreView) (at : Place) (h : Head) (n : ℕ) : Type 0 where
   pub out : is_out s at.cell ≡ true
   pub low : room_low (head_of s at.cell) ≤ h.start + h.len
   pub high : h.start + h.len + n ≤ room_high (head_of s at.cell)
   pub small : room_high (head_of s at.cell) ≤ 2048
 
-pub fits_behind : (s : StoreView) (c n : ℕ) (at : Place) (h : Head) → IsPool s → IsLive (pool_of s) c → IsPlace (chain_of (pool_of s) c) at → h ≡ head_of s at.cell
-    → (entry_of (chain_of (pool_of s) c) at.index).start + length (entry_of (chain_of (pool_of s) c) at.index).bytes + n ≤ room_end (entry_of (chain_of (pool_of s) c) at.index) → FitsBehind s at h n
-fits_behind s c n at h pool live place e fits =
+pub fits_after : (s : StoreView) (c n : ℕ) (at : Place) (h : Head) → IsPool s → IsLive (pool_of s) c → IsPlace (chain_of (pool_of s) c) at → h ≡ head_of s at.cell
+    → (entry_of (chain_of (pool_of s) c) at.index).start + length (entry_of (chain_of (pool_of s) c) at.index).bytes + n ≤ room_end (entry_of (chain_of (pool_of s) c) at.index) → FitsAfter s at h n
+fits_after s c n at h pool live place e fits =
     let k = shown_at s c at pool live place in
     record {
       out = k.out;
@@ -34,7 +34,7 @@ fits_behind s c n at h pool live place e fits =
       small = most (head_of s at.cell).cluster;
     }
 
-pub record ReadyBehind (s t : StoreView) (c n : ℕ) (at : Place) (h : Head) (ws : List ℕ) : Type 0 where
+pub record ReadyAfter (s t : StoreView) (c n : ℕ) (at : Place) (h : Head) (ws : List ℕ) : Type 0 where
   pub live : IsLive (pool_of t) c
   pub place : IsPlace (chain_of (pool_of t) c) at
   pub low : room_low (head_of t at.cell) ≤ h.start
@@ -42,12 +42,12 @@ pub record ReadyBehind (s t : StoreView) (c n : ℕ) (at : Place) (h : Head) (ws
   pub done : (u : StoreView) → pool_of u ≡ with_chain (pool_of t) c (with_entry (chain_of (pool_of t) c) at.index (entry_from t at.cell (with_segment (head_of t at.cell) h.start (h.len + n))))
       → pool_of u ≡ with_chain (pool_of s) c (with_entry (chain_of (pool_of s) c) at.index (with_back (entry_of (chain_of (pool_of s) c) at.index) ws))
 
-pub ready_behind : (s t : StoreView) (c n : ℕ) (at : Place) (h : Head) (ws : List ℕ) → IsPool s → IsLive (pool_of s) c → IsPlace (chain_of (pool_of s) c) at → h ≡ head_of s at.cell
-    → (entry_of (chain_of (pool_of s) c) at.index).start + length (entry_of (chain_of (pool_of s) c) at.index).bytes + n ≤ room_end (entry_of (chain_of (pool_of s) c) at.index) → n ≡ length ws → WritesPlace s t c at (h.start + h.len) ws → ReadyBehind s t c n at h ws
-ready_behind s t c n at h ws pool live place e fits count w =
-    subst (λ (y : Head). ReadyBehind s t c n at y ws) (sym e) (go (subst (λ (y : Head). WritesPlace s t c at (y.start + y.len) ws) e w) (fits_behind s c n at (head_of s at.cell) pool live place refl fits))
+pub ready_after : (s t : StoreView) (c n : ℕ) (at : Place) (h : Head) (ws : List ℕ) → IsPool s → IsLive (pool_of s) c → IsPlace (chain_of (pool_of s) c) at → h ≡ head_of s at.cell
+    → (entry_of (chain_of (pool_of s) c) at.index).start + length (entry_of (chain_of (pool_of s) c) at.index).bytes + n ≤ room_end (entry_of (chain_of (pool_of s) c) at.index) → n ≡ length ws → WritesPlace s t c at (h.start + h.len) ws → ReadyAfter s t c n at h ws
+ready_after s t c n at h ws pool live place e fits count w =
+    subst (λ (y : Head). ReadyAfter s t c n at y ws) (sym e) (go (subst (λ (y : Head). WritesPlace s t c at (y.start + y.len) ws) e w) (fits_after s c n at (head_of s at.cell) pool live place refl fits))
   where
-    go : WritesPlace s t c at ((head_of s at.cell).start + (head_of s at.cell).len) ws → FitsBehind s at (head_of s at.cell) n → ReadyBehind s t c n at (head_of s at.cell) ws
+    go : WritesPlace s t c at ((head_of s at.cell).start + (head_of s at.cell).len) ws → FitsAfter s at (head_of s at.cell) n → ReadyAfter s t c n at (head_of s at.cell) ws
     go w' f =
         let k = shown_at s c at pool live place in
         let g = grown s t c ((head_of s at.cell).start + (head_of s at.cell).len) ws at pool live place w' (omega (arith, f.high, count)) (inl (omega arith)) in
@@ -165,7 +165,7 @@ rooms_at s c at h pool live place e =
 
 -- the rooms by the head's cases
 pub record FrontTold (s : StoreView) (c : ℕ) (at : Place) (n : ℕ) : Type 0 where
-  pub value : n ≡ front_room (chain_of (pool_of s) c) at.index
+  pub value : n ≡ leading_space (chain_of (pool_of s) c) at.index
   pub within : room_start (chain_of (pool_of s) c) at.index + n ≤ (entry_of (chain_of (pool_of s) c) at.index).start
 
 pub front_then : (s : StoreView) (c : ℕ) (at : Place) (h : Head) → Rooms s c at h → is_some h.cluster ≡ true → FrontTold s c at 0
@@ -191,7 +191,7 @@ front_else s c d at h r none is =
     }
 
 pub record BackTold (s : StoreView) (c : ℕ) (at : Place) (n : ℕ) : Type 0 where
-  pub value : n ≡ back_room (entry_of (chain_of (pool_of s) c) at.index)
+  pub value : n ≡ trailing_space (entry_of (chain_of (pool_of s) c) at.index)
   pub within : (entry_of (chain_of (pool_of s) c) at.index).start + length (entry_of (chain_of (pool_of s) c) at.index).bytes + n ≤ room_end (entry_of (chain_of (pool_of s) c) at.index)
 
 pub back_then : (s : StoreView) (c : ℕ) (at : Place) (h : Head) → Rooms s c at h → is_some h.cluster ≡ true → BackTold s c at 0

@@ -40,7 +40,7 @@ same_outs s x m out =
       counts = λ c. refl;
     }
 
--- the bytes that a fitting head shows lie behind it
+-- the bytes that a fitting head shows lie after it
 pub low_is : (h : Head) → h.cluster ≡ None → head_size h ≡ room_low h
 low_is h none = ap (λ (o : Option ℕ). cond {A = ℕ} (is_some o) 32 (cond (is_some h.packet) 28 20)) none ∙ sym (ap (λ (o : Option ℕ). cond {A = ℕ} (is_some o) 0 (cond (is_some h.packet) 28 20)) none)
 
@@ -97,7 +97,7 @@ rehead s t c i x h f e sets store next cluster fit follow =
         cluster = ap (λ (y : Head). y.cluster) set.head ∙ cluster;
         out = set.out;
         fit = subst IsFit (sym set.head) fit;
-      }) (λ k ne _ _. set.others k ne) (λ behind was. subst IsFollower (sym set.head) (follow behind was));
+      }) (λ k ne _ _. set.others k ne) (λ after was. subst IsFollower (sym set.head) (follow after was));
       head = set.head;
       entry = set.entry fit;
       others = λ k ne. (set.others k ne).head;
@@ -187,8 +187,8 @@ total_set s t c added removed packet off live is sets store =
       same = changed_entry s t c 0 c f r.change front ∙ ap (with_chain (pool_of s) c) (with_entry_same (chain_of (pool_of s) c) 0 (entry_at t c) (e.shows ∙ sym r.entry)) ∙ with_self (pool_of s) c live;
     }
   where
-    front_same : (head_of s c).packet ≡ Some packet → record { header = true; behind = (head_of s c).next_packet; tag = packet.arrival } ≡ front_of (head_of s c)
-    front_same e = λ i. record { header = is_some (sym e i); behind = (head_of s c).next_packet; tag = arrival_of (sym e i) }
+    front_same : (head_of s c).packet ≡ Some packet → record { header = true; after = (head_of s c).next_packet; tag = packet.arrival } ≡ front_of (head_of s c)
+    front_same e = λ i. record { header = is_some (sym e i); after = (head_of s c).next_packet; tag = arrival_of (sym e i) }
 
     rest_kept : (f : Focused s c) → Changed s t c 0 c f → AllByRecursion (IsTotal s) f.rest → AllByRecursion (IsTotal t) f.rest
     rest_kept f went = went.totals
@@ -219,7 +219,7 @@ resized s t c added removed start len at pool live place sets store low high len
     let o = open_on s c pool live in
     let e = enter s c at o.at place in
     let h = with_segment (head_of s at.cell) start len in
-    let r = rehead s t c at.index at.cell h o.at e sets store refl refl (record { low = low; high = high; kind = e.fit.kind }) (λ _ was. record { packet = was.packet; behind = was.behind }) in
+    let r = rehead s t c at.index at.cell h o.at e sets store refl refl (record { low = low; high = high; kind = e.fit.kind }) (λ _ was. record { packet = was.packet; after = was.after }) in
     let same : (k : ℕ) → (head_of t k).packet ≡ (head_of s k).packet = λ k. elim (cases_eq k at.cell) [
       | inl is ↦ subst (λ (j : ℕ). (head_of t j).packet ≡ (head_of s j).packet) (sym is) (ap (λ (y : Head). y.packet) r.head)
       | inr ne ↦ ap (λ (y : Head). y.packet) (r.others k ne)

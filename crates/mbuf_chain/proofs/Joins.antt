@@ -179,7 +179,7 @@ relinked s t x next out fit store sets =
           front = ap front_of set.head;
           packet = ap (λ (y : Head). y.packet) set.head;
           len = ap (λ (y : Head). y.len) set.head;
-          follow = λ was. subst IsFollower (sym set.head) (record { packet = was.packet; behind = was.behind });
+          follow = λ was. subst IsFollower (sym set.head) (record { packet = was.packet; after = was.after });
           fit = λ _. subst IsFit (sym set.head) fit';
           out = set.outs.outs x;
         })
@@ -235,20 +235,20 @@ last_is (y ∷ z ∷ zs) (suc i) x is e = last_is (z ∷ zs) i x is (omega arith
 
 -- the list of a chain that ends in x goes on with another
 goes_on : (s t : StoreView) (x : ℕ) (next : Option ℕ) → Relinked s t x next → (at : Option ℕ) (y : ℕ) (ys m : List ℕ) → IsLinked s at (y ∷ ys) → last_of (y ∷ ys) ≡ x → ((k : ℕ) → weigh (is_at k) (y ∷ ys) ≤ 1) → IsLinked t next m → IsLinked t at ((y ∷ ys) ++ m)
-goes_on s t x next r at y [] m h last once behind =
-    (h.0, (r.likes y).out ∙ h.1, (r.likes y).fit h.2, subst (λ (o : Option ℕ). IsLinked t o m) (sym (ap (λ (j : ℕ). (head_of t j).next) last ∙ r.next_is)) behind)
-goes_on s t x next r at y (z ∷ zs) m h last once behind =
+goes_on s t x next r at y [] m h last once after =
+    (h.0, (r.likes y).out ∙ h.1, (r.likes y).fit h.2, subst (λ (o : Option ℕ). IsLinked t o m) (sym (ap (λ (j : ℕ). (head_of t j).next) last ∙ r.next_is)) after)
+goes_on s t x next r at y (z ∷ zs) m h last once after =
     let apart : y ≢ x = λ e. absurd (omega (arith, once x, last_in z zs, ap (λ (j : ℕ). weigh (is_at j) (z ∷ zs)) last, ap (is_at x) e, is_at_same x)) in
-    (h.0, (r.likes y).out ∙ h.1, (r.likes y).fit h.2, subst (λ (w : Head). IsLinked t w.next ((z ∷ zs) ++ m)) (sym (r.others y apart).head) (goes_on s t x next r (head_of s y).next z zs m h.3 last (λ k. omega (arith, once k)) behind))
+    (h.0, (r.likes y).out ∙ h.1, (r.likes y).fit h.2, subst (λ (w : Head). IsLinked t w.next ((z ∷ zs) ++ m)) (sym (r.others y apart).head) (goes_on s t x next r (head_of s y).next z zs m h.3 last (λ k. omega (arith, once k)) after))
 
 link_list : (s t : StoreView) (x a : ℕ) (next : Option ℕ) → Relinked s t x next → (l m : List ℕ) → IsChain s l → IsLinked s (Some a) l → last_of l ≡ x → ((k : ℕ) → weigh (is_at k) l ≤ 1) → IsLinked t next m → AllFollow s m
     → IsChain t (l ++ m) × (first_of (l ++ m) ≡ a)
-link_list s t x a next r [] m h g last once behind follow = absurd h
-link_list s t x a next r (y ∷ ys) m h g last once behind follow =
-    let on = goes_on s t x next r (Some a) y ys m g last once behind in
+link_list s t x a next r [] m h g last once after follow = absurd h
+link_list s t x a next r (y ∷ ys) m h g last once after follow =
+    let on = goes_on s t x next r (Some a) y ys m g last once after in
     (((refl, on.1, on.2, on.3), follow_like s t r.likes (ys ++ m) (follow-append s ys m h.1 follow)), sym (same_Some a y g.0))
 
--- ---- a chain linked behind another
+-- ---- a chain linked after another
 pub record Joined (s t : StoreView) (a b added : ℕ) : Type 0 where
   pub off : IsOff t a added 0
   pub live : IsLive (pool_of t) a
@@ -260,7 +260,7 @@ all_follow s [] h first = tt
 all_follow s (y ∷ ys) h first = (first, h.1)
 
 bare_first : (h : Head) → front_of h ≡ alone false → IsFollower h
-bare_first h e = record { packet = go h.packet refl; behind = ap (λ (f : Front). f.behind) e }
+bare_first h e = record { packet = go h.packet refl; after = ap (λ (f : Front). f.after) e }
   where
     go : (p : Option PacketHeader) → h.packet ≡ p → h.packet ≡ None
     go None is = is
@@ -281,9 +281,9 @@ joined_made s t a b added last pool live_a live_b ne place is_last bare_b sets s
     let inside : 0 < weigh (is_at last.cell) two.front = subst (λ (j : ℕ). 0 < weigh (is_at j) two.front) cell (in_list two.front last.index (omega (arith, count))) in
     let others : (k : ℕ) → 0 < weigh (is_at k) two.back + weigh_all (is_at k) two.rest → SameCell s t k =
     λ k q. r.others k (λ w. absurd (omega (arith, once last.cell, inside, subst (λ (j : ℕ). 0 < weigh (is_at j) two.back + weigh_all (is_at j) two.rest) w q))) in
-    let behind : IsLinked t (Some b) two.back = links_kept s t (Some b) two.back (λ k q. others k (omega (arith, q))) two.back_linked in
+    let after : IsLinked t (Some b) two.back = links_kept s t (Some b) two.back (λ k q. others k (omega (arith, q))) two.back_linked in
     let follows : AllFollow s two.back = all_follow s two.back two.sound.linked.1.0 (bare_first (head_of s (first_of two.back)) (ap (λ (v : ChainView). v.front) two.shows_back ∙ bare_b)) in
-    let new = link_list s t last.cell a (Some b) r two.front two.back two.sound.linked.0 two.front_linked last_of_front (λ k. omega (arith, once k)) behind follows in
+    let new = link_list s t last.cell a (Some b) r two.front two.back two.sound.linked.0 two.front_linked last_of_front (λ k. omega (arith, once k)) after follows in
     let went = step s t (two.front ∷ two.back ∷ []) ((two.front ++ two.back) ∷ []) two.rest two.sound (record {
       kept = λ k q. others k (omega (arith, q));
       linked = (new.0, tt);

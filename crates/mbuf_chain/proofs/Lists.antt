@@ -1,4 +1,4 @@
--- The lists of mbufs behind a pool: they are what the links say, and give the map that the pool shows.
+-- The lists of mbufs after a pool: they are what the links say, and give the map that the pool shows.
 use Rattle.std.proofs.Common.{◌≡◌, ◌≢◌, ℕ, zero, suc, ◌+◌, ◌*◌, ◌<◌, ◌≤◌, Bool, true, false, not, cond, ◌&&◌, nat_eq, List, [], ◌∷◌, length, Option, None, Some, is_some, refl, sym, ap, ◌∙◌, subst, arith, inl, inr}
 use Rattle.std.specs.Ordering.{nat_cmp}
 use Rattle.std.specs.FinMap as finmap
@@ -48,7 +48,7 @@ pub bit : (b : Bool) → 0 < cond {A = ℕ} b 1 0 → b ≡ true
 bit true h = refl
 bit false h = absurd (omega arith)
 
--- ---- how often an mbuf stands first, and how often behind another
+-- ---- how often an mbuf stands first, and how often after another
 abbrev pub tail : List ℕ → List ℕ
 tail [] = []
 tail (c ∷ cs) = cs
@@ -75,46 +75,46 @@ is_at_same q = on (nat_eq q q) (eq-eqb q q refl)
 pub is_at_other : (q c : ℕ) → c ≢ q → is_at q c ≡ 0
 is_at_other q c ne = off (nat_eq c q) (ne_eqb c q ne)
 
--- an mbuf behind another is the next of one
-behind : (s : StoreView) (q : ℕ) (at : Option ℕ) (c : ℕ) (cs : List ℕ) → IsLinked s at (c ∷ cs) → 0 < weigh (is_at q) cs → (k : ℕ) × (0 < weigh (is_at k) (c ∷ cs)) × ((head_of s k).next ≡ Some q)
-behind s q at c [] h p = absurd (omega arith)
-behind s q at c (d ∷ ds) h p =
+-- an mbuf after another is the next of one
+after : (s : StoreView) (q : ℕ) (at : Option ℕ) (c : ℕ) (cs : List ℕ) → IsLinked s at (c ∷ cs) → 0 < weigh (is_at q) cs → (k : ℕ) × (0 < weigh (is_at k) (c ∷ cs)) × ((head_of s k).next ≡ Some q)
+after s q at c [] h p = absurd (omega arith)
+after s q at c (d ∷ ds) h p =
     elim (cases_eq d q) [
       | inl e ↦ (c, omega (arith, is_at_same c), h.3.0 ∙ ap {B = Option ℕ} Some e)
       | inr ne ↦
-          let later = behind s q (head_of s c).next d ds h.3 (omega (arith, is_at_other q d ne)) in
+          let later = after s q (head_of s c).next d ds h.3 (omega (arith, is_at_other q d ne)) in
           (later.0, omega (arith, later.1), later.2)
     ]
 
-behind_all : (s : StoreView) (q : ℕ) (lists : List (List ℕ)) → AllByRecursion (IsChain s) lists → 0 < tails_at q lists → (k : ℕ) × (0 < weigh_all (is_at k) lists) × ((head_of s k).next ≡ Some q)
-behind_all s q [] h p = absurd (omega arith)
-behind_all s q ([] ∷ ls) h p = absurd h.0
-behind_all s q ((c ∷ cs) ∷ ls) h p =
+after_all : (s : StoreView) (q : ℕ) (lists : List (List ℕ)) → AllByRecursion (IsChain s) lists → 0 < tails_at q lists → (k : ℕ) × (0 < weigh_all (is_at k) lists) × ((head_of s k).next ≡ Some q)
+after_all s q [] h p = absurd (omega arith)
+after_all s q ([] ∷ ls) h p = absurd h.0
+after_all s q ((c ∷ cs) ∷ ls) h p =
     elim (cases_lt 0 (weigh (is_at q) cs)) [
-      | inl here ↦ let found = behind s q (Some c) c cs h.0.0 here in (found.0, omega (arith, found.1), found.2)
-      | inr gone ↦ let found = behind_all s q ls h.1 (omega arith) in (found.0, omega (arith, found.1), found.2)
+      | inl here ↦ let found = after s q (Some c) c cs h.0.0 here in (found.0, omega (arith, found.1), found.2)
+      | inr gone ↦ let found = after_all s q ls h.1 (omega arith) in (found.0, omega (arith, found.1), found.2)
     ]
 
--- the next of an mbuf stands behind it
-next_behind : (s : StoreView) (q k : ℕ) (at : Option ℕ) (c : ℕ) (cs : List ℕ) → IsLinked s at (c ∷ cs) → 0 < weigh (is_at k) (c ∷ cs) → (head_of s k).next ≡ Some q → 0 < weigh (is_at q) cs
-next_behind s q k at c [] h p e =
+-- the next of an mbuf stands after it
+following_next : (s : StoreView) (q k : ℕ) (at : Option ℕ) (c : ℕ) (cs : List ℕ) → IsLinked s at (c ∷ cs) → 0 < weigh (is_at k) (c ∷ cs) → (head_of s k).next ≡ Some q → 0 < weigh (is_at q) cs
+following_next s q k at c [] h p e =
     elim (cases_eq c k) [
       | inl is ↦ absurd (none-some q (sym (sym e ∙ ap (λ j. (head_of s j).next) (sym is) ∙ h.3)))
       | inr not ↦ absurd (omega (arith, is_at_other k c not))
     ]
-next_behind s q k at c (d ∷ ds) h p e =
+following_next s q k at c (d ∷ ds) h p e =
     elim (cases_eq c k) [
       | inl is ↦ let same : d ≡ q = same_Some d q (sym h.3.0 ∙ ap (λ j. (head_of s j).next) is ∙ e) in subst (λ (j : ℕ). 0 < is_at j d + weigh (is_at j) ds) same (omega (arith, is_at_same d))
-      | inr not ↦ let later = next_behind s q k (head_of s c).next d ds h.3 (omega (arith, is_at_other k c not)) e in omega (arith, later)
+      | inr not ↦ let later = following_next s q k (head_of s c).next d ds h.3 (omega (arith, is_at_other k c not)) e in omega (arith, later)
     ]
 
-next_behind_all : (s : StoreView) (q k : ℕ) (lists : List (List ℕ)) → AllByRecursion (IsChain s) lists → 0 < weigh_all (is_at k) lists → (head_of s k).next ≡ Some q → 0 < tails_at q lists
-next_behind_all s q k [] h p e = absurd (omega arith)
-next_behind_all s q k ([] ∷ ls) h p e = absurd h.0
-next_behind_all s q k ((c ∷ cs) ∷ ls) h p e =
+next_after_all : (s : StoreView) (q k : ℕ) (lists : List (List ℕ)) → AllByRecursion (IsChain s) lists → 0 < weigh_all (is_at k) lists → (head_of s k).next ≡ Some q → 0 < tails_at q lists
+next_after_all s q k [] h p e = absurd (omega arith)
+next_after_all s q k ([] ∷ ls) h p e = absurd h.0
+next_after_all s q k ((c ∷ cs) ∷ ls) h p e =
     elim (cases_lt 0 (weigh (is_at k) (c ∷ cs))) [
-      | inl here ↦ let found = next_behind s q k (Some c) c cs h.0.0 here e in omega (arith, found)
-      | inr gone ↦ let found = next_behind_all s q k ls h.1 (omega arith) e in omega (arith, found)
+      | inl here ↦ let found = following_next s q k (Some c) c cs h.0.0 here e in omega (arith, found)
+      | inr gone ↦ let found = next_after_all s q k ls h.1 (omega arith) e in omega (arith, found)
     ]
 
 -- ---- the walk along the links gives the list
@@ -233,7 +233,7 @@ chain_is s lists ok q =
       | inl out ↦ elim (cases_lt 0 (heads_at q lists)) [
         | inr none ↦
             let tails : 0 < tails_at q lists = omega (arith, ok.once q, heads-tails s q lists ok.linked, on (is_out s q) out) in
-            let before = behind_all s q lists ok.linked tails in
+            let before = after_all s q lists ok.linked tails in
             ap (λ b. cond (is_out s q && not b) (Some (read_chain s (cells_from s (Some q)))) None) (pointed_true before.0 before.1 before.2)
             ∙ ap (λ b. cond (b && false) (Some (read_chain s (cells_from s (Some q)))) None) out
             ∙ sym (not_first s q lists (omega arith))
@@ -259,7 +259,7 @@ chain_is s lists ok q =
       | inr e ↦ e
       | inl e ↦
           let by = pointed_by (length s.mbufs) s q e in
-          let tails = next_behind_all s q by.0 lists ok.linked (omega (arith, ok.once by.0, on (is_out s by.0) by.2)) by.3 in
+          let tails = next_after_all s q by.0 lists ok.linked (omega (arith, ok.once by.0, on (is_out s by.0) by.2)) by.3 in
           absurd (omega (arith, tails, ok.once q, heads-tails s q lists ok.linked, on (is_out s q) out))
     ]
 
@@ -272,7 +272,7 @@ walk_short (suc n) s (Some i) = omega (arith, walk_short n s (head_of s i).next)
 pub few_cells : (s : StoreView) (at : Option ℕ) → weigh one (cells_from s at) ≤ length s.mbufs
 few_cells s at = walk_short (length s.mbufs) s at
 
--- an mbuf, and what is behind it
+-- an mbuf, and what is after it
 pub record Next (s : StoreView) (at : ℕ) : Type 0 where
   pub cells : cells_from s (Some at) ≡ at ∷ cells_from s (head_of s at).next
   pub out : is_out s at ≡ true
@@ -309,7 +309,7 @@ pub bytes_bound : (s : StoreView) (at : Option ℕ) (l : List ℕ) → IsLinked 
 bytes_bound s at [] h = omega arith
 bytes_bound s at (c ∷ cs) h = omega (arith, bytes_bound s (head_of s c).next cs h.3, high_small (head_of s c) h.2)
 
--- an mbuf that a walk has come to, and what is behind it
+-- an mbuf that a walk has come to, and what is after it
 pub record Walked (s : StoreView) (at : Option ℕ) (i : ℕ) : Type 0 where
   pub cells : cells_from s at ≡ i ∷ cells_from s (head_of s i).next
   pub out : is_out s i ≡ true

@@ -48,7 +48,7 @@ live_cells s c pool live =
 pub first_place : (s : StoreView) (c : ℕ) → IsPool s → IsLive (pool_of s) c → IsPlace (chain_of (pool_of s) c) (record { index = 0; cell = c })
 first_place s c pool live = let l = live_cells s c pool live in record { within = l.some; cell = l.first }
 
--- ---- the place behind another
+-- ---- the place after another
 next_in : (s : StoreView) (at : Option ℕ) (l : List ℕ) (i : ℕ) → IsLinked s at l → i < weigh one l → (head_of s (slice_index l i)).next ≡ slice_get l (suc i)
 next_in s at [] i h lt = absurd (omega arith)
 next_in s at (x ∷ []) zero h lt = h.3
@@ -87,7 +87,7 @@ segment_is s c at h k head = λ i. record {
   cluster = (ap (λ (y : Head). y.cluster) head ∙ ap (λ (e : Entry). e.cluster) (sym k.entry)) i;
 }
 
--- ---- a chain linked behind another, once it has lost its header
+-- ---- a chain linked after another, once it has lost its header
 pub chain_there : (p : PoolView) (a b : ℕ) (v : ChainView) → a ≢ b → chain_of (with_chain p b v) a ≡ chain_of p a
 chain_there p a b v ne = ap (λ (o : Option ChainView). unwrap_or o no_chain) (get_there p.chains b v a ne)
 
@@ -123,11 +123,11 @@ bared p q a b ne live_a live_b is =
     })
 
 -- the place of the second chain's first mbuf in the whole
-get_behind : (l m : List ℕ) (n : ℕ) → length l ≡ n → slice_get (l ++ m) n ≡ slice_get m 0
-get_behind [] m zero e = refl
-get_behind [] m (suc n) e = absurd (omega arith)
-get_behind (x ∷ l) m zero e = absurd (omega arith)
-get_behind (x ∷ l) m (suc n) e = get_behind l m n (omega arith)
+get_after : (l m : List ℕ) (n : ℕ) → length l ≡ n → slice_get (l ++ m) n ≡ slice_get m 0
+get_after [] m zero e = refl
+get_after [] m (suc n) e = absurd (omega arith)
+get_after (x ∷ l) m zero e = absurd (omega arith)
+get_after (x ∷ l) m (suc n) e = get_after l m n (omega arith)
 
 pub linked_place : (s : StoreView) (q : PoolView) (a b : ℕ) (last : Place) → IsPool s → IsLive (pool_of s) a → IsLive (pool_of s) b → last.index + 1 ≡ length (chain_of (pool_of s) a).entries
     → q ≡ with_chain (without (pool_of s) b) a (joined (chain_of (pool_of s) a) (chain_of (pool_of s) b)) → IsPlace (chain_of q a) (record { index = last.index + 1; cell = b })
@@ -139,7 +139,7 @@ linked_place s q a b last pool live_a live_b is_last is =
     subst (λ (u : ChainView). IsPlace u (record { index = last.index + 1; cell = b })) (sym (ap (λ (r : PoolView). chain_of r a) is ∙ chain_here (without (pool_of s) b) a (joined v w)))
     (record {
       within = omega (arith, length-append (chain_of (pool_of s) a).entries (chain_of (pool_of s) b).entries, m.some, is_last);
-      cell = get_behind (chain_of (pool_of s) a).cells (chain_of (pool_of s) b).cells (last.index + 1) (l.same ∙ sym is_last) ∙ m.first;
+      cell = get_after (chain_of (pool_of s) a).cells (chain_of (pool_of s) b).cells (last.index + 1) (l.same ∙ sym is_last) ∙ m.first;
     })
 
 -- the front of a live chain

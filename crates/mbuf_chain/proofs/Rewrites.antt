@@ -66,7 +66,7 @@ renewed s t x change at (y ∷ ys) (suc i) kept linked once lt is =
       lens = omega (arith, below.lens, ap (λ (h : Head). h.len) here.head);
     }
 
--- ---- the mbufs behind the first go on saying nothing of the packet
+-- ---- the mbufs after the first go on saying nothing of the packet
 follow_renewed : (s t : StoreView) (x : ℕ) (l : List ℕ) → ((k : ℕ) → k ≢ x → 0 < weigh (is_at k) l → SameCell s t k) → (0 < weigh (is_at x) l → IsFollower (head_of s x) → IsFollower (head_of t x)) → AllFollow s l → AllFollow t l
 follow_renewed s t x [] kept here h = h
 follow_renewed s t x (y ∷ ys) kept here h = (

@@ -7,59 +7,59 @@ use Rattle.mbuf_chain.specs.Owners.{times}
 use Rattle.mbuf_chain.specs.Train.{follow, last_number}
 use Rattle.mbuf_chain.proofs.Laws.Owners.{times_same}
 
--- the chains follow one another, from `at` on, and none stands behind the last
+-- the chains follow one another, from `at` on, and none stands after the last
 abbrev pub IsRun : PoolView → Option ℕ → List ℕ → Type 0
 IsRun p at [] = at ≡ None
-IsRun p at (x ∷ xs) = (at ≡ Some x) × IsRun p (chain_of p x).front.behind xs
+IsRun p at (x ∷ xs) = (at ≡ Some x) × IsRun p (chain_of p x).front.after xs
 
 pub run_follow : (p : PoolView) (at : Option ℕ) (xs : List ℕ) → IsRun p at xs → follow p (length xs) at ≡ xs
 run_follow p at [] h = refl
-run_follow p at (x ∷ xs) h = ap (follow p (suc (length xs))) h.0 ∙ ap (λ (ys : List ℕ). x ∷ ys) (run_follow p (chain_of p x).front.behind xs h.1)
+run_follow p at (x ∷ xs) h = ap (follow p (suc (length xs))) h.0 ∙ ap (λ (ys : List ℕ). x ∷ ys) (run_follow p (chain_of p x).front.after xs h.1)
 
 pub run_ends : (p : PoolView) (at : Option ℕ) (xs : List ℕ) → IsRun p at xs → follow p (suc (length xs)) at ≡ xs
 run_ends p at [] h = ap (follow p 1) h
-run_ends p at (x ∷ xs) h = ap (follow p (suc (suc (length xs)))) h.0 ∙ ap (λ (ys : List ℕ). x ∷ ys) (run_ends p (chain_of p x).front.behind xs h.1)
+run_ends p at (x ∷ xs) h = ap (follow p (suc (suc (length xs)))) h.0 ∙ ap (λ (ys : List ℕ). x ∷ ys) (run_ends p (chain_of p x).front.after xs h.1)
 
 pub run_of : (p : PoolView) (n : ℕ) (at : Option ℕ) → length (follow p n at) ≡ n → follow p (suc n) at ≡ follow p n at → IsRun p at (follow p n at)
 run_of p zero None e ends = refl
 run_of p zero (Some c) e ends = absurd (omega (arith, ap length ends))
 run_of p (suc n) None e ends = absurd (omega arith)
-run_of p (suc n) (Some c) e ends = (refl, run_of p n (chain_of p c).front.behind (omega arith) (ap (λ (xs : List ℕ). drop 1 xs) ends))
+run_of p (suc n) (Some c) e ends = (refl, run_of p n (chain_of p c).front.after (omega arith) (ap (λ (xs : List ℕ). drop 1 xs) ends))
 
 -- the links of these chains are as they were
 pub record SameLinks (p q : PoolView) (xs : List ℕ) : Type 0 where
-  pub behind : (k : ℕ) → 0 < times k xs → (chain_of q k).front.behind ≡ (chain_of p k).front.behind
+  pub after : (k : ℕ) → 0 < times k xs → (chain_of q k).front.after ≡ (chain_of p k).front.after
 
 pub run_same : (p q : PoolView) (at : Option ℕ) (xs : List ℕ) → SameLinks p q xs → IsRun p at xs → IsRun q at xs
 run_same p q at [] s h = h
 run_same p q at (x ∷ xs) s h =
-    let below : IsRun q (chain_of p x).front.behind xs = run_same p q (chain_of p x).front.behind xs (record { behind = λ k l. s.behind k (omega (arith, l)) }) h.1 in
-    (h.0, subst (λ (o : Option ℕ). IsRun q o xs) (sym (s.behind x (omega (arith, times_same x xs)))) below)
+    let below : IsRun q (chain_of p x).front.after xs = run_same p q (chain_of p x).front.after xs (record { after = λ k l. s.after k (omega (arith, l)) }) h.1 in
+    (h.0, subst (λ (o : Option ℕ). IsRun q o xs) (sym (s.after x (omega (arith, times_same x xs)))) below)
 
--- the chain behind b is c from now on, and behind c what was behind b
+-- the chain after b is c from now on, and after c what was after b
 pub run_with : (p q : PoolView) (at : Option ℕ) (us : List ℕ) (b c : ℕ) (zs : List ℕ) → IsRun p at ((us ++ b ∷ []) ++ zs) → SameLinks p q us → SameLinks p q zs
-    → (chain_of q b).front.behind ≡ Some c → (chain_of q c).front.behind ≡ (chain_of p b).front.behind → IsRun q at ((us ++ b ∷ []) ++ c ∷ zs)
+    → (chain_of q b).front.after ≡ Some c → (chain_of q c).front.after ≡ (chain_of p b).front.after → IsRun q at ((us ++ b ∷ []) ++ c ∷ zs)
 run_with p q at [] b c zs h su sz eb ec =
-    (h.0, (eb, subst (λ (o : Option ℕ). IsRun q o zs) (sym ec) (run_same p q (chain_of p b).front.behind zs sz h.1)))
+    (h.0, (eb, subst (λ (o : Option ℕ). IsRun q o zs) (sym ec) (run_same p q (chain_of p b).front.after zs sz h.1)))
 run_with p q at (u ∷ us) b c zs h su sz eb ec =
-    let below : IsRun q (chain_of p u).front.behind ((us ++ b ∷ []) ++ c ∷ zs) =
-    run_with p q (chain_of p u).front.behind us b c zs h.1 (record { behind = λ k l. su.behind k (omega (arith, l)) }) sz eb ec in
-    (h.0, subst (λ (o : Option ℕ). IsRun q o ((us ++ b ∷ []) ++ c ∷ zs)) (sym (su.behind u (omega (arith, times_same u us)))) below)
+    let below : IsRun q (chain_of p u).front.after ((us ++ b ∷ []) ++ c ∷ zs) =
+    run_with p q (chain_of p u).front.after us b c zs h.1 (record { after = λ k l. su.after k (omega (arith, l)) }) sz eb ec in
+    (h.0, subst (λ (o : Option ℕ). IsRun q o ((us ++ b ∷ []) ++ c ∷ zs)) (sym (su.after u (omega (arith, times_same u us)))) below)
 
--- the chain behind b is that which was behind c
+-- the chain after b is that which was after c
 pub run_without : (p q : PoolView) (at : Option ℕ) (us : List ℕ) (b c : ℕ) (zs : List ℕ) → IsRun p at ((us ++ b ∷ []) ++ c ∷ zs) → SameLinks p q us → SameLinks p q zs
-    → (chain_of q b).front.behind ≡ (chain_of p c).front.behind → IsRun q at ((us ++ b ∷ []) ++ zs)
+    → (chain_of q b).front.after ≡ (chain_of p c).front.after → IsRun q at ((us ++ b ∷ []) ++ zs)
 run_without p q at [] b c zs h su sz eb =
-    (h.0, subst (λ (o : Option ℕ). IsRun q o zs) (sym eb) (run_same p q (chain_of p c).front.behind zs sz h.1.1))
+    (h.0, subst (λ (o : Option ℕ). IsRun q o zs) (sym eb) (run_same p q (chain_of p c).front.after zs sz h.1.1))
 run_without p q at (u ∷ us) b c zs h su sz eb =
-    let below : IsRun q (chain_of p u).front.behind ((us ++ b ∷ []) ++ zs) =
-    run_without p q (chain_of p u).front.behind us b c zs h.1 (record { behind = λ k l. su.behind k (omega (arith, l)) }) sz eb in
-    (h.0, subst (λ (o : Option ℕ). IsRun q o ((us ++ b ∷ []) ++ zs)) (sym (su.behind u (omega (arith, times_same u us)))) below)
+    let below : IsRun q (chain_of p u).front.after ((us ++ b ∷ []) ++ zs) =
+    run_without p q (chain_of p u).front.after us b c zs h.1 (record { after = λ k l. su.after k (omega (arith, l)) }) sz eb in
+    (h.0, subst (λ (o : Option ℕ). IsRun q o ((us ++ b ∷ []) ++ zs)) (sym (su.after u (omega (arith, times_same u us)))) below)
 
--- the chain at the end of a run leads to what is behind
-pub run_next : (p : PoolView) (at : Option ℕ) (us : List ℕ) (b c : ℕ) (zs : List ℕ) → IsRun p at ((us ++ b ∷ []) ++ c ∷ zs) → (chain_of p b).front.behind ≡ Some c
+-- the chain at the end of a run leads to what is after
+pub run_next : (p : PoolView) (at : Option ℕ) (us : List ℕ) (b c : ℕ) (zs : List ℕ) → IsRun p at ((us ++ b ∷ []) ++ c ∷ zs) → (chain_of p b).front.after ≡ Some c
 run_next p at [] b c zs h = h.1.0
-run_next p at (u ∷ us) b c zs h = run_next p (chain_of p u).front.behind us b c zs h.1
+run_next p at (u ∷ us) b c zs h = run_next p (chain_of p u).front.after us b c zs h.1
 
 -- ---- the last of a list, and a list cut at a place
 pub last-append : (ys : List ℕ) (z : ℕ) (zs : List ℕ) → last_number (ys ++ z ∷ zs) ≡ last_number (z ∷ zs)
@@ -74,7 +74,7 @@ last_is (x ∷ []) (suc n) e = absurd (omega arith)
 last_is (x ∷ y ∷ ys) zero e = absurd (omega arith)
 last_is (x ∷ y ∷ ys) (suc n) e = last_is (y ∷ ys) n (omega arith)
 
--- what stands in front of a place doesn't tell what stands behind it
+-- what stands in front of a place doesn't tell what stands after it
 pub get_front : (ys zs ws : List ℕ) (k : ℕ) → k < length ys → slice_get (ys ++ zs) k ≡ slice_get (ys ++ ws) k
 get_front [] zs ws k h = absurd (omega arith)
 get_front (y ∷ ys) zs ws zero h = refl
@@ -90,12 +90,12 @@ times_twice [] i c e f = absurd (none-some c e)
 times_twice (x ∷ xs) zero c e f = subst (λ (j : ℕ). 1 < times c (j ∷ xs)) (sym (same_Some x c e)) (omega (arith, times_same c xs, times_get xs zero c f))
 times_twice (x ∷ xs) (suc i) c e f = omega (arith, times_twice xs i c e f)
 
--- a run passes a place: the chain there, and what is behind it
+-- a run passes a place: the chain there, and what is after it
 pub record Passing (p : PoolView) (at : Option ℕ) (xs : List ℕ) (i : ℕ) : Type 0 where
   pub number : ℕ
   pub stands : slice_get xs i ≡ Some number
   pub is : at ≡ Some number
-  pub rest : IsRun p (chain_of p number).front.behind (drop (suc i) xs)
+  pub rest : IsRun p (chain_of p number).front.after (drop (suc i) xs)
 
 pub passing : (p : PoolView) (at : Option ℕ) (xs : List ℕ) (i : ℕ) → i < length xs → IsRun p at (drop i xs) → Passing p at xs i
 passing p at [] i h r = absurd (omega arith)

@@ -10,10 +10,10 @@ use Rattle.mbuf_chain.specs.Chain.{ChainView, PoolView, IsLive, chain_of, with_c
 use Rattle.mbuf_chain.specs.Owners.{times, IsOwned, Moves}
 use Rattle.mbuf_chain.specs.Steps.{placed}
 use Rattle.mbuf_chain.specs.Frames.{SameAt, IsBounded}
-use Rattle.mbuf_chain.specs.Train.{TrainView, Car, no_car, follow, numbers, car_of, cars, car_at, last_number, IsHeld, Inserts, Takes}
-pub use Rattle.mbuf_chain.specs.Kept.{numbers_same, cars_same, held_same, none_left}
-use Rattle.mbuf_chain.specs.Kept.{cars_of_same}
-use Rattle.mbuf_chain.proofs.Laws.Owners.{times_same, times_other, times-append, owned_more, owned_after, live_owned, apart_first, same_without, same_with, same_adds, same_behind, apart_new, moves_none, then_adds, then_without, shown_with, kept_with, live_with, moves_within, moves_trans, moves_reordered, live_at_most}
+use Rattle.mbuf_chain.specs.Train.{TrainView, QueuedPacket, no_queued_packet, follow, numbers, queued_packet_of, queued_packets, queued_packet_at, last_number, IsHeld, Inserts, Takes}
+pub use Rattle.mbuf_chain.specs.Kept.{numbers_same, queued_packets_same, held_same, none_left}
+use Rattle.mbuf_chain.specs.Kept.{queued_packets_of_same}
+use Rattle.mbuf_chain.proofs.Laws.Owners.{times_same, times_other, times-append, owned_more, owned_after, live_owned, apart_first, same_without, same_with, same_adds, same_after, apart_new, moves_none, then_adds, then_without, shown_with, kept_with, live_with, moves_within, moves_trans, moves_reordered, live_at_most}
 use Rattle.mbuf_chain.proofs.Laws.Accounts.{owned_at_most}
 use Rattle.mbuf_chain.proofs.Runs.{IsRun, Split, split_at, get_front, times_get, times_twice, run_follow, run_ends, run_of, run_same, run_with, run_without, run_next, last-append, insert-append, remove-append}
 
@@ -46,10 +46,10 @@ held_of p t xs l =
 pub record Beside (p q : PoolView) (t : TrainView) : Type 0 where
   pub held : IsHeld q t
   pub numbers : numbers q t ≡ numbers p t
-  pub cars : cars q t ≡ cars p t
+  pub queued_packets : queued_packets q t ≡ queued_packets p t
 
 pub beside : (p q : PoolView) (t : TrainView) → SameAt p q (numbers p t) → IsHeld p t → Beside p q t
-beside p q t s h = record { held = held_same p q t s h; numbers = numbers_same p q t s; cars = cars_same p q t s }
+beside p q t s h = record { held = held_same p q t s h; numbers = numbers_same p q t s; queued_packets = queued_packets_same p q t s }
 
 pub beside_adds : {p q : PoolView} {c : ℕ} {v : ChainView} (t : TrainView) → Adds p q c v → IsHeld p t → Beside p q t
 beside_adds {p} {q} t a h = beside p q t (same_adds (numbers p t) a h.owned) h
@@ -61,7 +61,7 @@ pub beside_without : (p q : PoolView) (c : ℕ) (t : TrainView) → q ≡ withou
 beside_without p q c t e apart h = beside p q t (same_without p q c (numbers p t) apart e) h
 
 pub beside_moves : {p q : PoolView} {xs ys : List ℕ} (t : TrainView) → Moves p xs q ys → IsOwned p (numbers p t ++ xs) → IsHeld p t → Beside p q t
-beside_moves {p} {q} t m o h = beside p q t (same_behind (numbers p t) m o) h
+beside_moves {p} {q} t m o h = beside p q t (same_after (numbers p t) m o) h
 
 -- a new chain is none of a train's
 pub apart_adds : {p q : PoolView} {c : ℕ} {v : ChainView} (t : TrainView) → Adds p q c v → IsHeld p t → times c (numbers q t) ≡ 0
@@ -73,17 +73,17 @@ moves_new {p} {q} {c} t a h =
     subst (λ (xs : List ℕ). Moves p (numbers p t) q (c ∷ xs)) (sym (beside_adds t a h).numbers) (then_adds (moves_none p (numbers p t)) a)
 
 -- a chain taken out of a train and freed
-pub record FreedCar (p : PoolView) (t : TrainView) (q r : PoolView) (u : TrainView) : Type 0 where
-  pub cars : cars r u ≡ cars q u
+pub record FreedPacket (p : PoolView) (t : TrainView) (q r : PoolView) (u : TrainView) : Type 0 where
+  pub queued_packets : queued_packets r u ≡ queued_packets q u
   pub held : IsHeld r u
   pub moves : Moves p (numbers p t) r (numbers r u)
 
-pub freed_car : {p q r : PoolView} {t u : TrainView} {c : ℕ} → IsHeld p t → IsHeld q u → Moves p (numbers p t) q (c ∷ numbers q u) → r ≡ without q c → FreedCar p t q r u
-freed_car {p} {q} {r} {t} {u} {c} held now m is_r =
+pub freed_packet : {p q r : PoolView} {t u : TrainView} {c : ℕ} → IsHeld p t → IsHeld q u → Moves p (numbers p t) q (c ∷ numbers q u) → r ≡ without q c → FreedPacket p t q r u
+freed_packet {p} {q} {r} {t} {u} {c} held now m is_r =
     let owned : IsOwned q (c ∷ numbers q u) = owned_after m held.owned in
     let same : SameAt q r (numbers q u) = same_without q r c (numbers q u) (apart_first q c (numbers q u) owned) is_r in
     record {
-      cars = cars_same q r u same;
+      queued_packets = queued_packets_same q r u same;
       held = held_same q r u same now;
       moves = subst (Moves p (numbers p t) r) (sym (numbers_same q r u same)) (then_without r c (numbers q u) m held.owned is_r);
     }
@@ -93,63 +93,63 @@ pub held_none : (p : PoolView) (t : TrainView) → t ≡ record { first = None; 
 held_none p t e =
     subst (IsHeld p) (sym e) (held_of p (record { first = None; last = None; len = 0 }) [] (record { run = refl; whole = refl; last = refl; owned = λ k. omega arith; headed = λ k h. absurd (omega arith) }))
 
-pub length-cars : (p : PoolView) (t : TrainView) → IsHeld p t → length (cars p t) ≡ t.len
-length-cars p t h = length-map (numbers p t) (car_of p) ∙ h.whole
+pub length-queued_packets : (p : PoolView) (t : TrainView) → IsHeld p t → length (queued_packets p t) ≡ t.len
+length-queued_packets p t h = length-map (numbers p t) (queued_packet_of p) ∙ h.whole
 
-live_link : (p : PoolView) (at : Option ℕ) (us : List ℕ) (b : ℕ) (zs : List ℕ) → IsOwned p ((us ++ b ∷ []) ++ zs) → IsRun p at ((us ++ b ∷ []) ++ zs) → IfSome (chain_of p b).front.behind (IsLive p)
+live_link : (p : PoolView) (at : Option ℕ) (us : List ℕ) (b : ℕ) (zs : List ℕ) → IsOwned p ((us ++ b ∷ []) ++ zs) → IsRun p at ((us ++ b ∷ []) ++ zs) → IfSome (chain_of p b).front.after (IsLive p)
 live_link p at [] b [] o r = subst (λ (at : Option ℕ). IfSome at (IsLive p)) (sym r.1) tt
 live_link p at [] b (z ∷ zs) o r = subst (λ (at : Option ℕ). IfSome at (IsLive p)) (sym r.1.0) (live_owned p (b ∷ z ∷ zs) z o (omega (arith, times_same z zs)))
-live_link p at (u ∷ us) b zs o r = live_link p (chain_of p u).front.behind us b zs (λ k. omega (arith, o k)) r.1
+live_link p at (u ∷ us) b zs o r = live_link p (chain_of p u).front.after us b zs (λ k. omega (arith, o k)) r.1
 
 get_seam : (ys : List ℕ) (c : ℕ) (zs : List ℕ) → slice_get (ys ++ c ∷ zs) (length ys) ≡ Some c
 get_seam [] c zs = refl
 get_seam (y ∷ ys) c zs = get_seam ys c zs
 
--- ---- the car at a place
-pub live_car : (p : PoolView) (t : TrainView) (i c : ℕ) → IsHeld p t → slice_get (numbers p t) i ≡ Some c → IsLive p c
-live_car p t i c h e = live_owned p (numbers p t) c h.owned (times_get (numbers p t) i c e)
+-- ---- the queued packet at a place
+pub live_queued : (p : PoolView) (t : TrainView) (i c : ℕ) → IsHeld p t → slice_get (numbers p t) i ≡ Some c → IsLive p c
+live_queued p t i c h e = live_owned p (numbers p t) c h.owned (times_get (numbers p t) i c e)
 
-pub headed_car : (p : PoolView) (t : TrainView) (i c : ℕ) → IsHeld p t → slice_get (numbers p t) i ≡ Some c → (chain_of p c).front.header ≡ true
-headed_car p t i c h e = h.headed c (times_get (numbers p t) i c e)
+pub headed_packet : (p : PoolView) (t : TrainView) (i c : ℕ) → IsHeld p t → slice_get (numbers p t) i ≡ Some c → (chain_of p c).front.header ≡ true
+headed_packet p t i c h e = h.headed c (times_get (numbers p t) i c e)
 
-pub apart_car : (p : PoolView) (t : TrainView) (i b c : ℕ) → times c (numbers p t) ≡ 0 → slice_get (numbers p t) i ≡ Some b → b ≢ c
-apart_car p t i b c apart e is = absurd (omega (arith, apart, times_get (numbers p t) i b e, ap (λ (j : ℕ). times j (numbers p t)) is))
+pub apart_queued : (p : PoolView) (t : TrainView) (i b c : ℕ) → times c (numbers p t) ≡ 0 → slice_get (numbers p t) i ≡ Some b → b ≢ c
+apart_queued p t i b c apart e is = absurd (omega (arith, apart, times_get (numbers p t) i b e, ap (λ (j : ℕ). times j (numbers p t)) is))
 
-get_car : (p : PoolView) (xs : List ℕ) (i c : ℕ) → slice_get xs i ≡ Some c → get_or (map (car_of p) xs) i no_car ≡ car_of p c
-get_car p [] i c e = absurd (none-some c e)
-get_car p (x ∷ xs) zero c e = ap (car_of p) (same_Some x c e)
-get_car p (x ∷ xs) (suc i) c e = get_car p xs i c e
+get_queued : (p : PoolView) (xs : List ℕ) (i c : ℕ) → slice_get xs i ≡ Some c → get_or (map (queued_packet_of p) xs) i no_queued_packet ≡ queued_packet_of p c
+get_queued p [] i c e = absurd (none-some c e)
+get_queued p (x ∷ xs) zero c e = ap (queued_packet_of p) (same_Some x c e)
+get_queued p (x ∷ xs) (suc i) c e = get_queued p xs i c e
 
-pub car_is : (p : PoolView) (t : TrainView) (i c : ℕ) → slice_get (numbers p t) i ≡ Some c → car_at p t i ≡ car_of p c
-car_is p t i c e = get_car p (numbers p t) i c e
+pub queued_packet_is : (p : PoolView) (t : TrainView) (i c : ℕ) → slice_get (numbers p t) i ≡ Some c → queued_packet_at p t i ≡ queued_packet_of p c
+queued_packet_is p t i c e = get_queued p (numbers p t) i c e
 
--- behind a car that isn't the last stands another
-pub behind_car : (p : PoolView) (t : TrainView) (i b : ℕ) → IsHeld p t → slice_get (numbers p t) i ≡ Some b → suc i < t.len → (c : ℕ) × ((chain_of p b).front.behind ≡ Some c) × (slice_get (numbers p t) (suc i) ≡ Some c)
-behind_car p t i b h e more =
+-- after a queued packet that isn't the last stands another
+pub after_queued : (p : PoolView) (t : TrainView) (i b : ℕ) → IsHeld p t → slice_get (numbers p t) i ≡ Some b → suc i < t.len → (c : ℕ) × ((chain_of p b).front.after ≡ Some c) × (slice_get (numbers p t) (suc i) ≡ Some c)
+after_queued p t i b h e more =
     let s = split_at (numbers p t) i b e in
     go s.front s.back s.all s.place
   where
-    go : (us zs : List ℕ) → numbers p t ≡ (us ++ b ∷ []) ++ zs → length (us ++ b ∷ []) ≡ suc i → (c : ℕ) × ((chain_of p b).front.behind ≡ Some c) × (slice_get (numbers p t) (suc i) ≡ Some c)
+    go : (us zs : List ℕ) → numbers p t ≡ (us ++ b ∷ []) ++ zs → length (us ++ b ∷ []) ≡ suc i → (c : ℕ) × ((chain_of p b).front.after ≡ Some c) × (slice_get (numbers p t) (suc i) ≡ Some c)
     go us [] all place = absurd (omega (arith, more, h.whole, ap length all, length-append (us ++ b ∷ []) [], place))
     go us (c ∷ zs) all place =
         (c, run_next p t.first us b c zs (subst (IsRun p t.first) all (linked_of p t h).run), ap (λ (xs : List ℕ). slice_get xs (suc i)) all ∙ ap (slice_get ((us ++ b ∷ []) ++ c ∷ zs)) (sym place) ∙ get_seam (us ++ b ∷ []) c zs)
 
-pub next_car : (p : PoolView) (t : TrainView) (i b c : ℕ) → IsHeld p t → slice_get (numbers p t) i ≡ Some b → suc i < t.len → (chain_of p b).front.behind ≡ Some c → slice_get (numbers p t) (suc i) ≡ Some c
-next_car p t i b c h e more is =
-    let behind = behind_car p t i b h e more in
-    behind.2 ∙ (sym behind.1 ∙ is)
+pub next_queued : (p : PoolView) (t : TrainView) (i b c : ℕ) → IsHeld p t → slice_get (numbers p t) i ≡ Some b → suc i < t.len → (chain_of p b).front.after ≡ Some c → slice_get (numbers p t) (suc i) ≡ Some c
+next_queued p t i b c h e more is =
+    let after = after_queued p t i b h e more in
+    after.2 ∙ (sym after.1 ∙ is)
 
-pub next_apart : (p : PoolView) (t : TrainView) (i b c : ℕ) → IsHeld p t → slice_get (numbers p t) i ≡ Some b → suc i < t.len → (chain_of p b).front.behind ≡ Some c → c ≢ b
+pub next_apart : (p : PoolView) (t : TrainView) (i b c : ℕ) → IsHeld p t → slice_get (numbers p t) i ≡ Some b → suc i < t.len → (chain_of p b).front.after ≡ Some c → c ≢ b
 next_apart p t i b c h e more is same =
-    absurd (omega (arith, h.owned b, live_at_most p b, times_twice (numbers p t) i b e (next_car p t i b c h e more is ∙ ap {B = Option ℕ} Some same)))
+    absurd (omega (arith, h.owned b, live_at_most p b, times_twice (numbers p t) i b e (next_queued p t i b c h e more is ∙ ap {B = Option ℕ} Some same)))
 
--- what stands behind a car is a car
-pub live_behind : (p : PoolView) (t : TrainView) (i b : ℕ) → IsHeld p t → slice_get (numbers p t) i ≡ Some b → IfSome (chain_of p b).front.behind (IsLive p)
-live_behind p t i b h e =
+-- what stands after a queued packet is a queued packet
+pub live_after : (p : PoolView) (t : TrainView) (i b : ℕ) → IsHeld p t → slice_get (numbers p t) i ≡ Some b → IfSome (chain_of p b).front.after (IsLive p)
+live_after p t i b h e =
     let s = split_at (numbers p t) i b e in
     go s.front s.back s.all
   where
-    go : (us zs : List ℕ) → numbers p t ≡ (us ++ b ∷ []) ++ zs → IfSome (chain_of p b).front.behind (IsLive p)
+    go : (us zs : List ℕ) → numbers p t ≡ (us ++ b ∷ []) ++ zs → IfSome (chain_of p b).front.after (IsLive p)
     go us zs all =
         let l : Linked p t ((us ++ b ∷ []) ++ zs) = subst (Linked p t) all (linked_of p t h) in
         live_link p t.first us b zs l.owned l.run
@@ -163,14 +163,14 @@ room_for p t c v q h live apart is_q b =
 -- ---- chains that show what they showed, with other links
 record Shown (p q : PoolView) (xs : List ℕ) : Type 0 where
   header : (k : ℕ) → 0 < times k xs → (chain_of q k).front.header ≡ (chain_of p k).front.header
-  car : (k : ℕ) → 0 < times k xs → car_of q k ≡ car_of p k
+  queued_packet : (k : ℕ) → 0 < times k xs → queued_packet_of q k ≡ queued_packet_of p k
 
 -- ---- a chain put in
 record PutIn (p : PoolView) (t : TrainView) (ys zs : List ℕ) (c tag : ℕ) (q : PoolView) (u : TrainView) : Type 0 where
   moves : Moves p (c ∷ (ys ++ zs)) q (c ∷ (ys ++ zs))
   others : Shown p q (ys ++ zs)
   header : (chain_of q c).front.header ≡ true
-  car : car_of q c ≡ record { number = c; entries = (chain_of p c).entries; tag = tag }
+  queued_packet : queued_packet_of q c ≡ record { number = c; entries = (chain_of p c).entries; tag = tag }
   run : IsRun q u.first (ys ++ c ∷ zs)
   last : u.last ≡ last_number (ys ++ c ∷ zs)
   len : u.len ≡ t.len + 1
@@ -199,14 +199,14 @@ put_in p t ys zs c tag q u l live apart s =
     let was : numbers p t ≡ ys ++ zs = numbers_are p t (ys ++ zs) l in
     let is : numbers q u ≡ ys ++ c ∷ zs = numbers_are q u (ys ++ c ∷ zs) linked in
     record {
-      cars =
-          ap (map (car_of q)) is
-          ∙ map-append (car_of q) ys (c ∷ zs)
-          ∙ ap (λ (xs : List Car). xs ++ map (car_of q) (c ∷ zs)) (cars_of_same p q ys (λ k h. s.others.car k (omega (arith, h, times-append k ys zs))))
-          ∙ ap (λ (xs : List Car). map (car_of p) ys ++ car_of q c ∷ xs) (cars_of_same p q zs (λ k h. s.others.car k (omega (arith, h, times-append k ys zs))))
-          ∙ ap (λ (car : Car). map (car_of p) ys ++ car ∷ map (car_of p) zs) s.car
-          ∙ sym (insert-append (map (car_of p) ys) (map (car_of p) zs) (length ys) (record { number = c; entries = (chain_of p c).entries; tag = tag }) (length-map ys (car_of p)))
-          ∙ ap (λ (xs : List Car). insert xs (length ys) (record { number = c; entries = (chain_of p c).entries; tag = tag })) (sym (map-append (car_of p) ys zs) ∙ ap (map (car_of p)) (sym was));
+      queued_packets =
+          ap (map (queued_packet_of q)) is
+          ∙ map-append (queued_packet_of q) ys (c ∷ zs)
+          ∙ ap (λ (xs : List QueuedPacket). xs ++ map (queued_packet_of q) (c ∷ zs)) (queued_packets_of_same p q ys (λ k h. s.others.queued_packet k (omega (arith, h, times-append k ys zs))))
+          ∙ ap (λ (xs : List QueuedPacket). map (queued_packet_of p) ys ++ queued_packet_of q c ∷ xs) (queued_packets_of_same p q zs (λ k h. s.others.queued_packet k (omega (arith, h, times-append k ys zs))))
+          ∙ ap (λ (queued_packet : QueuedPacket). map (queued_packet_of p) ys ++ queued_packet ∷ map (queued_packet_of p) zs) s.queued_packet
+          ∙ sym (insert-append (map (queued_packet_of p) ys) (map (queued_packet_of p) zs) (length ys) (record { number = c; entries = (chain_of p c).entries; tag = tag }) (length-map ys (queued_packet_of p)))
+          ∙ ap (λ (xs : List QueuedPacket). insert xs (length ys) (record { number = c; entries = (chain_of p c).entries; tag = tag })) (sym (map-append (queued_packet_of p) ys zs) ∙ ap (map (queued_packet_of p)) (sym was));
       held = held_of q u (ys ++ c ∷ zs) linked;
       len = s.len;
       moves = moves_reordered (c ∷ numbers p t) (numbers q u) s.moves (λ k. ap (λ (xs : List ℕ). times k (c ∷ xs)) was) (λ k. ap (times k) is ∙ times_in k c ys zs);
@@ -236,19 +236,19 @@ take_out p t ys zs c q u l s =
     } in
     let was : numbers p t ≡ ys ++ c ∷ zs = numbers_are p t (ys ++ c ∷ zs) l in
     let is : numbers q u ≡ ys ++ zs = numbers_are q u (ys ++ zs) linked in
-    let cars_were : cars p t ≡ map (car_of p) ys ++ car_of p c ∷ map (car_of p) zs = ap (map (car_of p)) was ∙ map-append (car_of p) ys (c ∷ zs) in
+    let queued_packets_were : queued_packets p t ≡ map (queued_packet_of p) ys ++ queued_packet_of p c ∷ map (queued_packet_of p) zs = ap (map (queued_packet_of p)) was ∙ map-append (queued_packet_of p) ys (c ∷ zs) in
     record {
-      cars =
-          ap (map (car_of q)) is
-          ∙ map-append (car_of q) ys zs
-          ∙ ap (λ (xs : List Car). xs ++ map (car_of q) zs) (cars_of_same p q ys (λ k h. s.others.car k (omega (arith, h, times-append k ys zs))))
-          ∙ ap (λ (xs : List Car). map (car_of p) ys ++ xs) (cars_of_same p q zs (λ k h. s.others.car k (omega (arith, h, times-append k ys zs))))
-          ∙ sym (remove-append (map (car_of p) ys) (map (car_of p) zs) (length ys) (car_of p c) (length-map ys (car_of p)))
-          ∙ ap (λ (xs : List Car). remove xs (length ys)) (sym cars_were);
+      queued_packets =
+          ap (map (queued_packet_of q)) is
+          ∙ map-append (queued_packet_of q) ys zs
+          ∙ ap (λ (xs : List QueuedPacket). xs ++ map (queued_packet_of q) zs) (queued_packets_of_same p q ys (λ k h. s.others.queued_packet k (omega (arith, h, times-append k ys zs))))
+          ∙ ap (λ (xs : List QueuedPacket). map (queued_packet_of p) ys ++ xs) (queued_packets_of_same p q zs (λ k h. s.others.queued_packet k (omega (arith, h, times-append k ys zs))))
+          ∙ sym (remove-append (map (queued_packet_of p) ys) (map (queued_packet_of p) zs) (length ys) (queued_packet_of p c) (length-map ys (queued_packet_of p)))
+          ∙ ap (λ (xs : List QueuedPacket). remove xs (length ys)) (sym queued_packets_were);
       taken =
-          ap (λ (xs : List Car). get_or xs (length ys) no_car) cars_were
-          ∙ ap (λ (n : ℕ). get_or (map (car_of p) ys ++ car_of p c ∷ map (car_of p) zs) n no_car) (sym (length-map ys (car_of p)))
-          ∙ get_or-append_seam (map (car_of p) ys) (car_of p c) (map (car_of p) zs) no_car
+          ap (λ (xs : List QueuedPacket). get_or xs (length ys) no_queued_packet) queued_packets_were
+          ∙ ap (λ (n : ℕ). get_or (map (queued_packet_of p) ys ++ queued_packet_of p c ∷ map (queued_packet_of p) zs) n no_queued_packet) (sym (length-map ys (queued_packet_of p)))
+          ∙ get_or-append_seam (map (queued_packet_of p) ys) (queued_packet_of p c) (map (queued_packet_of p) zs) no_queued_packet
           ∙ ap (λ (es : List Rattle.mbuf_chain.specs.Chain.Entry). record { number = c; entries = es; tag = (chain_of p c).front.tag }) (sym s.entries);
       alone = s.alone;
       held = held_of q u (ys ++ zs) linked;
@@ -258,14 +258,14 @@ take_out p t ys zs c q u l s =
     }
 
 -- ---- the train's own steps
-car_from : (p q : PoolView) (k : ℕ) → chain_of q k ≡ chain_of p k → car_of q k ≡ car_of p k
-car_from p q k e = ap (λ (v : ChainView). record { number = k; entries = v.entries; tag = v.front.tag }) e
+queued_packet_from : (p q : PoolView) (k : ℕ) → chain_of q k ≡ chain_of p k → queued_packet_of q k ≡ queued_packet_of p k
+queued_packet_from p q k e = ap (λ (v : ChainView). record { number = k; entries = v.entries; tag = v.front.tag }) e
 
 header_from : (p q : PoolView) (k : ℕ) → chain_of q k ≡ chain_of p k → (chain_of q k).front.header ≡ (chain_of p k).front.header
 header_from p q k e = ap (λ (v : ChainView). v.front.header) e
 
-behind_from : (p q : PoolView) (k : ℕ) → chain_of q k ≡ chain_of p k → (chain_of q k).front.behind ≡ (chain_of p k).front.behind
-behind_from p q k e = ap (λ (v : ChainView). v.front.behind) e
+after_from : (p q : PoolView) (k : ℕ) → chain_of q k ≡ chain_of p k → (chain_of q k).front.after ≡ (chain_of p k).front.after
+after_from p q k e = ap (λ (v : ChainView). v.front.after) e
 
 not_in : (c k : ℕ) (xs : List ℕ) → times c xs ≡ 0 → 0 < times k xs → k ≢ c
 not_in c k xs apart h e = absurd (omega (arith, apart, h, ap (λ (j : ℕ). times j xs) e))
@@ -278,14 +278,14 @@ inserted_first p t c tag q u h live headed apart is_q first len only last =
     let l = linked_of p t h in
     let here : chain_of q c ≡ placed (chain_of p c) t.first tag = shown_with p q c v is_q in
     let there : (k : ℕ) → 0 < times k (numbers p t) → chain_of q k ≡ chain_of p k = λ k in_old. kept_with p q c v k is_q (not_in c k (numbers p t) apart in_old) in
-    let behind : (chain_of q c).front.behind ≡ t.first = ap (λ (v : ChainView). v.front.behind) here in
-    let run : IsRun q t.first (numbers p t) = run_same p q t.first (numbers p t) (record { behind = λ k in_old. behind_from p q k (there k in_old) }) l.run in
+    let after : (chain_of q c).front.after ≡ t.first = ap (λ (v : ChainView). v.front.after) here in
+    let run : IsRun q t.first (numbers p t) = run_same p q t.first (numbers p t) (record { after = λ k in_old. after_from p q k (there k in_old) }) l.run in
     put_in p t [] (numbers p t) c tag q u l live apart (record {
       moves = moves_within p q c v (c ∷ numbers p t) live (omega (arith, times_same c (numbers p t))) is_q;
-      others = record { header = λ k in_old. header_from p q k (there k in_old); car = λ k in_old. car_from p q k (there k in_old) };
+      others = record { header = λ k in_old. header_from p q k (there k in_old); queued_packet = λ k in_old. queued_packet_from p q k (there k in_old) };
       header = ap (λ (v : ChainView). v.front.header) here ∙ headed;
-      car = ap (λ (v : ChainView). record { number = c; entries = v.entries; tag = v.front.tag }) here;
-      run = (first, subst (λ (o : Option ℕ). IsRun q o (numbers p t)) (sym behind) run);
+      queued_packet = ap (λ (v : ChainView). record { number = c; entries = v.entries; tag = v.front.tag }) here;
+      run = (first, subst (λ (o : Option ℕ). IsRun q o (numbers p t)) (sym after) run);
       last = end_of (numbers p t) refl;
       len = len;
     })
@@ -294,11 +294,11 @@ inserted_first p t c tag q u h live headed apart is_q first len only last =
     end_of [] e = only (omega (arith, h.whole, ap length e))
     end_of (x ∷ xs) e = last (omega (arith, h.whole, ap length e)) ∙ h.last ∙ ap last_number e
 
--- a chain put in behind another
-behind_in : (p : PoolView) (t : TrainView) (b i c tag : ℕ) (r q : PoolView) (u : TrainView) → IsHeld p t → IsLive p c → (chain_of p c).front.header ≡ true → times c (numbers p t) ≡ 0
-    → slice_get (numbers p t) i ≡ Some b → r ≡ with_chain p c (placed (chain_of p c) (chain_of p b).front.behind tag) → q ≡ with_chain r b (placed (chain_of r b) (Some c) (chain_of r b).front.tag)
+-- a chain put in after another
+after_in : (p : PoolView) (t : TrainView) (b i c tag : ℕ) (r q : PoolView) (u : TrainView) → IsHeld p t → IsLive p c → (chain_of p c).front.header ≡ true → times c (numbers p t) ≡ 0
+    → slice_get (numbers p t) i ≡ Some b → r ≡ with_chain p c (placed (chain_of p c) (chain_of p b).front.after tag) → q ≡ with_chain r b (placed (chain_of r b) (Some c) (chain_of r b).front.tag)
     → u.first ≡ t.first → u.len ≡ t.len + 1 → (suc i ≡ t.len → u.last ≡ Some c) → (suc i < t.len → u.last ≡ t.last) → Inserts p t (suc i) c tag q u
-behind_in p t b i c tag r q u h live headed apart at is_r is_q first len only last =
+after_in p t b i c tag r q u h live headed apart at is_r is_q first len only last =
     subst (λ (n : ℕ). Inserts p t n c tag q u) s.place
     (put_in p t (s.front ++ b ∷ []) s.back c tag q u l live apart_all (record {
       moves = moves_trans
@@ -309,19 +309,19 @@ behind_in p t b i c tag r q u h live headed apart at is_r is_q first len only la
           | inl e ↦ subst (λ (j : ℕ). (chain_of q j).front.header ≡ (chain_of p j).front.header) (sym e) (ap (λ (v : ChainView). v.front.header) at_b)
           | inr ne ↦ header_from p q k (there k (not_in c k ((s.front ++ b ∷ []) ++ s.back) apart_all in_all) ne)
         ];
-        car = λ k in_all. elim (cases_eq k b) [
-          | inl e ↦ subst (λ (j : ℕ). car_of q j ≡ car_of p j) (sym e) (ap (λ (v : ChainView). record { number = b; entries = v.entries; tag = v.front.tag }) at_b)
-          | inr ne ↦ car_from p q k (there k (not_in c k ((s.front ++ b ∷ []) ++ s.back) apart_all in_all) ne)
+        queued_packet = λ k in_all. elim (cases_eq k b) [
+          | inl e ↦ subst (λ (j : ℕ). queued_packet_of q j ≡ queued_packet_of p j) (sym e) (ap (λ (v : ChainView). record { number = b; entries = v.entries; tag = v.front.tag }) at_b)
+          | inr ne ↦ queued_packet_from p q k (there k (not_in c k ((s.front ++ b ∷ []) ++ s.back) apart_all in_all) ne)
         ];
       };
       header = ap (λ (v : ChainView). v.front.header) at_c ∙ headed;
-      car = ap (λ (v : ChainView). record { number = c; entries = v.entries; tag = v.front.tag }) at_c;
+      queued_packet = ap (λ (v : ChainView). record { number = c; entries = v.entries; tag = v.front.tag }) at_c;
       run = subst (λ (o : Option ℕ). IsRun q o ((s.front ++ b ∷ []) ++ c ∷ s.back)) (sym first)
           (run_with p q t.first s.front b c s.back l.run
-          (record { behind = λ k in_us. behind_from p q k (kept k (omega (arith, in_us, times-append k s.front s.back))) })
-          (record { behind = λ k in_zs. behind_from p q k (kept k (omega (arith, in_zs, times-append k s.front s.back))) })
-          (ap (λ (v : ChainView). v.front.behind) at_b)
-          (ap (λ (v : ChainView). v.front.behind) at_c));
+          (record { after = λ k in_us. after_from p q k (kept k (omega (arith, in_us, times-append k s.front s.back))) })
+          (record { after = λ k in_zs. after_from p q k (kept k (omega (arith, in_zs, times-append k s.front s.back))) })
+          (ap (λ (v : ChainView). v.front.after) at_b)
+          (ap (λ (v : ChainView). v.front.after) at_c));
       last = end_of s.back refl;
       len = len;
     }))
@@ -330,7 +330,7 @@ behind_in p t b i c tag r q u h live headed apart at is_r is_q first len only la
     s = split_at (numbers p t) i b at
 
     v : ChainView
-    v = placed (chain_of p c) (chain_of p b).front.behind tag
+    v = placed (chain_of p c) (chain_of p b).front.after tag
 
     w : ChainView
     w = placed (chain_of r b) (Some c) (chain_of r b).front.tag
@@ -356,7 +356,7 @@ behind_in p t b i c tag r q u h live headed apart at is_r is_q first len only la
     b_c : b ≢ c
     b_c = not_in c b ((s.front ++ b ∷ []) ++ s.back) apart_all has_b
 
-    at_c : chain_of q c ≡ placed (chain_of p c) (chain_of p b).front.behind tag
+    at_c : chain_of q c ≡ placed (chain_of p c) (chain_of p b).front.after tag
     at_c = kept_with r q b w c is_q (λ e. b_c (sym e)) ∙ shown_with p r c v is_r
 
     at_b : chain_of q b ≡ placed (chain_of p b) (Some c) (chain_of p b).front.tag
@@ -379,7 +379,7 @@ behind_in p t b i c tag r q u h live headed apart at is_r is_q first len only la
 
 -- the first chain taken out
 first_out : (p : PoolView) (t : TrainView) (c : ℕ) (q : PoolView) (u : TrainView) → IsHeld p t → t.first ≡ Some c → 0 < t.len
-    → q ≡ with_chain p c (placed (chain_of p c) None 0) → u.first ≡ (chain_of p c).front.behind → u.len + 1 ≡ t.len → (t.len ≡ 1 → u.last ≡ None) → (1 < t.len → u.last ≡ t.last) → Takes p t 0 c (chain_of p c).front.tag q u
+    → q ≡ with_chain p c (placed (chain_of p c) None 0) → u.first ≡ (chain_of p c).front.after → u.len + 1 ≡ t.len → (t.len ≡ 1 → u.last ≡ None) → (1 < t.len → u.last ≡ t.last) → Takes p t 0 c (chain_of p c).front.tag q u
 first_out p t c q u h is_c some is_q first len only last = go (numbers p t) refl
   where
     go : (xs : List ℕ) → numbers p t ≡ xs → Takes p t 0 c (chain_of p c).front.tag q u
@@ -398,10 +398,10 @@ first_out p t c q u h is_c some is_q first len only last = go (numbers p t) refl
             let there : (k : ℕ) → 0 < times k zs → chain_of q k ≡ chain_of p k = λ k in_zs. kept_with p q c v k is_q (not_in c k zs apart in_zs) in
             take_out p t [] zs c q u l (record {
               moves = moves_within p q c v (c ∷ zs) (live_owned p (c ∷ zs) c l.owned has_c) has_c is_q;
-              others = record { header = λ k in_zs. header_from p q k (there k in_zs); car = λ k in_zs. car_from p q k (there k in_zs) };
+              others = record { header = λ k in_zs. header_from p q k (there k in_zs); queued_packet = λ k in_zs. queued_packet_from p q k (there k in_zs) };
               entries = ap (λ (v : ChainView). v.entries) here;
               alone = ap (λ (v : ChainView). v.front) here ∙ ap (λ (b : Bool). alone b) (l.headed c has_c);
-              run = subst (λ (o : Option ℕ). IsRun q o zs) (sym first) (run_same p q (chain_of p c).front.behind zs (record { behind = λ k in_zs. behind_from p q k (there k in_zs) }) l.run.1);
+              run = subst (λ (o : Option ℕ). IsRun q o zs) (sym first) (run_same p q (chain_of p c).front.after zs (record { after = λ k in_zs. after_from p q k (there k in_zs) }) l.run.1);
               last = end_of zs l;
               len = len;
             })
@@ -410,11 +410,11 @@ first_out p t c q u h is_c some is_q first len only last = go (numbers p t) refl
             end_of [] l = only (omega (arith, l.whole))
             end_of (z ∷ zs) l = last (omega (arith, l.whole)) ∙ l.last
 
--- a chain taken out behind another
-behind_out : (p : PoolView) (t : TrainView) (b i c : ℕ) (r q : PoolView) (u : TrainView) → IsHeld p t → Split (numbers p t) i b → suc i < t.len → (chain_of p b).front.behind ≡ Some c
-    → r ≡ with_chain p b (placed (chain_of p b) (chain_of p c).front.behind (chain_of p b).front.tag) → q ≡ with_chain r c (placed (chain_of r c) None 0)
+-- a chain taken out after another
+after_out : (p : PoolView) (t : TrainView) (b i c : ℕ) (r q : PoolView) (u : TrainView) → IsHeld p t → Split (numbers p t) i b → suc i < t.len → (chain_of p b).front.after ≡ Some c
+    → r ≡ with_chain p b (placed (chain_of p b) (chain_of p c).front.after (chain_of p b).front.tag) → q ≡ with_chain r c (placed (chain_of r c) None 0)
     → u.first ≡ t.first → u.len + 1 ≡ t.len → (i + 2 ≡ t.len → u.last ≡ Some b) → (i + 2 < t.len → u.last ≡ t.last) → Takes p t (suc i) c (chain_of p c).front.tag q u
-behind_out p t b i c r q u h s more is_c is_r is_q first len only last = go s.back s.all
+after_out p t b i c r q u h s more is_c is_r is_q first len only last = go s.back s.all
   where
     us : List ℕ
     us = s.front
@@ -428,7 +428,7 @@ behind_out p t b i c r q u h s more is_c is_r is_q first len only last = go s.ba
       where
         with_chain_out : (zs : List ℕ) → Linked p t ((us ++ b ∷ []) ++ c ∷ zs) → Takes p t (length (us ++ b ∷ [])) c (chain_of p c).front.tag q u
         with_chain_out zs l =
-            let v = placed (chain_of p b) (chain_of p c).front.behind (chain_of p b).front.tag in
+            let v = placed (chain_of p b) (chain_of p c).front.after (chain_of p b).front.tag in
             let w = placed (chain_of r c) None 0 in
             let parts : (k : ℕ) → times k ((us ++ b ∷ []) ++ c ∷ zs) ≡ times k (b ∷ []) + times k (c ∷ (us ++ zs)) = λ k. omega (arith, times-append k (us ++ b ∷ []) (c ∷ zs), times-append k us (b ∷ []), times-append k us zs) in
             let has_b : 0 < times b ((us ++ b ∷ []) ++ c ∷ zs) = omega (arith, parts b, times_same b []) in
@@ -439,7 +439,7 @@ behind_out p t b i c r q u h s more is_c is_r is_q first len only last = go s.ba
             let live_b = live_owned p ((us ++ b ∷ []) ++ c ∷ zs) b l.owned has_b in
             let live_c = live_owned p ((us ++ b ∷ []) ++ c ∷ zs) c l.owned has_c in
             let at_c : chain_of q c ≡ placed (chain_of p c) None 0 = shown_with r q c w is_q ∙ ap (λ (x : ChainView). placed x None 0) (kept_with p r b v c is_r (λ e. b_c (sym e))) in
-            let at_b : chain_of q b ≡ placed (chain_of p b) (chain_of p c).front.behind (chain_of p b).front.tag = kept_with r q c w b is_q b_c ∙ shown_with p r b v is_r in
+            let at_b : chain_of q b ≡ placed (chain_of p b) (chain_of p c).front.after (chain_of p b).front.tag = kept_with r q c w b is_q b_c ∙ shown_with p r b v is_r in
             let kept : (k : ℕ) → 0 < times k (us ++ zs) → chain_of q k ≡ chain_of p k = λ k h. kept_with r q c w k is_q (not_in c k (us ++ zs) no_c h) ∙ kept_with p r b v k is_r (not_in b k (us ++ zs) no_b h) in
             let others : (k : ℕ) → 0 < times k ((us ++ b ∷ []) ++ zs) → k ≢ b → 0 < times k (us ++ zs) = λ k in_all ne. omega (arith, in_all, times-append k (us ++ b ∷ []) zs, times-append k us (b ∷ []), times-append k us zs, times_other k b [] ne) in
             take_out p t (us ++ b ∷ []) zs c q u l (record {
@@ -449,18 +449,18 @@ behind_out p t b i c r q u h s more is_c is_r is_q first len only last = go s.ba
                   | inl e ↦ subst (λ (j : ℕ). (chain_of q j).front.header ≡ (chain_of p j).front.header) (sym e) (ap (λ (v : ChainView). v.front.header) at_b)
                   | inr ne ↦ header_from p q k (kept k (others k in_all ne))
                 ];
-                car = λ k in_all. elim (cases_eq k b) [
-                  | inl e ↦ subst (λ (j : ℕ). car_of q j ≡ car_of p j) (sym e) (ap (λ (v : ChainView). record { number = b; entries = v.entries; tag = v.front.tag }) at_b)
-                  | inr ne ↦ car_from p q k (kept k (others k in_all ne))
+                queued_packet = λ k in_all. elim (cases_eq k b) [
+                  | inl e ↦ subst (λ (j : ℕ). queued_packet_of q j ≡ queued_packet_of p j) (sym e) (ap (λ (v : ChainView). record { number = b; entries = v.entries; tag = v.front.tag }) at_b)
+                  | inr ne ↦ queued_packet_from p q k (kept k (others k in_all ne))
                 ];
               };
               entries = ap (λ (v : ChainView). v.entries) at_c;
               alone = ap (λ (v : ChainView). v.front) at_c ∙ ap (λ (b : Bool). alone b) (l.headed c has_c);
               run = subst (λ (o : Option ℕ). IsRun q o ((us ++ b ∷ []) ++ zs)) (sym first)
                   (run_without p q t.first us b c zs l.run
-                  (record { behind = λ k in_us. behind_from p q k (kept k (omega (arith, in_us, times-append k us zs))) })
-                  (record { behind = λ k in_zs. behind_from p q k (kept k (omega (arith, in_zs, times-append k us zs))) })
-                  (ap (λ (v : ChainView). v.front.behind) at_b));
+                  (record { after = λ k in_us. after_from p q k (kept k (omega (arith, in_us, times-append k us zs))) })
+                  (record { after = λ k in_zs. after_from p q k (kept k (omega (arith, in_zs, times-append k us zs))) })
+                  (ap (λ (v : ChainView). v.front.after) at_b));
               last = end_of zs l;
               len = len;
             })
@@ -477,26 +477,26 @@ behind_out p t b i c r q u h s more is_c is_r is_q first len only last = go s.ba
                 ∙ sym (last-append (us ++ b ∷ []) z zs)
 
 pub taken_first : (p : PoolView) (t : TrainView) (c tag : ℕ) (q : PoolView) (u : TrainView) → IsHeld p t → t.first ≡ Some c → 0 < t.len → tag ≡ (chain_of p c).front.tag
-    → q ≡ with_chain p c (placed (chain_of p c) None 0) → u.first ≡ (chain_of p c).front.behind → u.len + 1 ≡ t.len → (t.len ≡ 1 → u.last ≡ None) → (1 < t.len → u.last ≡ t.last) → Takes p t 0 c tag q u
+    → q ≡ with_chain p c (placed (chain_of p c) None 0) → u.first ≡ (chain_of p c).front.after → u.len + 1 ≡ t.len → (t.len ≡ 1 → u.last ≡ None) → (1 < t.len → u.last ≡ t.last) → Takes p t 0 c tag q u
 taken_first p t c tag q u h is_c some is_tag is_q first len only last =
     subst (λ (n : ℕ). Takes p t 0 c n q u) (sym is_tag) (first_out p t c q u h is_c some is_q first len only last)
 
-pub taken_behind : (p : PoolView) (t : TrainView) (b i n c tag kept : ℕ) (rest : Option ℕ) (r q : PoolView) (u : TrainView) → IsHeld p t → slice_get (numbers p t) i ≡ Some b → n ≡ suc i → n < t.len
-    → (chain_of p b).front.behind ≡ Some c → rest ≡ (chain_of p c).front.behind → tag ≡ (chain_of p c).front.tag → kept ≡ (chain_of p b).front.tag
+pub taken_after : (p : PoolView) (t : TrainView) (b i n c tag kept : ℕ) (rest : Option ℕ) (r q : PoolView) (u : TrainView) → IsHeld p t → slice_get (numbers p t) i ≡ Some b → n ≡ suc i → n < t.len
+    → (chain_of p b).front.after ≡ Some c → rest ≡ (chain_of p c).front.after → tag ≡ (chain_of p c).front.tag → kept ≡ (chain_of p b).front.tag
     → r ≡ with_chain p b (placed (chain_of p b) rest kept) → q ≡ with_chain r c (placed (chain_of r c) None 0)
     → u.first ≡ t.first → u.len + 1 ≡ t.len → (n + 1 ≡ t.len → u.last ≡ Some b) → (n + 1 < t.len → u.last ≡ t.last) → Takes p t n c tag q u
-taken_behind p t b i n c tag kept rest r q u h at is_n more is_c is_rest is_tag is_kept is_r is_q first len only last =
-    let step : r ≡ with_chain p b (placed (chain_of p b) (chain_of p c).front.behind (chain_of p b).front.tag) =
-    is_r ∙ (ap (λ (o : Option ℕ). with_chain p b (placed (chain_of p b) o kept)) is_rest ∙ ap (λ (k : ℕ). with_chain p b (placed (chain_of p b) (chain_of p c).front.behind k)) is_kept) in
+taken_after p t b i n c tag kept rest r q u h at is_n more is_c is_rest is_tag is_kept is_r is_q first len only last =
+    let step : r ≡ with_chain p b (placed (chain_of p b) (chain_of p c).front.after (chain_of p b).front.tag) =
+    is_r ∙ (ap (λ (o : Option ℕ). with_chain p b (placed (chain_of p b) o kept)) is_rest ∙ ap (λ (k : ℕ). with_chain p b (placed (chain_of p b) (chain_of p c).front.after k)) is_kept) in
     let out : Takes p t (suc i) c (chain_of p c).front.tag q u =
-    behind_out p t b i c r q u h (split_at (numbers p t) i b at) (omega arith) is_c step is_q first len (λ e. only (omega arith)) (λ e. last (omega arith)) in
+    after_out p t b i c r q u h (split_at (numbers p t) i b at) (omega arith) is_c step is_q first len (λ e. only (omega arith)) (λ e. last (omega arith)) in
     subst (λ (k : ℕ). Takes p t k c tag q u) (sym is_n) (subst (λ (k : ℕ). Takes p t (suc i) c k q u) (sym is_tag) out)
 
-pub inserted_behind : (p : PoolView) (t : TrainView) (b i n c tag kept : ℕ) (rest : Option ℕ) (r q : PoolView) (u : TrainView) → IsHeld p t → IsLive p c → (chain_of p c).front.header ≡ true → times c (numbers p t) ≡ 0
-    → slice_get (numbers p t) i ≡ Some b → n ≡ suc i → rest ≡ (chain_of p b).front.behind → kept ≡ (chain_of r b).front.tag
+pub inserted_after : (p : PoolView) (t : TrainView) (b i n c tag kept : ℕ) (rest : Option ℕ) (r q : PoolView) (u : TrainView) → IsHeld p t → IsLive p c → (chain_of p c).front.header ≡ true → times c (numbers p t) ≡ 0
+    → slice_get (numbers p t) i ≡ Some b → n ≡ suc i → rest ≡ (chain_of p b).front.after → kept ≡ (chain_of r b).front.tag
     → r ≡ with_chain p c (placed (chain_of p c) rest tag) → q ≡ with_chain r b (placed (chain_of r b) (Some c) kept)
     → u.first ≡ t.first → u.len ≡ t.len + 1 → (n ≡ t.len → u.last ≡ Some c) → (n < t.len → u.last ≡ t.last) → Inserts p t n c tag q u
-inserted_behind p t b i n c tag kept rest r q u h live headed apart at is_n is_rest is_kept is_r is_q first len only last =
-    let step : r ≡ with_chain p c (placed (chain_of p c) (chain_of p b).front.behind tag) = is_r ∙ ap (λ (o : Option ℕ). with_chain p c (placed (chain_of p c) o tag)) is_rest in
+inserted_after p t b i n c tag kept rest r q u h live headed apart at is_n is_rest is_kept is_r is_q first len only last =
+    let step : r ≡ with_chain p c (placed (chain_of p c) (chain_of p b).front.after tag) = is_r ∙ ap (λ (o : Option ℕ). with_chain p c (placed (chain_of p c) o tag)) is_rest in
     let next : q ≡ with_chain r b (placed (chain_of r b) (Some c) (chain_of r b).front.tag) = is_q ∙ ap (λ (k : ℕ). with_chain r b (placed (chain_of r b) (Some c) k)) is_kept in
-    subst (λ (k : ℕ). Inserts p t k c tag q u) (sym is_n) (behind_in p t b i c tag r q u h live headed apart at step next first len (λ e. only (omega arith)) (λ e. last (omega arith)))
+    subst (λ (k : ℕ). Inserts p t k c tag q u) (sym is_n) (after_in p t b i c tag r q u h live headed apart at step next first len (λ e. only (omega arith)) (λ e. last (omega arith)))

@@ -15,7 +15,7 @@ use Rattle.mbuf_chain.proofs.Rewrites.{SameOuts, changed, changed_entry}
 use Rattle.mbuf_chain.proofs.Heads.{same_outs, Shown, shown_at, low_is, with_entry_same, with_self}
 use Rattle.mbuf_chain.proofs.Made.{unreferenced, counted_at}
 use Rattle.mbuf_chain.proofs.Stores.{slot_here, mbuf_there, out_there, refers_to, cluster_below, cluster_here, cluster_there}
-use Rattle.mbuf_chain.proofs.Bytes.{run_apart, written_behind, written_before, written_within}
+use Rattle.mbuf_chain.proofs.Bytes.{run_apart, written_after, written_before, written_within}
 
 -- ---- a write in a store
 pub record PlaceWrite (s t : StoreView) (x start : ℕ) (ws : List ℕ) : Type 0 where
@@ -151,7 +151,7 @@ write_is s p ws e = ap (λ (l : List ℕ). with_bytes s p.buffer (over (bytes_in
 pub high_seen : (s : StoreView) (c : ℕ) (at : Place) → Shown s c at → room_high (head_of s at.cell) ≡ room_end (entry_of (chain_of (pool_of s) c) at.index)
 high_seen s c at k = ap (λ (e : Entry). cond {A = ℕ} (is_some e.cluster) 2048 128) (sym k.entry)
 
--- a write behind or in front of the bytes that an mbuf shows leaves the pool
+-- a write after or in front of the bytes that an mbuf shows leaves the pool
 pub same_pool : (s t : StoreView) (c start : ℕ) (ws : List ℕ) (at : Place) → IsLive (pool_of s) c → Shown s c at → WritesPlace s t c at start ws → start + length ws ≤ room_high (head_of s at.cell)
     → ((head_of s at.cell).start + (head_of s at.cell).len ≤ start) ⊎ (start + length ws ≤ (head_of s at.cell).start) → pool_of t ≡ pool_of s
 same_pool s t c start ws at live k w fits apart =
@@ -183,13 +183,13 @@ grown s t c start ws at pool live place w fits apart =
       head = w.head;
     }
 
--- the entry then: with the bytes behind its own, or in front of them
+-- the entry then: with the bytes after its own, or in front of them
 pub grown_back : (s t : StoreView) (c n : ℕ) (ws : List ℕ) (at : Place) → Shown s c at → WritesPlace s t c at ((head_of s at.cell).start + (head_of s at.cell).len) ws → n ≡ length ws → (head_of s at.cell).start + (head_of s at.cell).len + length ws ≤ room_high (head_of s at.cell)
     → entry_from t at.cell (with_segment (head_of t at.cell) (head_of s at.cell).start ((head_of s at.cell).len + n)) ≡ with_back (entry_of (chain_of (pool_of s) c) at.index) ws
 grown_back s t c n ws at k w count fits =
     let h = head_of s at.cell in
     (λ i. record { bytes = take (h.len + count i) (drop h.start (place_bytes t at.cell (w.head i).cluster)); start = h.start; cluster = (w.head i).cluster })
-    ∙ (λ i. record { bytes = (ap (λ (xs : List ℕ). take (h.len + length ws) (drop h.start xs)) w.bytes ∙ written_behind (place_bytes s at.cell (head_of s at.cell).cluster) (head_of s at.cell).start (head_of s at.cell).len ws (omega (arith, k.place, fits))) i; start = h.start; cluster = h.cluster })
+    ∙ (λ i. record { bytes = (ap (λ (xs : List ℕ). take (h.len + length ws) (drop h.start xs)) w.bytes ∙ written_after (place_bytes s at.cell (head_of s at.cell).cluster) (head_of s at.cell).start (head_of s at.cell).len ws (omega (arith, k.place, fits))) i; start = h.start; cluster = h.cluster })
     ∙ ap (λ (e : Entry). with_back e ws) (sym k.entry)
 
 pub grown_front : (s t : StoreView) (c n start : ℕ) (ws : List ℕ) (at : Place) → Shown s c at → WritesPlace s t c at start ws → n ≡ length ws → start + length ws ≡ (head_of s at.cell).start

@@ -71,7 +71,7 @@ abbrev pub packet_len : Head → ℕ
 packet_len h = total_of h.packet
 
 abbrev pub front_of : Head → Front
-front_of h = record { header = is_some h.packet; behind = h.next_packet; tag = arrival_of h.packet }
+front_of h = record { header = is_some h.packet; after = h.next_packet; tag = arrival_of h.packet }
 
 abbrev pub first_of : List ℕ → ℕ
 first_of l = slice_index l 0
@@ -111,7 +111,7 @@ abbrev pub pool_of : StoreView → PoolView
 pool_of s = record { mbufs = length s.mbufs; clusters = length s.clusters; chains = view_of s }
 
 -- ---- what holds of the mbufs of a pool
--- the first place of an mbuf's room, and the place behind it
+-- the first place of an mbuf's room, and the place after it
 abbrev pub room_low : Head → ℕ
 room_low h = if is_some h.cluster then 0 else (if is_some h.packet then 28 else 20)
 
@@ -128,10 +128,10 @@ pub record IsFit (h : Head) : Type 0 where
 abbrev pub with_segment : Head → ℕ → ℕ → Head
 with_segment h start len = record h { start = start; len = len }
 
--- an mbuf behind another of its chain says nothing of the packet
+-- an mbuf after another of its chain says nothing of the packet
 pub record IsFollower (h : Head) : Type 0 where
   pub packet : h.packet ≡ None
-  pub behind : h.next_packet ≡ None
+  pub after : h.next_packet ≡ None
 
 -- the mbufs are linked in this order, from `at` on, the last to none
 abbrev pub IsLinked : StoreView → Option ℕ → List ℕ → Type 0

@@ -14,10 +14,10 @@ pub record Entry : Type 0 where
   pub start : ℕ
   pub cluster : Option ℕ
 
--- what the first mbuf says of the chain: whether it has a packet header, the chain behind it in a train, and the number kept in the packet header
+-- what the first mbuf says of the chain: whether it has a packet header, the chain after it in a train, and the number kept in the packet header
 pub record Front : Type 0 where
   pub header : Bool
-  pub behind : Option ℕ
+  pub after : Option ℕ
   pub tag : ℕ
 
 -- a chain: its front, an entry for each mbuf, and the number of each mbuf
@@ -34,7 +34,7 @@ pub record PoolView : Type 0 where
 
 -- a chain that is in no train: with a packet header or without
 abbrev pub alone : Bool → Front
-alone header = record { header = header; behind = None; tag = 0 }
+alone header = record { header = header; after = None; tag = 0 }
 
 abbrev pub no_chain : ChainView
 no_chain = record { front = alone false; entries = []; cells = [] }
@@ -76,23 +76,23 @@ references_of c v = count_by (refers c) v.entries
 abbrev pub room_start : ChainView → ℕ → ℕ
 room_start v i = if is_some (entry_of v i).cluster then 0 else (if v.front.header then (if i == 0 then 28 else 20) else 20)
 
--- the place behind the room of an entry
+-- the place after the room of an entry
 abbrev pub room_end : Entry → ℕ
 room_end e = if is_some e.cluster then 2048 else 128
 
--- free places in front of the data of entry i, and behind the data of an entry: none where it lies in a cluster
-abbrev pub front_room : ChainView → ℕ → ℕ
-front_room v i = if is_some (entry_of v i).cluster then 0 else (entry_of v i).start - room_start v i
+-- free places in front of the data of entry i, and after the data of an entry: none where it lies in a cluster
+abbrev pub leading_space : ChainView → ℕ → ℕ
+leading_space v i = if is_some (entry_of v i).cluster then 0 else (entry_of v i).start - room_start v i
 
-abbrev pub back_room : Entry → ℕ
-back_room e = if is_some e.cluster then 0 else 128 - e.start - length e.bytes
+abbrev pub trailing_space : Entry → ℕ
+trailing_space e = if is_some e.cluster then 0 else 128 - e.start - length e.bytes
 
--- n bytes fit in front of the data of entry i, or behind the data of an entry: in the room of the mbuf, or in its cluster
-abbrev pub HasFrontRoom : ChainView → ℕ → ℕ → Type 0
-HasFrontRoom v i n = room_start v i + n ≤ (entry_of v i).start
+-- n bytes fit in front of the data of entry i, or after the data of an entry: in the room of the mbuf, or in its cluster
+abbrev pub HasLeadingSpace : ChainView → ℕ → ℕ → Type 0
+HasLeadingSpace v i n = room_start v i + n ≤ (entry_of v i).start
 
-abbrev pub HasBackRoom : Entry → ℕ → Type 0
-HasBackRoom e n = e.start + length e.bytes + n ≤ room_end e
+abbrev pub HasTrailingSpace : Entry → ℕ → Type 0
+HasTrailingSpace e n = e.start + length e.bytes + n ≤ room_end e
 
 -- the place tells entry `index` of the chain, whose mbuf has the number `cell`
 pub record IsPlace (v : ChainView) (at : Place) : Type 0 where
@@ -152,7 +152,7 @@ coded_entry =
     (λ p. record { bytes = p.0; start = p.1.0; cluster = p.1.1 }) (λ _. refl)
 
 abbrev pub coded_front : Coded Front
-coded_front = code_by (Bool × (Option ℕ × ℕ)) (coded× coded_bool (coded× (coded_option coded_ℕ) coded_ℕ)) (λ f. (f.header, (f.behind, f.tag))) (λ p. record { header = p.0; behind = p.1.0; tag = p.1.1 }) (λ _. refl)
+coded_front = code_by (Bool × (Option ℕ × ℕ)) (coded× coded_bool (coded× (coded_option coded_ℕ) coded_ℕ)) (λ f. (f.header, (f.after, f.tag))) (λ p. record { header = p.0; after = p.1.0; tag = p.1.1 }) (λ _. refl)
 
 abbrev pub coded_chain : Coded ChainView
 coded_chain =

@@ -5,7 +5,7 @@ use Rattle.std.proofs.lemmas.Bool.{cond-true, eq-eqb}
 use Rattle.mbuf_chain.specs.Chain.{ChainView, PoolView, chain_of, no_chain}
 use Rattle.mbuf_chain.specs.Owners.{times, live_at, IsOwned}
 use Rattle.mbuf_chain.specs.Frames.{SameAt}
-use Rattle.mbuf_chain.specs.Train.{TrainView, Car, follow, numbers, car_of, cars, last_number, IsHeld}
+use Rattle.mbuf_chain.specs.Train.{TrainView, QueuedPacket, follow, numbers, queued_packet_of, queued_packets, last_number, IsHeld}
 
 pub times_same : (k : ℕ) (xs : List ℕ) → times k (k ∷ xs) ≡ suc (times k xs)
 times_same k xs = omega (arith, cond-true {A = ℕ} _ 1 0 (eq-eqb k k refl))
@@ -24,8 +24,8 @@ follow_same : (p q : PoolView) (n : ℕ) (at : Option ℕ) → SameAt p q (follo
 follow_same p q zero at s = refl
 follow_same p q (suc n) None s = refl
 follow_same p q (suc n) (Some c) s =
-    ap (λ (v : ChainView). c ∷ follow q n v.front.behind) (chain_same p q (follow p (suc n) (Some c)) c s (omega (arith, times_same c (follow p n (chain_of p c).front.behind))))
-    ∙ ap (λ (xs : List ℕ). c ∷ xs) (follow_same p q n (chain_of p c).front.behind (record { mbufs = s.mbufs; same = λ k h. s.same k (omega (arith, h)) }))
+    ap (λ (v : ChainView). c ∷ follow q n v.front.after) (chain_same p q (follow p (suc n) (Some c)) c s (omega (arith, times_same c (follow p n (chain_of p c).front.after))))
+    ∙ ap (λ (xs : List ℕ). c ∷ xs) (follow_same p q n (chain_of p c).front.after (record { mbufs = s.mbufs; same = λ k h. s.same k (omega (arith, h)) }))
 
 pub numbers_same : (p q : PoolView) (t : TrainView) → SameAt p q (numbers p t) → numbers q t ≡ numbers p t
 numbers_same p q t s = follow_same p q t.len t.first s
@@ -43,16 +43,16 @@ held_same p q t s h =
       last = h.last ∙ ap last_number (sym e);
     }
 
-pub cars_of_same : (p q : PoolView) (xs : List ℕ) → ((k : ℕ) → 0 < times k xs → car_of q k ≡ car_of p k) → map (car_of q) xs ≡ map (car_of p) xs
-cars_of_same p q [] h = refl
-cars_of_same p q (x ∷ xs) h =
-    ap (λ (car : Car). car ∷ map (car_of q) xs) (h x (omega (arith, times_same x xs)))
-    ∙ ap (λ (rest : List Car). car_of p x ∷ rest) (cars_of_same p q xs (λ k l. h k (omega (arith, l))))
+pub queued_packets_of_same : (p q : PoolView) (xs : List ℕ) → ((k : ℕ) → 0 < times k xs → queued_packet_of q k ≡ queued_packet_of p k) → map (queued_packet_of q) xs ≡ map (queued_packet_of p) xs
+queued_packets_of_same p q [] h = refl
+queued_packets_of_same p q (x ∷ xs) h =
+    ap (λ (queued_packet : QueuedPacket). queued_packet ∷ map (queued_packet_of q) xs) (h x (omega (arith, times_same x xs)))
+    ∙ ap (λ (rest : List QueuedPacket). queued_packet_of p x ∷ rest) (queued_packets_of_same p q xs (λ k l. h k (omega (arith, l))))
 
-pub cars_same : (p q : PoolView) (t : TrainView) → SameAt p q (numbers p t) → cars q t ≡ cars p t
-cars_same p q t s =
-    ap (map (car_of q)) (numbers_same p q t s)
-    ∙ cars_of_same p q (numbers p t) (λ k h. ap (λ (v : ChainView). record { number = k; entries = v.entries; tag = v.front.tag }) (chain_same p q (numbers p t) k s h))
+pub queued_packets_same : (p q : PoolView) (t : TrainView) → SameAt p q (numbers p t) → queued_packets q t ≡ queued_packets p t
+queued_packets_same p q t s =
+    ap (map (queued_packet_of q)) (numbers_same p q t s)
+    ∙ queued_packets_of_same p q (numbers p t) (λ k h. ap (λ (v : ChainView). record { number = k; entries = v.entries; tag = v.front.tag }) (chain_same p q (numbers p t) k s h))
 
 -- a train without chains has no numbers
 pub none_left : (p : PoolView) (t : TrainView) → t.len ≡ 0 → numbers p t ≡ []

@@ -4,11 +4,11 @@ use Rattle.mbuf_chain.specs.declared.place.Place.{Place}
 use Rattle.mbuf_chain.specs.Chain.{Entry, ChainView, PoolView, alone, chain_of, with_chain}
 
 -- ---- one entry
--- `keep` of its bytes, behind the first `skip`
+-- `keep` of its bytes, after the first `skip`
 abbrev pub narrowed : Entry → ℕ → ℕ → Entry
 narrowed e skip keep = record { bytes = take keep (drop skip e.bytes); start = e.start + skip; cluster = e.cluster }
 
--- bytes put in front of its own, and behind them
+-- bytes put in front of its own, and after them
 abbrev pub with_front : Entry → List ℕ → Entry
 with_front e xs = record { bytes = xs ++ e.bytes; start = e.start - length xs; cluster = e.cluster }
 
@@ -42,9 +42,9 @@ headless v = record v { front = alone false }
 
 -- the chain in its place before another in a train, with a tag
 abbrev pub placed : ChainView → Option ℕ → ℕ → ChainView
-placed v behind tag = record v { front = record v.front { behind = behind; tag = tag } }
+placed v after tag = record v { front = record v.front { after = after; tag = tag } }
 
--- the entries of one chain, and behind them those of another
+-- the entries of one chain, and after them those of another
 abbrev pub joined : ChainView → ChainView → ChainView
 joined v w = record v { entries = v.entries ++ w.entries; cells = v.cells ++ w.cells }
 

@@ -1,7 +1,7 @@
--- Trains: chains linked one behind another through their first mbufs, each with a tag (TCP/IP Illustrated, volume 2, chapter 2: mbuf chains linked by m_nextpkt; the tag is this project's own).
+-- Trains: chains linked one after another through their first mbufs, each with a tag (TCP/IP Illustrated, volume 2, chapter 2: mbuf chains linked by m_nextpkt; the tag is this project's own).
 use Rattle.std.specs.Prelude.{◌≡◌, ℕ, zero, suc, ◌+◌, ◌<◌, true, List, [], ◌∷◌, length, map, insert, remove, slice_get, slice_index_or, Option, None, Some}
 use Rattle.mbuf_chain.specs.Chain.{Entry, PoolView, chain_of, alone}
-use Rattle.mbuf_chain.specs.declared.car.CarPlace.{CarPlace}
+use Rattle.mbuf_chain.specs.declared.queued_packet.QueuedPlace.{QueuedPlace}
 use Rattle.mbuf_chain.specs.Owners.{times, IsOwned, Moves}
 
 -- the numbers of the first chain and of the last, and how many there are
@@ -11,37 +11,37 @@ pub record TrainView : Type 0 where
   pub len : ℕ
 
 -- a chain of a train: its number, what it shows, and its tag
-pub record Car : Type 0 where
+pub record QueuedPacket : Type 0 where
   pub number : ℕ
   pub entries : List Entry
   pub tag : ℕ
 
-abbrev pub no_car : Car
-no_car = record { number = 0; entries = []; tag = 0 }
+abbrev pub no_queued_packet : QueuedPacket
+no_queued_packet = record { number = 0; entries = []; tag = 0 }
 
--- at most so many numbers from one on, each behind the one before
+-- at most so many numbers from one on, each after the one before
 abbrev pub follow : PoolView → ℕ → Option ℕ → List ℕ
 follow p zero at = []
 follow p (suc n) None = []
-follow p (suc n) (Some c) = c ∷ follow p n (chain_of p c).front.behind
+follow p (suc n) (Some c) = c ∷ follow p n (chain_of p c).front.after
 
 -- the numbers of the train's chains, in order
 abbrev pub numbers : PoolView → TrainView → List ℕ
 numbers p t = follow p t.len t.first
 
-abbrev pub car_of : PoolView → ℕ → Car
-car_of p c = record { number = c; entries = (chain_of p c).entries; tag = (chain_of p c).front.tag }
+abbrev pub queued_packet_of : PoolView → ℕ → QueuedPacket
+queued_packet_of p c = record { number = c; entries = (chain_of p c).entries; tag = (chain_of p c).front.tag }
 
 -- the train's chains, in order
-abbrev pub cars : PoolView → TrainView → List Car
-cars p t = map (car_of p) (numbers p t)
+abbrev pub queued_packets : PoolView → TrainView → List QueuedPacket
+queued_packets p t = map (queued_packet_of p) (numbers p t)
 
--- the car at a place
-abbrev pub car_at : PoolView → TrainView → ℕ → Car
-car_at p t i = slice_index_or (cars p t) i no_car
+-- the queued packet at a place
+abbrev pub queued_packet_at : PoolView → TrainView → ℕ → QueuedPacket
+queued_packet_at p t i = slice_index_or (queued_packets p t) i no_queued_packet
 
 -- the place tells the train's chain `index`, whose number is `number`
-pub record IsCar (p : PoolView) (t : TrainView) (at : CarPlace) : Type 0 where
+pub record IsQueuedPlace (p : PoolView) (t : TrainView) (at : QueuedPlace) : Type 0 where
   pub within : at.index < t.len
   pub number : slice_get (numbers p t) at.index ≡ Some at.number
 
@@ -51,7 +51,7 @@ last_number [] = None
 last_number (x ∷ []) = Some x
 last_number (x ∷ y ∷ ys) = last_number (y ∷ ys)
 
--- the train and the pool fit together: its chains are live, once each, and have a packet header, and none stands behind the last
+-- the train and the pool fit together: its chains are live, once each, and have a packet header, and none stands after the last
 pub record IsHeld (p : PoolView) (t : TrainView) : Type 0 where
   pub owned : IsOwned p (numbers p t)
   pub headed : (k : ℕ) → 0 < times k (numbers p t) → (chain_of p k).front.header ≡ true
@@ -61,7 +61,7 @@ pub record IsHeld (p : PoolView) (t : TrainView) : Type 0 where
 
 -- from p and t to q and u, chain c was put in at place i with that tag
 pub record Inserts (p : PoolView) (t : TrainView) (i c tag : ℕ) (q : PoolView) (u : TrainView) : Type 0 where
-  pub cars : cars q u ≡ insert (cars p t) i (record { number = c; entries = (chain_of p c).entries; tag = tag })
+  pub queued_packets : queued_packets q u ≡ insert (queued_packets p t) i (record { number = c; entries = (chain_of p c).entries; tag = tag })
   pub held : IsHeld q u
   pub len : u.len ≡ t.len + 1
   pub moves : Moves p (c ∷ numbers p t) q (numbers q u)
@@ -70,8 +70,8 @@ pub record Inserts (p : PoolView) (t : TrainView) (i c tag : ℕ) (q : PoolView)
 
 -- from p and t to q and u, the chain at place i, of number c and with that tag, was taken out
 pub record Takes (p : PoolView) (t : TrainView) (i c tag : ℕ) (q : PoolView) (u : TrainView) : Type 0 where
-  pub cars : cars q u ≡ remove (cars p t) i
-  pub taken : car_at p t i ≡ record { number = c; entries = (chain_of q c).entries; tag = tag }
+  pub queued_packets : queued_packets q u ≡ remove (queued_packets p t) i
+  pub taken : queued_packet_at p t i ≡ record { number = c; entries = (chain_of q c).entries; tag = tag }
   pub alone : (chain_of q c).front ≡ alone true
   pub held : IsHeld q u
   pub len : u.len + 1 ≡ t.len

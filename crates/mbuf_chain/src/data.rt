@@ -2,7 +2,7 @@
 ghost use Rattle.std.specs.Prelude.{◌≡◌, ◌≢◌, ℕ, ◌+◌, ◌-◌, ◌<◌, ◌≤◌, ◌^◌, true, length, take, drop};
 ghost use Rattle.mbuf_pool.specs.Store.{IsStore, is_out, head_of, with_bytes, bytes_in, IsRoom};
 ghost use Rattle.mbuf_pool.specs.Cells.{over};
-ghost use Rattle.mbuf_chain.specs.Chain.{IsLive, IsPlace, IsUnshared, chain_of, entry_of, with_chain, room_start, room_end, entry_in, HasFrontRoom, HasBackRoom};
+ghost use Rattle.mbuf_chain.specs.Chain.{IsLive, IsPlace, IsUnshared, chain_of, entry_of, with_chain, room_start, room_end, entry_in, HasLeadingSpace, HasTrailingSpace};
 ghost use Rattle.mbuf_chain.specs.Steps.{with_entry, with_front, with_back, overwritten, with_entry_in};
 ghost use Rattle.mbuf_chain.specs.Cells.{IsPool, pool_of, buffer_of, place_bytes, room_low, room_high, WritesPlace};
 
@@ -51,7 +51,7 @@ fn write_in(store: &mut Store, first: u32, at: Place, start: u32, bytes: &[u8])
     write(store, buffer_of(at.cell, head.cluster), start, bytes);
 }
 
-/// Copies bytes of an mbuf, `count` of them behind the first `skip`, into another's place, which no
+/// Copies bytes of an mbuf, `count` of them after the first `skip`, into another's place, which no
 /// other mbuf shares.
 fn copy_in(
     store: &mut Store,
@@ -91,13 +91,13 @@ fn copy_in(
     store.copy(read, written);
 }
 
-/// Puts bytes behind those of an mbuf, into its room.
+/// Puts bytes after those of an mbuf, into its room.
 pub(crate) fn put_back(store: &mut Store, first: u32, at: Place, bytes: &[u8])
     requires pool { IsPool store.old }
     requires live { IsLive (pool_of store.old) first }
     requires place { IsPlace (chain_of (pool_of store.old) first) at }
     requires unshared { IsUnshared (pool_of store.old) (entry_in (pool_of store.old) first at) }
-    requires fits { HasBackRoom (entry_in (pool_of store.old) first at) (length bytes.now) }
+    requires fits { HasTrailingSpace (entry_in (pool_of store.old) first at) (length bytes.now) }
     ensures pool { IsPool store.new }
     ensures change { pool_of store.new ≡
         with_entry_in (pool_of store.old) first at
@@ -114,7 +114,7 @@ pub(crate) fn put_front(store: &mut Store, first: u32, at: Place, bytes: &[u8])
     requires live { IsLive (pool_of store.old) first }
     requires place { IsPlace (chain_of (pool_of store.old) first) at }
     requires unshared { IsUnshared (pool_of store.old) (entry_in (pool_of store.old) first at) }
-    requires fits { HasFrontRoom (chain_of (pool_of store.old) first) at.index (length bytes.now) }
+    requires fits { HasLeadingSpace (chain_of (pool_of store.old) first) at.index (length bytes.now) }
     ensures pool { IsPool store.new }
     ensures change { pool_of store.new ≡
         with_entry_in (pool_of store.old) first at
@@ -143,7 +143,7 @@ pub(crate) fn overwrite(store: &mut Store, first: u32, at: Place, offset: u32, b
     write_in(store, first, at, head.start + offset, bytes);
 }
 
-/// Puts bytes of an mbuf, `count` of them behind the first `skip`, behind those of another.
+/// Puts bytes of an mbuf, `count` of them after the first `skip`, after those of another.
 pub(crate) fn append(
     store: &mut Store,
     first: u32,
@@ -157,7 +157,7 @@ pub(crate) fn append(
     requires live { IsLive (pool_of store.old) first }
     requires place { IsPlace (chain_of (pool_of store.old) first) at }
     requires unshared { IsUnshared (pool_of store.old) (entry_in (pool_of store.old) first at) }
-    requires fits { HasBackRoom (entry_in (pool_of store.old) first at) count }
+    requires fits { HasTrailingSpace (entry_in (pool_of store.old) first at) count }
     requires other { IsLive (pool_of store.old) other }
     requires from { IsPlace (chain_of (pool_of store.old) other) from }
     requires within { skip + count ≤ length (entry_in (pool_of store.old) other from).bytes }

@@ -40,7 +40,7 @@ pub(crate) fn resize(store: &mut Store, first: u32, at: Place, start: u32, len: 
     set_total(store, first, len, head.len);
 }
 
-/// Lets an mbuf show only `keep` of its bytes, behind the first `skip`.
+/// Lets an mbuf show only `keep` of its bytes, after the first `skip`.
 pub(crate) fn narrow(store: &mut Store, first: u32, at: Place, skip: u32, keep: u32)
     requires pool { IsPool store.old }
     requires live { IsLive (pool_of store.old) first }
@@ -56,16 +56,16 @@ pub(crate) fn narrow(store: &mut Store, first: u32, at: Place, skip: u32, keep: 
 }
 
 /// Puts a chain with packet header in its place before another in a train, with a tag.
-pub(crate) fn set_behind(store: &mut Store, first: u32, behind: Option<u32>, tag: u32)
+pub(crate) fn set_after(store: &mut Store, first: u32, after: Option<u32>, tag: u32)
     requires pool { IsPool store.old }
     requires live { IsLive (pool_of store.old) first }
     requires headed { (chain_of (pool_of store.old) first).front.header ≡ true }
-    requires link { IfSome behind (λ k. k < 0xffff_ffff) }
+    requires link { IfSome after (λ k. k < 0xffff_ffff) }
     ensures pool { IsPool store.new }
     ensures change { pool_of store.new ≡
         with_chain (pool_of store.old) first
-        (placed (chain_of (pool_of store.old) first) behind tag) }
+        (placed (chain_of (pool_of store.old) first) after tag) }
 {
-    store.set_next_packet(first, behind);
+    store.set_next_packet(first, after);
     store.set_arrival(first, tag);
 }

@@ -1,7 +1,6 @@
 //! Chains of mbufs that share clusters.
 #![tactic(auto)]
 
-mod car;
 mod cells;
 mod chain;
 mod data;
@@ -11,17 +10,18 @@ mod make;
 mod pieces;
 mod place;
 mod pool;
+mod queued_packet;
 mod reclaim;
 #[cfg(test)]
 mod tests;
 mod train;
 mod usage;
 
-pub use car::CarPlace;
 pub use chain::Chain;
 pub use pieces::{Entries, Pieces};
 pub use place::{Place, Segment};
 pub use pool::Pool;
+pub use queued_packet::QueuedPlace;
 pub use reclaim::Reclaim;
 pub use train::Train;
 pub use usage::Usage;

@@ -1,7 +1,7 @@
 //! Chains given back, joined and cut.
 ghost use Rattle.std.specs.Prelude.{◌≡◌, ◌≢◌, ℕ, ◌+◌, ◌<◌, ◌≤◌, true, false, IsTrue, Some, None, length, take, MatchOption, is_some, if◌then◌else◌};
 ghost use Rattle.mbuf_pool.specs.Store.{IsStore, is_out, head_of};
-ghost use Rattle.mbuf_chain.specs.Chain.{IsLive, IsPlace, chain_of, with_chain, without, string, alone, entry_of, room_start, room_end, front_room, back_room, Adds, entry_in, HasFrontRoom, HasBackRoom};
+ghost use Rattle.mbuf_chain.specs.Chain.{IsLive, IsPlace, chain_of, with_chain, without, string, alone, entry_of, room_start, room_end, leading_space, trailing_space, Adds, entry_in, HasLeadingSpace, HasTrailingSpace};
 ghost use Rattle.mbuf_chain.specs.Steps.{headless, joined, first_part, second_part};
 ghost use Rattle.mbuf_chain.specs.Cells.{IsPool, IsWhole, pool_of, cells_from, weigh, one, len_at, last_of, packet_len};
 
@@ -49,11 +49,11 @@ pub(crate) fn has_header(store: &Store, first: u32) -> bool
     store.head(first).packet.is_some()
 }
 
-/// The number of the chain behind a chain in a train.
-pub(crate) fn behind(store: &Store, first: u32) -> Option<u32>
+/// The number of the chain after a chain in a train.
+pub(crate) fn after(store: &Store, first: u32) -> Option<u32>
     requires pool { IsPool store.now }
     requires live { IsLive (pool_of store.now) first }
-    ensures { result ≡ (chain_of (pool_of store.now) first).front.behind }
+    ensures { result ≡ (chain_of (pool_of store.now) first).front.after }
 {
     store.head(first).next_packet
 }
@@ -84,7 +84,7 @@ pub(crate) fn first(store: &Store, first: u32) -> Place
     }
 }
 
-/// The place behind another.
+/// The place after another.
 pub(crate) fn next(store: &Store, first: u32, at: Place) -> Option<Place>
     requires pool { IsPool store.now }
     requires live { IsLive (pool_of store.now) first }
@@ -110,10 +110,10 @@ pub(crate) fn last(store: &Store, start: u32) -> Place
     ensures index { result.index + 1 ≡ length (chain_of (pool_of store.now) start).entries }
 {
     let mut at = first(store, start);
-    let mut behind = next(store, start, at);
-    'mbufs: while let Some(place) = behind {
+    let mut after = next(store, start, at);
+    'mbufs: while let Some(place) = after {
         at = place;
-        behind = next(store, start, at);
+        after = next(store, start, at);
     }
     at
 }
@@ -152,12 +152,12 @@ fn data_start(packet: Option<PacketHeader>) -> u32
 }
 
 /// How many places are free in front of an mbuf's bytes.
-pub(crate) fn front_room(store: &Store, first: u32, at: Place) -> u32
+pub(crate) fn leading_space(store: &Store, first: u32, at: Place) -> u32
     requires pool { IsPool store.now }
     requires live { IsLive (pool_of store.now) first }
     requires place { IsPlace (chain_of (pool_of store.now) first) at }
-    ensures value { result ≡ front_room (chain_of (pool_of store.now) first) at.index }
-    ensures within { HasFrontRoom (chain_of (pool_of store.now) first) at.index result }
+    ensures value { result ≡ leading_space (chain_of (pool_of store.now) first) at.index }
+    ensures within { HasLeadingSpace (chain_of (pool_of store.now) first) at.index result }
 {
     let head = store.head(at.cell);
     if head.cluster.is_some() {
@@ -167,13 +167,13 @@ pub(crate) fn front_room(store: &Store, first: u32, at: Place) -> u32
     }
 }
 
-/// How many places are free behind an mbuf's bytes.
-pub(crate) fn back_room(store: &Store, first: u32, at: Place) -> u32
+/// How many places are free after an mbuf's bytes.
+pub(crate) fn trailing_space(store: &Store, first: u32, at: Place) -> u32
     requires pool { IsPool store.now }
     requires live { IsLive (pool_of store.now) first }
     requires place { IsPlace (chain_of (pool_of store.now) first) at }
-    ensures value { result ≡ back_room (entry_in (pool_of store.now) first at) }
-    ensures within { HasBackRoom (entry_in (pool_of store.now) first at) result }
+    ensures value { result ≡ trailing_space (entry_in (pool_of store.now) first at) }
+    ensures within { HasTrailingSpace (entry_in (pool_of store.now) first at) result }
 {
     let head = store.head(at.cell);
     if head.cluster.is_some() {
@@ -205,7 +205,7 @@ pub(crate) fn strip(store: &mut Store, first: u32)
     store.set_next_packet(first, None);
 }
 
-/// Links a chain that has no packet header, and so many bytes, behind another.
+/// Links a chain that has no packet header, and so many bytes, after another.
 fn join(store: &mut Store, front: u32, last: Place, back: u32, added: u32)
     requires pool { IsPool store.old }
     requires front { IsLive (pool_of store.old) front }
@@ -225,7 +225,7 @@ fn join(store: &mut Store, front: u32, last: Place, back: u32, added: u32)
     set_total(store, front, added, 0);
 }
 
-/// How many bytes are added to the packet length of a chain that has another linked behind it. Without
+/// How many bytes are added to the packet length of a chain that has another linked after it. Without
 /// packet header nothing is added up.
 pub(crate) fn added_by(store: &Store, front: u32, back: u32) -> u32
     requires pool { IsPool store.now }
@@ -241,7 +241,7 @@ pub(crate) fn added_by(store: &Store, front: u32, back: u32) -> u32
     }
 }
 
-/// Links a chain behind another. It loses its packet header. Where the other has one, `added` is how many
+/// Links a chain after another. It loses its packet header. Where the other has one, `added` is how many
 /// bytes the chain has.
 pub(crate) fn link(store: &mut Store, front: u32, last: Place, back: u32, added: u32) -> Place
     requires pool { IsPool store.old }
@@ -299,7 +299,7 @@ fn packet_len(store: &Store, first: u32) -> u32
     }
 }
 
-/// Cuts a chain behind its first `keep` mbufs, and answers the number of the rest.
+/// Cuts a chain after its first `keep` mbufs, and answers the number of the rest.
 pub(crate) fn cut(store: &mut Store, first: u32, keep: u32) -> u32
     requires pool { IsPool store.old }
     requires live { IsLive (pool_of store.old) first }

@@ -65,7 +65,7 @@ pub(crate) fn plain(store: &mut Store, header: bool, start: u32) -> Result<u32, 
     }
 }
 
-/// A chain of one mbuf that shares the cluster of an entry: `keep` of its bytes, behind the first
+/// A chain of one mbuf that shares the cluster of an entry: `keep` of its bytes, after the first
 /// `skip`.
 pub(crate) fn shared(
     store: &mut Store,

@@ -90,7 +90,7 @@ impl<'a> Iterator for Entries<'a> {
 
     ghost remaining = { item_count (λ s. s) };
 
-    /// The length and the cluster of the next mbuf, or `None` behind the last.
+    /// The length and the cluster of the next mbuf, or `None` after the last.
     fn next(&mut self) -> Option<(u32, Option<u32>)> {
         let cell = self.at?;
         let head = self.store.head(cell);
@@ -106,7 +106,7 @@ impl<'a> Iterator for Pieces<'a> {
 
     ghost remaining = { item_count (λ s. s) };
 
-    /// The bytes of the next mbuf, or `None` behind the last.
+    /// The bytes of the next mbuf, or `None` after the last.
     fn next(&mut self) -> Option<&'a [u8]> {
         let cell = self.at?;
         let head = self.store.head(cell);

@@ -1,7 +1,7 @@
 //! Places in a chain, and what lies there.
 
 /// Where an mbuf stands in a chain: how many stand in front of it, and its own number. `Pool::first`
-/// gives a chain's first place, `Pool::next` the one behind a place.
+/// gives a chain's first place, `Pool::next` the one after a place.
 #[derive(Clone, Copy, Debug, PartialEq, Eq)]
 pub struct Place {
     /// How many mbufs of the chain stand in front.

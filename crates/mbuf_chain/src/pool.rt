@@ -2,7 +2,7 @@
 ghost use Rattle.std.specs.Prelude.{◌≡◌, ◌≢◌, ℕ, ◌+◌, ◌-◌, ◌<◌, ◌≤◌, ◌⊎◌, true, None, Some, Bool, length, sum, fold, max, IfOk, OnOk, OnErr, IsSome, IfSome, MatchOption, if◌then◌else◌, take, drop};
 ghost use Rattle.std.specs.FinMap as finmap;
 ghost use Rattle.mbuf_pool.specs.Store.{mbufs_out, count_of};
-ghost use Rattle.mbuf_chain.specs.Chain.{IsLive, IsPlace, chain_of, with_chain, without, held_mbufs, references, counts, free_clusters, string, layout, entry_of, Adds, IsUnshared, room_start, room_end, front_room, back_room, entry_in, HasFrontRoom, HasBackRoom};
+ghost use Rattle.mbuf_chain.specs.Chain.{IsLive, IsPlace, chain_of, with_chain, without, held_mbufs, references, counts, free_clusters, string, layout, entry_of, Adds, IsUnshared, room_start, room_end, leading_space, trailing_space, entry_in, HasLeadingSpace, HasTrailingSpace};
 ghost use Rattle.mbuf_chain.specs.Pieces.{pieces};
 ghost use Rattle.mbuf_chain.specs.Steps.{one_mbuf, empty_entry, narrowed, with_entry, with_front, with_back, overwritten, headless, joined, placed, first_part, second_part, with_entry_in};
 ghost use Rattle.mbuf_chain.specs.Frames.{IsBounded};
@@ -194,7 +194,7 @@ impl Pool {
         links::first(&self.store, chain.first)
     }
 
-    /// The place behind another, or `None` behind the last.
+    /// The place after another, or `None` after the last.
     pub fn next(&self, chain: &Chain, at: Place) -> Option<Place>
         requires live { IsLive self.now chain.now }
         requires place { IsPlace (chain_of self.now chain.now) at }
@@ -231,7 +231,7 @@ impl Pool {
         links::segment(&self.store, chain.first, at)
     }
 
-    /// Leaves `keep` of an mbuf's bytes, behind the first `skip`. An emptied mbuf stays.
+    /// Leaves `keep` of an mbuf's bytes, after the first `skip`. An emptied mbuf stays.
     pub fn narrow(&mut self, chain: &Chain, at: Place, skip: u32, keep: u32)
         requires live { IsLive self.old chain.now }
         requires place { IsPlace (chain_of self.old chain.now) at }
@@ -243,23 +243,23 @@ impl Pool {
     }
 
     /// How many places are free in front of an mbuf's bytes. None are where they lie in a cluster.
-    pub fn front_room(&self, chain: &Chain, at: Place) -> u32
+    pub fn leading_space(&self, chain: &Chain, at: Place) -> u32
         requires live { IsLive self.now chain.now }
         requires place { IsPlace (chain_of self.now chain.now) at }
-        ensures value { result ≡ front_room (chain_of self.now chain.now) at.index }
-        ensures within { HasFrontRoom (chain_of self.now chain.now) at.index result }
+        ensures value { result ≡ leading_space (chain_of self.now chain.now) at.index }
+        ensures within { HasLeadingSpace (chain_of self.now chain.now) at.index result }
     {
-        links::front_room(&self.store, chain.first, at)
+        links::leading_space(&self.store, chain.first, at)
     }
 
-    /// How many places are free behind an mbuf's bytes. None are where they lie in a cluster.
-    pub fn back_room(&self, chain: &Chain, at: Place) -> u32
+    /// How many places are free after an mbuf's bytes. None are where they lie in a cluster.
+    pub fn trailing_space(&self, chain: &Chain, at: Place) -> u32
         requires live { IsLive self.now chain.now }
         requires place { IsPlace (chain_of self.now chain.now) at }
-        ensures value { result ≡ back_room (entry_in self.now chain.now at) }
-        ensures within { HasBackRoom (entry_in self.now chain.now at) result }
+        ensures value { result ≡ trailing_space (entry_in self.now chain.now at) }
+        ensures within { HasTrailingSpace (entry_in self.now chain.now at) result }
     {
-        links::back_room(&self.store, chain.first, at)
+        links::trailing_space(&self.store, chain.first, at)
     }
 
     /// The bytes of an mbuf, lent.
@@ -277,19 +277,19 @@ impl Pool {
         requires live { IsLive self.old chain.now }
         requires place { IsPlace (chain_of self.old chain.now) at }
         requires unshared { IsUnshared self.old (entry_in self.old chain.now at) }
-        requires fits { HasFrontRoom (chain_of self.old chain.now) at.index (length bytes.now) }
+        requires fits { HasLeadingSpace (chain_of self.old chain.now) at.index (length bytes.now) }
         ensures { self.new ≡ with_entry_in self.old chain.now at
             (with_front (entry_in self.old chain.now at) bytes.now) }
     {
         data::put_front(&mut self.store, chain.first, at, bytes);
     }
 
-    /// Puts bytes behind those of an mbuf, into its room. No other mbuf may share its cluster.
+    /// Puts bytes after those of an mbuf, into its room. No other mbuf may share its cluster.
     pub fn put_back(&mut self, chain: &Chain, at: Place, bytes: &[u8])
         requires live { IsLive self.old chain.now }
         requires place { IsPlace (chain_of self.old chain.now) at }
         requires unshared { IsUnshared self.old (entry_in self.old chain.now at) }
-        requires fits { HasBackRoom (entry_in self.old chain.now at) (length bytes.now) }
+        requires fits { HasTrailingSpace (entry_in self.old chain.now at) (length bytes.now) }
         ensures { self.new ≡ with_entry_in self.old chain.now at
             (with_back (entry_in self.old chain.now at) bytes.now) }
     {
@@ -308,7 +308,7 @@ impl Pool {
         data::overwrite(&mut self.store, chain.first, at, offset, bytes);
     }
 
-    /// Puts bytes of an mbuf of this or another chain, `count` of them behind the first `skip`, behind
+    /// Puts bytes of an mbuf of this or another chain, `count` of them after the first `skip`, after
     /// those of an mbuf, into its room. No other mbuf may share the cluster that is written.
     pub fn append(
         &mut self,
@@ -322,7 +322,7 @@ impl Pool {
         requires live { IsLive self.old chain.now }
         requires place { IsPlace (chain_of self.old chain.now) at }
         requires unshared { IsUnshared self.old (entry_in self.old chain.now at) }
-        requires fits { HasBackRoom (entry_in self.old chain.now at) count }
+        requires fits { HasTrailingSpace (entry_in self.old chain.now at) count }
         requires other { IsLive self.old other.now }
         requires from { IsPlace (chain_of self.old other.now) from }
         requires within { skip + count ≤ length (entry_in self.old other.now from).bytes }
@@ -350,7 +350,7 @@ impl Pool {
     }
 
     /// A chain of one mbuf that shares the cluster of another mbuf, of which it shows `keep` bytes,
-    /// behind the first `skip`. The cluster has one reference more. `NoBufs` comes exactly where no
+    /// after the first `skip`. The cluster has one reference more. `NoBufs` comes exactly where no
     /// mbuf is free, and changes nothing.
     pub fn new_shared(
         &mut self,
@@ -395,8 +395,8 @@ impl Pool {
         }
     }
 
-    /// Links a chain behind the last mbuf of another. It loses its packet header. The answer is the
-    /// place of its first mbuf in the whole. Where the front has a packet header, and the chain behind it has
+    /// Links a chain after the last mbuf of another. It loses its packet header. The answer is the
+    /// place of its first mbuf in the whole. Where the front has a packet header, and the chain after it has
     /// none, that one is walked for its length; `link_counted` is told it.
     pub fn link(&mut self, chain: &Chain, last: Place, back: Chain) -> Place
         requires front { IsLive self.old chain.now }
@@ -415,7 +415,7 @@ impl Pool {
         links::link(&mut self.store, chain.first, last, first, added)
     }
 
-    /// Links a chain of `len` bytes behind the last mbuf of another, as `link` does. It takes the same few
+    /// Links a chain of `len` bytes after the last mbuf of another, as `link` does. It takes the same few
     /// steps whatever the chain.
     pub fn link_counted(&mut self, chain: &Chain, last: Place, back: Chain, len: u32) -> Place
         requires front { IsLive self.old chain.now }
@@ -434,7 +434,7 @@ impl Pool {
         links::link(&mut self.store, chain.first, last, number, len)
     }
 
-    /// Cuts a chain behind its first `keep` mbufs, and answers the chain of the others. It has no packet
+    /// Cuts a chain after its first `keep` mbufs, and answers the chain of the others. It has no packet
     /// header. It takes one step for each mbuf that stays.
     pub fn cut(&mut self, chain: &Chain, keep: u32) -> Chain
         requires live { IsLive self.old chain.now }
@@ -448,12 +448,12 @@ impl Pool {
         Chain { first }
     }
 
-    /// The number of the chain behind a chain in a train.
-    pub(crate) fn behind(&self, chain: &Chain) -> Option<u32>
+    /// The number of the chain after a chain in a train.
+    pub(crate) fn after(&self, chain: &Chain) -> Option<u32>
         requires { IsLive self.now chain.now }
-        ensures { result ≡ (chain_of self.now chain.now).front.behind }
+        ensures { result ≡ (chain_of self.now chain.now).front.after }
     {
-        links::behind(&self.store, chain.first)
+        links::after(&self.store, chain.first)
     }
 
     /// The tag of a chain in a train.
@@ -465,14 +465,14 @@ impl Pool {
     }
 
     /// Puts a chain in its place before another in a train, with a tag.
-    pub(crate) fn set_behind(&mut self, chain: &Chain, behind: Option<u32>, tag: u32)
+    pub(crate) fn set_after(&mut self, chain: &Chain, after: Option<u32>, tag: u32)
         requires live { IsLive self.old chain.now }
         requires headed { (chain_of self.old chain.now).front.header ≡ true }
-        requires link { IfSome behind (IsLive self.old) }
+        requires link { IfSome after (IsLive self.old) }
         ensures placed { self.new ≡
-            with_chain self.old chain.now (placed (chain_of self.old chain.now) behind tag) }
+            with_chain self.old chain.now (placed (chain_of self.old chain.now) after tag) }
         ensures bounds { IsBounded self.new }
     {
-        edit::set_behind(&mut self.store, chain.first, behind, tag);
+        edit::set_after(&mut self.store, chain.first, after, tag);
     }
 }

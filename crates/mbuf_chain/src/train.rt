@@ -6,15 +6,15 @@ ghost use Rattle.mbuf_chain.specs.Owners.{times, Moves};
 ghost use Rattle.mbuf_chain.specs.Steps.{placed};
 ghost use Rattle.mbuf_chain.specs.Frames.{IsBounded};
 ghost use Rattle.mbuf_chain.specs.Pieces.{pieces_of};
-ghost use Rattle.mbuf_chain.specs.Train.{cars, car_at, numbers, IsCar, IsHeld, Inserts, Takes};
+ghost use Rattle.mbuf_chain.specs.Train.{queued_packets, queued_packet_at, numbers, IsQueuedPlace, IsHeld, Inserts, Takes};
 
-use crate::car::CarPlace;
 use crate::chain::Chain;
 use crate::pieces::Pieces;
 use crate::pool::Pool;
+use crate::queued_packet::QueuedPlace;
 use std::marker::Model;
 
-/// Chains in a row, each linked behind the one before through their first mbufs, and each with a tag
+/// Chains in a row, each linked after the one before through their first mbufs, and each with a tag
 /// that is kept in its packet header. A train takes no buffer. It must be spent, by `free`.
 ///
 /// The chains stay in the pool that each call is given, which is the one that they came from.
@@ -66,8 +66,8 @@ impl Train {
         requires headed { (chain_of pool.old chain).front.header ≡ true }
         requires held { IsHeld pool.old self.old }
         requires apart { times chain (numbers pool.old self.old) ≡ 0 }
-        ensures cars { cars pool.new self.new ≡
-            insert (cars pool.old self.old) i
+        ensures queued_packets { queued_packets pool.new self.new ≡
+            insert (queued_packets pool.old self.old) i
             (record { number = chain; entries = (chain_of pool.old chain).entries; tag = tag }) }
         ensures held { IsHeld pool.new self.new }
         ensures len { self.new.len ≡ self.old.len + 1 }
@@ -78,41 +78,41 @@ impl Train {
         if i == 0 {
             self.insert_first(pool, number, tag);
         } else {
-            let before = CarPlace {
+            let before = QueuedPlace {
                 index: i - 1,
                 number: self.number_at(pool, i - 1),
             };
-            let _ = self.insert_behind(pool, before, number, tag);
+            let _ = self.insert_next(pool, before, number, tag);
         }
     }
 
-    /// Puts a chain in behind the one at a place of a walk, with a tag, and answers its place. This takes a number
+    /// Puts a chain in after the one at a place of a walk, with a tag, and answers its place. This takes a number
     /// of steps that doesn't depend on the train. The place that was given stays one.
     pub fn insert_after(
         &mut self,
         pool: &mut Pool,
-        at: CarPlace,
+        at: QueuedPlace,
         chain: Chain,
         tag: u32,
-    ) -> CarPlace
-        requires place { IsCar pool.old self.old at }
+    ) -> QueuedPlace
+        requires place { IsQueuedPlace pool.old self.old at }
         requires live { IsLive pool.old chain }
         requires headed { (chain_of pool.old chain).front.header ≡ true }
         requires held { IsHeld pool.old self.old }
         requires apart { times chain (numbers pool.old self.old) ≡ 0 }
-        ensures cars { cars pool.new self.new ≡
-            insert (cars pool.old self.old) (at.index + 1)
+        ensures queued_packets { queued_packets pool.new self.new ≡
+            insert (queued_packets pool.old self.old) (at.index + 1)
             (record { number = chain; entries = (chain_of pool.old chain).entries; tag = tag }) }
         ensures place { result ≡ record { index = at.index + 1; number = chain } }
-        ensures stands { IsCar pool.new self.new result }
-        ensures kept { IsCar pool.new self.new at }
+        ensures stands { IsQueuedPlace pool.new self.new result }
+        ensures kept { IsQueuedPlace pool.new self.new at }
         ensures held { IsHeld pool.new self.new }
         ensures len { self.new.len ≡ self.old.len + 1 }
         ensures moves { Moves pool.old (chain ∷ numbers pool.old self.old) pool.new
             (numbers pool.new self.new) }
     {
         let number = chain.into_number();
-        self.insert_behind(pool, at, number, tag)
+        self.insert_next(pool, at, number, tag)
     }
 
     /// Takes the chain at a place out, with its tag. At the front this takes a number of steps that doesn't
@@ -120,8 +120,8 @@ impl Train {
     pub fn take(&mut self, pool: &mut Pool, i: u32) -> (Chain, u32)
         requires place { i < self.old.len }
         requires held { IsHeld pool.old self.old }
-        ensures cars { cars pool.new self.new ≡ remove (cars pool.old self.old) i }
-        ensures taken { car_at pool.old self.old i ≡
+        ensures queued_packets { queued_packets pool.new self.new ≡ remove (queued_packets pool.old self.old) i }
+        ensures taken { queued_packet_at pool.old self.old i ≡
             record {
               number = result.0;
               entries = (chain_of pool.new result.0).entries;
@@ -136,68 +136,68 @@ impl Train {
         let (number, tag) = if i == 0 {
             self.take_first(pool)
         } else {
-            let before = CarPlace {
+            let before = QueuedPlace {
                 index: i - 1,
                 number: self.number_at(pool, i - 1),
             };
-            self.take_behind(pool, before)
+            self.take_next(pool, before)
         };
         (Chain::from_number(number), tag)
     }
 
-    /// Takes the chain out that stands behind the one at a place of a walk, with its tag. There must be one. This
+    /// Takes the chain out that stands after the one at a place of a walk, with its tag. There must be one. This
     /// takes a number of steps that doesn't depend on the train. The place that was given stays one.
-    pub fn take_after(&mut self, pool: &mut Pool, at: CarPlace) -> (Chain, u32)
-        requires place { IsCar pool.old self.old at }
+    pub fn take_after(&mut self, pool: &mut Pool, at: QueuedPlace) -> (Chain, u32)
+        requires place { IsQueuedPlace pool.old self.old at }
         requires more { at.index + 1 < self.old.len }
         requires held { IsHeld pool.old self.old }
-        ensures cars { cars pool.new self.new ≡ remove (cars pool.old self.old) (at.index + 1) }
-        ensures taken { car_at pool.old self.old (at.index + 1) ≡
+        ensures queued_packets { queued_packets pool.new self.new ≡ remove (queued_packets pool.old self.old) (at.index + 1) }
+        ensures taken { queued_packet_at pool.old self.old (at.index + 1) ≡
             record {
               number = result.0;
               entries = (chain_of pool.new result.0).entries;
               tag = result.1;
             } }
         ensures alone { (chain_of pool.new result.0).front ≡ alone true }
-        ensures kept { IsCar pool.new self.new at }
+        ensures kept { IsQueuedPlace pool.new self.new at }
         ensures held { IsHeld pool.new self.new }
         ensures len { self.new.len + 1 ≡ self.old.len }
         ensures moves { Moves pool.old (numbers pool.old self.old) pool.new
             (result.0 ∷ numbers pool.new self.new) }
     {
-        let (number, tag) = self.take_behind(pool, at);
+        let (number, tag) = self.take_next(pool, at);
         (Chain::from_number(number), tag)
     }
 
     /// The place of the first chain, where there is one. A walk goes on by `next`, and takes one step for
     /// each chain.
-    pub fn first(&self, pool: &Pool) -> Option<CarPlace>
+    pub fn first(&self, pool: &Pool) -> Option<QueuedPlace>
         requires { IsHeld pool.now self.now }
         ensures { MatchOption result (self.now.len ≡ 0) (λ at. (at.index ≡ 0)
-            × IsCar pool.now self.now at) }
+            × IsQueuedPlace pool.now self.now at) }
     {
         let _ = pool;
         if self.is_empty() {
             return None;
         }
         match self.first {
-            Some(number) => Some(CarPlace { index: 0, number }),
+            Some(number) => Some(QueuedPlace { index: 0, number }),
             None => unreachable!(),
         }
     }
 
-    /// The place behind one: none behind the last.
-    pub fn next(&self, pool: &Pool, at: CarPlace) -> Option<CarPlace>
+    /// The place after one: none after the last.
+    pub fn next(&self, pool: &Pool, at: QueuedPlace) -> Option<QueuedPlace>
         requires held { IsHeld pool.now self.now }
-        requires place { IsCar pool.now self.now at }
+        requires place { IsQueuedPlace pool.now self.now at }
         ensures { MatchOption result (self.now.len ≡ at.index + 1) (λ to. (to.index ≡ at.index + 1)
-            × IsCar pool.now self.now to) }
+            × IsQueuedPlace pool.now self.now to) }
     {
         if self.len == at.index + 1 {
             return None;
         }
-        match behind(pool, at.number) {
-            Some(number) => Some(CarPlace {
+        match after(pool, at.number) {
+            Some(number) => Some(QueuedPlace {
                 index: at.index + 1,
                 number,
             }),
@@ -206,28 +206,28 @@ impl Train {
     }
 
     /// The tag of the chain at a place of a walk.
-    pub fn tag_at(&self, pool: &Pool, at: CarPlace) -> u32
+    pub fn tag_at(&self, pool: &Pool, at: QueuedPlace) -> u32
         requires held { IsHeld pool.now self.now }
-        requires place { IsCar pool.now self.now at }
-        ensures { result ≡ (car_at pool.now self.now at.index).tag }
+        requires place { IsQueuedPlace pool.now self.now at }
+        ensures { result ≡ (queued_packet_at pool.now self.now at.index).tag }
     {
         tag_of(pool, at.number)
     }
 
     /// How many bytes the chain at a place of a walk has.
-    pub fn len_at(&self, pool: &Pool, at: CarPlace) -> u32
+    pub fn len_at(&self, pool: &Pool, at: QueuedPlace) -> u32
         requires held { IsHeld pool.now self.now }
-        requires place { IsCar pool.now self.now at }
-        ensures { result ≡ length (flat_bytes (car_at pool.now self.now at.index).entries) }
+        requires place { IsQueuedPlace pool.now self.now at }
+        ensures { result ≡ length (flat_bytes (queued_packet_at pool.now self.now at.index).entries) }
     {
         len_of(pool, at.number)
     }
 
     /// The bytes of each mbuf of the chain at a place of a walk, in order, lent without copying.
-    pub fn pieces_at<'a>(&self, pool: &'a Pool, at: CarPlace) -> Pieces<'a>
+    pub fn pieces_at<'a>(&self, pool: &'a Pool, at: QueuedPlace) -> Pieces<'a>
         requires held { IsHeld pool.now self.now }
-        requires place { IsCar pool.now self.now at }
-        ensures { result ≡ pieces_of (car_at pool.now self.now at.index).entries }
+        requires place { IsQueuedPlace pool.now self.now at }
+        ensures { result ≡ pieces_of (queued_packet_at pool.now self.now at.index).entries }
     {
         pieces_of(pool, at.number)
     }
@@ -236,7 +236,7 @@ impl Train {
     pub fn tag(&self, pool: &Pool, i: u32) -> u32
         requires place { i < self.now.len }
         requires held { IsHeld pool.now self.now }
-        ensures { result ≡ (car_at pool.now self.now i).tag }
+        ensures { result ≡ (queued_packet_at pool.now self.now i).tag }
     {
         tag_of(pool, self.number_at(pool, i))
     }
@@ -245,7 +245,7 @@ impl Train {
     pub fn chain_len(&self, pool: &Pool, i: u32) -> u32
         requires place { i < self.now.len }
         requires held { IsHeld pool.now self.now }
-        ensures { result ≡ length (flat_bytes (car_at pool.now self.now i).entries) }
+        ensures { result ≡ length (flat_bytes (queued_packet_at pool.now self.now i).entries) }
     {
         len_of(pool, self.number_at(pool, i))
     }
@@ -294,15 +294,15 @@ impl Train {
         self.len += 1;
     }
 
-    /// Puts a chain in behind another, and answers its place.
-    fn insert_behind(
+    /// Puts a chain in after another, and answers its place.
+    fn insert_next(
         &mut self,
         pool: &mut Pool,
-        before: CarPlace,
+        before: QueuedPlace,
         number: u32,
         tag: u32,
-    ) -> CarPlace
-        requires before { IsCar pool.old self.old before }
+    ) -> QueuedPlace
+        requires before { IsQueuedPlace pool.old self.old before }
         requires live { IsLive pool.old number }
         requires headed { (chain_of pool.old number).front.header ≡ true }
         requires held { IsHeld pool.old self.old }
@@ -310,15 +310,15 @@ impl Train {
         ensures change { Inserts pool.old self.old (before.index + 1) number tag pool.new self.new }
         ensures place { result ≡ record { index = before.index + 1; number = number } }
     {
-        let behind = behind(pool, before.number);
-        place(pool, number, behind, tag);
+        let after = after(pool, before.number);
+        place(pool, number, after, tag);
         let kept = tag_of(pool, before.number);
         place(pool, before.number, Some(number), kept);
         if self.len == before.index + 1 {
             self.last = Some(number);
         }
         self.len += 1;
-        CarPlace {
+        QueuedPlace {
             index: before.index + 1,
             number,
         }
@@ -333,10 +333,10 @@ impl Train {
         let Some(number) = self.first else {
             unreachable!()
         };
-        let behind = behind(pool, number);
+        let after = after(pool, number);
         let tag = tag_of(pool, number);
         place(pool, number, None, 0);
-        self.first = behind;
+        self.first = after;
         if self.len == 1 {
             self.last = None;
         }
@@ -344,17 +344,17 @@ impl Train {
         (number, tag)
     }
 
-    /// Takes a chain out behind another: its number, and its tag.
-    fn take_behind(&mut self, pool: &mut Pool, before: CarPlace) -> (u32, u32)
-        requires before { IsCar pool.old self.old before }
+    /// Takes a chain out after another: its number, and its tag.
+    fn take_next(&mut self, pool: &mut Pool, before: QueuedPlace) -> (u32, u32)
+        requires before { IsQueuedPlace pool.old self.old before }
         requires more { before.index + 1 < self.old.len }
         requires held { IsHeld pool.old self.old }
         ensures { Takes pool.old self.old (before.index + 1) result.0 result.1 pool.new self.new }
     {
-        let Some(number) = behind(pool, before.number) else {
+        let Some(number) = after(pool, before.number) else {
             unreachable!()
         };
-        let rest = behind(pool, number);
+        let rest = after(pool, number);
         let tag = tag_of(pool, number);
         let kept = tag_of(pool, before.number);
         place(pool, before.number, rest, kept);
@@ -380,7 +380,7 @@ impl Train {
         let mut at = self.first;
         'chains: for _passed in 0..i {
             at = match at {
-                Some(number) => behind(pool, number),
+                Some(number) => after(pool, number),
                 None => unreachable!(),
             };
         }
@@ -391,15 +391,15 @@ impl Train {
     }
 }
 
-/// The number of the chain behind one.
-fn behind(pool: &Pool, number: u32) -> Option<u32>
+/// The number of the chain after one.
+fn after(pool: &Pool, number: u32) -> Option<u32>
     requires { IsLive pool.now number }
-    ensures { result ≡ (chain_of pool.now number).front.behind }
+    ensures { result ≡ (chain_of pool.now number).front.after }
 {
     let chain = Chain::from_number(number);
-    let behind = pool.behind(&chain);
+    let after = pool.after(&chain);
     let _ = chain.into_number();
-    behind
+    after
 }
 
 /// How many bytes a chain has.
@@ -436,16 +436,16 @@ fn tag_of(pool: &Pool, number: u32) -> u32
 }
 
 /// Puts a chain before another, with a tag.
-fn place(pool: &mut Pool, number: u32, behind: Option<u32>, tag: u32)
+fn place(pool: &mut Pool, number: u32, after: Option<u32>, tag: u32)
     requires live { IsLive pool.old number }
     requires headed { (chain_of pool.old number).front.header ≡ true }
-    requires link { IfSome behind (IsLive pool.old) }
+    requires link { IfSome after (IsLive pool.old) }
     ensures placed { pool.new ≡
-        with_chain pool.old number (placed (chain_of pool.old number) behind tag) }
+        with_chain pool.old number (placed (chain_of pool.old number) after tag) }
     ensures bounds { IsBounded pool.new }
 {
     let chain = Chain::from_number(number);
-    pool.set_behind(&chain, behind, tag);
+    pool.set_after(&chain, after, tag);
     let _ = chain.into_number();
 }
 

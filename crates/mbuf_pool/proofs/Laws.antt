@@ -141,7 +141,7 @@ over_over xs a b less fits =
           let here : 0 + k ≡ k = omega arith in
           subst (λ (j : ℕ). get_or (over (over xs 0 a) 0 b) j 0 ≡ get_or (over xs 0 b) j 0) here
           (over_in (over xs 0 a) 0 b (omega arith) k 0 within ∙ sym (over_in xs 0 b (omega arith) k 0 within))
-      | inr behind ↦
+      | inr after ↦
           over_above (over xs 0 a) 0 b (omega arith) k 0 (omega arith) ∙ over_above xs 0 a (omega arith) k 0 (omega arith)
           ∙ sym (over_above xs 0 b (omega arith) k 0 (omega arith))
     ])

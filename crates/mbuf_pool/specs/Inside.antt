@@ -15,7 +15,7 @@ mbuf_bytes r i = take 128 (drop (128 * i) r.bytes)
 abbrev pub cluster_bytes : Cells → ℕ → List ℕ
 cluster_bytes r c = take 2048 (drop (128 * length r.heads + 2048 * c) r.bytes)
 
--- what is linked behind a free mbuf, and behind a free cluster
+-- what is linked after a free mbuf, and after a free cluster
 abbrev pub next_mbuf : Cells → ℕ → Option ℕ
 next_mbuf r i = (cells.head_of r i).next
 

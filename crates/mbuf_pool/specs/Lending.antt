@@ -5,6 +5,6 @@ use Rattle.raw_cells.specs.declared.part.Part.{Part}
 use Rattle.mbuf_pool.specs.Store.{StoreView, write}
 use Rattle.mbuf_pool.specs.contracts.store.Store.{the_row}
 
--- the store ends with the last value behind r as the bytes of the part
+-- the store ends with the last value after r as the bytes of the part
 abbrev pub LendsPart : MutBor StoreView → Part → MutBor (List ℕ) → Fml
 LendsPart s p r = Lends the_row (Array u8 0) s r (write s.now p)

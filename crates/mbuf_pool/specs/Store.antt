@@ -122,7 +122,7 @@ abbrev pub with_bytes : StoreView → Buffer → List ℕ → StoreView
 with_bytes s (Mbuf i) bs = with_mbuf s i (Some (record { head = head_of s i; bytes = bs }))
 with_bytes s (Cluster c) bs = with_cluster s c (record { count = count_of s c; bytes = bs })
 
--- the n bytes from `at` on lie in a cluster in use, or behind the head of an mbuf in use that refers to no cluster
+-- the n bytes from `at` on lie in a cluster in use, or after the head of an mbuf in use that refers to no cluster
 abbrev pub IsRoom : StoreView → Buffer → ℕ → ℕ → Type 0
 IsRoom s (Mbuf i) at n = IsTrue (is_out s i) × ((head_of s i).cluster ≡ None) × (head_size (head_of s i) ≤ at) × (at + n ≤ 128)
 IsRoom s (Cluster c) at n = (0 < count_of s c) × (at + n ≤ 2048)

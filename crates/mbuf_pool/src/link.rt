@@ -57,7 +57,7 @@ fn part_of(cluster: u32) -> Part
     }
 }
 
-/// The cluster behind a free one.
+/// The cluster after a free one.
 pub(crate) fn next_cluster(region: &Region, cluster: u32) -> Option<u32>
     requires { cluster < region.now.clusters }
     ensures value { result ≡ link_in (read region.now (link_part cluster)) }
@@ -74,7 +74,7 @@ fn write_link(bytes: &mut [u8], next: Option<u32>)
     LittleEndian::write_u32(bytes, next.unwrap_or(NONE));
 }
 
-/// Links a free cluster to the one behind it.
+/// Links a free cluster to the one after it.
 pub(crate) fn set_next_cluster(region: &mut Region, cluster: u32, next: Option<u32>)
     requires { cluster < region.old.clusters }
     ensures { region.new ≡ write region.old (link_part cluster) (link_bytes next) }

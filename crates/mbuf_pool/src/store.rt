@@ -66,7 +66,7 @@ impl Store {
 
     /// A store of which all is free. `BadSizes`, which is tested first, says that there are not 1 to
     /// 65,535 mbufs, or more than 4,096 clusters. `Memory` says that one of the two requests for
-    /// memory was refused; nothing is left behind then.
+    /// memory was refused; nothing is left after then.
     pub fn boot(alloc: Global, sizes: Sizes) -> Result<Store, BootFault>
         ensures ok { IfOk result (λ s. s ≡ free_store sizes) }
         ensures bad { (result ≡ Err BootFault.BadSizes) ↔ IsBad sizes }
@@ -344,7 +344,7 @@ impl Store {
     }
 
     /// The bytes of a part, without copying. The part must lie in a cluster that is counted above 0,
-    /// or behind the head of an mbuf that is handed out and refers to no cluster.
+    /// or after the head of an mbuf that is handed out and refers to no cluster.
     pub fn bytes(&self, part: Part) -> &[u8]
         requires { IsPart self.now part }
         ensures value { result.now ≡ read self.now part }

@@ -204,7 +204,7 @@ pub forwarded : (bytes : List ℕ) (origin : Origin) (held : Weight) (w : Weight
 forwarded bytes origin held w old none other =
     passes bytes origin held w old (ends CantForward (counts_packet old)) none (record { yes = λ e. absurd (true≢false (sym e ∙ other)); no = λ e. refl })
 
--- ---- how it came is still seen once it's cut behind
+-- ---- how it came is still seen once it's cut after
 
 first_cluster : (n : ℕ) (es : List Entry) → (slice_index_or (only_first n es) 0 no_entry).cluster ≡ (slice_index_or es 0 no_entry).cluster
 first_cluster n [] = refl

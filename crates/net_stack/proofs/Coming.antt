@@ -10,7 +10,7 @@ use Rattle.flat_model.specs.Layout as flat
 use Rattle.flat_model.specs.Layout.{Need, Room, Plain, Cluster, filled, is_cluster, laid_on, need_of, next_room, or_empty, size_of, wire}
 use Rattle.flat_model.specs.Count.{counted}
 use Rattle.flat_model.specs.State.{State, ends}
-use Rattle.flat_model.specs.Ledger.{Affords, AreTaken, IsFree, count_of, exact_ledger}
+use Rattle.flat_model.specs.Ledger.{HasBuffers, AreTaken, IsFree, count_of, exact_ledger}
 use Rattle.flat_model.specs.Arrival.{Arrives, By_wire}
 use Rattle.flat_model.specs.declared.counters.Counters.{Counters}
 use Rattle.flat_model.specs.declared.counters.Why.TheVariants.{NoBufs}
@@ -31,7 +31,7 @@ use Rattle.ip_reass.specs.Table.{TableView, IsReady, held_all, unfinished}
 use Rattle.sock_calls.specs.Sockets.{SocksView, IsSocks, queued_chains, with_net}
 use Rattle.sock_calls.specs.Delivery.{NetView, seen, state_at}
 use Rattle.net_stack.specs.Arrivals.{HaveApartKeys, HasCome, IsArrived, IsLaidOut}
-use Rattle.net_stack.proofs.Keys.{afforded}
+use Rattle.net_stack.proofs.Keys.{had_buffers}
 use Rattle.net_stack.proofs.Aside.{Aside, aside, BesideSocks, beside_socks}
 use Rattle.net_stack.proofs.Arriving.{from_one}
 
@@ -166,7 +166,7 @@ lost {p} {q} {s} {r} {t} {a} {b} {d} {need} {answer} packet socks owned is is_ne
       step = λ rest keys acc. (
         answer,
         mid rest,
-        subst (λ (n : Need). Affords exact_ledger (with_net p s (unfinished p r.datagrams) a rest) nothing n answer (mid rest)) is_need (is.reserves (with_net p s (unfinished p r.datagrams) a rest) nothing refl refl acc).affords,
+        subst (λ (n : Need). HasBuffers exact_ledger (with_net p s (unfinished p r.datagrams) a rest) nothing n answer (mid rest)) is_need (is.reserves (with_net p s (unfinished p r.datagrams) a rest) nothing refl refl acc).has_buffers,
         record { yes = λ e. absurd (true≢false (sym e ∙ no_answer)); no = λ e. now rest },
       );
       ready = beside.socks.ready;
@@ -208,7 +208,7 @@ came {p} {q} {q1} {s} {r} {t} {a} {b} {need} {answer} {c} {u} packet socks owned
       step = λ rest keys acc. (
         answer,
         mid rest,
-        subst (λ (n : Need). Affords exact_ledger (old rest) nothing n answer (mid rest)) is_need (asked rest acc).affords,
+        subst (λ (n : Need). HasBuffers exact_ledger (old rest) nothing n answer (mid rest)) is_need (asked rest acc).has_buffers,
         record {
           yes = λ e. (
             laid.clusters,
@@ -220,7 +220,7 @@ came {p} {q} {q1} {s} {r} {t} {a} {b} {need} {answer} {c} {u} packet socks owned
             subst (λ (i : Item). Arrives exact_ledger (By_wire (length packet)) nothing i (mid rest) (state_at u rest)) item
                 (subst (λ (m : State). Arrives exact_ledger (By_wire (length packet)) nothing (item_at q1 c) m (state_at u rest)) (x.shows b rest ∙ now rest)
                 (arrived.step rest nothing (By_wire (length packet))
-                (subst HaveApartKeys (sym x.reass.shows) (afforded (old rest) (mid rest) nothing need answer (asked rest acc).affords keys).keys)
+                (subst HaveApartKeys (sym x.reass.shows) (had_buffers (old rest) (mid rest) nothing need answer (asked rest acc).has_buffers keys).keys)
                 (came_by_wire (chain_of q1 c) laid.clusters packet laid.made.entries laid.number laid.bytes_are)
                 (accounts rest acc))),
           );

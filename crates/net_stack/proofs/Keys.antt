@@ -9,7 +9,7 @@ use Rattle.flat_model.specs.Header.{Head}
 use Rattle.flat_model.specs.Overlay.{Map, Fragment, overlay}
 use Rattle.flat_model.specs.Whole.{bytes_below}
 use Rattle.flat_model.specs.State.{State, Socket, Key, Unfinished, is_key, unfinished_at, begun, begin_unfinished, set_bytes, end_unfinished, ends}
-use Rattle.flat_model.specs.Ledger.{Affords, exact_ledger, need_mbufs, reclaimed}
+use Rattle.flat_model.specs.Ledger.{HasBuffers, exact_ledger, need_mbufs, reclaimed}
 use Rattle.flat_model.specs.Arrival.{Origin, By_wire, Looped, Tests, Appends, Delivers, GoesTo, WholeArrives, Settles, Lays, Joins, PullsUp, FragmentArrives, Passes, Arrives, counts_packet, counts_fragment, counts_reassembled, carried}
 use Rattle.flat_model.specs.declared.address.Addr.{Addr}
 use Rattle.flat_model.specs.declared.counters.Why.{Why}
@@ -62,15 +62,15 @@ none_held k = omega arith
 emptied : (old mid : State) → mid ≡ reclaimed old → IsMid old mid
 emptied old mid e = record { keys = subst AreApart (sym e) none_held; none = λ k n. ap (unfinished_at k) e }
 
-pub afforded : (old mid : State) (held : Weight) (need : Need) (b : Bool) → Affords exact_ledger old held need b mid → HaveApartKeys old.unfinished → IsMid old mid
-afforded old mid held need true (inl a) h = record { keys = subst AreApart (sym a.1) h; none = λ k n. ap (unfinished_at k) a.1 ∙ n }
-afforded old mid held need true (inr a) h = emptied old mid a.1
-afforded old mid held need false a h = emptied old mid a.1
+pub had_buffers : (old mid : State) (held : Weight) (need : Need) (b : Bool) → HasBuffers exact_ledger old held need b mid → HaveApartKeys old.unfinished → IsMid old mid
+had_buffers old mid held need true (inl a) h = record { keys = subst AreApart (sym a.1) h; none = λ k n. ap (unfinished_at k) a.1 ∙ n }
+had_buffers old mid held need true (inr a) h = emptied old mid a.1
+had_buffers old mid held need false a h = emptied old mid a.1
 
 tested : (old : State) (held : Weight) (n : ℕ) (new : State) (Then : State → Type 0) → Tests exact_ledger old held n new Then → AreApart old
     → ((mid : State) → IsMid old mid → Then mid → AreApart new) → AreApart new
 tested old held n new Then t h goes =
-    let at : IsMid old t.mid = afforded old t.mid held (need_mbufs n) t.answer t.affords h in
+    let at : IsMid old t.mid = had_buffers old t.mid held (need_mbufs n) t.answer t.has_buffers h in
     by_choice t.goes_on (λ e r. goes t.mid at r) (λ e r. subst AreApart (sym r) at.keys)
 
 -- ---- delivery

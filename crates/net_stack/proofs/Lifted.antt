@@ -12,9 +12,9 @@ use Rattle.flat_model.proofs.Laws.{step_is_consistent, all_of-append, times-both
 use Rattle.mbuf_chain.specs.Chain.{PoolView, chain_of}
 use Rattle.mbuf_chain.specs.Owners.{times, live_at, IsOwned, IsAll, Moves}
 use Rattle.mbuf_chain.specs.Frames.{SameAt}
-use Rattle.mbuf_chain.specs.Train.{TrainView, Car, car_of, cars, numbers, IsHeld}
+use Rattle.mbuf_chain.specs.Train.{TrainView, QueuedPacket, queued_packet_of, queued_packets, numbers, IsHeld}
 use Rattle.mbuf_chain.proofs.Laws.Owners.{times-append, live_at_most, same_beside, same_part, moves_beside, moves_none}
-use Rattle.mbuf_chain.proofs.Laws.Trains.{numbers_same, cars_same, held_same}
+use Rattle.mbuf_chain.proofs.Laws.Trains.{numbers_same, queued_packets_same, held_same}
 use Rattle.ledger.specs.Accounts.{item_of, weight_at, weight_owned, IsAccounted}
 use Rattle.ledger.proofs.Laws.{accounted_all}
 use Rattle.pcb_table.specs.Table.{machine, sockets_with}
@@ -28,7 +28,7 @@ use Rattle.net_stack.specs.Stack.{StackView, IsStack, rest_of, state_of, chains_
 
 -- ---- what the parts weigh
 
-pub output_weighs : (p : PoolView) (xs : List ℕ) → all_of (λ (item : Item). item.weight) (map (λ (car : Car). item_of car.entries) (map (car_of p) xs)) ≡ weight_owned p xs
+pub output_weighs : (p : PoolView) (xs : List ℕ) → all_of (λ (item : Item). item.weight) (map (λ (queued_packet : QueuedPacket). item_of queued_packet.entries) (map (queued_packet_of p) xs)) ≡ weight_owned p xs
 output_weighs p [] = refl
 output_weighs p (x ∷ xs) = ap (λ (w : Weight). weight_at p x ⊕ w) (output_weighs p xs)
 
@@ -108,7 +108,7 @@ pub record OutputKept (p q : PoolView) (t : TrainView) : Type 0 where
 pub output_kept : (p q : PoolView) (t : TrainView) → SameAt p q (numbers p t) → IsQueue p t → OutputKept p q t
 output_kept p q t same is = record {
   queue = record { held = held_same p q t same is.held; room = is.room };
-  shows = ap (map (λ (car : Car). item_of car.entries)) (cars_same p q t same);
+  shows = ap (map (λ (queued_packet : QueuedPacket). item_of queued_packet.entries)) (queued_packets_same p q t same);
   chains = numbers_same p q t same;
 }
 

@@ -11,9 +11,9 @@ use Rattle.flat_model.proofs.Laws.{nothing-both, times-both}
 use Rattle.mbuf_chain.specs.Chain.{ChainView, Entry, PoolView, chain_of, entry_of, no_entry}
 use Rattle.mbuf_chain.specs.Owners.{times, IsOwned, Moves}
 use Rattle.mbuf_chain.specs.Frames.{SameAt}
-use Rattle.mbuf_chain.specs.Train.{TrainView, Car, no_car, cars, car_at, numbers, IsHeld}
+use Rattle.mbuf_chain.specs.Train.{TrainView, QueuedPacket, no_queued_packet, queued_packets, queued_packet_at, numbers, IsHeld}
 use Rattle.mbuf_chain.proofs.Laws.Owners.{times-append, live_at_most, moves_beside, moves_none, moves_trans, owned_after, same_beside}
-use Rattle.mbuf_chain.proofs.Laws.Trains.{length-cars, numbers_same, cars_same, held_same, none_left}
+use Rattle.mbuf_chain.proofs.Laws.Trains.{length-queued_packets, numbers_same, queued_packets_same, held_same, none_left}
 use Rattle.ledger.specs.Accounts.{item_of, item_at, weight_at, weight_owned, IsAccounted}
 use Rattle.ledger.proofs.Laws.{accounted_as}
 use Rattle.ip_out.specs.Packets.{packets, AreBegunPlain, BeginPlain}
@@ -32,22 +32,22 @@ record IsFirst (p : PoolView) (t : TrainView) (q : PoolView) (c : ℕ) (u : Trai
   plain : (entry_of (chain_of q c) 0).cluster ≡ None
   later : BeginPlain q u
 
-is_first : (p q : PoolView) (t u : TrainView) (c tag : ℕ) → IsHeld p t → BeginPlain p t → 0 < t.len → cars q u ≡ remove (cars p t) 0
-    → car_at p t 0 ≡ record { number = c; entries = (chain_of q c).entries; tag = tag } → IsFirst p t q c u
-is_first p q t u c tag held plain some is_cars is_car = go (cars p t) refl plain
+is_first : (p q : PoolView) (t u : TrainView) (c tag : ℕ) → IsHeld p t → BeginPlain p t → 0 < t.len → queued_packets q u ≡ remove (queued_packets p t) 0
+    → queued_packet_at p t 0 ≡ record { number = c; entries = (chain_of q c).entries; tag = tag } → IsFirst p t q c u
+is_first p q t u c tag held plain some is_queued_packets is_queued_packet = go (queued_packets p t) refl plain
   where
-    go : (cs : List Car) → cars p t ≡ cs → AreBegunPlain cs → IsFirst p t q c u
-    go [] e begun = absurd (omega (arith, length-cars p t held, some, ap length e))
+    go : (cs : List QueuedPacket) → queued_packets p t ≡ cs → AreBegunPlain cs → IsFirst p t q c u
+    go [] e begun = absurd (omega (arith, length-queued_packets p t held, some, ap length e))
     go (x ∷ xs) e begun =
-        let same : x.entries ≡ (chain_of q c).entries = ap (λ (y : Car). y.entries) (sym (ap (λ (cs : List Car). slice_index_or cs 0 no_car) e) ∙ is_car) in
-        let left : xs ≡ cars q u = sym (is_cars ∙ ap (λ (cs : List Car). remove cs 0) e) in
+        let same : x.entries ≡ (chain_of q c).entries = ap (λ (y : QueuedPacket). y.entries) (sym (ap (λ (cs : List QueuedPacket). slice_index_or cs 0 no_queued_packet) e) ∙ is_queued_packet) in
+        let left : xs ≡ queued_packets q u = sym (is_queued_packets ∙ ap (λ (cs : List QueuedPacket). remove cs 0) e) in
         record {
-          items = ap (map (λ (car : Car). item_of car.entries)) e ∙ (λ i. item_of (same i) ∷ map (λ (car : Car). item_of car.entries) (left i));
+          items = ap (map (λ (queued_packet : QueuedPacket). item_of queued_packet.entries)) e ∙ (λ i. item_of (same i) ∷ map (λ (queued_packet : QueuedPacket). item_of queued_packet.entries) (left i));
           plain = ap (λ (es : List Entry). (slice_index_or es 0 no_entry).cluster) (sym same) ∙ begun.0;
           later = subst AreBegunPlain left begun.1;
         }
 
--- what is in hand first goes behind
+-- what is in hand first goes after
 swapped : {p : PoolView} {s : State} (a b : Weight) → IsAccounted p s (nothing ⊕ (a ⊕ b)) → IsAccounted p s (b ⊕ a)
 swapped {p} {s} a b acc = accounted_as acc refl (record {
   mbufs = omega arith;
@@ -77,10 +77,10 @@ is_later p q c u xs ys owned held plain m =
     let same : SameAt p q (numbers p u) =
     same_beside (numbers p u) m (λ k. omega (arith, owned k, times-append k (numbers p u) xs)) (λ k h. omega (arith, owned k, h, live_at_most p k, times-append k (numbers p u) xs)) in
     let ns : numbers q u ≡ numbers p u = numbers_same p q u same in
-    let cs : cars q u ≡ cars p u = cars_same p q u same in
+    let cs : queued_packets q u ≡ queued_packets p u = queued_packets_same p q u same in
     record {
       numbers_are = ns;
-      items = ap (map (λ (car : Car). item_of car.entries)) cs;
+      items = ap (map (λ (queued_packet : QueuedPacket). item_of queued_packet.entries)) cs;
       held = held_same p q u same held;
       plain = subst AreBegunPlain (sym cs) plain;
       moves = moves_beside ((c ∷ numbers p u) ++ xs) (numbers q u ++ ys) (numbers p u) m
@@ -106,12 +106,12 @@ one_owned {q = q} {s = s} {ds = ds} {c = c} t u a = λ k. omega (arith, a.owned 
 
 pub one_more : {v : NetView} {t u u1 : TrainView} {q q1 q2 : PoolView} {s s2 : SocksView} {ds ds2 : TableView} {a b : Counters} {c : ℕ} (tag : ℕ)
     → AreArriving v t (seen q s (unfinished q ds.datagrams) (held_all q ds.datagrams) a) u → IsHeld q u → BeginPlain q u → IsOwned q (numbers q u ++ (held_all q ds.datagrams ++ queued_chains q s.queues)) → IsReady q ds
-    → 0 < u.len → cars q1 u1 ≡ remove (cars q u) 0 → car_at q u 0 ≡ record { number = c; entries = (chain_of q1 c).entries; tag = tag } → IsHeld q1 u1 → Moves q (numbers q u) q1 (c ∷ numbers q1 u1)
+    → 0 < u.len → queued_packets q1 u1 ≡ remove (queued_packets q u) 0 → queued_packet_at q u 0 ≡ record { number = c; entries = (chain_of q1 c).entries; tag = tag } → IsHeld q1 u1 → Moves q (numbers q u) q1 (c ∷ numbers q1 u1)
     → IsArrived (seen q1 s (unfinished q1 ds.datagrams) (held_all q1 ds.datagrams) a) c (seen q2 s2 (unfinished q2 ds2.datagrams) (held_all q2 ds2.datagrams) b)
     → IsOneMore v t q2 s2 ds2 b u1
-one_more {v} {t} {u} {u1} {q} {q1} {q2} {s} {s2} {ds} {ds2} {a} {b} {c} tag w held plain owned table some is_cars is_car held1 m arrived =
+one_more {v} {t} {u} {u1} {q} {q1} {q2} {s} {s2} {ds} {ds2} {a} {b} {c} tag w held plain owned table some is_queued_packets is_queued_packet held1 m arrived =
     let x : Aside q ds s (numbers q u) q1 (c ∷ numbers q1 u1) = taken u u1 owned table w.ready m in
-    let f : IsFirst q u q1 c u1 = is_first q q1 u u1 c tag held plain some is_cars is_car in
+    let f : IsFirst q u q1 c u1 = is_first q q1 u u1 c tag held plain some is_queued_packets is_queued_packet in
     let l : IsLater q1 c u1 (held_all q1 ds.datagrams ++ queued_chains q1 s.queues) q2 (held_all q2 ds2.datagrams ++ queued_chains q2 s2.queues) =
     is_later q1 q2 c u1 (held_all q1 ds.datagrams ++ queued_chains q1 s.queues) (held_all q2 ds2.datagrams ++ queued_chains q2 s2.queues) x.owned held1 f.later arrived.spent.moves in
     let wl : Weight = weight_owned q1 (numbers q1 u1) in

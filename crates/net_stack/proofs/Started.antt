@@ -15,7 +15,7 @@ use Rattle.flat_model.proofs.Laws.{boot_is_consistent}
 use Rattle.mbuf_chain.specs.Chain.{PoolView}
 use Rattle.mbuf_chain.specs.Frames.{SameAt}
 use Rattle.mbuf_chain.specs.Owners.{times, live_at, IsOwned, IsAll, Moves}
-use Rattle.mbuf_chain.specs.Train.{TrainView, Car, car_of, follow, numbers}
+use Rattle.mbuf_chain.specs.Train.{TrainView, QueuedPacket, queued_packet_of, follow, numbers}
 use Rattle.mbuf_chain.proofs.Laws.Owners.{times-append, live_at_most, live_none, live_one, moves_beside, moves_trans, moves_nothing, same_beside, same_part}
 use Rattle.ledger.specs.Accounts.{item_of}
 use Rattle.pcb_table.specs.Table.{Table, sockets_with}
@@ -37,7 +37,7 @@ free_live config k = live_none (free_pool config) k (get-empty nat_cmp k)
 -- ---- the start
 
 no_packets : (p : PoolView) (t : TrainView) → t.len ≡ 0 → packets p t ≡ []
-no_packets p t e = ap (λ (n : ℕ). map (λ (car : Car). item_of car.entries) (map (car_of p) (follow p n t.first))) e
+no_packets p t e = ap (λ (n : ℕ). map (λ (queued_packet : QueuedPacket). item_of queued_packet.entries) (map (queued_packet_of p) (follow p n t.first))) e
 
 -- the pool over a store of that size
 pub pool_of_store : (config : Config) (store : StoreView) (p : PoolView) → store ≡ free_store (record { mbufs = config.mbufs; clusters = config.clusters })

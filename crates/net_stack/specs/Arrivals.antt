@@ -2,7 +2,7 @@
 -- this project's own).
 use Rattle.std.specs.Prelude.{◌≡◌, ℕ, ◌≤◌, List, ◌∷◌, ◌++◌, length, count_by, Bool, true, false, ◌==◌, ◌||◌}
 use Rattle.flat_model.specs.Weight.{Weight, ◌⊕◌, nothing}
-use Rattle.flat_model.specs.State.{State, Key, Unfinished, everyone, is_key, loopback}
+use Rattle.flat_model.specs.State.{State, Key, Unfinished, limited_broadcast, is_key, loopback}
 use Rattle.flat_model.specs.Ledger.{exact_ledger}
 use Rattle.flat_model.specs.Arrival.{Origin, FragmentArrives, Arrives, AllArrive}
 use Rattle.flat_model.specs.Layout.{is_cluster, laid_on, wire}
@@ -22,7 +22,7 @@ use Rattle.sock_calls.specs.Delivery.{NetView, state_at, chains_at}
 
 -- an address that a machine with these two addresses hears
 abbrev pub is_ours_or_all : ℕ → ℕ → ℕ → Bool
-is_ours_or_all addr bcast ip = (((ip == addr) || (ip == bcast)) || (ip == loopback)) || (ip == everyone)
+is_ours_or_all addr bcast ip = (((ip == addr) || (ip == bcast)) || (ip == loopback)) || (ip == limited_broadcast)
 
 -- no two unfinished datagrams go by one key
 abbrev pub HaveApartKeys : List Unfinished → Type 0

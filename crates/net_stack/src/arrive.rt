@@ -65,7 +65,7 @@ fn take_fragment(
 ///
 /// It is counted; then, in this order, a packet whose header is refused ends, for the first test that it fails, and one
 /// for another machine, `CantForward`, since packets aren't forwarded. What is longer than the total length that the
-/// header tells is cut behind. A fragment goes to the reassembly, and what that makes whole to the sockets; any other
+/// header tells is cut after. A fragment goes to the reassembly, and what that makes whole to the sockets; any other
 /// packet goes to the sockets at once, without its header. Each packet that ends is counted for its cause.
 pub(crate) fn arrive(
     pool: &mut Pool,

@@ -37,9 +37,9 @@ pub const IP_UDP_HEADERS: u32 = IP_HEADER + UDP_HEADER;
 pub const PSEUDO_HEADER: u32 = 12;
 /// The longest IP packet: 65,535 bytes (RFC 791, section 3.1).
 pub const IP_MAX_PACKET: u32 = 65_535;
-/// The most bytes behind the header of an IP packet: 65,515.
+/// The most bytes after the header of an IP packet: 65,515.
 pub const IP_MAX_DATA: u32 = IP_MAX_PACKET - IP_HEADER;
-/// The most bytes of a UDP datagram behind its header: 65,507.
+/// The most bytes of a UDP datagram after its header: 65,507.
 pub const UDP_MAX_DATA: u32 = IP_MAX_DATA - UDP_HEADER;
 /// The time to live of packets that are sent, `IPDEFTTL` (volume 2, chapter 8; RFC 1340).
 pub const IP_DEFAULT_TTL: u8 = 64;
@@ -80,7 +80,7 @@ pub const UDP_SEND_SPACE: u32 = 9_216;
 /// Bytes that a receive queue takes, 16 for each sender's address among them: `udp_recvspace`, 40 datagrams of 1,024
 /// bytes with their addresses (volume 2, chapter 23).
 pub const UDP_RECEIVE_SPACE: u32 = 40 * (1024 + SOCKADDR_BYTES);
-/// Bytes of memory that may stand behind a receive queue, `sb_mbmax`: twice its bytes (volume 2, chapter 16).
+/// Bytes of memory that may stand after a receive queue, `sb_mbmax`: twice its bytes (volume 2, chapter 16).
 pub const UDP_RECEIVE_MEMORY: u32 = 2 * UDP_RECEIVE_SPACE;
 /// Bytes of a sender's address in a receive queue, a `sockaddr_in` (volume 2, chapter 3).
 pub const SOCKADDR_BYTES: u32 = 16;

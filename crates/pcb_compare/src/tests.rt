@@ -1,5 +1,5 @@
 use flat_model::{Addr, LookupKey, Opt};
-use flat_plain::{Pcb, Sought};
+use flat_plain::{Pcb, PlainKey};
 use pcb_table::{Block, Pcbs};
 use std::alloc::Global;
 use std::process::Abort;
@@ -48,7 +48,7 @@ fn same_answers(
     port: u16,
     source: Addr,
 ) -> Result<(), Fail> {
-    let sought = Sought {
+    let sought = PlainKey {
         local: Some(destination),
         port: Some(port),
         peer: Some(source),

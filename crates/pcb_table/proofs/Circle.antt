@@ -2,9 +2,9 @@
 use Rattle.std.proofs.Common.{◌≡◌, ℕ, ◌+◌, ◌-◌, ◌<◌, ◌≤◌, ◌%◌, Bool, true, ◌&&◌, ◌==◌, List, length, Option, Some, None, is_some, find, sym, ap, ◌∙◌, arith}
 use Rattle.std.proofs.lemmas.Bool.{and_parts, eqb-true, false≢true}
 use Rattle.flat_model.specs.Lookup.{are_same, agree, is_addr}
-use Rattle.flat_model.specs.Calls.{port_behind}
+use Rattle.flat_model.specs.Calls.{port_after}
 use Rattle.pcb_table.specs.declared.block.Block.{Block}
-use Rattle.pcb_table.specs.Search.{does_match, is_used, sought_port}
+use Rattle.pcb_table.specs.Search.{does_match, is_used, key_port}
 use Rattle.pcb_table.specs.Sound.{has_fd}
 use Rattle.pcb_table.proofs.Searching.{best_counts, found_counts}
 use Rattle.pcb_table.proofs.Pigeons.{pigeons}
@@ -15,7 +15,7 @@ same_port : (o : Option ℕ) (p : ℕ) → are_same o (Some p) ≡ true → o �
 same_port None p e = absurd (false≢true e)
 same_port (Some x) p e = ap Some (eqb-true x p e)
 
-pub has_port : (local : Option ℕ) (p : ℕ) (b : Block) → does_match (sought_port local p) b ≡ true → b.port ≡ Some p
+pub has_port : (local : Option ℕ) (p : ℕ) (b : Block) → does_match (key_port local p) b ≡ true → b.port ≡ Some p
 has_port local p b e =
     same_port b.port p (and_parts (are_same b.port (Some p)) (agree ◌==◌ b.local local)
     (and_parts (are_same b.port (Some p) && agree ◌==◌ b.local local) (agree is_addr b.peer None) e).0).0
@@ -24,22 +24,22 @@ same_rest : (a j k : ℕ) → j < k → k < 3977 → (a + j) % 3977 ≡ (a + k) 
 same_rest a j k lt most e = omega arith
 
 -- the ports of a whole turn are different
-pub apart_ports : (last : Option ℕ) (j k : ℕ) → j < k → k < 3977 → port_behind last j ≡ port_behind last k → ⊥
+pub apart_ports : (last : Option ℕ) (j k : ℕ) → j < k → k < 3977 → port_after last j ≡ port_after last k → ⊥
 apart_ports None j k lt most e = same_rest 0 j k lt most (omega arith)
 apart_ports (Some last) j k lt most e = same_rest (last - 1023) j k lt most (omega arith)
 
 same_number : (p q : ℕ) → Some p ≡ Some q → p ≡ q
 same_number p q e = cc
 
-pub some_port_free : (bs : List Block) (last local : Option ℕ) → length bs ≤ 64 → ((k : ℕ) → k < 3977 → is_used bs local (port_behind last k) ≡ true) → ⊥
-some_port_free bs last local few all = omega (arith, pigeons tests 3977 apart bs (λ k lt. best_counts (sought_port local (port_behind last k)) bs (all k lt)))
+pub some_port_free : (bs : List Block) (last local : Option ℕ) → length bs ≤ 64 → ((k : ℕ) → k < 3977 → is_used bs local (port_after last k) ≡ true) → ⊥
+some_port_free bs last local few all = omega (arith, pigeons tests 3977 apart bs (λ k lt. best_counts (key_port local (port_after last k)) bs (all k lt)))
   where
     tests : ℕ → Block → Bool
-    tests k b = does_match (sought_port local (port_behind last k)) b
+    tests k b = does_match (key_port local (port_after last k)) b
 
     apart : (b : Block) (j k : ℕ) → j < k → k < 3977 → tests j b ≡ true → tests k b ≡ true → ⊥
     apart b j k lt most e f =
-        apart_ports last j k lt most (same_number (port_behind last j) (port_behind last k) (sym (has_port local (port_behind last j) b e) ∙ has_port local (port_behind last k) b f))
+        apart_ports last j k lt most (same_number (port_after last j) (port_after last k) (sym (has_port local (port_after last j) b e) ∙ has_port local (port_after last k) b f))
 
 -- ---- descriptors
 

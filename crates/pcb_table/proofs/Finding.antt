@@ -5,9 +5,10 @@ use Rattle.std.proofs.lemmas.Bool.{and_parts, true≢false, lt-ltb, eqb-false}
 use Rattle.std.proofs.lemmas.List.{length-map}
 use Rattle.std.proofs.lemmas.List.Elements.{All-map}
 use Rattle.std.proofs.lemmas.Option.{same_Some}
+use Rattle.flat_model.specs.declared.lookup_key.LookupKey.{LookupKey}
 use Rattle.flat_model.specs.Header.{first_fault}
 use Rattle.flat_model.specs.Event.{Opened}
-use Rattle.flat_model.specs.Lookup.{Sought, best, exact, receivers, is_addr}
+use Rattle.flat_model.specs.Lookup.{best, exact, receivers, is_addr}
 use Rattle.flat_model.specs.State.{State}
 use Rattle.flat_model.specs.Calls.{Opens, read_addr, source_for}
 use Rattle.flat_model.specs.Send.{address_faults}
@@ -17,7 +18,7 @@ use Rattle.flat_model.specs.declared.errno.Errno.TheVariants.{IsConnected}
 use Rattle.pcb_table.specs.declared.block.Block.{Block}
 use Rattle.pcb_table.specs.declared.block.Connection.{Connection}
 use Rattle.pcb_table.specs.declared.interface.Interface.{Interface}
-use Rattle.pcb_table.specs.Table.{Queues, IsDescriptor, block_at, machine, packet_sought, socket_with}
+use Rattle.pcb_table.specs.Table.{Queues, IsDescriptor, block_at, machine, packet_key, socket_with}
 use Rattle.pcb_table.specs.Found.{ChecksDestination, Finds, FindsAll, SendsFrom}
 use Rattle.pcb_table.specs.Search.{does_match, plain, best_block, youngest_block, hearing_blocks, block_connect_faults, config_of}
 use Rattle.pcb_table.specs.Sound.{AreApart, IsCached, IsLocated, IsLowestFree, has_fd}
@@ -30,7 +31,7 @@ use Rattle.pcb_table.proofs.Steps.{table_of, connect_faults-blocks}
 
 -- ---- look-ups
 
-module _ (i : Interface) (bs : List Block) (last : Option ℕ) (q : Sought) where
+module _ (i : Interface) (bs : List Block) (last : Option ℕ) (q : LookupKey) where
   pub best_none : best_block q bs ≡ None → Finds (best q) (table_of i bs last) None
   best_none e queues = best-sockets queues q bs ∙ ap (option_map (socket_with queues)) e
 
@@ -52,19 +53,19 @@ module _ (i : Interface) (bs : List Block) (last : Option ℕ) (q : Sought) wher
     sockets = λ queues. receivers-sockets queues q bs;
   }
 
-pub receivers_range : (q : Sought) (bs : List Block) → AreApart bs → All IsDescriptor (map (λ b. b.fd) (hearing_blocks q bs))
+pub receivers_range : (q : LookupKey) (bs : List Block) → AreApart bs → All IsDescriptor (map (λ b. b.fd) (hearing_blocks q bs))
 receivers_range q bs apart = All-map IsDescriptor (λ b. b.fd) (hearing_blocks q bs) (hearing_range q bs apart)
 
 -- the connection that is cached, where it has a packet's ends
 pub cached_best : (bs : List Block) (cache : Option Connection) (k : Connection) (ip port : ℕ) (source : Addr) → AreApart bs → IsCached bs cache → cache ≡ Some k
     → is_addr k.local (record { ip = ip; port = port }) && is_addr k.peer source ≡ true
-    → (b : Block) × (b.fd ≡ k.fd) × (best_block (packet_sought ip port source) bs ≡ Some b)
+    → (b : Block) × (b.fd ≡ k.fd) × (best_block (packet_key ip port source) bs ≡ Some b)
 cached_best bs cache k ip port source apart cached is e =
     let parts = and_parts (is_addr k.local (record { ip = ip; port = port })) (is_addr k.peer source) e in
     let near : k.local ≡ record { ip = ip; port = port } = addr_same k.local (record { ip = ip; port = port }) parts.0 in
     let far : k.peer ≡ source = addr_same k.peer source parts.1 in
     let found = cached_is_best bs k apart (subst (IsCached bs) is cached) in
-    (found.0, found.1, ap (λ (l : Addr). best_block (packet_sought l.ip l.port source) bs) (sym near) ∙ ap (λ (p : Addr). best_block (packet_sought k.local.ip k.local.port p) bs) (sym far) ∙ found.2)
+    (found.0, found.1, ap (λ (l : Addr). best_block (packet_key l.ip l.port source) bs) (sym near) ∙ ap (λ (p : Addr). best_block (packet_key k.local.ip k.local.port p) bs) (sym far) ∙ found.2)
 
 -- ---- what an open descriptor's block answers
 

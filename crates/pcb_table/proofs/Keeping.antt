@@ -4,16 +4,17 @@ use Rattle.std.specs.Prelude.{remove}
 use Rattle.std.proofs.lemmas.Bool.{false≢true, true≢false, eq-eqb, eqb-true, eqb-false, and_parts, and_from, and_left, and_right, ne_eqb, false_from_ne_true, cases_eq}
 use Rattle.std.specs.Option.{option_or}
 use Rattle.std.proofs.lemmas.Option.{none-some, same_Some}
+use Rattle.flat_model.specs.declared.lookup_key.LookupKey.{LookupKey}
 use Rattle.flat_model.specs.Header.{first_fault}
 use Rattle.flat_model.specs.declared.config.Config.{Config}
 use Rattle.flat_model.specs.declared.option.Opt.{Opt}
 use Rattle.flat_model.specs.declared.option.Opt.TheVariants.{Broadcast, ReusePort}
 use Rattle.flat_model.specs.Calls.{is_reached, source_for}
-use Rattle.flat_model.specs.Lookup.{Sought, are_same, agree, is_addr, one_sided, wildcards}
+use Rattle.flat_model.specs.Lookup.{are_same, agree, is_addr, one_sided, wildcards}
 use Rattle.flat_model.specs.declared.address.Addr.{Addr}
 use Rattle.pcb_table.specs.declared.block.Block.{Block}
 use Rattle.pcb_table.specs.declared.block.Connection.{Connection}
-use Rattle.pcb_table.specs.Search.{does_match, has_score, plain, youngest_block, best_block, sought_port, GivesPort, block_bind_faults, block_connect_faults}
+use Rattle.pcb_table.specs.Search.{does_match, has_score, plain, youngest_block, best_block, key_port, GivesPort, block_bind_faults, block_connect_faults}
 use Rattle.pcb_table.specs.Sound.{has_fd, four, has_four, is_connected_as, lacks_port, AreApart, IsLocated, IsCached, IsLowestFree}
 use Rattle.pcb_table.specs.Changed.{unbound_block, block_with_option, bound_block, connected_block, disconnected_block, forgotten, connection_by, connection_of}
 use Rattle.pcb_table.proofs.Searching.{counted-cons, one_sided-most}
@@ -131,7 +132,7 @@ cached_found p bs b e = go (connection_of b) refl
         let counts : 1 ≤ count_by (is_connected_as k) bs = counts_at (is_connected_as k) bs at.0 b at.1 (ap (is_connected_as k) at.2 ∙ is) in
         omega (arith, counts)
 
-pub cached_by_best : (q : Sought) (bs : List Block) (b : Block) → best_block q bs ≡ Some b → IsCached bs (connection_of b)
+pub cached_by_best : (q : LookupKey) (bs : List Block) (b : Block) → best_block q bs ≡ Some b → IsCached bs (connection_of b)
 cached_by_best q bs b e = let k = best_found_as q bs b e in cached_found (has_score k.0 q) bs b k.1
 
 counted_found : (p : Block → Bool) (bs : List Block) → 0 < count_by p bs → (b : Block) × (find p bs ≡ Some b)
@@ -244,7 +245,7 @@ counted_le p r follows (b ∷ bs) = go (counted_le p r follows bs) (p b) refl
     go rest false missed = omega (arith, counted-cons p b bs, counted-cons r b bs, ap one_if missed, rest)
 
 -- where no block is the best, none matches
-no_best_counts : (q : Sought) (bs : List Block) → is_some (best_block q bs) ≡ false → count_by (does_match q) bs ≡ 0
+no_best_counts : (q : LookupKey) (bs : List Block) → is_some (best_block q bs) ≡ false → count_by (does_match q) bs ≡ 0
 no_best_counts q bs e = go (count_by (does_match q) bs) refl
   where
     three : (a b c : Option Block) → is_some (option_or a (option_or b c)) ≡ false → (a ≡ None) × (b ≡ None) × (c ≡ None)
@@ -287,9 +288,9 @@ pub no_four : (bs : List Block) (last local asked later : Option ℕ) (ip source
 no_four bs last local (Some p) later ip source port to from none given =
     subst (λ (k : ℕ). count_by (has_four source k to) bs ≡ 0) (sym given.0) (none_counted (has_four source p to) bs (is_None (youngest_block 0 (four source p to) bs) none))
 no_four bs last local None later ip source port to from none given =
-    omega (arith, counted_le (has_four source port to) (does_match (sought_port local port)) follows bs, no_best_counts (sought_port local port) bs given.0.free)
+    omega (arith, counted_le (has_four source port to) (does_match (key_port local port)) follows bs, no_best_counts (key_port local port) bs given.0.free)
   where
-    follows : (b : Block) → has_four source port to b ≡ true → does_match (sought_port local port) b ≡ true
+    follows : (b : Block) → has_four source port to b ≡ true → does_match (key_port local port) b ≡ true
     follows b e =
         let h = four_parts source port to b e in
         and_from (are_same b.port (Some port) && agree ◌==◌ b.local local) (agree is_addr b.peer None)

@@ -1,8 +1,9 @@
 -- What is said of blocks holds of the sockets of each machine that has them.
 use Rattle.std.proofs.Common.{◌≡◌, ℕ, Bool, true, false, ◌&&◌, ◌==◌, not, cond, List, [], ◌∷◌, map, filter, find, Option, Some, None, option_map, refl, ap, ◌∙◌}
 use Rattle.std.specs.Option.{option_or}
+use Rattle.flat_model.specs.declared.lookup_key.LookupKey.{LookupKey}
 use Rattle.flat_model.specs.State.{Socket}
-use Rattle.flat_model.specs.Lookup.{Sought, matches, wildcards, youngest, best, receivers, up_to_first}
+use Rattle.flat_model.specs.Lookup.{matches, wildcards, youngest, best, receivers, up_to_first}
 use Rattle.pcb_table.specs.declared.block.Block.{Block}
 use Rattle.pcb_table.specs.Table.{Queues, socket_with}
 use Rattle.pcb_table.specs.Search.{does_match, youngest_block, best_block, hearing_blocks}
@@ -40,16 +41,16 @@ option_map-or f (Some x) b = refl
 -- ---- look-ups
 
 module _ (queues : Queues) where
-  pub youngest-sockets : (k : ℕ) (q : Sought) (bs : List Block) → youngest k q (map (socket_with queues) bs) ≡ option_map (socket_with queues) (youngest_block k q bs)
+  pub youngest-sockets : (k : ℕ) (q : LookupKey) (bs : List Block) → youngest k q (map (socket_with queues) bs) ≡ option_map (socket_with queues) (youngest_block k q bs)
   youngest-sockets k q bs = find-map (socket_with queues) (λ socket. matches q socket && (wildcards q socket == k)) bs
 
-  pub best-sockets : (q : Sought) (bs : List Block) → best q (map (socket_with queues) bs) ≡ option_map (socket_with queues) (best_block q bs)
+  pub best-sockets : (q : LookupKey) (bs : List Block) → best q (map (socket_with queues) bs) ≡ option_map (socket_with queues) (best_block q bs)
   best-sockets q bs =
       (λ i. option_or (youngest-sockets 0 q bs i) (option_or (youngest-sockets 1 q bs i) (youngest-sockets 2 q bs i)))
       ∙ ap (λ o. option_or (option_map (socket_with queues) (youngest_block 0 q bs)) o) (option_map-or (socket_with queues) (youngest_block 1 q bs) (youngest_block 2 q bs))
       ∙ option_map-or (socket_with queues) (youngest_block 0 q bs) (option_or (youngest_block 1 q bs) (youngest_block 2 q bs))
 
-  pub receivers-sockets : (q : Sought) (bs : List Block) → receivers q (map (socket_with queues) bs) ≡ map (socket_with queues) (hearing_blocks q bs)
+  pub receivers-sockets : (q : LookupKey) (bs : List Block) → receivers q (map (socket_with queues) bs) ≡ map (socket_with queues) (hearing_blocks q bs)
   receivers-sockets q bs =
       ap (up_to_first (λ socket. not socket.reuse_port)) (filter-map (socket_with queues) (matches q) bs)
       ∙ up_to_first-map (socket_with queues) (λ socket. not socket.reuse_port) (filter (does_match q) bs)

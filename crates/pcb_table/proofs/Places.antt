@@ -8,7 +8,8 @@ use Rattle.std.proofs.lemmas.List.Sums.{sum_by-set, sum_by-remove}
 use Rattle.std.proofs.lemmas.List.Quantifiers.{position-Some}
 use Rattle.std.proofs.lemmas.Option.{none-some, same_Some}
 use Rattle.pcb_table.specs.declared.block.Block.{Block}
-use Rattle.flat_model.specs.Lookup.{Sought, up_to_first}
+use Rattle.flat_model.specs.declared.lookup_key.LookupKey.{LookupKey}
+use Rattle.flat_model.specs.Lookup.{up_to_first}
 use Rattle.pcb_table.specs.Table.{IsDescriptor}
 use Rattle.pcb_table.specs.Search.{does_match, has_score, youngest_block, best_block, hearing_blocks}
 use Rattle.pcb_table.specs.Sound.{has_fd, AreApart, IsLocated}
@@ -143,15 +144,15 @@ found_range p bs b apart e =
     let counts = counts_at (has_fd b.fd) bs at.0 b at.1 here in
     record { least = apart.least b.fd (omega (arith, counts)); most = let m = apart.most b.fd (omega (arith, counts)) in omega (arith, m) }
 
-pub named_as_sought : (fd : ℕ) (bs : List Block) (o : Option Block) → o ≡ find (has_fd fd) bs → IfSome o (λ b. b.fd ≡ fd)
-named_as_sought fd bs None e = tt
-named_as_sought fd bs (Some b) e = eqb-true b.fd fd (find_gives (has_fd fd) bs b (sym e)).3
+pub named_as_key : (fd : ℕ) (bs : List Block) (o : Option Block) → o ≡ find (has_fd fd) bs → IfSome o (λ b. b.fd ≡ fd)
+named_as_key fd bs None e = tt
+named_as_key fd bs (Some b) e = eqb-true b.fd fd (find_gives (has_fd fd) bs b (sym e)).3
 
 pub found_in_range : (fd : ℕ) (bs : List Block) (o : Option Block) → AreApart bs → o ≡ find (has_fd fd) bs → OnSome o (IsDescriptor fd)
 found_in_range fd bs None apart e = tt
-found_in_range fd bs (Some b) apart e = subst IsDescriptor (named_as_sought fd bs (Some b) e) (found_range (has_fd fd) bs b apart (sym e))
+found_in_range fd bs (Some b) apart e = subst IsDescriptor (named_as_key fd bs (Some b) e) (found_range (has_fd fd) bs b apart (sym e))
 
-pub best_found_as : (q : Sought) (bs : List Block) (b : Block) → best_block q bs ≡ Some b → (k : ℕ) × (youngest_block k q bs ≡ Some b)
+pub best_found_as : (q : LookupKey) (bs : List Block) (b : Block) → best_block q bs ≡ Some b → (k : ℕ) × (youngest_block k q bs ≡ Some b)
 best_found_as q bs b e = go (youngest_block 0 q bs) (youngest_block 1 q bs) refl refl e
   where
     go : (x y : Option Block) → youngest_block 0 q bs ≡ x → youngest_block 1 q bs ≡ y → option_or x (option_or y (youngest_block 2 q bs)) ≡ Some b → (k : ℕ) × (youngest_block k q bs ≡ Some b)
@@ -159,10 +160,10 @@ best_found_as q bs b e = go (youngest_block 0 q bs) (youngest_block 1 q bs) refl
     go None (Some y) ex ey e = (1, ey ∙ e)
     go None None ex ey e = (2, e)
 
-pub best_by_fd : (q : Sought) (bs : List Block) (b : Block) → AreApart bs → best_block q bs ≡ Some b → find (has_fd b.fd) bs ≡ Some b
+pub best_by_fd : (q : LookupKey) (bs : List Block) (b : Block) → AreApart bs → best_block q bs ≡ Some b → find (has_fd b.fd) bs ≡ Some b
 best_by_fd q bs b apart e = let k = best_found_as q bs b e in found_by_fd (has_score k.0 q) bs b apart k.1
 
-pub best_range : (q : Sought) (bs : List Block) (b : Block) → AreApart bs → best_block q bs ≡ Some b → IsDescriptor b.fd
+pub best_range : (q : LookupKey) (bs : List Block) (b : Block) → AreApart bs → best_block q bs ≡ Some b → IsDescriptor b.fd
 best_range q bs b apart e = let k = best_found_as q bs b e in found_range (has_score k.0 q) bs b apart k.1
 
 -- ---- a block at its place
@@ -214,10 +215,10 @@ module _ (P : Block → Type 0) where
 pub all_by_fd : (bs : List Block) → AreApart bs → All (λ b. find (has_fd b.fd) bs ≡ Some b) bs
 all_by_fd bs apart = λ k d lt. find_only (has_fd (get_or bs k d).fd) bs k d lt (eq-eqb (get_or bs k d).fd (get_or bs k d).fd refl) (apart.fds (get_or bs k d).fd)
 
-pub hearing_by_fd : (q : Sought) (bs : List Block) → AreApart bs → All (λ b. find (has_fd b.fd) bs ≡ Some b) (hearing_blocks q bs)
+pub hearing_by_fd : (q : LookupKey) (bs : List Block) → AreApart bs → All (λ b. find (has_fd b.fd) bs ≡ Some b) (hearing_blocks q bs)
 hearing_by_fd q bs apart =
     let P : Block → Type 0 = λ b. find (has_fd b.fd) bs ≡ Some b in
     all_of_each P (hearing_blocks q bs) (each_up_to_first P (λ b. not b.reuse_port) (filter (does_match q) bs) (each_filtered P (does_match q) bs (each_of_all P bs (all_by_fd bs apart))))
 
-pub hearing_range : (q : Sought) (bs : List Block) → AreApart bs → All (λ b. IsDescriptor b.fd) (hearing_blocks q bs)
+pub hearing_range : (q : LookupKey) (bs : List Block) → AreApart bs → All (λ b. IsDescriptor b.fd) (hearing_blocks q bs)
 hearing_range q bs apart = λ k d lt. found_range (has_fd (get_or (hearing_blocks q bs) k d).fd) bs (get_or (hearing_blocks q bs) k d) apart (hearing_by_fd q bs apart k d lt)

@@ -1,11 +1,12 @@
 -- The calls on blocks are the flat machine's steps.
 use Rattle.std.proofs.Common.{◌≡◌, ℕ, Bool, true, false, ◌&&◌, ◌||◌, ◌==◌, not, cond, List, [], ◌∷◌, map, find, set, Option, Some, None, option_map, is_some, refl, sym, ap, ◌∙◌, subst}
 use Rattle.std.proofs.lemmas.Option.{none-some, same_Some}
+use Rattle.flat_model.specs.declared.lookup_key.LookupKey.{LookupKey}
 use Rattle.flat_model.specs.Header.{first_fault}
 use Rattle.flat_model.specs.Event.{Reply, Done, Refused, Bind, Close, Connect, Set_option}
-use Rattle.flat_model.specs.Lookup.{Sought, exact}
+use Rattle.flat_model.specs.Lookup.{exact}
 use Rattle.flat_model.specs.State.{State, Socket, socket_at, change_socket}
-use Rattle.flat_model.specs.Calls.{Unless, OnSocket, GetsPort, IsNextPort, port_behind, is_in_use, is_taken, lacks_reuse_port, bind_faults, connect_faults, disconnected, read_addr, source_for, set_option, unless_zero, is_reached, Connects, ConnectsTo}
+use Rattle.flat_model.specs.Calls.{Unless, OnSocket, GetsPort, IsNextPort, port_after, is_in_use, is_taken, lacks_reuse_port, bind_faults, connect_faults, disconnected, read_addr, source_for, set_option, unless_zero, is_reached, Connects, ConnectsTo}
 use Rattle.flat_model.specs.declared.address.Addr.{Addr}
 use Rattle.flat_model.specs.declared.errno.Errno.{Errno}
 use Rattle.flat_model.specs.declared.errno.Errno.TheVariants.{BadDescriptor, Invalid, AddressInUse, AddressNotAvailable, HostUnreachable}
@@ -14,7 +15,7 @@ use Rattle.flat_model.specs.declared.option.Opt.TheVariants.{Broadcast, ReusePor
 use Rattle.pcb_table.specs.declared.block.Block.{Block}
 use Rattle.pcb_table.specs.declared.interface.Interface.{Interface}
 use Rattle.pcb_table.specs.Table.{Table, Queues, IsCall, block_at, machine, socket_with}
-use Rattle.pcb_table.specs.Search.{plain, youngest_block, best_block, sought_port, is_used, is_in_way, lacks_option, IsFreePort, GivesPort, config_of, block_bind_faults, block_connect_faults}
+use Rattle.pcb_table.specs.Search.{plain, youngest_block, best_block, key_port, is_used, is_in_way, lacks_option, IsFreePort, GivesPort, config_of, block_bind_faults, block_connect_faults}
 use Rattle.pcb_table.specs.Sound.{has_fd, AreApart, IsLocated}
 use Rattle.pcb_table.specs.Found.{Changes, EnsuresPort}
 use Rattle.std.specs.Prelude.{remove}
@@ -65,7 +66,7 @@ module _ (rest : State) (queues : Queues) (t : Table) (fd : ℕ) where
 
 module _ (rest : State) (queues : Queues) (t : Table) where
   is_in_use-blocks : (local : Option ℕ) (port : ℕ) → is_in_use (machine rest queues t) local port ≡ is_used t.blocks local port
-  is_in_use-blocks local port = ap is_some (best-sockets queues (sought_port local port) t.blocks) ∙ is_some-map (best_block (sought_port local port) t.blocks)
+  is_in_use-blocks local port = ap is_some (best-sockets queues (key_port local port) t.blocks) ∙ is_some-map (best_block (key_port local port) t.blocks)
     where
       is_some-map : (o : Option Block) → is_some (option_map (socket_with queues) o) ≡ is_some o
       is_some-map None = refl
@@ -77,7 +78,7 @@ module _ (rest : State) (queues : Queues) (t : Table) where
     within = free.within;
     here = free.here;
     free = is_in_use-blocks local port ∙ free.free;
-    passed = λ k lt. is_in_use-blocks local (port_behind t.last_port k) ∙ free.passed k lt;
+    passed = λ k lt. is_in_use-blocks local (port_after t.last_port k) ∙ free.passed k lt;
   }
 
   pub gets_port : (local asked : Option ℕ) (port : ℕ) (later : Option ℕ) → GivesPort t.blocks t.last_port local asked port later → GetsPort (machine rest queues t) local asked port (machine rest queues (record t { last_port = later }))
@@ -93,8 +94,8 @@ module _ (rest : State) (queues : Queues) (t : Table) where
       lacks-map None = refl
       lacks-map (Some b) = refl
 
-      lacks : lacks_reuse_port (exact (sought_port local port) (map (socket_with queues) t.blocks)) ≡ lacks_option (youngest_block 0 (sought_port local port) t.blocks)
-      lacks = ap lacks_reuse_port (youngest-sockets queues 0 (sought_port local port) t.blocks) ∙ lacks-map (youngest_block 0 (sought_port local port) t.blocks)
+      lacks : lacks_reuse_port (exact (key_port local port) (map (socket_with queues) t.blocks)) ≡ lacks_option (youngest_block 0 (key_port local port) t.blocks)
+      lacks = ap lacks_reuse_port (youngest-sockets queues 0 (key_port local port) t.blocks) ∙ lacks-map (youngest_block 0 (key_port local port) t.blocks)
 
   pub bind_faults-blocks : (me : Block) (a : Addr) → bind_faults (machine rest queues t) (socket_with queues me) a ≡ block_bind_faults (config_of (interface_of t)) t.blocks me a
   bind_faults-blocks me a = λ i.
@@ -106,7 +107,7 @@ module _ (rest : State) (queues : Queues) (t : Table) where
   pub connect_faults-blocks : (me : Block) (a : Addr) → connect_faults (machine rest queues t) (socket_with queues me) a ≡ block_connect_faults (config_of (interface_of t)) t.blocks me a
   connect_faults-blocks me a = ap (λ (x : Bool). (a.port == 0, AddressNotAvailable) ∷ (not (is_reached a.ip), HostUnreachable) ∷ (x, AddressInUse) ∷ []) found
     where
-      q : Sought
+      q : LookupKey
       q = record { local = Some (source_for (config_of (interface_of t)) (plain me) a.ip); port = me.port; peer = Some a }
 
       is_some-map : (o : Option Block) → is_some (option_map (socket_with queues) o) ≡ is_some o

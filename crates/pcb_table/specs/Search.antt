@@ -2,9 +2,10 @@
 -- functions' clauses name them; what callers see speaks of flat_model's own.
 use Rattle.std.specs.Prelude.{◌≡◌, ℕ, ◌<◌, Bool, true, false, ◌==◌, ◌&&◌, ◌||◌, not, if◌then◌else◌, List, [], ◌∷◌, filter, find, Option, Some, None, is_some}
 use Rattle.std.specs.Option.{option_or}
+use Rattle.flat_model.specs.declared.lookup_key.LookupKey.{LookupKey}
 use Rattle.flat_model.specs.State.{Socket}
-use Rattle.flat_model.specs.Lookup.{Sought, agree, are_same, is_addr, matches, wildcards, up_to_first}
-use Rattle.flat_model.specs.Calls.{port_behind, is_ours, is_reached, source_for, unless_zero}
+use Rattle.flat_model.specs.Lookup.{agree, are_same, is_addr, matches, wildcards, up_to_first}
+use Rattle.flat_model.specs.Calls.{port_after, is_ours, is_reached, source_for, unless_zero}
 use Rattle.flat_model.specs.declared.address.Addr.{Addr}
 use Rattle.flat_model.specs.declared.config.Config.{Config}
 use Rattle.flat_model.specs.declared.errno.Errno.{Errno}
@@ -17,14 +18,14 @@ use Rattle.pcb_table.specs.Table.{socket_with}
 abbrev pub plain : Block → Socket
 plain b = socket_with (λ _. []) b
 
-abbrev pub does_match : Sought → Block → Bool
+abbrev pub does_match : LookupKey → Block → Bool
 does_match q b = matches q (plain b)
 
 -- the two parts of that: the port, and the addresses
 abbrev pub has_port : ℕ → Block → Bool
 has_port port b = are_same b.port (Some port)
 
-abbrev pub does_agree : Sought → Block → Bool
+abbrev pub does_agree : LookupKey → Block → Bool
 does_agree q b = agree ◌==◌ b.local q.local && agree is_addr b.peer q.peer
 
 -- the blocks from the first one that has the port on
@@ -32,33 +33,33 @@ abbrev pub from_port : ℕ → List Block → List Block
 from_port port [] = []
 from_port port (b ∷ bs) = if has_port port b then b ∷ bs else from_port port bs
 
-abbrev pub has_score : ℕ → Sought → Block → Bool
+abbrev pub has_score : ℕ → LookupKey → Block → Bool
 has_score k q b = does_match q b && (wildcards q (plain b) == k)
 
-abbrev pub youngest_block : ℕ → Sought → List Block → Option Block
+abbrev pub youngest_block : ℕ → LookupKey → List Block → Option Block
 youngest_block k q bs = find (has_score k q) bs
 
-abbrev pub best_block : Sought → List Block → Option Block
+abbrev pub best_block : LookupKey → List Block → Option Block
 best_block q bs = option_or (youngest_block 0 q bs) (option_or (youngest_block 1 q bs) (youngest_block 2 q bs))
 
-abbrev pub hearing_blocks : Sought → List Block → List Block
+abbrev pub hearing_blocks : LookupKey → List Block → List Block
 hearing_blocks q bs = up_to_first (λ b. not b.reuse_port) (filter (does_match q) bs)
 
 -- ---- ports
 
-abbrev pub sought_port : Option ℕ → ℕ → Sought
-sought_port local port = record { local = local; port = Some port; peer = None }
+abbrev pub key_port : Option ℕ → ℕ → LookupKey
+key_port local port = record { local = local; port = Some port; peer = None }
 
 abbrev pub is_used : List Block → Option ℕ → ℕ → Bool
-is_used bs local port = is_some (best_block (sought_port local port) bs)
+is_used bs local port = is_some (best_block (key_port local port) bs)
 
--- the first port in the circle behind the last one chosen that no block has
+-- the first port in the circle after the last one chosen that no block has
 pub record IsFreePort (bs : List Block) (last local : Option ℕ) (port : ℕ) : Type 0 where
   pub turns : ℕ
   pub within : turns < 3977
-  pub here : port ≡ port_behind last turns
+  pub here : port ≡ port_after last turns
   pub free : is_used bs local port ≡ false
-  pub passed : (k : ℕ) → k < turns → is_used bs local (port_behind last k) ≡ true
+  pub passed : (k : ℕ) → k < turns → is_used bs local (port_after last k) ≡ true
 
 -- The port asked for, or else the next free one; and the last port chosen then.
 abbrev pub GivesPort : List Block → Option ℕ → Option ℕ → Option ℕ → ℕ → Option ℕ → Type 0
@@ -78,7 +79,7 @@ lacks_option (Some b) = not b.reuse_port
 -- whether a bind of the block to this address and port meets another one that stands in its way
 abbrev pub is_in_way : List Block → Block → Option ℕ → ℕ → Bool
 is_in_way bs me local port =
-    if me.reuse_port then lacks_option (youngest_block 0 (sought_port local port) bs) else is_used bs local port
+    if me.reuse_port then lacks_option (youngest_block 0 (key_port local port) bs) else is_used bs local port
 
 abbrev pub block_bind_faults : Config → List Block → Block → Addr → List (Bool × Errno)
 block_bind_faults c bs me a =

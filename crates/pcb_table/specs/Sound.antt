@@ -1,6 +1,6 @@
 -- What holds of the fields of a table (this project's own).
 use Rattle.std.specs.Prelude.{◌≡◌, ℕ, ◌<◌, ◌≤◌, Bool, ◌==◌, ◌&&◌, List, length, slice_index_or, count_by, find, Option, Some, None, IsSome, is_some, is_none}
-use Rattle.flat_model.specs.Lookup.{Sought}
+use Rattle.flat_model.specs.declared.lookup_key.LookupKey.{LookupKey}
 use Rattle.flat_model.specs.declared.address.Addr.{Addr}
 use Rattle.pcb_table.specs.declared.block.Block.{Block}
 use Rattle.pcb_table.specs.declared.block.Connection.{Connection}
@@ -11,7 +11,7 @@ abbrev pub has_fd : ℕ → Block → Bool
 has_fd fd b = b.fd == fd
 
 -- all four set
-abbrev pub four : ℕ → ℕ → Addr → Sought
+abbrev pub four : ℕ → ℕ → Addr → LookupKey
 four local port peer = record { local = Some local; port = Some port; peer = Some peer }
 
 abbrev pub has_four : ℕ → ℕ → Addr → Block → Bool

@@ -1,7 +1,7 @@
 -- The control blocks of a machine (volume 2 chapter 22), and the machines that have them (this project's own).
 use Rattle.std.specs.Prelude.{◌≡◌, ℕ, ◌==◌, not, List, ◌∷◌, map, filter, find, Option, Some, IsSome, IsNone, unwrap_or, ◌≤◌}
+use Rattle.flat_model.specs.declared.lookup_key.LookupKey.{LookupKey}
 use Rattle.flat_model.specs.State.{State, Socket, Datagram}
-use Rattle.flat_model.specs.Lookup.{Sought}
 use Rattle.flat_model.specs.Event.{Event, Reply}
 use Rattle.flat_model.specs.Step.{Step}
 use Rattle.flat_model.specs.declared.address.Addr.{Addr}
@@ -74,8 +74,8 @@ IsCall old event reply new =
 -- ---- what is looked for
 
 -- by a packet: its values all count as set, 0 among them
-abbrev pub packet_sought : ℕ → ℕ → Addr → Sought
-packet_sought destination port source = record { local = Some destination; port = Some port; peer = Some source }
+abbrev pub packet_key : ℕ → ℕ → Addr → LookupKey
+packet_key destination port source = record { local = Some destination; port = Some port; peer = Some source }
 
 -- ---- a block's ends
 

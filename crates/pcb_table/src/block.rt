@@ -1,7 +1,7 @@
 ghost use Rattle.std.specs.Prelude.{◌≡◌, ◌==◌, ◌&&◌, ℕ};
 ghost use Rattle.flat_model.specs.Lookup as flat;
 ghost use Rattle.flat_model.specs.Lookup.{agree, is_addr, one_sided, wildcards};
-ghost use Rattle.pcb_table.specs.Table.{packet_sought};
+ghost use Rattle.pcb_table.specs.Table.{packet_key};
 ghost use Rattle.pcb_table.specs.Changed.{block_with_option, bound_block, connected_block, connection_of, disconnected_block, unbound_block};
 ghost use Rattle.pcb_table.specs.Search.{does_agree, does_match, has_port, has_score, plain};
 
@@ -165,7 +165,7 @@ impl Connection {
 
 /// What a packet asks for that came to the local end from the peer.
 pub(crate) fn key_of_packet(local: Addr, peer: Addr) -> LookupKey
-    ensures { result ≡ packet_sought local.ip local.port peer }
+    ensures { result ≡ packet_key local.ip local.port peer }
 {
     LookupKey {
         local: Some(local.ip),

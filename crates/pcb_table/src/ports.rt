@@ -17,11 +17,11 @@ const PORTS: u16 = LAST - FIRST + 1;
 /// The lowest descriptor.
 const LOWEST: u32 = 3;
 
-/// The port so many turns behind the last one chosen.
-fn port_behind(last: Option<u16>, turns: u16) -> u16
+/// The port so many turns after the last one chosen.
+fn port_after(last: Option<u16>, turns: u16) -> u16
     requires last { IsInCircle last }
     requires turns { turns < 3977 }
-    ensures { result ≡ flat.port_behind last turns }
+    ensures { result ≡ flat.port_after last turns }
 {
     let start = match last {
         None => 0,
@@ -54,7 +54,7 @@ pub(crate) fn next_free(blocks: &[Block], local: Option<u32>, last: Option<u16>)
     ensures most { result ≤ 5000 }
 {
     for turns in 0..PORTS {
-        let port = port_behind(last, turns);
+        let port = port_after(last, turns);
         if !is_in_use(blocks, local, port) {
             return port;
         }

@@ -4,7 +4,7 @@ ghost use Rattle.flat_model.specs.State.{State};
 ghost use Rattle.flat_model.specs.Step.{Step};
 ghost use Rattle.flat_model.specs.Calls.{disconnected};
 ghost use Rattle.flat_model.specs.Lookup as flat;
-ghost use Rattle.pcb_table.specs.Table.{ClosesOnly, IsCall, IsDescriptor, IsOpen, KeepsOpen, OpensOnly, Queues, block_at, local_of, machine, packet_sought, peer_of};
+ghost use Rattle.pcb_table.specs.Table.{ClosesOnly, IsCall, IsDescriptor, IsOpen, KeepsOpen, OpensOnly, Queues, block_at, local_of, machine, packet_key, peer_of};
 ghost use Rattle.flat_model.specs.Replies.{done_reply, opened_reply};
 ghost use Rattle.pcb_table.specs.Changed.{forgotten};
 ghost use Rattle.pcb_table.specs.Sound.{AreApart};
@@ -112,7 +112,7 @@ impl Pcbs {
     /// fewest wildcards, of several the youngest; `None` where no block meets them. All four count as set, 0.0.0.0
     /// and port 0 among them. No block changes.
     pub fn lookup(&mut self, destination: u32, port: u16, source: Addr) -> Option<u32>
-        ensures found { Finds (flat.best (packet_sought destination port source)) self.old result }
+        ensures found { Finds (flat.best (packet_key destination port source)) self.old result }
         ensures range { IfSome result IsDescriptor }
         ensures blocks { self.new ≡ self.old }
     {
@@ -149,7 +149,7 @@ impl Pcbs {
     /// Who hears a broadcast (volume 2 chapter 23, and this project's own reading of SO_REUSEPORT): the blocks that
     /// meet its four values, the youngest first, up to and with the first one without the reuse-port option.
     pub fn receivers(&self, destination: u32, port: u16, source: Addr) -> ArrayVec<u32, SOCKETS>
-        ensures found { FindsAll (flat.receivers (packet_sought destination port source)) self.now result.items }
+        ensures found { FindsAll (flat.receivers (packet_key destination port source)) self.now result.items }
         ensures range { All IsDescriptor result.items }
     {
         let local = Addr {

@@ -205,6 +205,6 @@ module _ (old new : Cells) (i : ℕ) (h : Head) (sized : IsSized old) (lt : i < 
       subst (λ (m : Buffer). IsRoom new m s n) (sym e)
       (omega (arith, heads_after_head), subst (λ (g : Head). g.cluster ≡ None) (sym head_set) none, subst (λ (g : Head). head_size g ≤ s) (sym head_set) past, fits)
 
-  -- behind the new head lies the mbuf's room, where it has no cluster
+  -- after the new head lies the mbuf's room, where it has no cluster
   pub part_in_room : (q : Part) → q.buffer ≡ Mbuf i → h.cluster ≡ None → head_size h ≤ q.start → q.start + q.len ≤ 128 → IsPart new q
   part_in_room q e none past fits = room_in q.buffer q.start q.len e none past fits

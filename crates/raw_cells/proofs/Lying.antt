@@ -1,4 +1,4 @@
--- Bytes that lie one behind the other in memory, and room for more. Assumes `Logic`.
+-- Bytes that lie one after the other in memory, and room for more. Assumes `Logic`.
 use Rattle.std.proofs.Common.{◌≡◌, ℕ, zero, suc, ◌+◌, ◌≤◌, List, [], ◌∷◌, ◌++◌, length, take, drop, refl, sym, ap, ◌∙◌, arith, w8, take-append-drop, length-take-le, length-drop}
 use Rattle.std.proofs.lemmas.List.{drop-drop}
 use seplogic.Ra.Ura.{Ura}
@@ -36,13 +36,13 @@ module _ {M : Type 1} {𝓤 : Ura M} (𝓛 : Logic 𝓤) (b : ℕ) where
       qed 𝓛 (‵ (Lie (x ∷ xs) b o) ∷ ‵ (Lie ys b at) ∷ []) ∵ fsplit ! $ move ! (1 ∷ 2 ∷ []) $
       use2 𝓛 (‵ (Lie (xs ++ ys) b (o + 1))) (glue xs ys (o + 1) at (omega arith)) $ move ! (1 ∷ 0 ∷ []) $ fjoin ! $ done !
 
-  -- one more byte behind them
-  pub put_behind : (xs : List ℕ) (x o at : ℕ) → at ≡ o + length xs → ent 𝓤 (sep 𝓤 (sem 𝓛 (part_at u8 full_share x b at)) (sem 𝓛 (Lie xs b o))) (sem 𝓛 (Lie (xs ++ x ∷ []) b o))
-  put_behind xs x o at e =
+  -- one more byte after them
+  pub put_next : (xs : List ℕ) (x o at : ℕ) → at ≡ o + length xs → ent 𝓤 (sep 𝓤 (sem 𝓛 (part_at u8 full_share x b at)) (sem 𝓛 (Lie xs b o))) (sem 𝓛 (Lie (xs ++ x ∷ []) b o))
+  put_next xs x o at e =
       qed 𝓛 (‵ (part_at u8 full_share x b at) ∷ ‵ (Lie xs b o) ∷ []) ∵ nothing ! $ move ! (1 ∷ 0 ∷ []) $ fjoin ! $ move ! (1 ∷ 0 ∷ []) $
       by ! (glue xs (x ∷ []) o at e)
 
-  -- bytes with the room behind them are room
+  -- bytes with the room after them are room
   pub as_room : (xs : List ℕ) (n o at : ℕ) → at ≡ o + length xs → ent 𝓤 (sep 𝓤 (sem 𝓛 (Lie xs b o)) (H.room (block_type n) b at)) (H.room (block_type (length xs + n)) b o)
   as_room [] n o at e =
       let none : n ≡ length {A = ℕ} [] + n = omega arith in
@@ -85,11 +85,11 @@ module _ {M : Type 1} {𝓤 : Ura M} (𝓛 : Logic 𝓤) (b : ℕ) (κ : Lft) wh
   abbrev Seen : List ℕ → ℕ → Fml
   Seen xs o = elements_shared u8 xs b o κ
 
-  seen_behind : (xs : List ℕ) (from o at : ℕ) → at ≡ from + o → from ≤ length xs → ent 𝓤 (sem 𝓛 (Seen xs o)) (sem 𝓛 (Seen (drop from xs) at))
-  seen_behind xs zero o at e le = qed 𝓛 (‵ (Seen xs o) ∷ []) ∵ rewrite ! 0 (λ (k : ℕ). ‵ (Seen xs k)) {x = at} (omega arith) refl $ done !
-  seen_behind [] (suc from) o at e le = absurd (omega arith)
-  seen_behind (x ∷ xs) (suc from) o at e le =
-      qed 𝓛 (‵ (Seen (x ∷ xs) o) ∷ []) ∵ fsplit ! $ skip ! $ by ! (seen_behind xs from (o + 1) at (omega arith) (omega arith))
+  seen_after : (xs : List ℕ) (from o at : ℕ) → at ≡ from + o → from ≤ length xs → ent 𝓤 (sem 𝓛 (Seen xs o)) (sem 𝓛 (Seen (drop from xs) at))
+  seen_after xs zero o at e le = qed 𝓛 (‵ (Seen xs o) ∷ []) ∵ rewrite ! 0 (λ (k : ℕ). ‵ (Seen xs k)) {x = at} (omega arith) refl $ done !
+  seen_after [] (suc from) o at e le = absurd (omega arith)
+  seen_after (x ∷ xs) (suc from) o at e le =
+      qed 𝓛 (‵ (Seen (x ∷ xs) o) ∷ []) ∵ fsplit ! $ skip ! $ by ! (seen_after xs from (o + 1) at (omega arith) (omega arith))
 
   seen_first : (n : ℕ) (xs : List ℕ) (o : ℕ) → ent 𝓤 (sem 𝓛 (Seen xs o)) (sem 𝓛 (Seen (take n xs) o))
   seen_first zero xs o = qed 𝓛 (‵ (Seen xs o) ∷ []) ∵ keep ! [] $ done !
@@ -99,4 +99,4 @@ module _ {M : Type 1} {𝓤 : Ura M} (𝓛 : Logic 𝓤) (b : ℕ) (κ : Lft) wh
   -- a run of bytes that are seen is seen
   pub run_seen : (xs : List ℕ) (o from n : ℕ) → from ≤ length xs → ent 𝓤 (sem 𝓛 (Seen xs o)) (sem 𝓛 (Seen (take n (drop from xs)) (from + o)))
   run_seen xs o from n le =
-      qed 𝓛 (‵ (Seen xs o) ∷ []) ∵ use1 𝓛 (‵ (Seen (drop from xs) (from + o))) (seen_behind xs from o (from + o) refl le) $ by ! (seen_first n (drop from xs) (from + o))
+      qed 𝓛 (‵ (Seen xs o) ∷ []) ∵ use1 𝓛 (‵ (Seen (drop from xs) (from + o))) (seen_after xs from o (from + o) refl le) $ by ! (seen_first n (drop from xs) (from + o))

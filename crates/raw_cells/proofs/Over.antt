@@ -25,21 +25,21 @@ module _ {X : Type 0} (xs : List X) (at : ℕ) (ws : List X) where
         ∙ get_or_append_left (take at xs) (ws ++ drop (at + length ws) xs) d k (omega (arith, front_long))
         ∙ get_or-take at xs k d lt
 
-    -- at and behind the write
-    behind : (k : ℕ) (d : X) → at ≤ k → get_or (over xs at ws) k d ≡ get_or (ws ++ drop (at + length ws) xs) (k - at) d
-    behind k d le = ap (λ l. get_or l k d) over_is ∙ get_or-append_right (take at xs) (ws ++ drop (at + length ws) xs) at k d front_long le
+    -- at and after the write
+    after : (k : ℕ) (d : X) → at ≤ k → get_or (over xs at ws) k d ≡ get_or (ws ++ drop (at + length ws) xs) (k - at) d
+    after k d le = ap (λ l. get_or l k d) over_is ∙ get_or-append_right (take at xs) (ws ++ drop (at + length ws) xs) at k d front_long le
 
     pub over_in : (j : ℕ) (d : X) → j < length ws → get_or (over xs at ws) (at + j) d ≡ get_or ws j d
     over_in j d lt =
         let same : at + j - at ≡ j = omega arith in
-        behind (at + j) d (omega arith)
+        after (at + j) d (omega arith)
         ∙ ap (λ k. get_or (ws ++ drop (at + length ws) xs) k d) same
         ∙ get_or_append_left ws (drop (at + length ws) xs) d j lt
 
     pub over_above : (k : ℕ) (d : X) → at + length ws ≤ k → get_or (over xs at ws) k d ≡ get_or xs k d
     over_above k d le =
         let same : at + length ws + (k - at - length ws) ≡ k = omega arith in
-        behind k d (omega arith)
+        after k d (omega arith)
         ∙ get_or-append_right ws (drop (at + length ws) xs) (length ws) (k - at) d refl (omega arith)
         ∙ get_or-drop (at + length ws) xs (k - at - length ws) d
         ∙ ap (λ j. get_or xs j d) same

@@ -4,6 +4,6 @@ use Rattle.std.specs.Borrow.{Lends, MutBor, Fml, Array, u8}
 use Rattle.raw_cells.specs.Over.{over}
 use Rattle.raw_cells.specs.contracts.block.Block.{the_row}
 
--- the block ends with the last n bytes behind r from the index at on
+-- the block ends with the last n bytes after r from the index at on
 abbrev pub LendsBytes : MutBor (List ℕ) → ℕ → ℕ → MutBor (List ℕ) → Fml
 LendsBytes b at n r = Lends the_row (Array u8 0) b r (λ ws. over b.now at (take n ws))

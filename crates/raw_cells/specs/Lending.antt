@@ -5,6 +5,6 @@ use Rattle.raw_cells.specs.Cells.{Cells, write}
 use Rattle.raw_cells.specs.declared.part.Part.{Part}
 use Rattle.raw_cells.specs.contracts.region.Region.{the_row}
 
--- the region ends with the last value behind r as the bytes of the part
+-- the region ends with the last value after r as the bytes of the part
 abbrev pub LendsPart : MutBor Cells → Part → MutBor (List ℕ) → Fml
 LendsPart c p r = Lends the_row (Array u8 0) c r (write c.now p)

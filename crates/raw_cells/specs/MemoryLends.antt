@@ -9,6 +9,6 @@ use Rattle.raw_cells.specs.contracts.memory.Bytes.{the_row}
 abbrev pub with_written : Bytes → List ℕ → Bytes
 with_written b xs = record { at = b.at; written = xs; blank = b.blank }
 
--- the bytes end with the last n behind r written over them from the index at on
+-- the bytes end with the last n after r written over them from the index at on
 abbrev pub LendsRun : MutBor Bytes → ℕ → ℕ → MutBor (List ℕ) → Fml
 LendsRun b at n r = Lends the_row (Array u8 0) b r (λ ws. with_written b.now (over b.now.written at (take n ws)))

@@ -9,7 +9,7 @@ pub enum Buffer {
     Cluster(u32),
 }
 
-/// A run of bytes in an mbuf or a cluster. In an mbuf it lies behind the head.
+/// A run of bytes in an mbuf or a cluster. In an mbuf it lies after the head.
 #[derive(Clone, Copy, Debug, PartialEq, Eq)]
 pub struct Part {
     /// Where the bytes are.

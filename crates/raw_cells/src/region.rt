@@ -1,4 +1,4 @@
-//! The region: mbufs, and clusters behind them, in one block.
+//! The region: mbufs, and clusters after them, in one block.
 ghost use Rattle.std.specs.Prelude.{◌≡◌, ◌+◌, ◌<◌, ◌≤◌, IfOk, IsSome, None, length};
 ghost use Rattle.std.specs.Borrow.{sem};
 ghost use Rattle.raw_cells.specs.Cells.{zero_cells, head_of, with_arrival, with_packet_len, IsHead, IsLink, IsPart, IsSized, SetsHead, read, write, place};
@@ -16,7 +16,7 @@ const MBUF_LEN: usize = 128;
 /// How many bytes a cluster has.
 const CLUSTER_LEN: usize = 2048;
 
-/// One block of memory that is cut into mbufs and, behind them, clusters. It is freed with its owner.
+/// One block of memory that is cut into mbufs and, after them, clusters. It is freed with its owner.
 ///
 /// A contract sees it as `Cells`: the head of each mbuf, all the bytes of the block, and how many
 /// clusters there are.
@@ -179,7 +179,7 @@ impl Region {
         }
     }
 
-    /// The bytes of a part, without copying. A part of an mbuf lies behind its head, and the mbuf
+    /// The bytes of a part, without copying. A part of an mbuf lies after its head, and the mbuf
     /// refers to no cluster.
     pub fn bytes(&self, part: Part) -> &[u8]
         requires { IsPart self.now part }

@@ -63,11 +63,11 @@ fn each_form_of_head_is_read_back(rt: HostRuntime) -> Result<(), Fail> {
         cluster: Some(4095),
         ..first
     };
-    let behind = Head {
+    let after = Head {
         packet: None,
         ..cluster
     };
-    for head in [ZEROS, PLAIN, first, cluster, behind] {
+    for head in [ZEROS, PLAIN, first, cluster, after] {
         assert_eq!(rt; head_of_last(rt.alloc(), 2, 1, head)?, head);
         assert_eq!(rt;
             head_of_last(rt.alloc(), MOST_MBUFS, MOST_CLUSTERS, head)?,
@@ -164,7 +164,7 @@ fn the_last_mbuf_and_the_last_cluster_hold_bytes(rt: HostRuntime) -> Result<(), 
 }
 
 #[test]
-fn a_head_leaves_the_room_behind_it(rt: HostRuntime) -> Result<(), Fail> {
+fn a_head_leaves_the_room_after_it(rt: HostRuntime) -> Result<(), Fail> {
     let mut region = Region::new(rt.alloc(), 3, 1)?;
     region.bytes_mut(part(Buffer::Mbuf(0), 20, 108)).fill(1);
     region.bytes_mut(part(Buffer::Mbuf(1), 20, 108)).fill(2);

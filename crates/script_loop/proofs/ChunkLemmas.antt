@@ -1,4 +1,4 @@
--- What stands in hand behind one more byte.
+-- What stands in hand after one more byte.
 use Rattle.std.proofs.Common.{◌≡◌, ◌≢◌, ℕ, zero, suc, ◌+◌, ◌<◌, ◌≤◌, ◌==◌, true, List, [], ◌∷◌, ◌++◌, length, take, drop, get_or, inl, inr, Option, refl, sym, ap, ◌∙◌, arith, append_assoc, append-nil, length-append, subst}
 use Rattle.flat_model.specs.Lines.{whole_lines, begun_line}
 use Rattle.std.proofs.Common.{Ok, Err, Some, None}
@@ -98,10 +98,10 @@ cut-at [] at below is = absurd (omega arith)
 cut-at (b ∷ hay) zero below is = ap (λ (n : ℕ). n ∷ hay) (is_ten b is)
 cut-at (b ∷ hay) (suc at) below is = ap (λ (t : List ℕ). b ∷ t) (cut-at hay at (omega arith) is)
 
-pub cut-length : (hay part behind : List ℕ) → hay ≡ (part ++ 10 ∷ []) ++ behind → length hay ≡ (length part + 1) + length behind
-cut-length hay part behind cut =
+pub cut-length : (hay part after : List ℕ) → hay ≡ (part ++ 10 ∷ []) ++ after → length hay ≡ (length part + 1) + length after
+cut-length hay part after cut =
     let all = ap length cut in
-    omega (arith, all, length-append (part ++ 10 ∷ []) behind, length-append part (10 ∷ []))
+    omega (arith, all, length-append (part ++ 10 ∷ []) after, length-append part (10 ∷ []))
 
 -- bytes that end no line, and go nowhere too far
 pub Answered-part : {S : Type 0} (gives : S → List ℕ → List ℕ → S → Type 0) (begin now : S) (seen line : List ℕ) (count : ℕ)
@@ -129,7 +129,7 @@ breaks-first gives begin now seen line count written b rest h far = record {
   same = ap whole_lines (append-nil seen);
 }
 
--- behind the last line every byte does
+-- after the last line every byte does
 pub Breaks-last : {S : Type 0} (gives : S → List ℕ → List ℕ → S → Type 0) (begin now : S) (seen line : List ℕ) (count : ℕ)
     (written part : List ℕ) → Answered gives begin now seen line count written → count ≡ 10000000 → BreaksLimit seen (part ++ 10 ∷ [])
 Breaks-last gives begin now seen line count written [] h last =
@@ -231,7 +231,7 @@ Takes-too_far-cut gives begin now seen line written text full held line' piece w
 Takes-too_far-cut gives begin now seen line written text full held line' piece w w' BadSizes within h sent = absurd sent
 Takes-too_far-cut gives begin now seen line written text full held line' piece w w' BadConfig within h sent = absurd sent
 
--- behind a chunk, all that is held is written
+-- after a chunk, all that is held is written
 pub Takes-sent : {S : Type 0} (gives : S → List ℕ → List ℕ → S → Type 0) (begin now : S) (seen chunk line : List ℕ) (count : ℕ)
     (written held : List ℕ) (w w' w'' : Option (List ℕ))
     → TakesChunk gives begin now seen chunk written w w' held line (Ok count) → Appends w' w'' held

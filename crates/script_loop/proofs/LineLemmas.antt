@@ -1,4 +1,4 @@
--- One more byte behind an input.
+-- One more byte after an input.
 use Rattle.std.proofs.Common.{◌≡◌, ◌≢◌, ℕ, ◌==◌, true, false, cond, List, [], ◌∷◌, ◌++◌, refl, ap, ◌∙◌, arith, append-nil}
 use Rattle.flat_model.specs.Lines.{whole_lines_after, begun_after, whole_lines, begun_line}
 

@@ -68,7 +68,7 @@ Serves-stop gives begin now a b c w v u seen chunk written line Memory m read h 
 Serves-stop gives begin now a b c w v u seen chunk written line BadSizes m read h = absurd h
 Serves-stop gives begin now a b c w v u seen chunk written line BadConfig m read h = absurd h
 
--- the rest behind the last byte 10, where the reader gave no more
+-- the rest after the last byte 10, where the reader gave no more
 pub Serves-last : {S : Type 0} (gives : S → List ℕ → List ℕ → S → Type 0) (begin now new : S) (a b c w v u : Option (List ℕ))
     (seen line written : List ℕ) (count : ℕ) (text : List ℕ) (r : Result Unit RunFault)
     → Moves a b seen w v written → Consumes b c [] → IsAtEnd c → Answered gives begin now seen line count written → (line ≡ [] → ⊥)

@@ -1,4 +1,4 @@
--- How many failures a stream has told of, behind more calls.
+-- How many failures a stream has told of, after more calls.
 use Rattle.std.proofs.Common.{◌≡◌, ℕ, zero, suc, ◌+◌, ◌<◌, Option, Some, None, arith}
 use Rattle.script_loop.specs.Streams.{MoreBy, taking_failures}
 

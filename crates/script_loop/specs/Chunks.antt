@@ -24,11 +24,11 @@ abbrev pub EndsNoLine : List ℕ → Type 0
 EndsNoLine [] = Unit {0}
 EndsNoLine (byte ∷ bytes) = (byte ≢ 10) × EndsNoLine bytes
 
--- Bytes that end no line may come: none of them is behind the last line that is allowed, or makes the line too long.
+-- Bytes that end no line may come: none of them is after the last line that is allowed, or makes the line too long.
 abbrev pub HasRoom : ℕ → List ℕ → List ℕ → Type 0
 HasRoom count line part = (part ≡ []) ⊎ ((count ≢ 10000000) × (length line + length part ≤ 1048576))
 
--- A byte of the piece goes too far behind those seen and those in front of it, which end no line.
+-- A byte of the piece goes too far after those seen and those in front of it, which end no line.
 pub record BreaksLimit (seen piece : List ℕ) : Type 0 where
   pub front : List ℕ
   pub byte : ℕ
@@ -38,7 +38,7 @@ pub record BreaksLimit (seen piece : List ℕ) : Type 0 where
   pub far : GoesTooFar (seen ++ front) byte
   pub same : whole_lines (seen ++ front) ≡ whole_lines seen
 
--- What a piece does, behind the bytes seen. The answer to the line that it ends stands behind the text.
+-- What a piece does, after the bytes seen. The answer to the line that it ends stands after the text.
 abbrev pub TakesPiece : {S : Type 0} → (S → List ℕ → List ℕ → S → Type 0) → S → S → List ℕ → List ℕ → List ℕ
     → List ℕ → List ℕ → List ℕ → Option ℕ → Type 0
 TakesPiece gives begin now seen piece printed before after line (Some count) =
@@ -56,7 +56,7 @@ Flushes before after text left (Err TooManyLines) = ⊥
 Flushes before after text left (Err BadSizes) = ⊥
 Flushes before after text left (Err BadConfig) = ⊥
 
--- What a chunk of bytes does, behind those seen. The answers `held` aren't written yet.
+-- What a chunk of bytes does, after those seen. The answers `held` aren't written yet.
 abbrev pub TakesChunk : {S : Type 0} → (S → List ℕ → List ℕ → S → Type 0) → S → S → List ℕ → List ℕ → List ℕ
     → Option (List ℕ) → Option (List ℕ) → List ℕ → List ℕ → Result ℕ RunFault → Type 0
 TakesChunk gives begin now seen chunk written before after held line (Ok count) =

@@ -8,12 +8,12 @@ use Rattle.script_loop.specs.declared.fault.RunFault.TheVariants.{Read, Write, M
 
 -- ---- limits
 
--- Behind this input the byte comes after the last line that is allowed, or makes a line too long.
+-- After this input the byte comes after the last line that is allowed, or makes a line too long.
 abbrev pub GoesTooFar : List ℕ → ℕ → Type 0
 GoesTooFar input byte = ((length (whole_lines input) ≡ 10000000) × (begun_line input ≡ []))
     ⊎ ((length (begun_line input) ≡ 1048576) × (byte ≢ 10))
 
--- no byte of the input goes too far behind those before it
+-- no byte of the input goes too far after those before it
 abbrev pub StaysWithin : List ℕ → Type 0
 StaysWithin input = (k : ℕ) → k < length input → GoesTooFar (take k input) (slice_index input k) → ⊥
 

@@ -55,7 +55,7 @@ impl<const N: usize> Buffer<N> {
         self.bytes.clear();
     }
 
-    /// Puts a byte behind the others. There must be room for it.
+    /// Puts a byte after the others. There must be room for it.
     pub fn push(&mut self, byte: u8)
         requires { length self.old < N }
         ensures items { self.new ≡ self.old ++ byte ∷ [] }
@@ -64,7 +64,7 @@ impl<const N: usize> Buffer<N> {
         let _ = self.bytes.push(byte);
     }
 
-    /// Puts bytes behind the others. There must be room for all of them.
+    /// Puts bytes after the others. There must be room for all of them.
     pub fn append(&mut self, bytes: &[u8])
         requires { length self.old + length bytes.now ≤ N }
         ensures items { self.new ≡ self.old ++ bytes.now }

@@ -12,7 +12,7 @@ pub enum RunFault {
     /// Host memory was lacking. Nothing was read or written.
     #[error("no memory")]
     Memory,
-    /// A byte came behind the 10,000,000th line, or a line had more than 1,048,576 bytes.
+    /// A byte came after the 10,000,000th line, or a line had more than 1,048,576 bytes.
     #[error("too many lines")]
     TooManyLines,
     /// The numbers of mbufs and clusters aren't ones that a pool can have. Nothing was read or written.

@@ -5,7 +5,7 @@
 mod answers;
 mod buffer;
 mod fault;
-mod rooms;
+mod line_buffers;
 mod serve;
 mod streams;
 mod text;
@@ -14,9 +14,9 @@ mod words;
 pub use answers::Answers;
 pub use buffer::Buffer;
 pub use fault::RunFault;
-pub use rooms::Rooms;
+pub use line_buffers::LineBuffers;
 pub use serve::{HELD, serve_script};
-pub use streams::{Sink, Source, Untold};
+pub use streams::{Silent, Sink, Source};
 pub use text::{put_hex, put_number};
 pub use words::{LONGEST_REQUEST, bytes, first_word, is_end, number, one, three, two};
 

@@ -79,7 +79,7 @@ fn take_part(line: &mut Buffer<LONGEST>, count: u32, part: &[u8]) -> bool
     true
 }
 
-/// Takes the last bytes of a line and the line feed behind them, and puts the answer to it behind the text. `count` lines
+/// Takes the last bytes of a line and the line feed after them, and puts the answer to it after the text. `count` lines
 /// were answered, and the result is how many are now, or nothing where a byte goes too far.
 fn take_end<const N: usize, A: Answers<N>>(
     machine: &mut A,
@@ -168,8 +168,8 @@ pub fn take_chunk<const N: usize, A: Answers<N>, W: Sink>(
     let mut rest = chunk;
     while let Some(at) = memchr(b'\n', rest) {
         now = take_line(machine, text, line, now, &rest[..at], writer)?;
-        let (_, behind) = rest.split_at(at + 1);
-        rest = behind;
+        let (_, after) = rest.split_at(at + 1);
+        rest = after;
     }
     let fits = take_part(line, now, rest);
     flush(writer, text)?;

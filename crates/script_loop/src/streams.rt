@@ -46,9 +46,9 @@ pub fn send<W: Sink>(writer: &mut W, bytes: &[u8]) -> Result<(), RunFault>
 
 /// A stream as it is, which doesn't tell of its failures.
 #[derive(Drop)]
-pub struct Untold<T>(pub T);
+pub struct Silent<T>(pub T);
 
-impl<R: Read> Read for Untold<R> {
+impl<R: Read> Read for Silent<R> {
     ghost remaining = { λ s. R.remaining s.0 };
 
     fn read(&mut self, buf: &mut [u8]) -> io::Result<usize> {
@@ -56,13 +56,13 @@ impl<R: Read> Read for Untold<R> {
     }
 }
 
-impl<R: Read> Source for Untold<R> {
+impl<R: Read> Source for Silent<R> {
     fn read_some(&mut self, buf: &mut [u8]) -> io::Result<usize> {
         self.0.read(buf)
     }
 }
 
-impl<W: Write> Write for Untold<W> {
+impl<W: Write> Write for Silent<W> {
     ghost contents = { λ s. W.contents s.0 };
 
     fn write(&mut self, buf: &[u8]) -> io::Result<usize> {
@@ -74,7 +74,7 @@ impl<W: Write> Write for Untold<W> {
     }
 }
 
-impl<W: Write> Sink for Untold<W> {
+impl<W: Write> Sink for Silent<W> {
     fn write_some(&mut self, buf: &[u8]) -> io::Result<usize> {
         self.0.write(buf)
     }

@@ -50,9 +50,9 @@ fn cuts_lines(rt: HostRuntime) -> Result<(), Fail> {
     Ok(())
 }
 
-/// 10,000,000 lines are served, and at a byte behind them the script ends: so many were answered before what is read here.
+/// 10,000,000 lines are served, and at a byte after them the script ends: so many were answered before what is read here.
 #[test]
-fn ends_behind_the_last_line(rt: HostRuntime) -> Result<(), Fail> {
+fn ends_after_the_last_line(rt: HostRuntime) -> Result<(), Fail> {
     let alloc = rt.alloc();
     for (count, chunk, want, replies) in [
         (9_999_998, "\n\n", Ok(10_000_000), "[]\n[]\n"),
@@ -88,7 +88,7 @@ fn ends_behind_the_last_line(rt: HostRuntime) -> Result<(), Fail> {
     Ok(())
 }
 
-/// A line of so many bytes, and one behind it.
+/// A line of so many bytes, and one after it.
 fn line_of(alloc: Global, len: usize) -> Result<Vec<u8>, Fail> {
     let mut script = vec![in alloc; b'a'; len]?;
     script.extend_from_slice(b"\nb\n")?;

@@ -4,7 +4,7 @@ ghost use Rattle.flat_model.specs.Texts.{hex_text};
 
 use crate::buffer::Buffer;
 
-/// Puts the digits of a number behind the text, ten of them at most.
+/// Puts the digits of a number after the text, ten of them at most.
 pub fn put_number<const N: usize>(text: &mut Buffer<N>, n: u32)
     requires { length text.old + 10 ≤ N }
     ensures items { text.new ≡ text.old ++ decimal n }
@@ -14,7 +14,7 @@ pub fn put_number<const N: usize>(text: &mut Buffer<N>, n: u32)
     text.append(digits.format(n).as_bytes());
 }
 
-/// Puts two digits for each byte behind the text, in lower case, or a dash where there is none. `digits` is room for
+/// Puts two digits for each byte after the text, in lower case, or a dash where there is none. `digits` is room for
 /// them, and what it held is lost.
 pub fn put_hex<const N: usize>(text: &mut Buffer<N>, digits: &mut [u8], bytes: &[u8])
     requires room { length text.old + 2 * length bytes.now + 1 ≤ N }

@@ -15,7 +15,7 @@ fn space_at(text: &[u8]) -> Option<usize>
     text.iter().position(|byte| *byte == b' ')
 }
 
-/// The first word, and what is left behind the space that ends it.
+/// The first word, and what is left after the space that ends it.
 pub fn first_word(text: &[u8]) -> (&[u8], Option<&[u8]>)
     ensures { words text.now ≡ result.0.now ∷ left result.1 }
 {

@@ -2,10 +2,10 @@
 use Rattle.std.proofs.Common.{◌≡◌, ℕ, suc, List, [], ◌∷◌, ◌++◌, map, All, Option, Some, None, is_some, refl, sym, ap, ◌∙◌, subst, arith}
 use Rattle.std.specs.List.{AllByRecursion as Each}
 use Rattle.std.proofs.lemmas.List.Elements.{recursion_from_All, All-from_recursion}
+use Rattle.flat_model.specs.declared.lookup_key.LookupKey.{LookupKey}
 use Rattle.flat_model.specs.Weight.{Weight, Item, nothing, ◌⊕◌, times as bag_times}
 use Rattle.flat_model.specs.Layout as flat
 use Rattle.flat_model.specs.Header.{udp_bytes}
-use Rattle.flat_model.specs.Lookup.{Sought}
 use Rattle.flat_model.specs.Ledger.{weight_of_state}
 use Rattle.flat_model.proofs.Laws.{times-both}
 use Rattle.flat_model.specs.State.{State, Socket, Unfinished, ends}
@@ -58,7 +58,7 @@ open_all : (t : Table) (found : List Block) → Each (λ (b : Block). block_at b
 open_all t [] hs = tt
 open_all t (b ∷ bs) hs = (ap is_some hs.0, open_all t bs hs.1)
 
-pub all_open : (t : Table) (destination : ℕ) (q : Sought) (fds : List ℕ) → udp.AreHearers t destination q fds → All (λ (fd : ℕ). IsOpen fd t) fds
+pub all_open : (t : Table) (destination : ℕ) (q : LookupKey) (fds : List ℕ) → udp.AreHearers t destination q fds → All (λ (fd : ℕ). IsOpen fd t) fds
 all_open t destination q fds h =
     subst (All (λ (fd : ℕ). IsOpen fd t)) (sym h.named) (All-from_recursion (λ (fd : ℕ). IsOpen fd t) (map (λ b. b.fd) h.found) (open_all t h.found (recursion_from_All (λ (b : Block). block_at b.fd t ≡ Some b) h.found h.held)))
 

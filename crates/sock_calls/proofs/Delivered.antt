@@ -5,7 +5,7 @@ use Rattle.flat_model.specs.Weight.{Weight, Item, mbuf, nothing, ◌⊕◌, all_
 use Rattle.flat_model.specs.Whole.{weight_of_pieces}
 use Rattle.flat_model.specs.State.{State, Socket, Unfinished, ends, change_socket}
 use Rattle.flat_model.specs.Count.{counted}
-use Rattle.flat_model.specs.Ledger.{weight_of_state, exact_ledger, Affords, need_mbufs}
+use Rattle.flat_model.specs.Ledger.{weight_of_state, exact_ledger, HasBuffers, need_mbufs}
 use Rattle.flat_model.specs.Arrival.{Appends, queued}
 use Rattle.flat_model.specs.Fits.{fits}
 use Rattle.flat_model.specs.declared.address.Addr.{Addr}
@@ -105,16 +105,16 @@ module _ (held : Weight) (sender : Addr) (item : Item) (to : Socket) (old mid ne
   full_appends : fits to.queue (length item.bytes) ≡ false → new ≡ ends UdpFullSocket old → Appends exact_ledger held sender item to old new
   full_appends f e = record { yes = λ t. absurd (false≢true (sym f ∙ t)); no = λ _. e }
 
-  lacking_appends : fits to.queue (length item.bytes) ≡ true → Affords exact_ledger old (held ⊕ item.weight) (need_mbufs 1) false mid → new ≡ ends NoBufs mid → Appends exact_ledger held sender item to old new
+  lacking_appends : fits to.queue (length item.bytes) ≡ true → HasBuffers exact_ledger old (held ⊕ item.weight) (need_mbufs 1) false mid → new ≡ ends NoBufs mid → Appends exact_ledger held sender item to old new
   lacking_appends f a e = record {
-    yes = λ _. record { answer = false; mid = mid; affords = a; goes_on = record { yes = λ t. absurd (false≢true t); no = λ _. e } };
+    yes = λ _. record { answer = false; mid = mid; has_buffers = a; goes_on = record { yes = λ t. absurd (false≢true t); no = λ _. e } };
     no = λ t. absurd (false≢true (sym t ∙ f));
   }
 
-  fitting_appends : fits to.queue (length item.bytes) ≡ true → Affords exact_ledger old (held ⊕ item.weight) (need_mbufs 1) true mid
+  fitting_appends : fits to.queue (length item.bytes) ≡ true → HasBuffers exact_ledger old (held ⊕ item.weight) (need_mbufs 1) true mid
       → new ≡ change_socket to.fd (queued (record { sender = sender; item = record item { weight = mbuf ⊕ item.weight } })) mid → Appends exact_ledger held sender item to old new
   fitting_appends f a e = record {
-    yes = λ _. record { answer = true; mid = mid; affords = a; goes_on = record { yes = λ _. e; no = λ t. absurd (false≢true (sym t)) } };
+    yes = λ _. record { answer = true; mid = mid; has_buffers = a; goes_on = record { yes = λ _. e; no = λ t. absurd (false≢true (sym t)) } };
     no = λ t. absurd (false≢true (sym t ∙ f));
   }
 
@@ -229,7 +229,7 @@ lacking_end {p} {q} {r} {t} {bs} {us} {vs} {ws} {xs} {ys} {zs} {c} {d} {e} {chai
     record {
       step = λ rest held b at a.
           lacking_appends held sender (item_at p chain) (socket_with (queues_of p bs) b) (with_net p s us c rest) (with_net p s vs d rest) (with_net r s ws e rest)
-          (ap (λ (k : ℕ). fits (queues_of p bs k) (length (string (chain_of p chain)))) (named b at) ∙ room) (i.reserves rest (held ⊕ weight_at p chain) a).affords (now rest);
+          (ap (λ (k : ℕ). fits (queues_of p bs k) (length (string (chain_of p chain)))) (named b at) ∙ room) (i.reserves rest (held ⊕ weight_at p chain) a).has_buffers (now rest);
       accounts = λ rest held a.
           subst (λ (m : State). IsAccounted r m held) (sym (now rest))
           (freed_accounts chain NoBufs (subst (λ (v : ChainView). IsAccounted q (with_net p s vs d rest) (held ⊕ weight_of v.entries)) (sym x.chain) (i.reserves rest (held ⊕ weight_at p chain) a).accounted) (λ k. omega (arith, x.owned k)) is_r);
@@ -264,7 +264,7 @@ fitting_end {p} {q} {r} {t} {bs} {cs} {us} {vs} {ws} {xs} {ys} {zs} {c} {d} {cha
     record {
       step = λ rest held b at a.
           fitting_appends held sender (item_at p chain) (socket_with (queues_of p bs) b) (with_net p s us c rest) (with_net p s vs d rest) (with_net r (record { pcbs = t; queues = cs }) ws d rest)
-          (ap (λ (k : ℕ). fits (queues_of p bs k) (length (string (chain_of p chain)))) (named b at) ∙ room) (i.reserves rest (held ⊕ weight_at p chain) a).affords
+          (ap (λ (k : ℕ). fits (queues_of p bs k) (length (string (chain_of p chain)))) (named b at) ∙ room) (i.reserves rest (held ⊕ weight_at p chain) a).has_buffers
           (pushed rest ∙ ap (λ (k : ℕ). change_socket k (queued (datagram_from sender p chain)) (with_net p s vs d rest)) (sym (named b at)));
       accounts = λ rest held a.
           let a1 = (i.reserves rest (held ⊕ weight_at p chain) a).accounted in

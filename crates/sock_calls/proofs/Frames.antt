@@ -7,8 +7,8 @@ use Rattle.mbuf_chain.specs.Chain.{PoolView}
 use Rattle.mbuf_chain.specs.Owners.{times, IsOwned, Moves}
 use Rattle.mbuf_chain.specs.Frames.{SameAt}
 use Rattle.mbuf_chain.proofs.Laws.Owners.{times-append, live_at_most, same_beside, same_part, moves_beside, owned_same, owned_after}
-use Rattle.mbuf_chain.specs.Train.{Car, car_of, cars}
-use Rattle.mbuf_chain.proofs.Laws.Trains.{length-cars}
+use Rattle.mbuf_chain.specs.Train.{QueuedPacket, queued_packet_of, queued_packets}
+use Rattle.mbuf_chain.proofs.Laws.Trains.{length-queued_packets}
 use Rattle.sockbuf.specs.SockBuf.{SockBufView, IsSockBuf, datagrams, datagram_of, datagrams_of, chains_of, no_datagrams}
 use Rattle.sockbuf.proofs.Laws.{new_ready, chains_same, datagrams_same, ready_same}
 use Rattle.sock_calls.specs.Sockets.{SocksView, IsSocks, StepsAt, AreEmpty, from_three, queue_at, queues_of, queued_chains}
@@ -132,7 +132,7 @@ steps_at {p} {q} ins outs bs i x e y lt is each owned ready m =
 pub none_there : (q : PoolView) (b : SockBufView) → IsSockBuf q b → datagrams q b ≡ [] → chains_of q b ≡ []
 none_there q b is e = go (chains_of q b) e
   where
-    go : (xs : List ℕ) → datagrams_of (map (car_of q) xs) ≡ [] → xs ≡ []
+    go : (xs : List ℕ) → datagrams_of (map (queued_packet_of q) xs) ≡ [] → xs ≡ []
     go [] h = refl
     go (x ∷ xs) h = absurd (omega (arith, ap length h))
 
@@ -177,4 +177,4 @@ steps_from_three {p} {q} {ins} {outs} {bs} {cs} i fd e s = record {
 
 pub all_empty : (q : PoolView) (bs : List SockBufView) → ((k : ℕ) → IsSockBuf q (queue_at bs k)) → ((k : ℕ) → k < length bs → queues_of q bs k ≡ []) → AreEmpty bs
 all_empty q [] each none = tt
-all_empty q (b ∷ bs) each none = (omega (arith, length-cars q b.train (each 0).held, length-map (cars q b.train) (λ (car : Car). datagram_of car.entries), ap length (none 0 (omega arith))), all_empty q bs (λ k. each (suc k)) (λ k lt. none (suc k) (omega arith)))
+all_empty q (b ∷ bs) each none = (omega (arith, length-queued_packets q b.train (each 0).held, length-map (queued_packets q b.train) (λ (queued_packet : QueuedPacket). datagram_of queued_packet.entries), ap length (none 0 (omega arith))), all_empty q bs (λ k. each (suc k)) (λ k lt. none (suc k) (omega arith)))

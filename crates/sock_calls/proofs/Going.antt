@@ -25,7 +25,7 @@ use Rattle.flat_model.proofs.Laws.{times-both, count_cons, all_of-append}
 use Rattle.mbuf_chain.specs.Chain.{PoolView, references}
 use Rattle.mbuf_chain.specs.Owners.{times, Moves}
 use Rattle.mbuf_chain.specs.Frames.{SameAt}
-use Rattle.mbuf_chain.specs.Train.{TrainView, Car, car_of, numbers, follow, IsHeld}
+use Rattle.mbuf_chain.specs.Train.{TrainView, QueuedPacket, queued_packet_of, numbers, follow, IsHeld}
 use Rattle.mbuf_chain.proofs.Laws.Owners.{times-append, live_at_most, moves_beside, moves_none, same_beside}
 use Rattle.ip_out.specs.Packets.{packets, AreBegunPlain}
 use Rattle.pcb_table.specs.declared.block.Block.{Block}
@@ -65,7 +65,7 @@ on_block fd to bytes t f rest b reply looped new at by =
 
 -- ---- what leaves everything as it was
 pub no_packets : (p : PoolView) (t : TrainView) → t.len ≡ 0 → packets p t ≡ []
-no_packets p t e = ap (λ (n : ℕ). map (λ (car : Car). item_of car.entries) (map (car_of p) (follow p n t.first))) e
+no_packets p t e = ap (λ (n : ℕ). map (λ (queued_packet : QueuedPacket). item_of queued_packet.entries) (map (queued_packet_of p) (follow p n t.first))) e
 
 no_numbers : (p : PoolView) (t : TrainView) → t.len ≡ 0 → numbers p t ≡ []
 no_numbers p t e = ap (λ (n : ℕ). follow p n t.first) e
@@ -82,7 +82,7 @@ unchanged {fd} {to} {bytes} {errno} v can step =
       socks = can.socks;
       out = can.out;
       looped = can.looped;
-      plain = subst (λ (xs : List ℕ). AreBegunPlain (map (car_of v.pool) xs)) (sym (no_numbers v.pool v.net.looped can.none)) tt;
+      plain = subst (λ (xs : List ℕ). AreBegunPlain (map (queued_packet_of v.pool) xs)) (sym (no_numbers v.pool v.net.looped can.none)) tt;
       mtu = refl;
       moves = subst (λ (xs : List ℕ). Moves v.pool (numbers v.pool v.net.out ++ queued_chains v.pool v.socks.queues) v.pool (xs ++ (numbers v.pool v.net.out ++ queued_chains v.pool v.socks.queues)))
           (sym (no_numbers v.pool v.net.looped can.none)) (moves_none v.pool (numbers v.pool v.net.out ++ queued_chains v.pool v.socks.queues));
@@ -177,7 +177,7 @@ module _ (p q : PoolView) (t u : Table) (bs : List SockBufView) (n m : Net) (fd 
       )
 
   -- ---- the accounts after it
-  out_weighs : (r : PoolView) (xs : List ℕ) → weight_owned r xs ≡ weight_of_all (map (λ (car : Car). item_of car.entries) (map (car_of r) xs))
+  out_weighs : (r : PoolView) (xs : List ℕ) → weight_owned r xs ≡ weight_of_all (map (λ (queued_packet : QueuedPacket). item_of queued_packet.entries) (map (queued_packet_of r) xs))
   out_weighs r [] = refl
   out_weighs r (x ∷ xs) = ap (λ (w : Weight). weight_at r x ⊕ w) (out_weighs r xs)
 

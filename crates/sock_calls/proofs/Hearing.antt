@@ -10,7 +10,7 @@ use Rattle.params.specs.declared.TheConstants.{MBUF_HEADER}
 use Rattle.flat_model.specs.Weight.{Weight, Item, nothing, ◌⊕◌, times as bag_times}
 use Rattle.flat_model.specs.State.{State, Socket, Unfinished, ends}
 use Rattle.flat_model.specs.Count.{counted}
-use Rattle.flat_model.specs.Ledger.{weight_of_state, exact_ledger, Affords, need_mbufs}
+use Rattle.flat_model.specs.Ledger.{weight_of_state, exact_ledger, HasBuffers, need_mbufs}
 use Rattle.flat_model.specs.Arrival.{Appends, Delivers}
 use Rattle.flat_model.specs.declared.address.Addr.{Addr}
 use Rattle.flat_model.specs.declared.counters.Counters.{Counters}
@@ -89,15 +89,15 @@ copy_gone p q c d ys zs bs cs o m =
     }
 
 -- ---- an offer's two ends
-lacking_offers : (held : Weight) (sender : Addr) (item : Item) (to : Socket) (old mid new : State) (n : ℕ) → n ≡ item.weight.mbufs → Affords exact_ledger old (held ⊕ item.weight) (need_mbufs n) false mid → new ≡ ends NoBufs mid → Offers held sender item to old new
-lacking_offers held sender item to old mid new n is a e = record { answer = false; mid = mid; affords = subst (λ (k : ℕ). Affords exact_ledger old (held ⊕ item.weight) (need_mbufs k) false mid) is a; goes_on = record { yes = λ t. absurd (false≢true t); no = λ _. e } }
+lacking_offers : (held : Weight) (sender : Addr) (item : Item) (to : Socket) (old mid new : State) (n : ℕ) → n ≡ item.weight.mbufs → HasBuffers exact_ledger old (held ⊕ item.weight) (need_mbufs n) false mid → new ≡ ends NoBufs mid → Offers held sender item to old new
+lacking_offers held sender item to old mid new n is a e = record { answer = false; mid = mid; has_buffers = subst (λ (k : ℕ). HasBuffers exact_ledger old (held ⊕ item.weight) (need_mbufs k) false mid) is a; goes_on = record { yes = λ t. absurd (false≢true t); no = λ _. e } }
 
-appending_offers : (held : Weight) (sender : Addr) (item : Item) (to : Socket) (old mid new : State) (n : ℕ) → n ≡ item.weight.mbufs → Affords exact_ledger old (held ⊕ item.weight) (need_mbufs n) true mid
+appending_offers : (held : Weight) (sender : Addr) (item : Item) (to : Socket) (old mid new : State) (n : ℕ) → n ≡ item.weight.mbufs → HasBuffers exact_ledger old (held ⊕ item.weight) (need_mbufs n) true mid
     → (copy : Item) (at : Socket) (now : State) → copy ≡ item → at ≡ to → now ≡ mid → Appends exact_ledger (held ⊕ item.weight) sender copy at now new → Offers held sender item to old new
 appending_offers held sender item to old mid new n is a copy at now ec es em ap = record {
   answer = true;
   mid = mid;
-  affords = subst (λ (k : ℕ). Affords exact_ledger old (held ⊕ item.weight) (need_mbufs k) true mid) is a;
+  has_buffers = subst (λ (k : ℕ). HasBuffers exact_ledger old (held ⊕ item.weight) (need_mbufs k) true mid) is a;
   goes_on = record {
     yes = λ _. subst (λ (s : State). Appends exact_ledger (held ⊕ item.weight) sender item to s new) em
         (subst (λ (x : Socket). Appends exact_ledger (held ⊕ item.weight) sender item x now new) es
@@ -118,7 +118,7 @@ lacking_offer {p} {q} {t} {bs} {us} {vs} {xs} {ys} {c} {d} {e} {chain} {n} fd se
     let ended : (rest : State) → with_net q s vs e rest ≡ ends NoBufs (with_net p s vs d rest) = λ rest. ends_here p q t bs d NoBufs rest x.socks.shows refl is_e in
     record {
       step = λ rest held b at a.
-          lacking_offers held sender (item_at p chain) (socket_with (queues_of p bs) b) (with_net p s us c rest) (with_net p s vs d rest) (with_net q s vs e rest) n is_n (i.reserves rest (held ⊕ weight_at p chain) a).affords (ended rest);
+          lacking_offers held sender (item_at p chain) (socket_with (queues_of p bs) b) (with_net p s us c rest) (with_net p s vs d rest) (with_net q s vs e rest) n is_n (i.reserves rest (held ⊕ weight_at p chain) a).has_buffers (ended rest);
       accounts = λ rest held a. subst (λ (m : State). IsAccounted q m (held ⊕ weight_at p chain)) (sym (ended rest)) (ends_accounted {s = with_net p s vs d rest} NoBufs (i.reserves rest (held ⊕ weight_at p chain) a).accounted);
       others = λ k ne. x.socks.shows k;
       ready = x.socks.ready;
@@ -156,7 +156,7 @@ copy_offer {p} {q} {r} {z} {t} {bs} {cs} {us} {vs} {ws} {ks} {xs} {ys} {ms} {zs}
       step = λ rest held b at a.
           let a1 = i.reserves rest (held ⊕ weight_at p chain) a in
           let a2 = subst (λ (m : State). IsAccounted r m ((held ⊕ weight_at p chain) ⊕ weight_at r copy)) (sym (now rest)) (copy_accounts copy a1.accounted m) in
-          appending_offers held sender (item_at p chain) (socket_with (queues_of p bs) b) (with_net p s us c rest) (with_net p s vs d rest) (with_net z (record { pcbs = t; queues = cs }) ks e rest) n is_n a1.affords
+          appending_offers held sender (item_at p chain) (socket_with (queues_of p bs) b) (with_net p s us c rest) (with_net p s vs d rest) (with_net z (record { pcbs = t; queues = cs }) ks e rest) n is_n a1.has_buffers
           (item_at r copy) (socket_with (queues_of r bs) b) (with_net r s ws d rest)
           (is_copy ∙ ap (λ (v : ChainView). item_of v.entries) x.chain)
           (λ j. record (socket_with (queues_of p bs) b) { queue = (k.socks.shows b.fd ∙ x.socks.shows b.fd) j })

@@ -10,7 +10,7 @@ use Rattle.flat_model.specs.declared.config.Config.{Config}
 use Rattle.flat_model.specs.declared.counters.Counters.{Counters}
 use Rattle.mbuf_chain.specs.Chain.{PoolView}
 use Rattle.mbuf_chain.specs.Owners.{times, IsOwned, Moves}
-use Rattle.mbuf_chain.specs.Train.{TrainView, Car, cars, numbers, IsHeld}
+use Rattle.mbuf_chain.specs.Train.{TrainView, QueuedPacket, queued_packets, numbers, IsHeld}
 use Rattle.mbuf_chain.proofs.Laws.Owners.{times-append, moves_beside, moves_trans, owned_beside}
 use Rattle.mbuf_chain.proofs.Laws.Trains.{Beside, beside_moves}
 use Rattle.pcb_table.specs.Table.{Table, KeepsOpen}
@@ -53,7 +53,7 @@ came {p} {q} o link looped held m =
     let all : IsOwned q (numbers q looped ++ (numbers q o ++ numbers q link)) = λ k. omega (arith, after k, sums k, times-append k (numbers p o) (numbers q link ++ numbers q looped)) in
     record {
       beside = b;
-      items = ap (map (λ (car : Car). item_of car.entries)) b.cars;
+      items = ap (map (λ (queued_packet : QueuedPacket). item_of queued_packet.entries)) b.queued_packets;
       owned = λ k. omega (arith, all k, times-append k (numbers q looped) (numbers q o ++ numbers q link));
       back_owned = all;
       moves = moves_beside (numbers p o) (numbers q looped ++ (numbers q o ++ numbers q link)) (numbers p o) m (λ k. omega arith) sums;
@@ -63,7 +63,7 @@ came {p} {q} o link looped held m =
 pub record Went (p : PoolView) (o looped : TrainView) (q r : PoolView) (o' : TrainView) : Type 0 where
   pub held : IsHeld r looped
   pub items : packets r looped ≡ packets q looped
-  pub cars_are : cars r looped ≡ cars q looped
+  pub queued_packets_are : queued_packets r looped ≡ queued_packets q looped
   pub moves : Moves p (numbers p o) r (numbers r looped ++ numbers r o')
 
 pub went : {p q r : PoolView} (o link looped o' : TrainView) → Came p o link looped q → IsHeld q looped → Moves q (numbers q o ++ numbers q link) r (numbers r o') → Went p o looped q r o'
@@ -71,8 +71,8 @@ went {p} {q} {r} o link looped o' c held m =
     let b : Beside q r looped = beside_moves looped m c.back_owned held in
     record {
       held = b.held;
-      items = ap (map (λ (car : Car). item_of car.entries)) b.cars;
-      cars_are = b.cars;
+      items = ap (map (λ (queued_packet : QueuedPacket). item_of queued_packet.entries)) b.queued_packets;
+      queued_packets_are = b.queued_packets;
       moves = moves_trans c.moves (moves_beside (numbers q looped ++ (numbers q o ++ numbers q link)) (numbers r looped ++ numbers r o') (numbers q looped) m
           (λ k. times-append k (numbers q looped) (numbers q o ++ numbers q link))
           (λ k. omega (arith, ap (times k) b.numbers, times-append k (numbers r looped) (numbers r o'))));
@@ -112,6 +112,6 @@ put_is {p} {q} {r} {t} {u} {n} {made} {o'} {back} {d} {lost} {fd} {to} {bytes} h
       mtu = refl;
       queue = queue';
       held = w.held;
-      plain = subst AreBegunPlain (sym w.cars_are) a.plain;
+      plain = subst AreBegunPlain (sym w.queued_packets_are) a.plain;
       moves = w.moves;
     }

@@ -9,7 +9,7 @@ use Rattle.flat_model.specs.Header.{first_fault}
 use Rattle.flat_model.specs.Event.{Reply, Done, Opened, Sent, Received, Given, Counted, Shown, Refused, Send}
 use Rattle.flat_model.specs.State.{State, Socket}
 use Rattle.flat_model.specs.Step.{Step}
-use Rattle.flat_model.specs.Ledger.{exact_ledger, has_enough, Affords, reclaimed}
+use Rattle.flat_model.specs.Ledger.{exact_ledger, has_enough, HasBuffers, reclaimed}
 use Rattle.flat_model.specs.Arrival.{AllArrive}
 use Rattle.flat_model.specs.Choice.{Choice}
 use Rattle.flat_model.specs.Layout.{Need}
@@ -41,7 +41,7 @@ module _ (fd : ℕ) (to : Option Addr) (bytes : List ℕ) where
     where
       go : ((yes : Bool) × (yes ≡ has_enough old nothing (need_to old.config (target old me to).ip (length bytes)))
           × Choice yes (Puts exact_ledger fd me (target old me to) bytes old reply looped mid) (RefusesAll (NoBufs Pool) old reply looped mid))
-          → (yes : Bool) × (middle : State) × Affords exact_ledger old nothing (need_to old.config (target old me to).ip (length bytes)) yes middle
+          → (yes : Bool) × (middle : State) × HasBuffers exact_ledger old nothing (need_to old.config (target old me to).ip (length bytes)) yes middle
           × Choice yes (Goes exact_ledger fd me (target old me to) bytes middle reply new) (Refuses (NoBufs Pool) middle reply new)
       go (true, has, next) = (true, old, inl (has, refl), record { yes = λ h. put_goes exact_ledger fd me (target old me to) bytes old reply looped mid new (next.yes refl) arrive; no = λ h. absurd (true≢false h) })
       go (false, has, next) = absurd (enough (next.no refl).0.0)
@@ -120,7 +120,7 @@ module _ (fd : ℕ) (to : Option Addr) (bytes : List ℕ) where
   lacked me old first same (true, has, next) = absurd (puts_not me old first same (next.yes refl))
 
   then_again : (me : Socket) (old : State) (reply : Reply) (looped : List Item) (mid new : State) → false ≡ has_enough old nothing (need_of_send me old) → Tested me (reclaimed old) reply looped mid → AllArrive exact_ledger looped mid new
-      → (yes : Bool) × (middle : State) × Affords exact_ledger old nothing (need_of_send me old) yes middle × Choice yes (Goes exact_ledger fd me (target old me to) bytes middle reply new) (Refuses (NoBufs Pool) middle reply new)
+      → (yes : Bool) × (middle : State) × HasBuffers exact_ledger old nothing (need_of_send me old) yes middle × Choice yes (Goes exact_ledger fd me (target old me to) bytes middle reply new) (Refuses (NoBufs Pool) middle reply new)
   then_again me old reply looped mid new was (true, has, next) arrive =
       (true, reclaimed old, inr (was, refl, has), record { yes = λ h. put_goes exact_ledger fd me (target old me to) bytes (reclaimed old) reply looped mid new (next.yes refl) arrive; no = λ h. absurd (true≢false h) })
   then_again me old reply looped mid new was (false, has, next) arrive =

@@ -6,7 +6,7 @@ use Rattle.flat_model.specs.Weight.{Weight, SameWeight, all_of, ◌⊕◌, times
 use Rattle.flat_model.specs.State.{Socket, Datagram}
 use Rattle.flat_model.proofs.Laws.{all_of-append, times-both, count_cons}
 use Rattle.mbuf_chain.specs.Chain.{Entry, PoolView, chain_of}
-use Rattle.mbuf_chain.specs.Train.{Car, car_of}
+use Rattle.mbuf_chain.specs.Train.{QueuedPacket, queued_packet_of}
 use Rattle.pcb_table.specs.declared.block.Block.{Block}
 use Rattle.pcb_table.specs.Table.{Table, block_at, sockets_with}
 use Rattle.pcb_table.specs.Sound.{AreApart, has_fd}
@@ -27,11 +27,11 @@ weighs (e ∷ es) h =
 abbrev pub queue_weight : List Datagram → Weight
 queue_weight ds = all_of (λ (d : Datagram). d.item.weight) ds
 
-owned_weighs : (p : PoolView) (xs : List ℕ) → Each (λ (car : Car). IsDatagram car.entries) (map (car_of p) xs) → weight_owned p xs ≡ queue_weight (datagrams_of (map (car_of p) xs))
+owned_weighs : (p : PoolView) (xs : List ℕ) → Each (λ (queued_packet : QueuedPacket). IsDatagram queued_packet.entries) (map (queued_packet_of p) xs) → weight_owned p xs ≡ queue_weight (datagrams_of (map (queued_packet_of p) xs))
 owned_weighs p [] h = refl
 owned_weighs p (x ∷ xs) h =
     let here : weight_at p x ≡ (datagram_of (chain_of p x).entries).item.weight = weighs (chain_of p x).entries h.0 in
-    let later : weight_owned p xs ≡ queue_weight (datagrams_of (map (car_of p) xs)) = owned_weighs p xs h.1 in
+    let later : weight_owned p xs ≡ queue_weight (datagrams_of (map (queued_packet_of p) xs)) = owned_weighs p xs h.1 in
     λ i. here i ⊕ later i
 
 pub queue_weighs : (p : PoolView) (b : SockBufView) → IsSockBuf p b → weight_owned p (chains_of p b) ≡ queue_weight (datagrams p b)

@@ -67,7 +67,7 @@ pub record IsStored (p : PoolView) (bytes : List ℕ) (q : PoolView) (c : ℕ) :
   pub lies : IsLaidOut p (length bytes) clusters q c
   pub holds : drop IP_UDP_HEADERS (string (chain_of q c)) ≡ bytes
 
--- behind 20 bytes it is the datagram
+-- after 20 bytes it is the datagram
 pub record IsBuilt (p : PoolView) (x : flat.Sending) (q : PoolView) (c : ℕ) : Type 0 where
   pub clusters : List ℕ
   pub lies : IsLaidOut p (length x.bytes) clusters q c

@@ -64,7 +64,7 @@ pub(crate) fn need_to(pcbs: &Pcbs, mtu: u16, ip: u32, len: u32) -> Need
     need(len, mtu)
 }
 
-/// A chain of the bytes behind 28 bytes for the headers.
+/// A chain of the bytes after 28 bytes for the headers.
 fn with_headers(pool: &mut Pool, bytes: &[u8]) -> Chain
     requires most { length bytes.now ≤ UDP_SEND_SPACE }
     requires free { Has pool.old (sent (length bytes.now)) }
@@ -82,7 +82,7 @@ fn with_headers(pool: &mut Pool, bytes: &[u8]) -> Chain
     chain
 }
 
-/// The datagram, with its header, behind 20 bytes for that of IP.
+/// The datagram, with its header, after 20 bytes for that of IP.
 fn datagram(pool: &mut Pool, heading: Heading, bytes: &[u8]) -> Chain
     requires most { length bytes.now ≤ UDP_SEND_SPACE }
     requires free { Has pool.old (sent (length bytes.now)) }

@@ -7,9 +7,9 @@ use Rattle.flat_model.specs.Fits.{bytes_queued, memory_queued}
 use Rattle.mbuf_chain.specs.Chain.{Entry, PoolView, chain_of, without}
 use Rattle.mbuf_chain.specs.Frames.{SameAt}
 use Rattle.mbuf_chain.specs.Owners.{times, IsOwned, Moves}
-use Rattle.mbuf_chain.specs.Train.{Car, car_of}
+use Rattle.mbuf_chain.specs.Train.{QueuedPacket, queued_packet_of}
 use Rattle.mbuf_chain.proofs.Laws.Owners.{times_same, live_at_most, same_beside, same_without}
-use Rattle.mbuf_chain.proofs.Laws.Trains.{numbers_same, cars_same, held_same, held_none}
+use Rattle.mbuf_chain.proofs.Laws.Trains.{numbers_same, queued_packets_same, held_same, held_none}
 use Rattle.ledger.specs.Accounts.{weight_of, weight_owned}
 use Rattle.sockbuf.specs.SockBuf.{SockBufView, IsSockBuf, IsDatagram, datagram_of, datagrams_of, datagrams, chains_of, no_datagrams, AppendsAddr, IsRefused}
 use Rattle.sockbuf.specs.declared.buffer.Refusal.{Refusal}
@@ -26,12 +26,12 @@ pub chains_same : (p q : PoolView) (b : SockBufView) → SameAt p q (chains_of p
 chains_same p q b s = numbers_same p q b.train s
 
 pub datagrams_same : (p q : PoolView) (b : SockBufView) → SameAt p q (chains_of p b) → datagrams q b ≡ datagrams p b
-datagrams_same p q b s = ap datagrams_of (cars_same p q b.train s)
+datagrams_same p q b s = ap datagrams_of (queued_packets_same p q b.train s)
 
 pub ready_same : (p q : PoolView) (b : SockBufView) → SameAt p q (chains_of p b) → IsSockBuf p b → IsSockBuf q b
 ready_same p q b s h = record {
   held = held_same p q b.train s h.held;
-  each = subst (λ (cs : List Car). Each (λ (car : Car). IsDatagram car.entries) cs) (sym (cars_same p q b.train s)) h.each;
+  each = subst (λ (cs : List QueuedPacket). Each (λ (queued_packet : QueuedPacket). IsDatagram queued_packet.entries) cs) (sym (queued_packets_same p q b.train s)) h.each;
   cc = h.cc ∙ ap bytes_queued (sym (datagrams_same p q b s));
   mbcnt = h.mbcnt ∙ ap memory_queued (sym (datagrams_same p q b s));
 }
@@ -50,7 +50,7 @@ weight_is es s =
 pub weight_of_chains : (p : PoolView) (b : SockBufView) → IsSockBuf p b → weight_owned p (chains_of p b) ≡ all_of (λ (d : Datagram). d.item.weight) (datagrams p b)
 weight_of_chains p b h = go (chains_of p b) h.each
   where
-    go : (xs : List ℕ) → Each (λ (car : Car). IsDatagram car.entries) (map (car_of p) xs) → weight_owned p xs ≡ all_of (λ (d : Datagram). d.item.weight) (datagrams_of (map (car_of p) xs))
+    go : (xs : List ℕ) → Each (λ (queued_packet : QueuedPacket). IsDatagram queued_packet.entries) (map (queued_packet_of p) xs) → weight_owned p xs ≡ all_of (λ (d : Datagram). d.item.weight) (datagrams_of (map (queued_packet_of p) xs))
     go [] each = refl
     go (x ∷ xs) each = (λ i. weight_is (chain_of p x).entries (shape (chain_of p x).entries each.0) i ⊕ go xs each.1 i)
 

@@ -3,7 +3,7 @@ use Rattle.std.proofs.Common.{◌≡◌, ◌≢◌, ℕ, ◌<◌, ◌≤◌, tru
 use Rattle.std.proofs.lemmas.Option.{none-some}
 use Rattle.flat_model.specs.declared.address.Addr.{Addr}
 use Rattle.mbuf_chain.specs.declared.place.Place.{Place}
-use Rattle.mbuf_chain.specs.Chain.{Entry, ChainView, PoolView, held_mbufs, IsLive, IsUnshared, HasBackRoom, chain_of, entry_of, entry_in, with_chain, without, Adds}
+use Rattle.mbuf_chain.specs.Chain.{Entry, ChainView, PoolView, held_mbufs, IsLive, IsUnshared, HasTrailingSpace, chain_of, entry_of, entry_in, with_chain, without, Adds}
 use Rattle.mbuf_chain.specs.Steps.{one_mbuf, empty_entry, with_entry, with_entry_in, with_back, joined, first_part, second_part}
 use Rattle.mbuf_chain.specs.Owners.{IsOwned, Moves}
 use Rattle.mbuf_chain.proofs.Laws.Owners.{owned_more, moves_none, moves_with, live_here, chain_left, moves_reordered, then_adds, then_with, then_without, shown_adds, shown_with, kept_with, live_with}
@@ -24,14 +24,14 @@ new_entry {p} {q} {d} at a first = λ i. entry_of (shown_adds a i) (first i)
 pub new_unshared : {p q : PoolView} {d : ℕ} (at : Place) → Adds p q d (one_mbuf true (empty_entry 28 None) d) → at.index ≡ 0 → IsUnshared q (entry_in q d at)
 new_unshared at a first = λ c is. absurd (none-some c (sym (ap (λ (e : Entry). e.cluster) (new_entry at a first)) ∙ is))
 
-pub new_fits : {p q : PoolView} {d : ℕ} (at : Place) (n : ℕ) → Adds p q d (one_mbuf true (empty_entry 28 None) d) → at.index ≡ 0 → n ≡ 16 → HasBackRoom (entry_in q d at) n
-new_fits at n a first sixteen = subst (λ (e : Entry). HasBackRoom e n) (sym (new_entry at a first)) (omega (arith, sixteen))
+pub new_fits : {p q : PoolView} {d : ℕ} (at : Place) (n : ℕ) → Adds p q d (one_mbuf true (empty_entry 28 None) d) → at.index ≡ 0 → n ≡ 16 → HasTrailingSpace (entry_in q d at) n
+new_fits at n a first sixteen = subst (λ (e : Entry). HasTrailingSpace e n) (sym (new_entry at a first)) (omega (arith, sixteen))
 
 -- an mbuf that was made was free before
 pub free_before : {p q : PoolView} {d : ℕ} → Adds p q d (one_mbuf true (empty_entry 28 None) d) → held_mbufs q ≤ q.mbufs → held_mbufs p < p.mbufs
 free_before {p} {q} {d} a few = omega (arith, few, held-adds a, ap (λ (u : PoolView). u.mbufs) a.pool)
 
--- the chain with the address, before the other is linked behind it
+-- the chain with the address, before the other is linked after it
 pub with_bytes : {p q : PoolView} {d : ℕ} (r : PoolView) (at : Place) (a : Addr) (bytes : List ℕ) → Adds p q d (one_mbuf true (empty_entry 28 None) d) → at.index ≡ 0 → bytes ≡ sockaddr_bytes a
     → r ≡ with_entry_in q d at (with_back (entry_in q d at) bytes) → chain_of r d ≡ one_mbuf true (address_entry a) d
 with_bytes {p} {q} {d} r at a bytes adds first is e =

@@ -12,9 +12,9 @@ use Rattle.flat_model.specs.declared.address.Addr.{Addr}
 use Rattle.mbuf_chain.specs.Chain.{Entry, PoolView, IsLive, chain_of, flat_bytes}
 use Rattle.mbuf_chain.specs.Owners.{times, IsOwned, Moves}
 use Rattle.mbuf_chain.specs.Frames.{SameAt}
-use Rattle.mbuf_chain.specs.Train.{TrainView, Car, no_car, cars, car_at, numbers, IsHeld}
+use Rattle.mbuf_chain.specs.Train.{TrainView, QueuedPacket, no_queued_packet, queued_packets, queued_packet_at, numbers, IsHeld}
 use Rattle.mbuf_chain.proofs.Laws.Owners.{times_other, moves_trans, moves_before, same_beside, owned_more, owned_after, apart_first}
-use Rattle.mbuf_chain.proofs.Laws.Trains.{numbers_same, cars_same, held_same, length-cars}
+use Rattle.mbuf_chain.proofs.Laws.Trains.{numbers_same, queued_packets_same, held_same, length-queued_packets}
 use Rattle.ledger.specs.Accounts.{weight_of}
 use Rattle.sockbuf.specs.SockBuf.{SockBufView, IsSockBuf, IsDatagram, TakesOldest, datagram_of, datagrams_of, datagrams, chains_of, datagram_from, memory_of, sockaddr_in, address_entry}
 use Rattle.sockbuf.proofs.Fronts.{address_again}
@@ -89,7 +89,7 @@ insert_end xs n x e = ap (λ (k : ℕ). insert xs k x) e ∙ go xs
     go [] = refl
     go (y ∷ ys) = ap (λ (l : List _). y ∷ l) (go ys)
 
-each_end : (xs : List Car) (x : Car) → Each (λ (car : Car). IsDatagram car.entries) xs → IsDatagram x.entries → Each (λ (car : Car). IsDatagram car.entries) (xs ++ x ∷ [])
+each_end : (xs : List QueuedPacket) (x : QueuedPacket) → Each (λ (queued_packet : QueuedPacket). IsDatagram queued_packet.entries) xs → IsDatagram x.entries → Each (λ (queued_packet : QueuedPacket). IsDatagram queued_packet.entries) (xs ++ x ∷ [])
 each_end [] x h here = (here, tt)
 each_end (y ∷ ys) x h here = (h.0, each_end ys x h.1 here)
 
@@ -100,7 +100,7 @@ pub record IsPutIn (p : PoolView) (b : SockBufView) (c d : ℕ) (a : Addr) (q r 
   pub apart : times c (chains_of p b) ≡ 0
   pub entries : (chain_of q d).entries ≡ address_entry a ∷ (chain_of p c).entries
   pub made : Moves p (c ∷ []) q (d ∷ [])
-  pub cars : cars r u ≡ insert (cars q b.train) b.train.len (record { number = d; entries = (chain_of q d).entries; tag = 0 })
+  pub queued_packets : queued_packets r u ≡ insert (queued_packets q b.train) b.train.len (record { number = d; entries = (chain_of q d).entries; tag = 0 })
   pub held : IsHeld r u
   pub moves : Moves q (d ∷ numbers q b.train) r (numbers r u)
 
@@ -116,21 +116,21 @@ appended {p} {q} {r} {b} {u} {c} {d} {a} cc mbcnt ready i is_cc is_mbcnt =
     let t : TrainView = b.train in
     let same : SameAt p q (numbers p t) = beside_one t i.made i.apart ready.held in
     let es : List Entry = (chain_of p c).entries in
-    let new : Car = record { number = d; entries = address_entry a ∷ es; tag = 0 } in
-    let all : cars r u ≡ cars p t ++ new ∷ [] =
-    i.cars ∙ ap (λ (cs : List Car). insert cs t.len (record { number = d; entries = (chain_of q d).entries; tag = 0 })) (cars_same p q t same)
-    ∙ insert_end (cars p t) t.len (record { number = d; entries = (chain_of q d).entries; tag = 0 }) (sym (length-cars p t ready.held))
-    ∙ ap (λ (l : List Entry). cars p t ++ record { number = d; entries = l; tag = 0 } ∷ []) i.entries in
-    let queued : datagrams_of (cars r u) ≡ datagrams p b ++ datagram_from a p c ∷ [] =
+    let new : QueuedPacket = record { number = d; entries = address_entry a ∷ es; tag = 0 } in
+    let all : queued_packets r u ≡ queued_packets p t ++ new ∷ [] =
+    i.queued_packets ∙ ap (λ (cs : List QueuedPacket). insert cs t.len (record { number = d; entries = (chain_of q d).entries; tag = 0 })) (queued_packets_same p q t same)
+    ∙ insert_end (queued_packets p t) t.len (record { number = d; entries = (chain_of q d).entries; tag = 0 }) (sym (length-queued_packets p t ready.held))
+    ∙ ap (λ (l : List Entry). queued_packets p t ++ record { number = d; entries = l; tag = 0 } ∷ []) i.entries in
+    let queued : datagrams_of (queued_packets r u) ≡ datagrams p b ++ datagram_from a p c ∷ [] =
     ap datagrams_of all
-    ∙ map-append (λ (car : Car). datagram_of car.entries) (cars p t) (new ∷ [])
+    ∙ map-append (λ (queued_packet : QueuedPacket). datagram_of queued_packet.entries) (queued_packets p t) (new ∷ [])
     ∙ ap (λ (x : Addr). datagrams p b ++ record (datagram_from a p c) { sender = x } ∷ []) (address_again a) in
     record {
       datagrams = queued;
       ready = record {
         held = i.held;
-        each = subst (λ (cs : List Car). Each (λ (car : Car). IsDatagram car.entries) cs) (sym all)
-            (each_end (cars p t) new ready.each (ap address_entry (sym (address_again a)), i.some));
+        each = subst (λ (cs : List QueuedPacket). Each (λ (queued_packet : QueuedPacket). IsDatagram queued_packet.entries) cs) (sym all)
+            (each_end (queued_packets p t) new ready.each (ap address_entry (sym (address_again a)), i.some));
         cc = omega (arith, is_cc, ap bytes_queued queued, bytes_more (datagrams p b) (datagram_from a p c), ready.cc);
         mbcnt = omega (arith, is_mbcnt, ap memory_queued queued, memory_more (datagrams p b) (datagram_from a p c), ready.mbcnt);
       };
@@ -141,34 +141,34 @@ appended {p} {q} {r} {b} {u} {c} {d} {a} cc mbcnt ready i is_cc is_mbcnt =
 -- the first chain of the train was taken out, under number c
 pub record IsTakenOut (p : PoolView) (b : SockBufView) (c tag : ℕ) (q : PoolView) (u : TrainView) : Type 0 where
   pub some : 0 < b.train.len
-  pub cars : cars q u ≡ remove (cars p b.train) 0
-  pub taken : car_at p b.train 0 ≡ record { number = c; entries = (chain_of q c).entries; tag = tag }
+  pub queued_packets : queued_packets q u ≡ remove (queued_packets p b.train) 0
+  pub taken : queued_packet_at p b.train 0 ≡ record { number = c; entries = (chain_of q c).entries; tag = tag }
   pub held : IsHeld q u
   pub moves : Moves p (numbers p b.train) q (c ∷ numbers q u)
 
 pub record Oldest (p : PoolView) (b : SockBufView) (c : ℕ) (q : PoolView) (u : TrainView) : Type 0 where
   pub shape : Shape (chain_of q c).entries
-  pub datagrams : datagrams p b ≡ datagram_of (chain_of q c).entries ∷ datagrams_of (cars q u)
-  pub each : Each (λ (car : Car). IsDatagram car.entries) (cars q u)
-  pub cc : b.cc ≡ length (flat_bytes (chain_of q c).entries) + bytes_queued (datagrams_of (cars q u))
-  pub mbcnt : b.mbcnt ≡ memory_of (weight_of (chain_of q c).entries) + memory_queued (datagrams_of (cars q u))
+  pub datagrams : datagrams p b ≡ datagram_of (chain_of q c).entries ∷ datagrams_of (queued_packets q u)
+  pub each : Each (λ (queued_packet : QueuedPacket). IsDatagram queued_packet.entries) (queued_packets q u)
+  pub cc : b.cc ≡ length (flat_bytes (chain_of q c).entries) + bytes_queued (datagrams_of (queued_packets q u))
+  pub mbcnt : b.mbcnt ≡ memory_of (weight_of (chain_of q c).entries) + memory_queued (datagrams_of (queued_packets q u))
 
 pub oldest : {p q : PoolView} {b : SockBufView} {u : TrainView} {c tag : ℕ} → IsSockBuf p b → IsTakenOut p b c tag q u → Oldest p b c q u
-oldest {p} {q} {b} {u} {c} {tag} ready i = go (cars p b.train) refl ready.each
+oldest {p} {q} {b} {u} {c} {tag} ready i = go (queued_packets p b.train) refl ready.each
   where
-    go : (cs : List Car) → cars p b.train ≡ cs → Each (λ (car : Car). IsDatagram car.entries) cs → Oldest p b c q u
-    go [] e each = absurd (omega (arith, length-cars p b.train ready.held, i.some, ap length e))
+    go : (cs : List QueuedPacket) → queued_packets p b.train ≡ cs → Each (λ (queued_packet : QueuedPacket). IsDatagram queued_packet.entries) cs → Oldest p b c q u
+    go [] e each = absurd (omega (arith, length-queued_packets p b.train ready.held, i.some, ap length e))
     go (x ∷ xs) e each =
-        let is_x : x.entries ≡ (chain_of q c).entries = ap (λ (y : Car). y.entries) (sym (ap (λ (cs : List Car). slice_index_or cs 0 no_car) e) ∙ i.taken) in
-        let left : cars q u ≡ xs = i.cars ∙ ap (λ (cs : List Car). remove cs 0) e in
+        let is_x : x.entries ≡ (chain_of q c).entries = ap (λ (y : QueuedPacket). y.entries) (sym (ap (λ (cs : List QueuedPacket). slice_index_or cs 0 no_queued_packet) e) ∙ i.taken) in
+        let left : queued_packets q u ≡ xs = i.queued_packets ∙ ap (λ (cs : List QueuedPacket). remove cs 0) e in
         let s : Shape (chain_of q c).entries = subst Shape is_x (shape x.entries each.0) in
-        let queued : datagrams p b ≡ datagram_of (chain_of q c).entries ∷ datagrams_of (cars q u) = ap datagrams_of e ∙ (λ j. datagram_of (is_x j) ∷ datagrams_of (sym left j)) in
+        let queued : datagrams p b ≡ datagram_of (chain_of q c).entries ∷ datagrams_of (queued_packets q u) = ap datagrams_of e ∙ (λ j. datagram_of (is_x j) ∷ datagrams_of (sym left j)) in
         record {
           shape = s;
           datagrams = queued;
-          each = subst (λ (cs : List Car). Each (λ (car : Car). IsDatagram car.entries) cs) (sym left) each.1;
-          cc = ready.cc ∙ ap bytes_queued queued ∙ cc_of (chain_of q c).entries s (datagrams_of (cars q u));
-          mbcnt = ready.mbcnt ∙ ap memory_queued queued ∙ mbcnt_of (chain_of q c).entries s (datagrams_of (cars q u));
+          each = subst (λ (cs : List QueuedPacket). Each (λ (queued_packet : QueuedPacket). IsDatagram queued_packet.entries) cs) (sym left) each.1;
+          cc = ready.cc ∙ ap bytes_queued queued ∙ cc_of (chain_of q c).entries s (datagrams_of (queued_packets q u));
+          mbcnt = ready.mbcnt ∙ ap memory_queued queued ∙ mbcnt_of (chain_of q c).entries s (datagrams_of (queued_packets q u));
         }
 
 -- the sender's address, in the first mbuf
@@ -198,7 +198,7 @@ taken {p} {q} {r} {b} {u} {c} {d} sender cc mbcnt ready i entries m is_sender is
     let s : Shape (chain_of q c).entries = o.shape in
     let apart : times c (numbers q u) ≡ 0 = apart_first q c (numbers q u) (owned_after i.moves ready.held.owned) in
     let same : SameAt q r (numbers q u) = beside_one u m apart i.held in
-    let kept : cars r u ≡ cars q u = cars_same q r u same in
+    let kept : queued_packets r u ≡ queued_packets q u = queued_packets_same q r u same in
     let rest : (chain_of r d).entries ≡ s.rest = entries ∙ ap (drop 1) s.is in
     let first : datagram_of (chain_of q c).entries ≡ datagram_from sender r d =
     ap (λ (a : Addr). record (datagram_of (chain_of q c).entries) { sender = a }) (sym is_sender)
@@ -211,8 +211,8 @@ taken {p} {q} {r} {b} {u} {c} {d} sender cc mbcnt ready i entries m is_sender is
       };
       ready = record {
         held = held_same q r u same i.held;
-        each = subst (λ (cs : List Car). Each (λ (car : Car). IsDatagram car.entries) cs) (sym kept) o.each;
-        cc = omega (arith, is_cc, o.cc, ap (λ (cs : List Car). bytes_queued (datagrams_of cs)) kept);
-        mbcnt = omega (arith, is_mbcnt, o.mbcnt, ap (λ (cs : List Car). memory_queued (datagrams_of cs)) kept);
+        each = subst (λ (cs : List QueuedPacket). Each (λ (queued_packet : QueuedPacket). IsDatagram queued_packet.entries) cs) (sym kept) o.each;
+        cc = omega (arith, is_cc, o.cc, ap (λ (cs : List QueuedPacket). bytes_queued (datagrams_of cs)) kept);
+        mbcnt = omega (arith, is_mbcnt, o.mbcnt, ap (λ (cs : List QueuedPacket). memory_queued (datagrams_of cs)) kept);
       };
     }

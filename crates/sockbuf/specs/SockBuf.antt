@@ -9,7 +9,7 @@ use Rattle.flat_model.specs.Fits.{bytes_queued, memory_queued, fits}
 use Rattle.flat_model.specs.declared.address.Addr.{Addr}
 use Rattle.mbuf_chain.specs.Chain.{Entry, PoolView, chain_of, flat_bytes, held_mbufs, string}
 use Rattle.mbuf_chain.specs.Owners.{Moves}
-use Rattle.mbuf_chain.specs.Train.{TrainView, Car, cars, numbers, IsHeld}
+use Rattle.mbuf_chain.specs.Train.{TrainView, QueuedPacket, queued_packets, numbers, IsHeld}
 use Rattle.ledger.specs.Accounts.{weight_of, weight_at}
 use Rattle.sockbuf.specs.declared.buffer.Refusal.{Refusal}
 use Rattle.sockbuf.specs.declared.buffer.Refusal.TheVariants.{Full, NoBufs}
@@ -51,12 +51,12 @@ abbrev pub IsDatagram : List Entry → Type 0
 IsDatagram [] = ⊥
 IsDatagram (front ∷ es) = (front ≡ address_entry (sockaddr_in front.bytes)) × (0 < length es)
 
-abbrev pub datagrams_of : List Car → List Datagram
-datagrams_of cs = map (λ (car : Car). datagram_of car.entries) cs
+abbrev pub datagrams_of : List QueuedPacket → List Datagram
+datagrams_of cs = map (λ (queued_packet : QueuedPacket). datagram_of queued_packet.entries) cs
 
 -- the datagrams of a queue, the oldest first
 abbrev pub datagrams : PoolView → SockBufView → List Datagram
-datagrams p b = datagrams_of (cars p b.train)
+datagrams p b = datagrams_of (queued_packets p b.train)
 
 -- the numbers of its chains
 abbrev pub chains_of : PoolView → SockBufView → List ℕ
@@ -69,7 +69,7 @@ memory_of w = 128 * w.mbufs + 2048 * length w.bag
 -- the queue and the pool fit together
 pub record IsSockBuf (p : PoolView) (b : SockBufView) : Type 0 where
   pub held : IsHeld p b.train
-  pub each : Each (λ (car : Car). IsDatagram car.entries) (cars p b.train)
+  pub each : Each (λ (queued_packet : QueuedPacket). IsDatagram queued_packet.entries) (queued_packets p b.train)
   pub cc : b.cc ≡ bytes_queued (datagrams p b)
   pub mbcnt : b.mbcnt ≡ memory_queued (datagrams p b)
 

@@ -1,4 +1,4 @@
-//! Plays a script over pools of many sizes, or random scripts, and closes everything behind each: nothing may be left in
+//! Plays a script over pools of many sizes, or random scripts, and closes everything after each: nothing may be left in
 //! any pool then.
 #![tactic(auto)]
 

@@ -43,7 +43,7 @@ pub(crate) fn random_packet(alloc: Global, random: &mut Pcg32) -> Result<String,
     hex::encode(alloc, bytes.as_slice())
 }
 
-/// Writes an IP header, and behind it, where there is room for one, that of UDP without a checksum.
+/// Writes an IP header, and after it, where there is room for one, that of UDP without a checksum.
 fn write_headers(packet: &mut [u8], random: &mut Pcg32) {
     let total = u16::try_from(packet.len()).unwrap_or(u16::MAX);
     let Some((header, carried)) = packet.split_first_chunk_mut::<IP_HEADER>() else {

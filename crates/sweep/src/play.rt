@@ -1,4 +1,4 @@
-//! Scripts played by `program` over pools of given sizes, with what closes everything behind them.
+//! Scripts played by `program` over pools of given sizes, with what closes everything after them.
 
 use crate::line;
 use link_script::program;

@@ -1,8 +1,9 @@
 -- Who hears a datagram, in each machine that has the blocks.
 use Rattle.std.proofs.Common.{◌≡◌, ℕ, zero, suc, ◌<◌, ◌≤◌, Bool, true, false, cond, List, [], ◌∷◌, get_or, Some, None, ◌==◌, sym, ap, ◌∙◌, arith}
 use Rattle.std.specs.Prelude.{option_to_list}
+use Rattle.flat_model.specs.declared.lookup_key.LookupKey.{LookupKey}
 use Rattle.flat_model.specs.Weight.{times}
-use Rattle.flat_model.specs.Lookup.{Sought, best, receivers}
+use Rattle.flat_model.specs.Lookup.{best, receivers}
 use Rattle.flat_model.proofs.Laws.{count_cons}
 use Rattle.pcb_table.specs.declared.block.Block.{Block}
 use Rattle.pcb_table.specs.Found.{Finds}
@@ -10,7 +11,7 @@ use Rattle.pcb_table.specs.Table.{Table, block_at, sockets_with}
 use Rattle.udp.specs.Datagrams.{AreHearers}
 use Rattle.udp.specs.Inside.{broadcasts}
 
-module _ (t : Table) (destination : ℕ) (q : Sought) (one : broadcasts t destination ≡ false) where
+module _ (t : Table) (destination : ℕ) (q : LookupKey) (one : broadcasts t destination ≡ false) where
   -- one is found
   pub one_hearer : (fd : ℕ) (fds : List ℕ) → Finds (best q) t (Some fd) → fds ≡ fd ∷ [] → AreHearers t destination q fds
   one_hearer fd fds finds is = record {

@@ -2,10 +2,10 @@
 -- `udp_output` and `udp_input` of TCP/IP Illustrated, volume 2, chapter 23).
 use Rattle.std.specs.Prelude.{◌≡◌, ◌⊎◌, ℕ, ◌<◌, ◌≤◌, ◌==◌, if◌then◌else◌, List, [], ◌∷◌, length, take, drop, map, All, Option, Some, None}
 use Rattle.params.specs.declared.TheConstants.{IP_HEADER, IP_UDP_HEADERS, PROTOCOL_UDP, UDP_HEADER}
+use Rattle.flat_model.specs.declared.lookup_key.LookupKey.{LookupKey}
 use Rattle.flat_model.specs.Weight.{times}
 use Rattle.flat_model.specs.State.{State}
 use Rattle.flat_model.specs.Header.{udp, udp_fault, udp_bytes, u16_at}
-use Rattle.flat_model.specs.Lookup.{Sought}
 use Rattle.flat_model.specs.Arrival.{hearers, no_port}
 use Rattle.flat_model.specs.declared.address.Addr.{Addr}
 use Rattle.flat_model.specs.declared.counters.Why.{Why}
@@ -15,19 +15,19 @@ use Rattle.mbuf_chain.specs.Steps.{overwritten, with_entry}
 use Rattle.chain_ops.specs.Trims.{only_first, without_first}
 use Rattle.ip_out.specs.declared.head.IpHead.{IpHead}
 use Rattle.pcb_table.specs.declared.block.Block.{Block}
-use Rattle.pcb_table.specs.Table.{Queues, Table, block_at, machine, packet_sought, socket_with}
+use Rattle.pcb_table.specs.Table.{Queues, Table, block_at, machine, packet_key, socket_with}
 use Rattle.udp.specs.declared.arrival.Outcome.{Outcome}
 use Rattle.udp.specs.declared.arrival.Outcome.TheVariants.{Deliver, Drop}
 
 -- ---- sent
 
--- a packet whose UDP header is written: 8 bytes of the first mbuf, behind the 20 of the IP header
+-- a packet whose UDP header is written: 8 bytes of the first mbuf, after the 20 of the IP header
 abbrev pub built : ℕ → ℕ → ℕ → ℕ → ChainView → ChainView
 built src dst sport dport v = with_entry v 0 (overwritten (entry_of v 0) IP_HEADER (take UDP_HEADER (udp src dst sport dport (drop IP_UDP_HEADERS (string v)))))
 
 -- ---- come
 
--- a datagram of n bytes cut to its data: what stands behind them goes, and then the header; no mbuf goes
+-- a datagram of n bytes cut to its data: what stands after them goes, and then the header; no mbuf goes
 abbrev pub without_header : ℕ → ChainView → ChainView
 without_header n v = record v { entries = without_first UDP_HEADER (only_first n v.entries) }
 
@@ -35,15 +35,15 @@ abbrev pub sender_of : IpHead → List ℕ → Addr
 sender_of h s = record { ip = h.src; port = u16_at 0 s }
 
 -- what a datagram asks for: its four values
-abbrev pub sought_by : IpHead → List ℕ → Sought
-sought_by h s = packet_sought h.dst (u16_at 2 s) (sender_of h s)
+abbrev pub key_by : IpHead → List ℕ → LookupKey
+key_by h s = packet_key h.dst (u16_at 2 s) (sender_of h s)
 
 -- what ends it before anybody is looked for
 abbrev pub fault_of : IpHead → List ℕ → Option Why
 fault_of h s = if h.proto == PROTOCOL_UDP then udp_fault h.src h.dst s else Some NoProtocol
 
 -- In each machine that has these blocks the sockets of these descriptors hear it, in this order, and no others.
-pub record AreHearers (t : Table) (destination : ℕ) (q : Sought) (fds : List ℕ) : Type 0 where
+pub record AreHearers (t : Table) (destination : ℕ) (q : LookupKey) (fds : List ℕ) : Type 0 where
   pub found : List Block
   pub named : fds ≡ map (λ b. b.fd) found
   pub once : (fd : ℕ) → times fd fds ≤ 1
@@ -54,7 +54,7 @@ pub record AreHearers (t : Table) (destination : ℕ) (q : Sought) (fds : List �
 pub record IsDelivered (p : PoolView) (c : ℕ) (h : IpHead) (t : Table) (q : PoolView) (to : List ℕ) (from : Addr) (d : ℕ) : Type 0 where
   pub faultless : fault_of h (string (chain_of p c)) ≡ None
   pub sender : from ≡ sender_of h (string (chain_of p c))
-  pub heard : AreHearers t h.dst (sought_by h (string (chain_of p c))) to
+  pub heard : AreHearers t h.dst (key_by h (string (chain_of p c))) to
   pub some : 0 < length to
   pub same : d ≡ c
   pub chain : q ≡ with_chain p c (without_header (u16_at 4 (string (chain_of p c))) (chain_of p c))
@@ -63,7 +63,7 @@ pub record IsDelivered (p : PoolView) (c : ℕ) (h : IpHead) (t : Table) (q : Po
 -- nobody hears it, and it's counted so
 pub record IsUnheard (h : IpHead) (t : Table) (s : List ℕ) (why : Why) : Type 0 where
   pub faultless : fault_of h s ≡ None
-  pub heard : AreHearers t h.dst (sought_by h s) []
+  pub heard : AreHearers t h.dst (key_by h s) []
   pub counted : (rest : State) (queues : Queues) → why ≡ no_port (machine rest queues t) h.dst
 
 -- from p to q, chain c was freed, for this cause

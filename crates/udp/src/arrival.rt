@@ -4,7 +4,7 @@ ghost use Rattle.flat_model.specs.Header.{udp_fault};
 ghost use Rattle.flat_model.specs.Arrival as flat;
 ghost use Rattle.mbuf_chain.specs.Chain.{IsLive, chain_of, string, with_chain, without};
 ghost use Rattle.mbuf_chain.specs.Owners.{Moves};
-ghost use Rattle.pcb_table.specs.Table.{IsDescriptor, packet_sought};
+ghost use Rattle.pcb_table.specs.Table.{IsDescriptor, packet_key};
 ghost use Rattle.udp.specs.Datagrams.{AreHearers, IsInput, chains_of, without_header};
 ghost use Rattle.udp.specs.Inside.{broadcasts, cut_to, header_in, unheard};
 
@@ -20,7 +20,7 @@ use pcb_table::{Pcbs, SOCKETS};
 
 /// What becomes of a datagram. It holds a chain, and so must be spent.
 pub enum Outcome {
-    /// These sockets get it, one or more. The chain has its data, behind the UDP header and no longer than its length
+    /// These sockets get it, one or more. The chain has its data, after the UDP header and no longer than its length
     /// says.
     Deliver {
         /// Their descriptors, the youngest socket first.
@@ -63,7 +63,7 @@ fn is_broadcast(pcbs: &Pcbs, ip: u32) -> bool
 
 // Who hears a datagram: many for a broadcast, else the best match.
 fn hearers(pcbs: &mut Pcbs, destination: u32, port: u16, source: Addr) -> ArrayVec<u32, SOCKETS>
-    ensures found { AreHearers pcbs.old destination (packet_sought destination port source) result.items }
+    ensures found { AreHearers pcbs.old destination (packet_key destination port source) result.items }
     ensures range { All IsDescriptor result.items }
     ensures blocks { pcbs.new ≡ pcbs.old }
 {
@@ -77,7 +77,7 @@ fn hearers(pcbs: &mut Pcbs, destination: u32, port: u16, source: Addr) -> ArrayV
     to
 }
 
-// Takes off what stands behind the first `len` bytes.
+// Takes off what stands after the first `len` bytes.
 fn drop_excess(pool: &mut Pool, chain: &Chain, len: u16)
     requires live { IsLive pool.old chain.now }
     requires most { length (string (chain_of pool.old chain.now)) ≤ IP_MAX_PACKET }
@@ -90,7 +90,7 @@ fn drop_excess(pool: &mut Pool, chain: &Chain, len: u16)
     }
 }
 
-// Leaves the data of a datagram of `len` bytes: what stands behind them goes, and then the header. No mbuf is freed.
+// Leaves the data of a datagram of `len` bytes: what stands after them goes, and then the header. No mbuf is freed.
 fn trim(pool: &mut Pool, chain: &Chain, len: u16)
     requires live { IsLive pool.old chain.now }
     requires most { length (string (chain_of pool.old chain.now)) ≤ IP_MAX_PACKET }
@@ -109,7 +109,7 @@ fn trim(pool: &mut Pool, chain: &Chain, len: u16)
 /// wrong (`UdpBadSum`); nobody hears it (`UdpNoPort`, and `UdpNoPortBroadcast` for the machine's broadcast address and
 /// 255.255.255.255). Its chain is freed then, and nothing else changes.
 ///
-/// Else it goes to the socket that the look-up finds, or for those two addresses to all that hear it. Bytes behind the
+/// Else it goes to the socket that the look-up finds, or for those two addresses to all that hear it. Bytes after the
 /// UDP length and the header are taken off by `m_adj`: the chain keeps its number, its mbufs and its clusters. No
 /// control block changes.
 pub fn input(pool: &mut Pool, chain: Chain, head: IpHead, pcbs: &mut Pcbs) -> Outcome

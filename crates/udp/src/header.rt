@@ -49,7 +49,7 @@ pub(crate) fn read_header(pool: &Pool, chain: &Chain) -> Header
     }
 }
 
-// Writes two numbers of 16 bits, one behind the other.
+// Writes two numbers of 16 bits, one after the other.
 fn put_pair(bytes: &mut [u8], first: u16, second: u16)
     requires { 4 ≤ length bytes.old }
     ensures { bytes.new ≡ (two_bytes first ++ two_bytes second) ++ drop 4 bytes.old }
@@ -58,7 +58,7 @@ fn put_pair(bytes: &mut [u8], first: u16, second: u16)
     BigEndian::write_u16(&mut bytes[2..], second);
 }
 
-// Writes two addresses, one behind the other.
+// Writes two addresses, one after the other.
 fn put_addresses(bytes: &mut [u8], source: u32, destination: u32)
     requires { 8 ≤ length bytes.old }
     ensures { bytes.new ≡ address_bytes source destination ++ drop 8 bytes.old }

@@ -36,7 +36,7 @@ pub(crate) fn is_right(pool: &Pool, chain: &Chain, header: Header, src: u32, dst
 
 /// Whether a datagram without its IP header, from `src` to `dst`, has no checksum or the right one: over the pseudo
 /// header and as many bytes as its UDP length says, which are 8 at least and no more than the chain has. What stands
-/// behind them counts for nothing. A field of 0 says that there is no checksum (RFC 768).
+/// after them counts for nothing. A field of 0 says that there is no checksum (RFC 768).
 ///
 /// That is, whether it has no fault: the two tests that come before this one are passed by condition.
 pub fn check(pool: &Pool, chain: &Chain, src: u32, dst: u32) -> bool

@@ -150,7 +150,7 @@ type Row = (&'static [u8], u8, u32, Fate, &'static [u8]);
 
 const ROWS: [Row; 16] = [
     (&HI, 17, OUR, HEARD, b"hi"),
-    // the checksum says nothing of what stands behind the length
+    // the checksum says nothing of what stands after the length
     (
         &[0x13, 0x88, 0, 7, 0, 10, 0x6f, 0xdf, 0x68, 0x69, 1, 2],
         17,

@@ -5,7 +5,7 @@ use Rattle.std.specs.List.{cons_option}
 use Rattle.std.proofs.lemmas.Bool.{cases_lt, cond-false}
 use Rattle.std.proofs.lemmas.List.{length-append, length-map}
 use Rattle.std.proofs.lemmas.List.Sums.{sum_by-cons}
-use Rattle.mbuf_chain.specs.Chain.{Entry, flat_bytes, back_room, room_end}
+use Rattle.mbuf_chain.specs.Chain.{Entry, flat_bytes, trailing_space, room_end}
 use Rattle.mbuf_chain.specs.Steps.{with_back}
 use Rattle.flat_model.specs.Weight.{Covers, times}
 use Rattle.flat_model.specs.Layout as flat
@@ -17,9 +17,9 @@ use Rattle.chain_ops.proofs.Joins.{plain_with_room, fill-goes, fill-stops}
 -- ---- how many mbufs
 filled_length : (e : Entry) (fs : List Entry) → length (filled_up e fs) ≤ suc (length fs)
 filled_length e [] = omega arith
-filled_length e (f ∷ fs) = go (cases_lt (length f.bytes) (back_room e)) (filled_length (with_back e f.bytes) fs)
+filled_length e (f ∷ fs) = go (cases_lt (length f.bytes) (trailing_space e)) (filled_length (with_back e f.bytes) fs)
   where
-    go : (length f.bytes < back_room e) ⊎ (back_room e ≤ length f.bytes) → length (filled_up (with_back e f.bytes) fs) ≤ suc (length fs) → length (filled_up e (f ∷ fs)) ≤ suc (suc (length fs))
+    go : (length f.bytes < trailing_space e) ⊎ (trailing_space e ≤ length f.bytes) → length (filled_up (with_back e f.bytes) fs) ≤ suc (length fs) → length (filled_up e (f ∷ fs)) ≤ suc (suc (length fs))
     go (inl h) ih = omega (arith, ih, ap (λ (xs : List Entry). length xs) (fill-goes e f fs h))
     go (inr h) ih = omega (arith, ap (λ (xs : List Entry). length xs) (fill-stops e f fs h))
 
@@ -52,9 +52,9 @@ times_laid c (e ∷ es) = omega (arith, times_cons c e.cluster (weight_of (laid 
 filled_refs : (c : ℕ) (e : Entry) (fs : List Entry) → refs c (filled_up e fs) ≤ one_at c e.cluster + refs c fs
 unfolding refs
 filled_refs c e [] = omega arith
-filled_refs c e (f ∷ fs) = go (cases_lt (length f.bytes) (back_room e)) (filled_refs c (with_back e f.bytes) fs)
+filled_refs c e (f ∷ fs) = go (cases_lt (length f.bytes) (trailing_space e)) (filled_refs c (with_back e f.bytes) fs)
   where
-    go : (length f.bytes < back_room e) ⊎ (back_room e ≤ length f.bytes) → refs c (filled_up (with_back e f.bytes) fs) ≤ one_at c e.cluster + refs c fs → refs c (filled_up e (f ∷ fs)) ≤ one_at c e.cluster + (one_at c f.cluster + refs c fs)
+    go : (length f.bytes < trailing_space e) ⊎ (trailing_space e ≤ length f.bytes) → refs c (filled_up (with_back e f.bytes) fs) ≤ one_at c e.cluster + refs c fs → refs c (filled_up e (f ∷ fs)) ≤ one_at c e.cluster + (one_at c f.cluster + refs c fs)
     go (inl h) ih = omega (arith, ih, ap (refs c) (fill-goes e f fs h))
     go (inr h) ih = omega (arith, ap (refs c) (fill-stops e f fs h))
 
@@ -74,19 +74,19 @@ cat_bag es fs c =
     omega (arith, times_laid c (cat es fs), times_laid c es, times_laid c fs, cat_refs c es fs, times-append c (weight_of (laid es)).bag (weight_of (laid fs)).bag)
 
 -- ---- room
-more_fit : (e f : Entry) → IsFit e → length f.bytes < back_room e → IsFit (with_back e f.bytes)
+more_fit : (e f : Entry) → IsFit e → length f.bytes < trailing_space e → IsFit (with_back e f.bytes)
 more_fit e f h room =
     let plain : e.cluster ≡ None = plain_with_room e (length f.bytes) room in
     let is : is_some e.cluster ≡ false = ap (λ (o : Option ℕ). is_some o) plain in
     let end : room_end e ≡ 128 = cond-false {A = ℕ} (is_some e.cluster) 2048 128 is in
-    let back : back_room e ≡ 128 - e.start - length e.bytes = cond-false {A = ℕ} (is_some e.cluster) 0 (128 - e.start - length e.bytes) is in
+    let back : trailing_space e ≡ 128 - e.start - length e.bytes = cond-false {A = ℕ} (is_some e.cluster) 0 (128 - e.start - length e.bytes) is in
     record { low = h.low; high = omega (arith, h.high, end, back, room, length-append e.bytes f.bytes) }
 
 filled_fit : (e : Entry) (fs : List Entry) → IsFit e → AreFit fs → AreFit (filled_up e fs)
 filled_fit e [] h hs = (h, tt)
-filled_fit e (f ∷ fs) h hs = go (cases_lt (length f.bytes) (back_room e)) (λ room. filled_fit (with_back e f.bytes) fs (more_fit e f h room) hs.1)
+filled_fit e (f ∷ fs) h hs = go (cases_lt (length f.bytes) (trailing_space e)) (λ room. filled_fit (with_back e f.bytes) fs (more_fit e f h room) hs.1)
   where
-    go : (length f.bytes < back_room e) ⊎ (back_room e ≤ length f.bytes) → (length f.bytes < back_room e → AreFit (filled_up (with_back e f.bytes) fs)) → AreFit (filled_up e (f ∷ fs))
+    go : (length f.bytes < trailing_space e) ⊎ (trailing_space e ≤ length f.bytes) → (length f.bytes < trailing_space e → AreFit (filled_up (with_back e f.bytes) fs)) → AreFit (filled_up e (f ∷ fs))
     go (inl room) ih = subst AreFit (sym (fill-goes e f fs room)) (ih room)
     go (inr room) ih = subst AreFit (sym (fill-stops e f fs room)) (h, (hs.0, hs.1))
 

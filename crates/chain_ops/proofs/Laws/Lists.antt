@@ -24,7 +24,7 @@ take_least m xs = elim (cases_lt m (length xs)) [
   | inr h ↦ take_all m xs h ∙ sym (take_all (min (length xs) m) xs (omega arith))
 ]
 
--- a piece of which the bytes behind `skip` are copied, as many as are wanted
+-- a piece of which the bytes after `skip` are copied, as many as are wanted
 pub piece_copied : (piece rest : List ℕ) (skip k want : ℕ) → skip ≤ length piece → k ≡ min (length piece - skip) want
     → take want (drop skip (piece ++ rest)) ≡ take k (drop skip piece) ++ take (want - k) rest
 piece_copied piece rest skip k want inside is =

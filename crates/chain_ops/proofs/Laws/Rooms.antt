@@ -30,7 +30,7 @@ fuel (suc k) (suc j) large small (suc m) l s a b =
     ap (λ (rooms : List Room). next_room large small (suc m) ∷ rooms)
     (fuel k j 2048 108 (suc m - size_of (next_room large small (suc m))) (omega arith) (omega arith) (omega (arith, some)) (omega (arith, some)))
 
--- the rooms for what is left behind a first mbuf
+-- the rooms for what is left after a first mbuf
 abbrev pub rest_rooms : ℕ → List Room
 rest_rooms m = filled m 2048 108 m
 

@@ -3,7 +3,7 @@ use Rattle.std.proofs.Common.{◌≡◌, ℕ, zero, suc, ◌-◌, ◌<◌, ◌�
 use Rattle.std.specs.Prelude.{◌⊎◌, ℤ, pos, negsuc, nat_le, is_some, None}
 use Rattle.std.proofs.lemmas.Bool.{cases_lt, cond-true, cond-false, eq-eqb, ne_eqb, lt-ltb, le-ltb}
 use Rattle.std.proofs.lemmas.List.{take_all, drop_all, take_rest, take-append-drop, drop-append-le}
-use Rattle.mbuf_chain.specs.Chain.{Entry, ChainView, entry_of, no_entry, flat_bytes, string, back_room}
+use Rattle.mbuf_chain.specs.Chain.{Entry, ChainView, entry_of, no_entry, flat_bytes, string, trailing_space}
 use Rattle.mbuf_chain.specs.Steps.{with_back, with_front, narrowed, empty_entry}
 use Rattle.chain_ops.specs.Rooms.{room_low, end_entry}
 use Rattle.chain_ops.specs.Copies.{Position, position_of, copied_entry, copied_from, copied, copied_all}
@@ -110,9 +110,9 @@ adjusted_are (negsuc n) es = only_first_bytes (length (flat_bytes es) - suc n) e
 -- ---- bytes moved between mbufs: the string stays
 filled_up_bytes : (e : Entry) (fs : List Entry) → flat_bytes (filled_up e fs) ≡ e.bytes ++ flat_bytes fs
 filled_up_bytes e [] = refl
-filled_up_bytes e (f ∷ fs) = go (cases_lt (length f.bytes) (back_room e)) (filled_up_bytes (with_back e f.bytes) fs)
+filled_up_bytes e (f ∷ fs) = go (cases_lt (length f.bytes) (trailing_space e)) (filled_up_bytes (with_back e f.bytes) fs)
   where
-    go : (length f.bytes < back_room e) ⊎ (back_room e ≤ length f.bytes) → flat_bytes (filled_up (with_back e f.bytes) fs) ≡ (e.bytes ++ f.bytes) ++ flat_bytes fs
+    go : (length f.bytes < trailing_space e) ⊎ (trailing_space e ≤ length f.bytes) → flat_bytes (filled_up (with_back e f.bytes) fs) ≡ (e.bytes ++ f.bytes) ++ flat_bytes fs
         → flat_bytes (filled_up e (f ∷ fs)) ≡ e.bytes ++ (f.bytes ++ flat_bytes fs)
     go (inl l) ih = ap flat_bytes (fill-goes e f fs l) ∙ ih ∙ append_assoc e.bytes f.bytes (flat_bytes fs)
     go (inr l) ih = ap flat_bytes (fill-stops e f fs l)

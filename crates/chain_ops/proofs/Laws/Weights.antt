@@ -43,7 +43,7 @@ met_none : (at a b : ℕ) → meets_from sized at [] a b ≡ []
 unfolding meets_from
 met_none at a b = refl
 
--- the copies behind the first
+-- the copies after the first
 later : (es : List Entry) (at a b : ℕ) → AllByRecursion (λ (e : Entry). 0 < length e.bytes) es → a ≤ at → clusters (meets_from sized at (laid es) a b) ≡ clusters (laid (copied_from 20 es 0 (b - at)))
 later [] at a b some h = ap clusters (met_none at a b)
 later (e ∷ es) at a b some h = go (cases_lt at b) (later es (at + length e.bytes) a b some.1 (omega arith))

@@ -74,7 +74,7 @@ fn cut_and_joined(rt: HostRuntime) -> Result<(), Fail> {
 #[test]
 fn plain_mbufs_joined(rt: HostRuntime) -> Result<(), Fail> {
     let mut pool = booted(rt.alloc(), 8, 0)?;
-    // Filled at the end: 2 places are left behind, an exact fit.
+    // Filled at the end: 2 places are left after, an exact fit.
     let a = user(&rt, &mut pool, b"ab");
     let b = user(&rt, &mut pool, b"cd");
     cat(&mut pool, &a, b);

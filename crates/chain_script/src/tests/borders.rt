@@ -169,7 +169,7 @@ fn splits(rt: HostRuntime) -> Result<(), Fail> {
     )
 }
 
-/// Writes inside, at the end and behind it: new mbufs of 108 bytes, and zeros in between.
+/// Writes inside, at the end and after it: new mbufs of 108 bytes, and zeros in between.
 #[test]
 fn writes_over(rt: HostRuntime) -> Result<(), Fail> {
     check(

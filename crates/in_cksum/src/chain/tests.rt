@@ -26,7 +26,7 @@ fn filled(rt: &impl Abort, pool: &mut Pool, header: bool, bytes: &[u8]) -> Chain
     chain
 }
 
-/// A chain of an empty mbuf, and behind it one for each piece.
+/// A chain of an empty mbuf, and after it one for each piece.
 #[tactic(auto, using(mbuf_chain::proofs::Maps::map_steps))]
 fn chain_of(rt: &impl Abort, pool: &mut Pool, pieces: &[&[u8]]) -> Chain
     ensures { IsLive pool.new result }
@@ -89,13 +89,13 @@ fn the_standards_example_in_three_mbufs(rt: HostRuntime) -> Result<(), Fail> {
         for second in 0..=rest.len() {
             let (middle, back) = rest.split_at(second);
             let sum = checksum_of(&rt, &mut pool, &[], &[front, middle, back], 0, 8);
-            assert_eq!(rt; sum, EXAMPLE_SUM, "cut at {first} and {second} behind it");
+            assert_eq!(rt; sum, EXAMPLE_SUM, "cut at {first} and {second} after it");
             let pieces = [front, &[], middle, &[], &[], back];
             let sum = checksum_of(&rt, &mut pool, &[], &pieces, 0, 8);
             assert_eq!(rt;
                 sum,
                 EXAMPLE_SUM,
-                "cut at {first} and {second} behind it, with empty mbufs"
+                "cut at {first} and {second} after it, with empty mbufs"
             );
         }
     }
@@ -103,9 +103,9 @@ fn the_standards_example_in_three_mbufs(rt: HostRuntime) -> Result<(), Fail> {
     Ok(())
 }
 
-// A part of the bytes was added before, and the chain has other bytes in front of the rest and behind it.
+// A part of the bytes was added before, and the chain has other bytes in front of the rest and after it.
 #[test]
-fn a_range_behind_a_sum(rt: HostRuntime) -> Result<(), Fail> {
+fn a_range_after_a_sum(rt: HostRuntime) -> Result<(), Fail> {
     let mut pool = booted(&rt)?;
     for cut in 0..=EXAMPLE.len() {
         let (before, rest) = EXAMPLE.split_at(cut);

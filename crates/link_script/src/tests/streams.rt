@@ -1,7 +1,7 @@
 //! Readers and writers that fail or don't end, by the program's statuses and texts.
 use crate::command_line::Failure;
 use crate::tests::{Breaking, Endless, Slow, expect_program};
-use crate::{RunFault, Untold};
+use crate::{RunFault, Silent};
 use std::test::Fail;
 
 const COMMANDS: [&str; 2] = ["bsdudp run", "bsdudp chain"];
@@ -23,7 +23,7 @@ fn failed_reads(rt: HostRuntime) -> Result<(), Fail> {
             ("a\n\nmbst", "? line\n? line\n"),
         ] {
             let mut written = Vec::new(rt.alloc());
-            let mut reader = Untold(Breaking(script.as_bytes()));
+            let mut reader = Silent(Breaking(script.as_bytes()));
             expect_program(&rt, rt.alloc(), line, &mut reader, &mut written, READ)?;
             assert_eq!(rt; written.as_slice(), want.as_bytes(), "at {line}");
         }
@@ -36,7 +36,7 @@ fn failed_reads(rt: HostRuntime) -> Result<(), Fail> {
 fn failed_writes(rt: HostRuntime) -> Result<(), Fail> {
     for line in COMMANDS {
         for errs in [true, false] {
-            let mut slow = Untold(Slow::new(errs));
+            let mut slow = Silent(Slow::new(errs));
             let mut reader = b"a\nb\n".as_slice();
             expect_program(&rt, rt.alloc(), line, &mut reader, &mut slow, WRITE)?;
             assert_eq!(rt; slow.0.taken.as_slice(), b"? ".as_slice(), "at {line}");
@@ -50,7 +50,7 @@ fn failed_writes(rt: HostRuntime) -> Result<(), Fail> {
 fn line_without_end(rt: HostRuntime) -> Result<(), Fail> {
     for line in COMMANDS {
         let mut written = Vec::new(rt.alloc());
-        let mut reader = Untold(Endless(b'a'));
+        let mut reader = Silent(Endless(b'a'));
         expect_program(&rt, rt.alloc(), line, &mut reader, &mut written, TOO_MANY)?;
         assert!(rt; written.is_empty(), "at {line}");
     }

@@ -21,7 +21,7 @@ fn reads_its_words(rt: HostRuntime) -> Result<(), Fail> {
         ("bsdudp --version", usage),
         ("bsdudp help", usage),
         ("bsdudp --mtu 68 run", usage),
-        // the value in the next word or behind `=`, in any order
+        // the value in the next word or after `=`, in any order
         ("bsdudp run --mtu 68", ran),
         ("bsdudp run --mbufs=1 --clusters 0", ran),
         (

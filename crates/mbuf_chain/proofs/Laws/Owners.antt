@@ -114,9 +114,9 @@ moves_beside us vs zs m a b = record {
   owned = λ k. omega (arith, m.owned k, a k, b k);
 }
 
--- they stand in front, or behind
-pub moves_behind : {p q : PoolView} {xs ys : List ℕ} (zs : List ℕ) → Moves p xs q ys → Moves p (zs ++ xs) q (zs ++ ys)
-moves_behind {p} {q} {xs} {ys} zs m = moves_beside (zs ++ xs) (zs ++ ys) zs m (λ k. times-append k zs xs) (λ k. times-append k zs ys)
+-- they stand in front, or after
+pub moves_after : {p q : PoolView} {xs ys : List ℕ} (zs : List ℕ) → Moves p xs q ys → Moves p (zs ++ xs) q (zs ++ ys)
+moves_after {p} {q} {xs} {ys} zs m = moves_beside (zs ++ xs) (zs ++ ys) zs m (λ k. times-append k zs xs) (λ k. times-append k zs ys)
 
 pub moves_before : {p q : PoolView} {xs ys : List ℕ} (zs : List ℕ) → Moves p xs q ys → Moves p (xs ++ zs) q (ys ++ zs)
 moves_before {p} {q} {xs} {ys} zs m = moves_beside (xs ++ zs) (ys ++ zs) zs m (λ k. omega (arith, times-append k xs zs)) (λ k. omega (arith, times-append k ys zs))
@@ -141,8 +141,8 @@ pub same_beside : {p q : PoolView} {xs ys : List ℕ} (zs : List ℕ) → Moves 
 same_beside {p} {q} {xs} {ys} zs m o h = record { mbufs = m.mbufs; same = λ k l. m.others k (live_owned p zs k o l) (h k l) }
 
 -- the same, where both are owned together
-pub same_behind : {p q : PoolView} {xs ys : List ℕ} (zs : List ℕ) → Moves p xs q ys → IsOwned p (zs ++ xs) → SameAt p q zs
-same_behind {p} {q} {xs} {ys} zs m o =
+pub same_after : {p q : PoolView} {xs ys : List ℕ} (zs : List ℕ) → Moves p xs q ys → IsOwned p (zs ++ xs) → SameAt p q zs
+same_after {p} {q} {xs} {ys} zs m o =
     same_beside zs m (λ k. omega (arith, o k, times-append k zs xs)) (λ k h. omega (arith, o k, times-append k zs xs, live_at_most p k))
 
 pub same_nothing : (p q : PoolView) (xs : List ℕ) → xs ≡ [] → q.mbufs ≡ p.mbufs → SameAt p q xs
@@ -208,7 +208,7 @@ apart_new {p} {q} {c} {v} xs a o = omega (arith, o c, live_none p c a.fresh)
 pub same_adds : {p q : PoolView} {c : ℕ} {v : ChainView} (xs : List ℕ) → Adds p q c v → IsOwned p xs → SameAt p q xs
 same_adds xs a o = same_beside xs (moves_adds a) o (λ k h. refl)
 
--- ---- a step of one chain behind others
+-- ---- a step of one chain after others
 pub then_without : {p q : PoolView} {xs : List ℕ} (r : PoolView) (c : ℕ) (ys : List ℕ) → Moves p xs q (c ∷ ys) → IsOwned p xs → r ≡ without q c → Moves p xs r ys
 then_without {p} {q} {xs} r c ys m o e =
     moves_trans m (moves_beside (c ∷ ys) ys ys (moves_without q r c (live_first q c ys (owned_after m o)) e) (λ k. omega arith) (λ k. omega arith))

@@ -32,7 +32,7 @@ live_is p k v is = is ∙ ap (λ (w : ChainView). Some w) (sym (ap (λ (o : Opti
 pub live_without : (p q : PoolView) (c : ℕ) → q ≡ without p c → (k : ℕ) → k ≢ c → IsLive p k → IsLive q k
 live_without p q c is k ne live = live_is q k (chain_of p k) (ap (λ (r : PoolView). finmap.get r.chains k) is ∙ get_left p.chains c k ne ∙ live)
 
--- how many mbufs a chain has with another behind it
+-- how many mbufs a chain has with another after it
 pub count_joined : (p q r : PoolView) (c d : ℕ) (w : ChainView) → Adds p q d w → r ≡ with_chain (without q d) c (joined (chain_of q c) (chain_of q d)) → c ≢ d
     → length (chain_of r c).entries ≡ length (chain_of p c).entries + length w.entries
 count_joined p q r c d w a is ne =
@@ -61,7 +61,7 @@ place_beside p q c k v at a live place = subst (λ (w : ChainView). IsPlace w at
 pub kept_adds : {p q : PoolView} {d : ℕ} {w : ChainView} (k : ℕ) → Adds p q d w → IsLive p k → finmap.get q.chains k ≡ finmap.get p.chains k
 kept_adds {p} {q} {d} {w} k a live = ap (λ (s : PoolView). finmap.get s.chains k) a.pool ∙ get_there p.chains d w k (apart p q d w a k live)
 
--- a new chain was linked behind c
+-- a new chain was linked after c
 pub kept_link : (p q r : PoolView) (k c d : ℕ) (v w : ChainView) → Adds p q d w → r ≡ with_chain (without q d) c v → IsLive p k → k ≢ c → finmap.get r.chains k ≡ finmap.get p.chains k
 kept_link p q r k c d v w a is live ne =
     ap (λ (s : PoolView). finmap.get s.chains k) is ∙ get_there (finmap.remove q.chains d) c v k ne ∙ get_left q.chains d k (apart p q d w a k live) ∙ kept_adds k a live
@@ -115,12 +115,12 @@ adds_in_place p q c w is = record {
   pool = is ∙ (λ i. record { mbufs = p.mbufs; clusters = p.clusters; chains = removed-insert p.chains c w i });
 }
 
--- a new chain was linked behind it
+-- a new chain was linked after it
 pub linked_new : (p q r : PoolView) (c d : ℕ) (w : ChainView) → IsLive p c → Adds p q d w → r ≡ with_chain (without q d) c (joined (chain_of q c) (chain_of q d)) → r ≡ with_chain p c (joined (chain_of p c) w)
 linked_new p q r c d w live a is =
     is ∙ (λ i. with_chain (adds_undone (without q d) a (λ _. without q d) i) c (joined (kept_with p q d w c a.pool (apart p q d w a c live) i) (shown_adds a i)))
 
--- it was linked behind a new chain
+-- it was linked after a new chain
 replaced : {X : Type 0} (m : FinMap nat_cmp X) (c d : ℕ) (w u : X) → finmap.insert (finmap.remove (finmap.insert m d w) c) d u ≡ finmap.insert (finmap.remove m c) d u
 replaced m c d w u = same _ _ (λ q. elim (cases_eq q d) [
   | inl e ↦ subst (λ (j : ℕ). finmap.get (finmap.insert (finmap.remove (finmap.insert m d w) c) d u) j ≡ finmap.get (finmap.insert (finmap.remove m c) d u) j) (sym e) (get_here _ d u ∙ sym (get_here _ d u))

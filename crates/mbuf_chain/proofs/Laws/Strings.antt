@@ -16,7 +16,7 @@ string_joined v w = bytes_append v.entries w.entries
 pub string_parts : (n : ℕ) (v : ChainView) → string (first_part n v) ++ string (second_part n v) ≡ string v
 string_parts n v = sym (bytes_append (take n v.entries) (drop n v.entries)) ∙ ap flat_bytes (take-append-drop n v.entries)
 
--- the bytes in front of an entry, its own, and those behind it
+-- the bytes in front of an entry, its own, and those after it
 pub string_around : (v : ChainView) (i : ℕ) → i < length v.entries → string v ≡ flat_bytes (take i v.entries) ++ ((entry_of v i).bytes ++ flat_bytes (drop (suc i) v.entries))
 string_around v i h = go v.entries i h
   where
@@ -42,7 +42,7 @@ string_front v i xs first h = ap (λ (j : ℕ). string (with_entry v j (with_fro
     go [] h = absurd (omega (arith, h))
     go (e ∷ es) h = append_assoc xs e.bytes (flat_bytes es)
 
--- bytes put behind the last entry's
+-- bytes put after the last entry's
 pub string_back : (v : ChainView) (i : ℕ) (xs : List ℕ) → i + 1 ≡ length v.entries → string (with_entry v i (with_back (entry_of v i) xs)) ≡ string v ++ xs
 string_back v i xs last = go v.entries i last
   where

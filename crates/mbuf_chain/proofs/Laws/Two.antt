@@ -102,7 +102,7 @@ two_freed {b} {p} {c} {d} q h is =
       | inr nd ↦ get_left p.chains d k nd ∙ h.others k nc nd
     ])
 
--- it was linked behind the first one, which is v then
+-- it was linked after the first one, which is v then
 pub two_linked : {b p : PoolView} {c d : ℕ} (q : PoolView) (v : ChainView) → HasTwo b p c d → q ≡ with_chain (without p d) c v → Adds b q c (chain_of q c)
 two_linked {b} {p} {c} {d} q v h is =
     one_left b q c (ap (λ (s : PoolView). s.mbufs) is ∙ h.mbufs) (ap (λ (s : PoolView). s.clusters) is ∙ h.clusters) h.first (live_shown (without p d) q c v is)
@@ -126,7 +126,7 @@ two_new {p} {q} {d} {w} c live a =
       others = λ k nc nd. ap (λ (s : PoolView). finmap.get s.chains k) a.pool ∙ get_there p.chains d w k nd ∙ sym (get_left p.chains c k nc);
     }
 
--- the first one was cut, and its back linked behind the second one
+-- the first one was cut, and its back linked after the second one
 pub two_moved : {b p : PoolView} {c d : ℕ} (q r : PoolView) (e : ℕ) (v w x : ChainView) → HasTwo b p c d → Adds (with_chain p c v) q e w → r ≡ with_chain (without q e) d x → HasTwo b r c d
 two_moved {b} {p} {c} {d} q r e v w x h a is =
     let two : HasTwo b (with_chain p c v) c d = two_first (with_chain p c v) v h refl in

@@ -35,15 +35,15 @@ fn walked(pool: &Pool, chain: &Chain) -> Place
     ensures { result.index + 1 ≡ length (chain_of pool.now chain.now).entries }
 {
     let mut last = pool.first(chain);
-    let mut behind = pool.next(chain, last);
-    'mbufs: while let Some(place) = behind {
+    let mut after = pool.next(chain, last);
+    'mbufs: while let Some(place) = after {
         last = place;
-        behind = pool.next(chain, last);
+        after = pool.next(chain, last);
     }
     last
 }
 
-/// Cuts a chain behind its first mbufs, and gives both parts back.
+/// Cuts a chain after its first mbufs, and gives both parts back.
 #[tactic(auto, using(crate::proofs::Maps::map_steps))]
 fn cut_and_free(pool: &mut Pool, chain: Chain, keep: u32) -> (u32, u32)
     requires live { IsLive pool.old chain }

@@ -60,12 +60,18 @@ fn room_of_an_mbuf(rt: HostRuntime) -> Result<(), Fail> {
     let mut pool = booted(rt.alloc(), 1, 0)?;
     let chain = pool.new_plain(false, 60).expect(&rt, "the mbuf is free");
     let at = pool.first(&chain);
-    let rooms = (pool.front_room(&chain, at), pool.back_room(&chain, at));
+    let rooms = (
+        pool.leading_space(&chain, at),
+        pool.trailing_space(&chain, at),
+    );
     assert_eq!(rt; rooms, (40, 68));
     put_back(&rt, &mut pool, &chain, at, b"gram");
     put_front(&rt, &mut pool, &chain, at, b"data");
     assert_eq!(rt; pool.bytes(&chain, at), b"datagram".as_slice());
-    let rooms = (pool.front_room(&chain, at), pool.back_room(&chain, at));
+    let rooms = (
+        pool.leading_space(&chain, at),
+        pool.trailing_space(&chain, at),
+    );
     assert_eq!(rt; rooms, (36, 64));
     pool.free_chain(chain);
     Ok(())

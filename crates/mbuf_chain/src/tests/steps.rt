@@ -15,7 +15,7 @@ pub(super) fn booted(alloc: Global, mbufs: u32, clusters: u32) -> Result<Pool, B
     Ok(Pool::over(store))
 }
 
-/// The place of a chain's mbuf behind so many others.
+/// The place of a chain's mbuf after so many others.
 pub(super) fn place(rt: &impl Abort, pool: &Pool, chain: &Chain, index: u32) -> Place
     requires { IsLive pool.now chain.now }
     ensures { IsPlace (chain_of pool.now chain.now) result }
@@ -52,7 +52,7 @@ fn must_be_unshared(rt: &impl Abort, pool: &Pool, chain: &Chain, at: Place)
     }
 }
 
-/// Puts bytes behind those of an mbuf.
+/// Puts bytes after those of an mbuf.
 pub(super) fn put_back(rt: &impl Abort, pool: &mut Pool, chain: &Chain, at: Place, bytes: &[u8])
     requires live { IsLive pool.old chain.now }
     requires place { IsPlace (chain_of pool.old chain.now) at }
@@ -74,12 +74,12 @@ pub(super) fn put_front(rt: &impl Abort, pool: &mut Pool, chain: &Chain, at: Pla
     ensures place { IsPlace (chain_of pool.new chain.now) at }
     ensures live { (k : ℕ) → IsLive pool.old k → IsLive pool.new k }
 {
-    assert!(rt; bytes.len() <= pool.front_room(chain, at) as usize);
+    assert!(rt; bytes.len() <= pool.leading_space(chain, at) as usize);
     must_be_unshared(rt, pool, chain, at);
     pool.put_front(chain, at, bytes);
 }
 
-/// Puts all bytes of another chain's mbuf behind those of an mbuf.
+/// Puts all bytes of another chain's mbuf after those of an mbuf.
 pub(super) fn append(
     rt: &impl Abort,
     pool: &mut Pool,
@@ -96,7 +96,7 @@ pub(super) fn append(
     ensures live { (k : ℕ) → IsLive pool.old k → IsLive pool.new k }
 {
     let count = pool.segment(other, from).len;
-    assert!(rt; count <= pool.back_room(chain, at));
+    assert!(rt; count <= pool.trailing_space(chain, at));
     must_be_unshared(rt, pool, chain, at);
     pool.append(chain, at, other, from, 0, count);
 }

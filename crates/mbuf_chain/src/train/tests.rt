@@ -3,9 +3,9 @@
 ghost use Rattle.std.specs.Prelude.{◌≡◌, ◌+◌, ◌<◌, ◌≤◌, [], OnOk, OnErr, IfOk, IsOkAnd, remove};
 ghost use Rattle.mbuf_chain.specs.Chain.{held_mbufs};
 ghost use Rattle.mbuf_chain.specs.Owners.{Moves};
-ghost use Rattle.mbuf_chain.specs.Train.{cars, car_at, numbers, IsCar, IsHeld};
+ghost use Rattle.mbuf_chain.specs.Train.{queued_packets, queued_packet_at, numbers, IsQueuedPlace, IsHeld};
 
-use crate::{CarPlace, Pool, Train};
+use crate::{Pool, QueuedPlace, Train};
 use mbuf_pool::{NoBufs, Sizes, Store};
 use std::test::Fail;
 
@@ -28,8 +28,8 @@ pub(crate) fn put_new(pool: &mut Pool, train: &mut Train, i: u32, tag: u32) -> R
 fn drop_at(pool: &mut Pool, train: &mut Train, i: u32) -> u32
     requires place { i < train.old.len }
     requires held { IsHeld pool.old train.old }
-    ensures tag { result ≡ (car_at pool.old train.old i).tag }
-    ensures cars { cars pool.new train.new ≡ remove (cars pool.old train.old) i }
+    ensures tag { result ≡ (queued_packet_at pool.old train.old i).tag }
+    ensures queued_packets { queued_packets pool.new train.new ≡ remove (queued_packets pool.old train.old) i }
     ensures held { IsHeld pool.new train.new }
     ensures len { train.new.len + 1 ≡ train.old.len }
     ensures moves { Moves pool.old (numbers pool.old train.old) pool.new (numbers pool.new train.new) }
@@ -39,21 +39,26 @@ fn drop_at(pool: &mut Pool, train: &mut Train, i: u32) -> u32
     tag
 }
 
-/// Puts a new packet without bytes in behind a place, and answers its own place.
-fn put_after(pool: &mut Pool, train: &mut Train, at: CarPlace, tag: u32) -> Result<CarPlace, NoBufs>
-    requires place { IsCar pool.old train.old at }
+/// Puts a new packet without bytes in after a place, and answers its own place.
+fn put_after(
+    pool: &mut Pool,
+    train: &mut Train,
+    at: QueuedPlace,
+    tag: u32,
+) -> Result<QueuedPlace, NoBufs>
+    requires place { IsQueuedPlace pool.old train.old at }
     requires held { IsHeld pool.old train.old }
-    ensures ok { IfOk result (λ to. IsCar pool.new train.new to) }
-    ensures kept { IsCar pool.new train.new at }
+    ensures ok { IfOk result (λ to. IsQueuedPlace pool.new train.new to) }
+    ensures kept { IsQueuedPlace pool.new train.new at }
     ensures held { IsHeld pool.new train.new }
 {
     let chain = pool.new_chain()?;
     Ok(train.insert_after(pool, at, chain, tag))
 }
 
-/// Frees the packet behind a place, and answers its tag.
-fn drop_after(pool: &mut Pool, train: &mut Train, at: CarPlace) -> u32
-    requires place { IsCar pool.old train.old at }
+/// Frees the packet after a place, and answers its tag.
+fn drop_after(pool: &mut Pool, train: &mut Train, at: QueuedPlace) -> u32
+    requires place { IsQueuedPlace pool.old train.old at }
     requires more { at.index + 1 < train.old.len }
     requires held { IsHeld pool.old train.old }
     ensures held { IsHeld pool.new train.new }

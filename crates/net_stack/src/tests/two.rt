@@ -82,7 +82,7 @@ fn hears_packets_that_come_twice_and_last_first(rt: HostRuntime) -> Result<(), F
     assert!(rt; room == pattern());
     assert_eq!(rt; hearer.counters(), heard(0));
     assert_eq!(rt; hearer.recvfrom(3, &mut room), Err(Errno::WouldBlock));
-    // the second copies of the last packet and of those behind it are one more datagram, never whole
+    // the second copies of the last packet and of those after it are one more datagram, never whole
     for _ in 0..60 {
         hearer.tick();
     }

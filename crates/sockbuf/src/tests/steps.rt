@@ -39,7 +39,7 @@ fn must_be_unshared(rt: &impl Abort, pool: &Pool, chain: &Chain, at: Place)
     }
 }
 
-/// Puts bytes behind those of a chain's first mbuf.
+/// Puts bytes after those of a chain's first mbuf.
 fn fill(rt: &impl Abort, pool: &mut Pool, chain: &Chain, bytes: &[u8])
     requires { IsLive pool.old chain.now }
     ensures { Moves pool.old (chain.now ∷ []) pool.new (chain.now ∷ []) }

@@ -21,8 +21,8 @@ mbufs-init c = record {
   end = c.requires.last;
 }
 
-pub returns-then-back_room-len-clause-makes : goal.returns-then-back_room-len-clause-makes
-returns-then-back_room-len-clause-makes c =
+pub returns-then-trailing_space-len-clause-makes : goal.returns-then-trailing_space-len-clause-makes
+returns-then-trailing_space-len-clause-makes c =
     let v : ChainView = chain_of c.mbufs.pool c.args.chain.now in
     let w : ChainView = chain_of c.mbufs.pool c.mbufs.back in
     let m = makes_new (two_linked c.link.new.self _ c.mbufs.invariant.two c.link.ensures.change) in
@@ -34,7 +34,7 @@ returns-then-back_room-len-clause-makes c =
       front = ap (λ (x : ChainView). x.front) shown ∙ c.mbufs.invariant.front;
       entries = ap (λ (x : ChainView). x.entries) shown
           ∙ ap (λ (es : List Entry). v.entries ++ es) split
-          ∙ fill_end v.entries c.args.last.index (entry_of w c.first-from.result.index) (drop 1 w.entries) c.mbufs.invariant.end (omega (arith, c.if-back_room-len.true, c.back_room.ensures.value, len))
+          ∙ fill_end v.entries c.args.last.index (entry_of w c.first-from.result.index) (drop 1 w.entries) c.mbufs.invariant.end (omega (arith, c.if-trailing_space-len.true, c.trailing_space.ensures.value, len))
           ∙ ap (λ (es : List Entry). take c.args.last.index v.entries ++ filled_up (entry_of v c.args.last.index) es) (sym split)
           ∙ c.mbufs.invariant.all;
     }
@@ -57,7 +57,7 @@ returns-in_default-clause-makes c =
     let kept = kept_with c.mbufs.pool c.append.new.self c.args.chain.now _ c.mbufs.back c.append.ensures (λ e. c.mbufs.invariant.two.apart (sym e)) in
     let split = first_split w c.first-from.result c.first-from.ensures.place c.first-from.ensures.index in
     let none : drop 1 w.entries ≡ [] = one_entry w.entries _ (drop 1 w.entries) split (sym (ap (λ (x : ChainView). length x.entries) kept) ∙ c.in_default.ensures.0) in
-    let moved = cat_moved c.mbufs.pool c.append.new.self c.args.chain.now c.mbufs.back c.args.last c.first-from.result c.segment-len.result.len c.append.ensures c.mbufs.invariant.place c.first-from.ensures.place c.first-from.ensures.index len (omega (arith, c.if-back_room-len.false, c.back_room.ensures.value)) in
+    let moved = cat_moved c.mbufs.pool c.append.new.self c.args.chain.now c.mbufs.back c.args.last c.first-from.result c.segment-len.result.len c.append.ensures c.mbufs.invariant.place c.first-from.ensures.place c.first-from.ensures.index len (omega (arith, c.if-trailing_space-len.false, c.trailing_space.ensures.value)) in
     let end = length_now _ _ _ _ _ c.append.ensures in
     record {
       adds = m.adds;
@@ -82,7 +82,7 @@ mbufs-preserved c =
     let same = kept_next c.drop_first.new.pool c.in-Some.rest two c.in-Some.ensures.adds in
     let len = ap (λ (x : Segment). x.len) c.segment-len.ensures.value in
     let kept = kept_with c.mbufs.pool c.append.new.self c.args.chain.now _ c.mbufs.back c.append.ensures (λ e. c.mbufs.invariant.two.apart (sym e)) in
-    let moved = cat_moved c.mbufs.pool c.append.new.self c.args.chain.now c.mbufs.back c.args.last c.first-from.result c.segment-len.result.len c.append.ensures c.mbufs.invariant.place c.first-from.ensures.place c.first-from.ensures.index len (omega (arith, c.if-back_room-len.false, c.back_room.ensures.value)) in
+    let moved = cat_moved c.mbufs.pool c.append.new.self c.args.chain.now c.mbufs.back c.args.last c.first-from.result c.segment-len.result.len c.append.ensures c.mbufs.invariant.place c.first-from.ensures.place c.first-from.ensures.index len (omega (arith, c.if-trailing_space-len.false, c.trailing_space.ensures.value)) in
     let rest = c.in-Some.ensures.entries ∙ ap (λ (x : ChainView). drop 1 x.entries) kept in
     record {
       two = next;

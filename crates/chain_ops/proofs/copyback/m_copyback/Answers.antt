@@ -9,7 +9,7 @@ use Rattle.mbuf_chain.proofs.Laws.Two.{two_new, two_first, two_linked}
 use Rattle.chain_ops.proofs.Writes.{in_plain-none, in_plain_bytes, plain_counts, copied_back_bytes}
 use Rattle.chain_ops.proofs.copyback.m_copyback.Goals as goal
 
--- nothing lies behind the end
+-- nothing lies after the end
 inside : (n off : ℕ) (xs : List ℕ) → off + length xs ≤ n → length (tail_of n off xs) ≡ 0
 inside n off xs h = omega (arith, h, length-append (replicate (off - n) 0) (drop (n - off) xs), length-replicate {A = ℕ} (off - n) 0, length-drop (n - off) xs)
 
@@ -37,7 +37,7 @@ overlay-requires-2-clause-live c = let two = two_new c.args.chain.now c.requires
 
 pub overlay-requires-2-clause-writable : goal.overlay-requires-2-clause-writable
 overlay-requires-2-clause-writable c =
-    let rest : List ℕ = replicate c.saturating_sub-2.result 0 ++ c.behind-rest.result.now in
+    let rest : List ℕ = replicate c.saturating_sub-2.result 0 ++ c.after-rest.result.now in
     (λ j. is_writable (λ n. plain_counts rest n c.in_ok-tail.ensures.ok j) (makes_kept c.args.chain.now c.in_ok-tail.ensures.ok c.requires.live j).entries c.args.off (length c.args.bytes.now))
     ∙ c.requires.writable
 
@@ -53,7 +53,7 @@ pub link_counted-requires-clause-len : goal.link_counted-requires-clause-len
 link_counted-requires-clause-len c =
     let q : PoolView = c.new_tail.new.pool in
     let two = two_new c.args.chain.now c.requires.live c.in_ok-tail.ensures.ok.adds in
-    let xs : List ℕ = c.behind-rest.result.now in
+    let xs : List ℕ = c.after-rest.result.now in
     let z : ℕ = c.saturating_sub-2.result in
     let kept = kept_with q c.overlay-2.new.pool c.args.chain.now _ c.in_ok-tail.tail c.overlay-2.ensures (λ e. two.apart (sym e)) in
     let bytes = ap (λ (v : ChainView). length (flat_bytes v.entries)) kept ∙ ap (λ (es : List Entry). length (flat_bytes es)) c.in_ok-tail.ensures.ok.entries ∙ ap (λ (ys : List ℕ). length ys) (in_plain_bytes (replicate z 0 ++ xs)) in
@@ -62,7 +62,7 @@ link_counted-requires-clause-len c =
       bytes,
       length-append (replicate z 0) xs,
       length-replicate {A = ℕ} z 0,
-      ap (λ (ys : List ℕ). length ys) c.behind-rest.ensures,
+      ap (λ (ys : List ℕ). length ys) c.after-rest.ensures,
       length-drop c.saturating_sub.result c.args.bytes.now,
       c.saturating_sub.ensures,
       c.saturating_sub-2.ensures,
@@ -88,7 +88,7 @@ returns-clause-ok c =
     let was = makes_kept k c.in_ok-tail.ensures.ok c.requires.live in
     let back = kept_with q r k _ d c.overlay-2.ensures (λ e. two.apart (sym e)) in
     let gap : c.saturating_sub-2.result ≡ off - length (flat_bytes v.entries) = c.saturating_sub-2.ensures ∙ ap (λ (n : ℕ). off - n) c.len-len.ensures in
-    let rest : c.behind-rest.result.now ≡ drop (length (flat_bytes v.entries) - off) xs = c.behind-rest.ensures ∙ ap (λ (n : ℕ). drop n xs) (c.saturating_sub.ensures ∙ ap (λ (n : ℕ). n - off) c.len-len.ensures) in
+    let rest : c.after-rest.result.now ≡ drop (length (flat_bytes v.entries) - off) xs = c.after-rest.ensures ∙ ap (λ (n : ℕ). drop n xs) (c.saturating_sub.ensures ∙ ap (λ (n : ℕ). n - off) c.len-len.ensures) in
     record {
       adds = m.adds;
       front = ap (λ (x : ChainView). x.front) shown ∙ ap (λ (x : ChainView). x.front) front ∙ ap (λ (x : ChainView). x.front) was;

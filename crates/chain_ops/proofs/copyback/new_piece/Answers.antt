@@ -1,6 +1,6 @@
 use Rattle.std.proofs.Common.{◌≡◌, ℕ, ◌+◌, ◌++◌, false, None, List, length, take, replicate, arith, ap, sym, ◌∙◌, subst}
 use Rattle.std.proofs.lemmas.List.{length-take, length-replicate}
-use Rattle.mbuf_chain.specs.Chain.{Entry, PoolView, HasBackRoom, chain_of, entry_in, with_chain, entry_of, Adds}
+use Rattle.mbuf_chain.specs.Chain.{Entry, PoolView, HasTrailingSpace, chain_of, entry_in, with_chain, entry_of, Adds}
 use Rattle.mbuf_chain.specs.Steps.{one_mbuf, with_back, with_entry, empty_entry}
 use Rattle.mbuf_chain.proofs.Laws.Owners.{live_adds}
 use Rattle.mbuf_chain.proofs.Laws.Steps.{place_after, new_entry, filled}
@@ -17,7 +17,7 @@ put_back-requires-clause-unshared c =
 
 pub put_back-requires-clause-fits : goal.put_back-requires-clause-fits
 put_back-requires-clause-fits c =
-    subst (λ (e : Entry). HasBackRoom e (length c.zeros.result.now)) (sym (new_entry c.args.pool.now c.new_plain.new.self c.in_ok-chain.chain c.first-at.result.index _ _ c.in_ok-chain.ensures.ok c.first-at.ensures.index))
+    subst (λ (e : Entry). HasTrailingSpace e (length c.zeros.result.now)) (sym (new_entry c.args.pool.now c.new_plain.new.self c.in_ok-chain.chain c.first-at.result.index _ _ c.in_ok-chain.ensures.ok c.first-at.ensures.index))
     (omega (arith, ap (λ (xs : List ℕ). length xs) c.zeros.ensures, length-replicate {A = ℕ} c.min-blank.result 0, c.min-blank.ensures))
 
 pub put_back-requires-2-clause-live : goal.put_back-requires-2-clause-live
@@ -40,7 +40,7 @@ put_back-requires-2-clause-unshared c =
 pub put_back-requires-2-clause-fits : goal.put_back-requires-2-clause-fits
 put_back-requires-2-clause-fits c =
     let a = first_filled c.args.pool.now c.new_plain.new.self c.put_back.new.self c.in_ok-chain.chain c.first-at.result.index c.zeros.result.now c.in_ok-chain.ensures.ok c.first-at.ensures.index c.put_back.ensures in
-    subst (λ (e : Entry). HasBackRoom e (length (take c.min-count.result c.args.bytes.now))) (sym (new_entry c.args.pool.now c.put_back.new.self c.in_ok-chain.chain c.first-at.result.index _ _ a c.first-at.ensures.index))
+    subst (λ (e : Entry). HasTrailingSpace e (length (take c.min-count.result c.args.bytes.now))) (sym (new_entry c.args.pool.now c.put_back.new.self c.in_ok-chain.chain c.first-at.result.index _ _ a c.first-at.ensures.index))
     (omega (arith, ap (λ (xs : List ℕ). length xs) c.zeros.ensures, length-replicate {A = ℕ} c.min-blank.result 0, c.min-blank.ensures, c.min-count.ensures, length-take c.min-count.result c.args.bytes.now))
 
 pub returns-clause-ok : goal.returns-clause-ok

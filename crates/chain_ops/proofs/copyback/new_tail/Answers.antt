@@ -47,8 +47,8 @@ mbufs-init c =
     let m = makes_new c.in_ok-chain.ensures.ok in
     record {
       made = record { adds = m.adds; front = m.front; entries = refl };
-      all = step [] _ c.args.gap c.saturating_sub-blank.result _ c.args.bytes.now c.behind-rest.result.now c.requires.some c.saturating_sub-blank.ensures c.saturating_sub.ensures c.behind-rest.ensures m.entries;
-      most = omega (arith, c.requires.most, c.saturating_sub-blank.ensures, ap (λ (xs : List ℕ). length xs) c.behind-rest.ensures, length-drop c.saturating_sub.result c.args.bytes.now);
+      all = step [] _ c.args.gap c.saturating_sub-blank.result _ c.args.bytes.now c.after-rest.result.now c.requires.some c.saturating_sub-blank.ensures c.saturating_sub.ensures c.after-rest.ensures m.entries;
+      most = omega (arith, c.requires.most, c.saturating_sub-blank.ensures, ap (λ (xs : List ℕ). length xs) c.after-rest.ensures, length-drop c.saturating_sub.result c.args.bytes.now);
       last = c.first-last.ensures.place;
       end = omega (arith, c.first-last.ensures.index, ap (λ (es : List Entry). length es) m.entries);
     }
@@ -92,9 +92,9 @@ mbufs-preserved c =
     let done : List Entry = (chain_of p d).entries in
     record {
       made = record { adds = m.adds; front = m.front ∙ inv.made.front; entries = refl };
-      all = step done _ c.mbufs.blank c.saturating_sub-blank-in-mbufs.result _ c.mbufs.rest.now c.behind-rest-in-mbufs.result.now (omega arith) c.saturating_sub-blank-in-mbufs.ensures c.saturating_sub-in-mbufs.ensures c.behind-rest-in-mbufs.ensures m.entries
+      all = step done _ c.mbufs.blank c.saturating_sub-blank-in-mbufs.result _ c.mbufs.rest.now c.after-rest-in-mbufs.result.now (omega arith) c.saturating_sub-blank-in-mbufs.ensures c.saturating_sub-in-mbufs.ensures c.after-rest-in-mbufs.ensures m.entries
           ∙ inv.all;
-      most = omega (arith, inv.most, c.saturating_sub-blank-in-mbufs.ensures, ap (λ (xs : List ℕ). length xs) c.behind-rest-in-mbufs.ensures, length-drop c.saturating_sub-in-mbufs.result c.mbufs.rest.now);
+      most = omega (arith, inv.most, c.saturating_sub-blank-in-mbufs.ensures, ap (λ (xs : List ℕ). length xs) c.after-rest-in-mbufs.ensures, length-drop c.saturating_sub-in-mbufs.result c.mbufs.rest.now);
       last = c.link_counted-last.ensures.place;
       end = omega (arith, c.link_counted-last.ensures.index, inv.end, ap (λ (es : List Entry). length es) m.entries, length-append done (first_entry (replicate c.mbufs.blank 0 ++ c.mbufs.rest.now) ∷ []));
     }

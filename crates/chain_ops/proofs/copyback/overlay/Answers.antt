@@ -60,15 +60,15 @@ mbufs-preserved c =
     let at = c.mbufs.at in
     let e : Entry = entry_of v at.index in
     let xs : List ℕ = c.mbufs.rest.now in
-    let later : List ℕ = c.behind-rest.result.now in
+    let later : List ℕ = c.after-rest.result.now in
     let inv = c.mbufs.invariant in
     let len = ap (λ (x : Segment). x.len) c.segment-len.ensures.value in
-    let rest : later ≡ drop (c.segment-len.result.len - c.mbufs.skip) xs = c.behind-rest.ensures ∙ ap (λ (n : ℕ). drop n xs) c.saturating_sub.ensures in
+    let rest : later ≡ drop (c.segment-len.result.len - c.mbufs.skip) xs = c.after-rest.ensures ∙ ap (λ (n : ℕ). drop n xs) c.saturating_sub.ensures in
     let parts = writable_parts (references c.args.pool.now) e (drop (at.index + 1) v.entries) c.mbufs.skip (length xs) (some_bytes xs _ c.is_empty.ensures c.mbufs-test.true)
     (ap (λ (es : List Entry). is_writable (references c.args.pool.now) es c.mbufs.skip (length xs)) (sym (at_entry v at inv.place)) ∙ inv.writable) in
     let skip : c.saturating_sub-skip.result ≡ c.mbufs.skip - length e.bytes = c.saturating_sub-skip.ensures ∙ ap (λ (n : ℕ). c.mbufs.skip - n) len in
     let size : length later ≡ length xs - (length e.bytes - c.mbufs.skip) = omega (arith, ap (λ (ys : List ℕ). length ys) rest, length-drop (c.segment-len.result.len - c.mbufs.skip) xs, len) in
-    let behind : drop c.in-Some.place.index (chain_of r k).entries ≡ drop (at.index + 1) v.entries =
+    let after : drop c.in-Some.place.index (chain_of r k).entries ≡ drop (at.index + 1) v.entries =
     (λ j. drop (c.in-Some.ensures.1 j) (entries_now q r k at.index _ c.overlay_mbuf.ensures j)) ∙ drop-set-lt (at.index + 1) v.entries at.index _ (omega arith) in
     record {
       step = changed_step _ _ _ _ _ _ inv.step c.overlay_mbuf.ensures;
@@ -76,7 +76,7 @@ mbufs-preserved c =
           ∙ overlay_all q r k at c.mbufs.skip c.in-Some.place.index c.segment-len.result.len xs later inv.place len rest c.overlay_mbuf.ensures c.in-Some.ensures.1 ∙ inv.all;
       place = c.in-Some.ensures.0;
       counts = λ n. counts_stay q r k at.index n _ (live_shown _ _ _ _ inv.step) inv.place.within refl c.overlay_mbuf.ensures ∙ inv.counts n;
-      writable = (λ j. is_writable (references c.args.pool.now) (behind j) (skip j) (size j)) ∙ parts.1;
+      writable = (λ j. is_writable (references c.args.pool.now) (after j) (skip j) (size j)) ∙ parts.1;
     }
 
 pub returns-in_default : goal.returns-in_default
@@ -86,10 +86,10 @@ returns-in_default c =
     let k : ℕ = c.args.chain.now in
     let at = c.mbufs.at in
     let xs : List ℕ = c.mbufs.rest.now in
-    let later : List ℕ = c.behind-rest.result.now in
+    let later : List ℕ = c.after-rest.result.now in
     let inv = c.mbufs.invariant in
     let len = ap (λ (x : Segment). x.len) c.segment-len.ensures.value in
-    let rest : later ≡ drop (c.segment-len.result.len - c.mbufs.skip) xs = c.behind-rest.ensures ∙ ap (λ (n : ℕ). drop n xs) c.saturating_sub.ensures in
+    let rest : later ≡ drop (c.segment-len.result.len - c.mbufs.skip) xs = c.after-rest.ensures ∙ ap (λ (n : ℕ). drop n xs) c.saturating_sub.ensures in
     let end = walk_end (chain_of r k).entries (λ es. overlaid es (c.mbufs.skip - c.segment-len.result.len) later) at.index c.in_default.ensures refl in
     let all = overlay_all q r k at c.mbufs.skip (at.index + 1) c.segment-len.result.len xs later inv.place len rest c.overlay_mbuf.ensures refl in
     changed_step _ _ _ _ _ _ inv.step c.overlay_mbuf.ensures ∙ ap (changed c.args.pool.now k) (sym end ∙ all ∙ inv.all)

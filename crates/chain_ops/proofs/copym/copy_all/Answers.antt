@@ -7,7 +7,7 @@ use Rattle.chain_ops.specs.Rooms.{room_low}
 use Rattle.chain_ops.specs.Copies.{copied_all, copied_entry}
 use Rattle.chain_ops.proofs.Laws.Makes.{makes_new, makes_then, makes_undone, makes_live, makes_kept, makes_held, makes_mbufs}
 use Rattle.chain_ops.proofs.Laws.Steps.{place_in}
-use Rattle.chain_ops.proofs.Lists.{none_behind, all_start, all_step, all_some}
+use Rattle.chain_ops.proofs.Lists.{none_after, all_start, all_step, all_some}
 use Rattle.chain_ops.proofs.copym.copy_all.Goals as goal
 
 pub first-last-requires : goal.first-last-requires
@@ -79,7 +79,7 @@ returns-clause-ok c =
     record {
       adds = m.adds;
       front = m.front ∙ ap alone c.has_header-header.ensures;
-      entries = sym (append-nil done) ∙ ap (λ (es : List Entry). done ++ copied_all 20 es) (sym (none_behind v.entries c.mbufs.at.index end))
+      entries = sym (append-nil done) ∙ ap (λ (es : List Entry). done ++ copied_all 20 es) (sym (none_after v.entries c.mbufs.at.index end))
           ∙ c.mbufs.invariant.all ∙ ap (λ (h : Bool). copied_all (room_low h) v.entries) c.has_header-header.ensures;
     }
 

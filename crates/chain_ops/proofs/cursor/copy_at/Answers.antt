@@ -8,7 +8,7 @@ use Rattle.mbuf_chain.proofs.Laws.Owners.{live_adds}
 use Rattle.chain_ops.specs.Copies.{copied, copied_entry, copied_from}
 use Rattle.chain_ops.proofs.Laws.Makes.{makes_new, makes_then, makes_undone, makes_live, makes_kept, makes_held, makes_mbufs}
 use Rattle.chain_ops.proofs.Laws.Steps.{place_in}
-use Rattle.chain_ops.proofs.Lists.{flat_at, flat_behind, copied_none, copied_some, copied_start, copied_step, cursor_left, cursor_inside, cursor_first}
+use Rattle.chain_ops.proofs.Lists.{flat_at, flat_after, copied_none, copied_some, copied_start, copied_step, cursor_left, cursor_inside, cursor_first}
 use Rattle.chain_ops.proofs.cursor.copy_at.Goals as goal
 
 pub overflow_sub-segment : goal.overflow_sub-segment
@@ -53,7 +53,7 @@ pub unwrap-at-requires : goal.unwrap-at-requires
 unwrap-at-requires c =
     let v : ChainView = chain_of c.args.pool.now c.args.chain.now in
     some_since _ _ _ c.next.ensures
-    (λ e. omega (arith, flat_behind v.entries c.mbufs.at.index (e ∙ ap (λ (w : ChainView). length w.entries) (makes_kept _ c.mbufs.invariant.made c.requires.live)), c.mbufs.invariant.within, c.mbufs-test.true))
+    (λ e. omega (arith, flat_after v.entries c.mbufs.at.index (e ∙ ap (λ (w : ChainView). length w.entries) (makes_kept _ c.mbufs.invariant.made c.requires.live)), c.mbufs.invariant.within, c.mbufs-test.true))
 
 pub returns-in_default-clause-err : goal.returns-in_default-clause-err
 returns-in_default-clause-err c =

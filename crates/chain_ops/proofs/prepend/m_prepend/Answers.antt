@@ -1,5 +1,5 @@
 use Rattle.std.proofs.Common.{ℕ, length, arith, ap, sym, ◌∙◌, subst}
-use Rattle.mbuf_chain.specs.Chain.{Entry, ChainView, PoolView, IsLive, IsPlace, HasBackRoom, chain_of, entry_in, front_room, with_chain, flat_bytes}
+use Rattle.mbuf_chain.specs.Chain.{Entry, ChainView, PoolView, IsLive, IsPlace, HasTrailingSpace, chain_of, entry_in, leading_space, with_chain, flat_bytes}
 use Rattle.mbuf_chain.specs.Steps.{with_back, with_entry}
 use Rattle.mbuf_chain.proofs.Laws.Owners.{live_adds, shown_adds}
 use Rattle.mbuf_chain.proofs.Laws.Steps.{live_beside, place_after, new_entry, filled}
@@ -10,9 +10,9 @@ use Rattle.chain_ops.specs.Rooms.{room_low}
 use Rattle.mbuf_chain.proofs.Laws.Accounts.{held-adds}
 use Rattle.chain_ops.proofs.prepend.m_prepend.Goals as goal
 
-pub returns-then-len-front_room-clause-ok : goal.returns-then-len-front_room-clause-ok
-returns-then-len-front_room-clause-ok c =
-    prepended_in _ _ _ _ c.args.bytes.now c.first-first.ensures.place c.first-first.ensures.index (omega (arith, c.if-len-front_room.true, c.front_room.ensures.value)) c.put_front.ensures
+pub returns-then-len-leading_space-clause-ok : goal.returns-then-len-leading_space-clause-ok
+returns-then-len-leading_space-clause-ok c =
+    prepended_in _ _ _ _ c.args.bytes.now c.first-first.ensures.place c.first-first.ensures.index (omega (arith, c.if-len-leading_space.true, c.leading_space.ensures.value)) c.put_front.ensures
 
 pub first-at-requires : goal.first-at-requires
 first-at-requires c = live_adds c.in_ok-new.ensures.ok
@@ -23,7 +23,7 @@ put_back-requires-clause-unshared c =
 
 pub put_back-requires-clause-fits : goal.put_back-requires-clause-fits
 put_back-requires-clause-fits c =
-    subst (λ (e : Entry). HasBackRoom e (length c.args.bytes.now)) (sym (new_entry c.args.pool.now c.new_plain.new.self c.in_ok-new.new c.first-at.result.index _ _ c.in_ok-new.ensures.ok c.first-at.ensures.index))
+    subst (λ (e : Entry). HasTrailingSpace e (length c.args.bytes.now)) (sym (new_entry c.args.pool.now c.new_plain.new.self c.in_ok-new.new c.first-at.result.index _ _ c.in_ok-new.ensures.ok c.first-at.ensures.index))
     (omega (arith, c.at_end.ensures, at_end_fits (room_low c.has_header-header.result) (length c.args.bytes.now) (omega (arith, low_at_most c.has_header-header.result, c.requires.most))))
 
 pub link-requires-clause-front : goal.link-requires-clause-front
@@ -53,23 +53,23 @@ returns-clause-ok c =
     let entry = new_entry c.args.pool.now q d c.first-at.result.index _ _ c.in_ok-new.ensures.ok c.first-at.ensures.index in
     let put = c.put_back.ensures ∙ ap (λ (e : Entry). with_chain q d (with_entry (chain_of q d) c.first-at.result.index (with_back e c.args.bytes.now))) entry in
     prepended_new c.args.pool.now c.put_back.new.self _ c.args.chain.now c.replace-old.result d _ _ _ c.args.bytes.now
-    c.has_header-header.ensures (omega (arith, c.if-len-front_room.false, c.front_room.ensures.value, ap (front_room v) c.first-first.ensures.index)) c.at_end.ensures c.replace-old.ensures.value c.replace-old.ensures.after c.requires.live
+    c.has_header-header.ensures (omega (arith, c.if-len-leading_space.false, c.leading_space.ensures.value, ap (leading_space v) c.first-first.ensures.index)) c.at_end.ensures c.replace-old.ensures.value c.replace-old.ensures.after c.requires.live
     (filled c.args.pool.now q c.put_back.new.self d c.first-at.result.index c.has_header-header.result _ _ c.in_ok-new.ensures.ok c.first-at.ensures.index put)
     c.link.ensures.change
 
-pub returns-then-len-front_room-clause-enough : goal.returns-then-len-front_room-clause-enough
-returns-then-len-front_room-clause-enough c =
+pub returns-then-len-leading_space-clause-enough : goal.returns-then-len-leading_space-clause-enough
+returns-then-len-leading_space-clause-enough c =
     let v : ChainView = chain_of c.args.pool.now c.args.chain.now in
-    omega (arith, c.laws.ensures.few, need_none v (length c.args.bytes.now) (omega (arith, c.if-len-front_room.true, c.front_room.ensures.value, ap (front_room v) c.first-first.ensures.index)))
+    omega (arith, c.laws.ensures.few, need_none v (length c.args.bytes.now) (omega (arith, c.if-len-leading_space.true, c.leading_space.ensures.value, ap (leading_space v) c.first-first.ensures.index)))
 
 pub returns-clause-enough : goal.returns-clause-enough
 returns-clause-enough c =
     let v : ChainView = chain_of c.args.pool.now c.args.chain.now in
-    omega (arith, c.laws-2.ensures.few, held-adds c.in_ok-new.ensures.ok, ap (λ (s : PoolView). s.mbufs) c.in_ok-new.ensures.ok.pool, need_one v (length c.args.bytes.now) (omega (arith, c.if-len-front_room.false, c.front_room.ensures.value, ap (front_room v) c.first-first.ensures.index)))
+    omega (arith, c.laws-2.ensures.few, held-adds c.in_ok-new.ensures.ok, ap (λ (s : PoolView). s.mbufs) c.in_ok-new.ensures.ok.pool, need_one v (length c.args.bytes.now) (omega (arith, c.if-len-leading_space.false, c.leading_space.ensures.value, ap (leading_space v) c.first-first.ensures.index)))
 
-pub returns-then-len-front_room-clause-string : goal.returns-then-len-front_room-clause-string
-returns-then-len-front_room-clause-string c =
-    let m = returns-then-len-front_room-clause-ok c in
+pub returns-then-len-leading_space-clause-string : goal.returns-then-len-leading_space-clause-string
+returns-then-len-leading_space-clause-string c =
+    let m = returns-then-len-leading_space-clause-ok c in
     ap flat_bytes m.entries ∙ prepended_bytes (chain_of c.args.pool.now c.args.chain.now) c.args.bytes.now
 
 pub returns-clause-string : goal.returns-clause-string

@@ -2,7 +2,7 @@ use Rattle.std.proofs.Common.{◌≡◌, ℕ, ◌-◌, ◌++◌, List, [], lengt
 use Rattle.std.specs.Prelude.{slice_set}
 use Rattle.std.proofs.lemmas.List.{length-drop, length-append, length-take}
 use Rattle.mbuf_chain.specs.declared.place.Segment.{Segment}
-use Rattle.mbuf_chain.specs.Chain.{Entry, ChainView, PoolView, HasBackRoom, chain_of, entry_of, flat_bytes}
+use Rattle.mbuf_chain.specs.Chain.{Entry, ChainView, PoolView, HasTrailingSpace, chain_of, entry_of, flat_bytes}
 use Rattle.mbuf_chain.specs.Steps.{narrowed}
 use Rattle.mbuf_chain.proofs.Laws.Owners.{shown_with, kept_with, chain_left}
 use Rattle.mbuf_chain.proofs.Laws.Steps.{place_after}
@@ -167,7 +167,7 @@ mbufs-preserved c =
             ap (λ (es : List Entry). length (flat_bytes es)) rest,
             c.saturating_sub-bytes.ensures,
           );
-      room = subst (λ (e : Entry). HasBackRoom e left) (sym entry) (room_left (entry_of v i) (entry_of (chain_of c.mbufs.pool c.mbufs.back) c.first-from.result.index) c.segment-size.result.len c.mbufs.left c.mbufs.invariant.room len c.if-left-size.false);
+      room = subst (λ (e : Entry). HasTrailingSpace e left) (sym entry) (room_left (entry_of v i) (entry_of (chain_of c.mbufs.pool c.mbufs.back) c.first-from.result.index) c.segment-size.result.len c.mbufs.left c.mbufs.invariant.room len c.if-left-size.false);
     }
 
 pub returns : goal.returns

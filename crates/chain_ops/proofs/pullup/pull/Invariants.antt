@@ -1,5 +1,5 @@
 use Rattle.std.proofs.Common.{◌≡◌, ◌+◌, ◌++◌, true, None, length, take}
-use Rattle.mbuf_chain.specs.Chain.{IsPlace, HasBackRoom, chain_of, entry_of, string, without}
+use Rattle.mbuf_chain.specs.Chain.{IsPlace, HasTrailingSpace, chain_of, entry_of, string, without}
 use Rattle.chain_ops.specs.Pulls.{moved}
 use Rattle.mbuf_chain.proofs.Laws.Two.{HasTwo}
 use Rattle.chain_ops.proofs.pullup.pull.Given as goal
@@ -14,7 +14,7 @@ invariant-mbufs l = record {
   end : l.last.index + 1 ≡ length (chain_of l.pool l.into).entries;
   plain : (entry_of (chain_of l.pool l.into) l.last.index).cluster ≡ None;
   bytes : l.counted ≡ true → l.bytes ≡ length (string (chain_of l.pool l.back));
-  room : HasBackRoom (entry_of (chain_of l.pool l.into) l.last.index) l.left;
+  room : HasTrailingSpace (entry_of (chain_of l.pool l.into) l.last.index) l.left;
 }
 
 abbrev pub decreases-mbufs : goal.decreases-mbufs

@@ -1,7 +1,7 @@
 use Rattle.std.proofs.Common.{◌≡◌, ℕ, ◌-◌, ◌++◌, ◌∷◌, ◌≤◌, length, take, drop, arith, ap, sym, refl, ◌∙◌, subst}
 use Rattle.std.proofs.lemmas.List.{length-take}
 use Rattle.mbuf_chain.specs.declared.place.Segment.{Segment}
-use Rattle.mbuf_chain.specs.Chain.{Entry, ChainView, PoolView, Adds, HasBackRoom, chain_of, entry_of, with_chain, flat_bytes}
+use Rattle.mbuf_chain.specs.Chain.{Entry, ChainView, PoolView, Adds, HasTrailingSpace, chain_of, entry_of, with_chain, flat_bytes}
 use Rattle.mbuf_chain.specs.Steps.{first_part}
 use Rattle.mbuf_chain.proofs.Laws.Owners.{live_here, live_adds, shown_adds, chain_here}
 use Rattle.mbuf_chain.proofs.Laws.Steps.{live_beside, apart, base_cut}
@@ -12,7 +12,7 @@ use Rattle.chain_ops.proofs.Trims.{changed_none}
 use Rattle.chain_ops.proofs.Joins.{first_entry, first_split, room_plain, room_back, moved-none, first_bytes}
 use Rattle.chain_ops.proofs.pullup.pull_in_place.Goals as goal
 
--- what the chain is once it was cut behind its first mbuf
+-- what the chain is once it was cut after its first mbuf
 here : (p q : PoolView) (k d : ℕ) (w : ChainView) → Adds (with_chain p k (first_part 1 (chain_of p k))) q d w → chain_of q k ≡ first_part 1 (chain_of p k)
 here p q k d w a = kept_adds _ q d k w a (live_here p k (first_part 1 (chain_of p k))) ∙ chain_here p k (first_part 1 (chain_of p k))
 
@@ -39,8 +39,8 @@ pull-requires-clause-room c =
     let e : Entry = entry_of (chain_of c.args.pool.now c.args.chain.now) 0 in
     let len = ap (λ (x : Segment). x.len) c.segment-len.ensures.value ∙ ap (λ (i : ℕ). length (entry_of (chain_of c.args.pool.now c.args.chain.now) i).bytes) c.first-first.ensures.index in
     let le : length e.bytes ≤ c.args.n = omega (arith, len, c.if-len-n.true) in
-    subst (λ (f : Entry). HasBackRoom f (c.args.n - c.segment-len.result.len)) (sym (first_of c.args.pool.now _ _ _ _ _ c.cut-rest.ensures c.first-at.ensures.index))
-    (subst (λ (n : ℕ). HasBackRoom e (c.args.n - n)) (sym len) (room_back e c.args.n c.requires.room le))
+    subst (λ (f : Entry). HasTrailingSpace f (c.args.n - c.segment-len.result.len)) (sym (first_of c.args.pool.now _ _ _ _ _ c.cut-rest.ensures c.first-at.ensures.index))
+    (subst (λ (n : ℕ). HasTrailingSpace e (c.args.n - n)) (sym len) (room_back e c.args.n c.requires.room le))
 
 pub pull-requires-clause-len : goal.pull-requires-clause-len
 pull-requires-clause-len c = λ t.

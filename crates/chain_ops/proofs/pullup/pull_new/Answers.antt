@@ -1,5 +1,5 @@
 use Rattle.std.proofs.Common.{ℕ, ◌++◌, Bool, None, length, take, arith, ap, sym, ◌∙◌, subst}
-use Rattle.mbuf_chain.specs.Chain.{Entry, ChainView, PoolView, IsLive, HasBackRoom, chain_of, entry_of, without, alone, flat_bytes}
+use Rattle.mbuf_chain.specs.Chain.{Entry, ChainView, PoolView, IsLive, HasTrailingSpace, chain_of, entry_of, without, alone, flat_bytes}
 use Rattle.mbuf_chain.specs.Steps.{empty_entry}
 use Rattle.mbuf_chain.proofs.Laws.Owners.{live_adds, shown_adds}
 use Rattle.mbuf_chain.proofs.Laws.Accounts.{held-adds}
@@ -28,8 +28,8 @@ pull-requires-clause-plain c =
 
 pub pull-requires-clause-room : goal.pull-requires-clause-room
 pull-requires-clause-room c =
-    subst (λ (k : ℕ). HasBackRoom (entry_of (chain_of c.new_plain.new.self k) c.first-at.result.index) c.args.n) (sym c.replace-old.ensures.after)
-    (subst (λ (e : Entry). HasBackRoom e c.args.n) (sym (new_entry c.args.pool.now c.new_plain.new.self _ _ _ _ c.in_ok-new.ensures.ok c.first-at.ensures.index))
+    subst (λ (k : ℕ). HasTrailingSpace (entry_of (chain_of c.new_plain.new.self k) c.first-at.result.index) c.args.n) (sym c.replace-old.ensures.after)
+    (subst (λ (e : Entry). HasTrailingSpace e c.args.n) (sym (new_entry c.args.pool.now c.new_plain.new.self _ _ _ _ c.in_ok-new.ensures.ok c.first-at.ensures.index))
     (omega (arith, c.room_low.ensures, low_at_most c.has_header-header.result, c.requires.most)))
 
 pub pull-requires-clause-len : goal.pull-requires-clause-len

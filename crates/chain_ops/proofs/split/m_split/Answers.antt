@@ -8,7 +8,7 @@ use Rattle.mbuf_chain.specs.Steps.{narrowed, first_part}
 use Rattle.mbuf_chain.proofs.Laws.Owners.{live_here, live_adds, shown_adds, shown_with, kept_with, chain_here, chain_left}
 use Rattle.mbuf_chain.proofs.Laws.Steps.{live_beside, live_shown, place_after, apart}
 use Rattle.chain_ops.specs.Splits.{rest_of, split_back, split_need}
-use Rattle.chain_ops.proofs.Lists.{none_behind, flat_at}
+use Rattle.chain_ops.proofs.Lists.{none_after, flat_at}
 use Rattle.chain_ops.proofs.Laws.Makes.{makes_new, makes_as, makes_held, makes_mbufs, makes_kept}
 use Rattle.chain_ops.proofs.Laws.Strings.{split_front_bytes, split_back_bytes}
 use Rattle.chain_ops.proofs.Laws.Steps.{place_in, kept_adds}
@@ -124,7 +124,7 @@ returns-then-is_none-clause-ok c =
     let end = is_end _ _ _ c.next-2.ensures (no_next c.next-2.result c.is_none.result c.is_none.ensures c.if-is_none.true) ∙ length_now q r k i _ c.narrow.ensures ∙ ap (λ (x : ChainView). length x.entries) kept_q in
     record {
       made = makes_as (with_chain p k (chain_of r k)) (alone v.front.header) (split_back v.front.header v.entries c.args.at) fin refl (ap (λ (x : ChainView). x.front) kept_d ∙ m.front ∙ ap alone c.has_header-header.ensures)
-          (ap (λ (x : ChainView). x.entries) kept_d ∙ m.entries ∙ sym (append-nil (rest_of h e off)) ∙ ap (λ (es : List Entry). rest_of h e off ++ es) (sym (none_behind v.entries i end))
+          (ap (λ (x : ChainView). x.entries) kept_d ∙ m.entries ∙ sym (append-nil (rest_of h e off)) ∙ ap (λ (es : List Entry). rest_of h e off ++ es) (sym (none_after v.entries i end))
           ∙ back_done v c.find_cut-off.result.0 off h place c.find_cut-off.ensures.within ∙ sym (c.find_cut-off.ensures.back h) ∙ ap (λ (b : Bool). split_back b v.entries c.args.at) c.has_header-header.ensures);
       front = ap (λ (x : ChainView). x.front) (shown_with q r k _ c.narrow.ensures) ∙ ap (λ (x : ChainView). x.front) kept_q;
       entries = now ∙ sym (take_all (i + 1) (slice_set v.entries i (narrowed e 0 off)) (omega (arith, end, length-set v.entries i (narrowed e 0 off)))) ∙ front_done v c.find_cut-off.result.0 off place c.find_cut-off.ensures.within ∙ sym c.find_cut-off.ensures.front;

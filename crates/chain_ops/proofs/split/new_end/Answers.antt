@@ -1,5 +1,5 @@
 use Rattle.std.proofs.Common.{length, arith, ap, sym, subst}
-use Rattle.mbuf_chain.specs.Chain.{Entry, ChainView, HasBackRoom, entry_of, entry_in}
+use Rattle.mbuf_chain.specs.Chain.{Entry, ChainView, HasTrailingSpace, entry_of, entry_in}
 use Rattle.mbuf_chain.proofs.Laws.Owners.{live_adds}
 use Rattle.mbuf_chain.proofs.Laws.Steps.{live_beside, place_beside, new_entry}
 use Rattle.chain_ops.proofs.Laws.Steps.{plain_unshared, kept_adds}
@@ -16,7 +16,7 @@ append-requires-clause-unshared c =
 
 pub append-requires-clause-fits : goal.append-requires-clause-fits
 append-requires-clause-fits c =
-    subst (λ (e : Entry). HasBackRoom e c.args.n) (sym (new_entry c.args.pool.now c.new_plain.new.self _ _ _ _ c.in_ok-head.ensures.ok c.first-to.ensures.index))
+    subst (λ (e : Entry). HasTrailingSpace e c.args.n) (sym (new_entry c.args.pool.now c.new_plain.new.self _ _ _ _ c.in_ok-head.ensures.ok c.first-to.ensures.index))
     (omega (arith, c.at_end.ensures, at_end_fits 28 c.args.n (omega (arith, c.requires.most))))
 
 pub append-requires-clause-other : goal.append-requires-clause-other

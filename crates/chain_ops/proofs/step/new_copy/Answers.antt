@@ -1,5 +1,5 @@
 use Rattle.std.proofs.Common.{◌≡◌, None, length, arith, ap, sym, subst}
-use Rattle.mbuf_chain.specs.Chain.{Entry, ChainView, HasBackRoom, entry_of, entry_in}
+use Rattle.mbuf_chain.specs.Chain.{Entry, ChainView, HasTrailingSpace, entry_of, entry_in}
 use Rattle.mbuf_chain.proofs.Laws.Owners.{live_adds}
 use Rattle.mbuf_chain.proofs.Laws.Steps.{live_beside, place_beside, new_entry}
 use Rattle.chain_ops.proofs.Laws.Steps.{plain_segment, plain_unshared, copy_room, copy_made, kept_adds}
@@ -18,7 +18,7 @@ append-requires-clause-fits c =
     let plain : (entry_of v c.args.at.index).cluster ≡ None = plain_segment _ _ _ _ _ c.segment-segment.ensures.value c.is_some.ensures c.if-is_some.false in
     let fits = c.laws.ensures.fits c.args.chain.now c.args.at.index c.requires.live c.requires.place.within in
     let room = copy_room v c.args.at.index c.args.header c.args.skip c.args.n plain fits.low fits.high c.requires.headed c.requires.within in
-    subst (λ (e : Entry). HasBackRoom e c.args.n) (sym (new_entry _ _ _ _ _ _ c.in_ok-copy.ensures.ok c.first-to.ensures.index)) (omega (arith, room, c.room_low.ensures))
+    subst (λ (e : Entry). HasTrailingSpace e c.args.n) (sym (new_entry _ _ _ _ _ _ c.in_ok-copy.ensures.ok c.first-to.ensures.index)) (omega (arith, room, c.room_low.ensures))
 
 pub append-requires-clause-other : goal.append-requires-clause-other
 append-requires-clause-other c = live_beside _ _ _ _ c.in_ok-copy.ensures.ok _ c.requires.live

@@ -2,7 +2,7 @@ use Rattle.std.proofs.Common.{◌≡◌, ℕ, Bool, cond, [], length, Some, ap, 
 use Rattle.std.proofs.lemmas.Bool.{eq-eqb}
 use Rattle.std.proofs.lemmas.Option.{same_Some}
 use Rattle.std.proofs.lemmas.List.Sums.{sum_by-cons}
-use Rattle.mbuf_chain.specs.Chain.{Entry, PoolView, IsUnshared, HasBackRoom, chain_of, references, refers, with_chain, entry_of, Adds}
+use Rattle.mbuf_chain.specs.Chain.{Entry, PoolView, IsUnshared, HasTrailingSpace, chain_of, references, refers, with_chain, entry_of, Adds}
 use Rattle.mbuf_chain.specs.Steps.{one_mbuf, empty_entry, with_entry, with_back}
 use Rattle.mbuf_chain.proofs.Laws.Owners.{live_adds}
 use Rattle.mbuf_chain.proofs.Laws.Accounts.{references-adds}
@@ -24,7 +24,7 @@ put_back-requires-clause-unshared c = alone_in _ _ _ c.in_ok-chain.ensures.ok.0 
 
 pub put_back-requires-clause-fits : goal.put_back-requires-clause-fits
 put_back-requires-clause-fits c =
-    subst (λ (e : Entry). HasBackRoom e (length c.args.bytes.now)) (sym (new_entry c.args.pool.now c.new_cluster.new.self _ _ _ _ c.in_ok-chain.ensures.ok.3 c.first-at.ensures.index)) (omega (arith, c.requires))
+    subst (λ (e : Entry). HasTrailingSpace e (length c.args.bytes.now)) (sym (new_entry c.args.pool.now c.new_cluster.new.self _ _ _ _ c.in_ok-chain.ensures.ok.3 c.first-at.ensures.index)) (omega (arith, c.requires))
 
 pub returns-clause-ok : goal.returns-clause-ok
 returns-clause-ok c =

@@ -1,5 +1,5 @@
 use Rattle.std.proofs.Common.{ℕ, length, ap, sym, ◌∙◌, subst, arith}
-use Rattle.mbuf_chain.specs.Chain.{Entry, PoolView, HasBackRoom, chain_of, with_chain, entry_of}
+use Rattle.mbuf_chain.specs.Chain.{Entry, PoolView, HasTrailingSpace, chain_of, with_chain, entry_of}
 use Rattle.mbuf_chain.specs.Steps.{with_entry, with_back}
 use Rattle.mbuf_chain.proofs.Laws.Owners.{live_adds}
 use Rattle.mbuf_chain.proofs.Laws.Steps.{new_entry, filled}
@@ -15,7 +15,7 @@ put_back-requires-clause-unshared c =
 
 pub put_back-requires-clause-fits : goal.put_back-requires-clause-fits
 put_back-requires-clause-fits c =
-    subst (λ (e : Entry). HasBackRoom e (length c.args.bytes.now)) (sym (new_entry c.args.pool.now c.new_plain.new.self _ _ _ _ c.in_ok-chain.ensures.ok c.first-at.ensures.index)) (omega (arith, c.requires.high))
+    subst (λ (e : Entry). HasTrailingSpace e (length c.args.bytes.now)) (sym (new_entry c.args.pool.now c.new_plain.new.self _ _ _ _ c.in_ok-chain.ensures.ok c.first-at.ensures.index)) (omega (arith, c.requires.high))
 
 pub returns-clause-ok : goal.returns-clause-ok
 returns-clause-ok c =

@@ -28,7 +28,7 @@ returns-in_default-clause-err c =
       c.in_default.ensures.err,
       makes_held m,
       makes_mbufs m,
-      ap (λ (es : List Entry). length es) (copies_same c.args.pool.now _ c.args.chain.now _ c.args.from.off c.args.size _ a c.requires.live c.requires.behind),
+      ap (λ (es : List Entry). length es) (copies_same c.args.pool.now _ c.args.chain.now _ c.args.from.off c.args.size _ a c.requires.live c.requires.after),
     )
 
 pub returns-in_default-clause-same : goal.returns-in_default-clause-same
@@ -36,31 +36,31 @@ returns-in_default-clause-same c =
     makes_undone _ (makes_new c.in_ok-front.ensures.ok) (c.free_chain.ensures ∙ ap (λ (s : PoolView). without s c.in_ok-front.front) c.in_default.ensures.same)
 
 pub first-at-requires : goal.first-at-requires
-first-at-requires c = (ready c.args.chain.now c.args.from.off c.args.size _ c.in_ok-front.ensures.ok c.requires.live c.requires.behind c.requires.within c.in-Ok.ensures.ok).front
+first-at-requires c = (ready c.args.chain.now c.args.from.off c.args.size _ c.in_ok-front.ensures.ok c.requires.live c.requires.after c.requires.within c.in-Ok.ensures.ok).front
 
 pub link_counted-requires-clause-back : goal.link_counted-requires-clause-back
-link_counted-requires-clause-back c = (ready c.args.chain.now c.args.from.off c.args.size _ c.in_ok-front.ensures.ok c.requires.live c.requires.behind c.requires.within c.in-Ok.ensures.ok).back
+link_counted-requires-clause-back c = (ready c.args.chain.now c.args.from.off c.args.size _ c.in_ok-front.ensures.ok c.requires.live c.requires.after c.requires.within c.in-Ok.ensures.ok).back
 
 pub link_counted-requires-clause-apart : goal.link_counted-requires-clause-apart
-link_counted-requires-clause-apart c = (ready c.args.chain.now c.args.from.off c.args.size _ c.in_ok-front.ensures.ok c.requires.live c.requires.behind c.requires.within c.in-Ok.ensures.ok).apart
+link_counted-requires-clause-apart c = (ready c.args.chain.now c.args.from.off c.args.size _ c.in_ok-front.ensures.ok c.requires.live c.requires.after c.requires.within c.in-Ok.ensures.ok).apart
 
 pub link_counted-requires-clause-last : goal.link_counted-requires-clause-last
 link_counted-requires-clause-last c =
-    let y = ready c.args.chain.now c.args.from.off c.args.size _ c.in_ok-front.ensures.ok c.requires.live c.requires.behind c.requires.within c.in-Ok.ensures.ok in
+    let y = ready c.args.chain.now c.args.from.off c.args.size _ c.in_ok-front.ensures.ok c.requires.live c.requires.after c.requires.within c.in-Ok.ensures.ok in
     omega (arith, c.first-at.ensures.index, ap (λ (v : ChainView). length v.entries) y.shown)
 
 pub link_counted-requires-clause-len : goal.link_counted-requires-clause-len
-link_counted-requires-clause-len c = (ready c.args.chain.now c.args.from.off c.args.size _ c.in_ok-front.ensures.ok c.requires.live c.requires.behind c.requires.within c.in-Ok.ensures.ok).len
+link_counted-requires-clause-len c = (ready c.args.chain.now c.args.from.off c.args.size _ c.in_ok-front.ensures.ok c.requires.live c.requires.after c.requires.within c.in-Ok.ensures.ok).len
 
 pub returns-clause-ok : goal.returns-clause-ok
 returns-clause-ok c =
     let a = c.in_ok-front.ensures.ok in
-    let y = ready c.args.chain.now c.args.from.off c.args.size _ a c.requires.live c.requires.behind c.requires.within c.in-Ok.ensures.ok in
+    let y = ready c.args.chain.now c.args.from.off c.args.size _ a c.requires.live c.requires.after c.requires.within c.in-Ok.ensures.ok in
     linked c.args.pool.now _ _ _ c.args.chain.now _ _ c.args.from.off c.args.size _ a y c.link_counted.ensures.change
 
 pub returns-clause-enough : goal.returns-clause-enough
 returns-clause-enough c =
     let a = c.in_ok-front.ensures.ok in
-    let y = ready c.args.chain.now c.args.from.off c.args.size _ a c.requires.live c.requires.behind c.requires.within c.in-Ok.ensures.ok in
+    let y = ready c.args.chain.now c.args.from.off c.args.size _ a c.requires.live c.requires.after c.requires.within c.in-Ok.ensures.ok in
     let whole = linked c.args.pool.now _ _ _ c.args.chain.now _ _ c.args.from.off c.args.size _ a y c.link_counted.ensures.change in
     omega (arith, makes_held whole, makes_mbufs whole, c.laws.ensures.few)

@@ -5,7 +5,7 @@ use Rattle.mbuf_chain.specs.Chain.{Entry, ChainView, PoolView, chain_of}
 use Rattle.mbuf_chain.proofs.Laws.Owners.{moves_trans, moves_nothing}
 use Rattle.mbuf_chain.proofs.Laws.Trains.{beside_adds, apart_adds}
 use Rattle.mbuf_chain.specs.Owners.{Moves}
-use Rattle.mbuf_chain.specs.Train.{numbers, cars, Car}
+use Rattle.mbuf_chain.specs.Train.{numbers, queued_packets, QueuedPacket}
 use Rattle.std.specs.List.{insert}
 use Rattle.chain_ops.specs.Copies.{copied}
 use Rattle.chain_ops.specs.Cursors.{IsCursor}
@@ -26,7 +26,7 @@ returns-in_default-clause-err c =
     let kept = kept_moves c.args.chain.now inv.moves c.requires.live in
     let pos = part_some c.args.n c.args.chunk i c.requires.chunk (c.requires.inside i (omega arith) (omega arith)) in
     let size : c.min-size.result ≡ p.size = c.min-size.ensures in
-    let off : c.advance-from.result.off ≡ 20 + p.offset = omega (arith, c.advance-from.ensures.off, c.parts.invariant.behind) in
+    let off : c.advance-from.result.off ≡ 20 + p.offset = omega (arith, c.advance-from.ensures.off, c.parts.invariant.after) in
     omega (
       arith,
       c.in_default.ensures.err,
@@ -67,17 +67,17 @@ parts-preserved c =
     let inv = c.parts.invariant.later in
     let kept = kept_moves c.args.chain.now inv.moves c.requires.live in
     let pos = part_some c.args.n c.args.chunk i c.requires.chunk (c.requires.inside i (omega arith) (omega arith)) in
-    let off : c.advance-from.result.off ≡ 20 + p.offset = omega (arith, c.advance-from.ensures.off, c.parts.invariant.behind) in
+    let off : c.advance-from.result.off ≡ 20 + p.offset = omega (arith, c.advance-from.ensures.off, c.parts.invariant.after) in
     let head : head_entry c.head_of.result ∷ copied false (chain_of c.parts.pool c.args.chain.now).entries c.advance-from.result.off c.min-size.result
     ≡ head_entry (head_for c.args.head p) ∷ copied false v.entries (20 + p.offset) p.size =
     (λ k. head_entry (c.head_of.ensures k) ∷ copied false ((kept.0 k).entries) (off k) (c.min-size.ensures k)) in
-    let new : Car = record { number = c.in-Ok.packet; entries = (chain_of c.fragment.new.pool c.in-Ok.packet).entries; tag = 0 } in
-    let end : insert (cars c.fragment.new.pool c.parts.train) c.len-end.result new ≡ insert (cars c.fragment.new.pool c.parts.train) c.parts.train.len new = ap (λ (k : ℕ). insert (cars c.fragment.new.pool c.parts.train) k new) c.len-end.ensures in
+    let new : QueuedPacket = record { number = c.in-Ok.packet; entries = (chain_of c.fragment.new.pool c.in-Ok.packet).entries; tag = 0 } in
+    let end : insert (queued_packets c.fragment.new.pool c.parts.train) c.len-end.result new ≡ insert (queued_packets c.fragment.new.pool c.parts.train) c.parts.train.len new = ap (λ (k : ℕ). insert (queued_packets c.fragment.new.pool c.parts.train) k new) c.len-end.ensures in
     let item = ap item_of head ∙ later_is c.copy_weight.ensures v c.args.head p c.requires.datagram.bytes pos in
     record {
-      later = later_more p inv c.in-Ok.ensures.ok refl item (parts_more c.args.n c.args.chunk i (omega arith)) (c.insert.ensures.cars ∙ end) c.insert.ensures.held c.insert.ensures.moves;
+      later = later_more p inv c.in-Ok.ensures.ok refl item (parts_more c.args.n c.args.chunk i (omega arith)) (c.insert.ensures.queued_packets ∙ end) c.insert.ensures.held c.insert.ensures.moves;
       cursor = subst (λ (w : ChainView). IsCursor w c.advance-from.result) kept.0 c.advance-from.ensures.cursor;
-      behind = omega (arith, c.advance-from.ensures.off, mul_more i c.args.chunk, c.requires.chunk);
+      after = omega (arith, c.advance-from.ensures.off, mul_more i c.args.chunk, c.requires.chunk);
     }
 
 pub returns-clause-enough : goal.returns-clause-enough

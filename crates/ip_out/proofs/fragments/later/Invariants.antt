@@ -8,5 +8,5 @@ abbrev pub invariant-parts : goal.invariant-parts
 invariant-parts l = record {
   later : IsLater l.fn.pool l.pool l.train (chain_of l.fn.pool l.chain) l.head (parts_to l.n l.chunk l.i);
   cursor : IsCursor (chain_of l.fn.pool l.chain) l.from;
-  behind : l.from.off < 20 + l.i * l.chunk;
+  after : l.from.off < 20 + l.i * l.chunk;
 }

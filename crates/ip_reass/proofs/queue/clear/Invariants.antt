@@ -2,7 +2,7 @@ use Rattle.std.proofs.Common.{◌≤◌}
 use Rattle.mbuf_chain.specs.Owners.{Moves}
 use Rattle.mbuf_chain.specs.Train.{IsHeld, numbers}
 use Rattle.ip_reass.specs.Fragments.{fragments, queued, AllEnd}
-use Rattle.ip_reass.specs.Inside.{IsFront, behind}
+use Rattle.ip_reass.specs.Inside.{IsFront, after}
 use Rattle.ip_reass.proofs.Steps.{Clearing}
 use Rattle.ip_reass.proofs.queue.clear.Given as goal
 
@@ -12,7 +12,7 @@ invariant-fragments l = record {
   few : l.train.len ≤ l.fn.train.len;
   held : IsHeld l.pool l.train;
   small : AllEnd 65515 (fragments l.pool l.train);
-  clearing : Clearing l.end (behind l.front) (queued l.fn.pool l.fn.train) (queued l.pool l.train);
+  clearing : Clearing l.end (after l.front) (queued l.fn.pool l.fn.train) (queued l.pool l.train);
   moves : Moves l.fn.pool (numbers l.fn.pool l.fn.train) l.pool (numbers l.pool l.train);
 }
 

@@ -1,14 +1,14 @@
 use Rattle.std.proofs.Common.{◌-◌}
 use Rattle.ip_reass.specs.Fragments.{fragments}
-use Rattle.ip_reass.specs.Inside.{IsFront, behind}
+use Rattle.ip_reass.specs.Inside.{IsFront, after}
 use Rattle.ip_reass.proofs.Walks.{Found}
 use Rattle.ip_reass.proofs.queue.find.Given as goal
 
 abbrev pub invariant-fragments : goal.invariant-fragments
 invariant-fragments l = record {
   place : IsFront l.pool l.train l.front;
-  found : Found l.offset (behind l.front) l.end (fragments l.pool l.train);
+  found : Found l.offset (after l.front) l.end (fragments l.pool l.train);
 }
 
 abbrev pub decreases-fragments : goal.decreases-fragments
-decreases-fragments l = l.train.len - behind l.front
+decreases-fragments l = l.train.len - after l.front

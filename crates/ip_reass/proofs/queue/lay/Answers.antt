@@ -1,12 +1,12 @@
 use Rattle.std.proofs.Common.{arith}
 use Rattle.ip_reass.specs.Fragments.{fragment_of}
-use Rattle.ip_reass.specs.Inside.{arrived, behind}
+use Rattle.ip_reass.specs.Inside.{arrived, after}
 use Rattle.ip_reass.proofs.Lays.{Covered, covered_in, Settled, Laid, laid_in}
 use Rattle.ip_reass.proofs.queue.lay.Goals as goal
 
 none : (c : goal.After-free_chain) → Covered c.args.pool.now c.args.train.now c.args.chain (fragment_of (arrived c.args.pool.now c.args.chain c.args.offset c.args.more)) c.free_chain.new.self
 none c =
-    covered_in c.args.pool.now c.free_chain.new.self c.args.train.now (behind c.find-front.result.0) c.args.chain (fragment_of (arrived c.args.pool.now c.args.chain c.args.offset c.args.more)) c.requires.queue c.requires.live c.requires.apart
+    covered_in c.args.pool.now c.free_chain.new.self c.args.train.now (after c.find-front.result.0) c.args.chain (fragment_of (arrived c.args.pool.now c.args.chain c.args.offset c.args.more)) c.requires.queue c.requires.live c.requires.apart
     c.find-front.ensures.upto c.find-front.ensures.above (omega arith) c.free_chain.ensures
 
 pub returns-then-len-skip-clause-covered : goal.returns-then-len-skip-clause-covered
@@ -23,11 +23,11 @@ returns-then-len-skip-clause-moves c = (none c).moves
 
 some : (c : goal.After-settle) → Laid c.args.pool.now c.args.train.now (arrived c.args.pool.now c.args.chain c.args.offset c.args.more) c.settle.new.pool c.settle.new.train
 some c =
-    let done : Settled c.args.pool.now c.args.train.now (behind c.find-front.result.0) c.saturating_sub-skip.result c.args.chain (arrived c.args.pool.now c.args.chain c.args.offset c.args.more) c.settle.new.pool c.settle.new.train = record {
+    let done : Settled c.args.pool.now c.args.train.now (after c.find-front.result.0) c.saturating_sub-skip.result c.args.chain (arrived c.args.pool.now c.args.chain c.args.offset c.args.more) c.settle.new.pool c.settle.new.train = record {
       queue_is = c.settle.ensures.queue;
       moves = c.settle.ensures.moves;
     } in
-    laid_in c.args.pool.now c.settle.new.pool c.args.train.now c.settle.new.train (behind c.find-front.result.0) c.saturating_sub-skip.result c.args.chain (arrived c.args.pool.now c.args.chain c.args.offset c.args.more) c.requires.queue
+    laid_in c.args.pool.now c.settle.new.pool c.args.train.now c.settle.new.train (after c.find-front.result.0) c.saturating_sub-skip.result c.args.chain (arrived c.args.pool.now c.args.chain c.args.offset c.args.more) c.requires.queue
     c.find-front.ensures.upto c.find-front.ensures.above (omega arith) (omega arith) c.requires.small done
 
 pub returns-clause-covered : goal.returns-clause-covered

@@ -2,7 +2,7 @@ use Rattle.std.proofs.Common.{◌+◌, ℕ, map, subst, ap, ◌∙◌, sym}
 use Rattle.mbuf_chain.specs.Chain.{ChainView, chain_of}
 use Rattle.chain_ops.specs.Trims.{without_first}
 use Rattle.ip_reass.specs.Fragments.{AllEnd, fragment_in}
-use Rattle.ip_reass.specs.Inside.{arrived, behind}
+use Rattle.ip_reass.specs.Inside.{arrived, after}
 use Rattle.ip_reass.proofs.Fronts.{front_beside, front_within}
 use Rattle.ip_reass.proofs.Steps.{Changed, changed}
 use Rattle.ip_reass.proofs.Lays.{Waits, waits, Settled, settled}
@@ -16,7 +16,7 @@ pub clear-requires-clause-held : goal.clear-requires-clause-held
 clear-requires-clause-held c = (change c).held
 
 pub clear-requires-clause-small : goal.clear-requires-clause-small
-clear-requires-clause-small c = subst (AllEnd 65515) (sym (ap (map fragment_in) (change c).cars_are)) c.requires.small
+clear-requires-clause-small c = subst (AllEnd 65515) (sym (ap (map fragment_in) (change c).queued_packets_are)) c.requires.small
 
 wait : (c : goal.After-insert_after-arg-2-1) → Waits c.args.chain (record (chain_of c.args.pool.now c.args.chain) { entries = without_first c.args.skip (chain_of c.args.pool.now c.args.chain).entries }) c.clear.new.pool c.clear.new.train
 wait c =
@@ -28,7 +28,7 @@ pub insert_after-requires-clause-front : goal.insert_after-requires-clause-front
 insert_after-requires-clause-front c = c.clear.ensures.front
 
 pub clear-requires-clause-front : goal.clear-requires-clause-front
-clear-requires-clause-front c = front_beside c.args.pool.now c.trim_front.new.pool c.args.train.now c.args.front ((change c).cars_are) c.requires.front
+clear-requires-clause-front c = front_beside c.args.pool.now c.trim_front.new.pool c.args.train.now c.args.front ((change c).queued_packets_are) c.requires.front
 
 pub insert_after-requires-clause-live : goal.insert_after-requires-clause-live
 insert_after-requires-clause-live c = (wait c).live
@@ -39,12 +39,12 @@ insert_after-requires-clause-headed c = ap (λ (v : ChainView). v.front.header) 
 pub insert_after-requires-clause-apart : goal.insert_after-requires-clause-apart
 insert_after-requires-clause-apart c = (wait c).apart
 
-all : (c : goal.After-insert_after) → Settled c.args.pool.now c.args.train.now (behind c.args.front) c.args.skip c.args.chain (arrived c.args.pool.now c.args.chain c.args.offset c.args.more) c.insert_after.new.pool c.insert_after.new.train
+all : (c : goal.After-insert_after) → Settled c.args.pool.now c.args.train.now (after c.args.front) c.args.skip c.args.chain (arrived c.args.pool.now c.args.chain c.args.offset c.args.more) c.insert_after.new.pool c.insert_after.new.train
 all c =
-    settled c.args.pool.now c.trim_front.new.pool c.clear.new.pool c.insert_after.new.pool c.args.train.now c.clear.new.train c.insert_after.new.train c.args.chain (behind c.args.front) c.args.skip c.args.offset (c.args.offset + c.args.len) c.tag_of-tag.result c.args.more
+    settled c.args.pool.now c.trim_front.new.pool c.clear.new.pool c.insert_after.new.pool c.args.train.now c.clear.new.train c.insert_after.new.train c.args.chain (after c.args.front) c.args.skip c.args.offset (c.args.offset + c.args.len) c.tag_of-tag.result c.args.more
     (front_within c.args.pool.now c.args.train.now c.args.front c.requires.front) c.requires.held
     (changed c.args.pool.now c.trim_front.new.pool c.args.train.now c.args.chain _ c.requires.live c.requires.apart c.requires.held c.trim_front.ensures)
-    c.clear.ensures.queue c.clear.ensures.moves (ap (λ (n : ℕ). c.args.offset + n) c.requires.len) c.tag_of-tag.ensures.half c.tag_of-tag.ensures.odd c.insert_after.ensures.cars c.insert_after.ensures.moves
+    c.clear.ensures.queue c.clear.ensures.moves (ap (λ (n : ℕ). c.args.offset + n) c.requires.len) c.tag_of-tag.ensures.half c.tag_of-tag.ensures.odd c.insert_after.ensures.queued_packets c.insert_after.ensures.moves
 
 pub returns-clause-queue : goal.returns-clause-queue
 returns-clause-queue c = (all c).queue_is

@@ -5,7 +5,7 @@ use Rattle.mbuf_chain.specs.Train.{numbers}
 use Rattle.mbuf_chain.proofs.Laws.Owners.{owned_after, live_first, apart_first}
 use Rattle.chain_ops.specs.Trims.{without_first}
 use Rattle.ip_reass.specs.Fragments.{QueuedFragment, queued, queued_of}
-use Rattle.ip_reass.specs.Inside.{behind}
+use Rattle.ip_reass.specs.Inside.{after}
 use Rattle.ip_reass.proofs.Fronts.{front_beside}
 use Rattle.ip_reass.proofs.Steps.{Changed, changed, Trimmed, trimmed_at, end_at, queued_is, length-queued, within_of}
 use Rattle.ip_reass.proofs.queue.trim_after.Goals as goal
@@ -13,8 +13,8 @@ use Rattle.ip_reass.proofs.queue.trim_after.Goals as goal
 -- the fragment ends within the limit
 bound : (c : goal.After-take_after-chain) → c.take_after-chain.result.1 + 2 * c.args.n ≤ 131031
 bound c =
-    let was = queued_is c.args.pool.now c.args.train.now (behind c.args.front) c.requires.held c.requires.more ∙ ap queued_of c.take_after-chain.ensures.taken in
-    let ends = end_at 65515 (queued c.args.pool.now c.args.train.now) (behind c.args.front) (within_of 65515 c.args.pool.now c.args.train.now c.requires.small) (omega (arith, length-queued c.args.pool.now c.args.train.now c.requires.held)) in
+    let was = queued_is c.args.pool.now c.args.train.now (after c.args.front) c.requires.held c.requires.more ∙ ap queued_of c.take_after-chain.ensures.taken in
+    let ends = end_at 65515 (queued c.args.pool.now c.args.train.now) (after c.args.front) (within_of 65515 c.args.pool.now c.args.train.now c.requires.small) (omega (arith, length-queued c.args.pool.now c.args.train.now c.requires.held)) in
     omega (arith, ends, ap (λ (p : QueuedFragment). p.offset) was, c.requires.within)
 
 pub overflow_mul-moved : goal.overflow_mul-moved
@@ -22,8 +22,8 @@ overflow_mul-moved c = omega (arith, bound c)
 
 pub overflow_add-moved : goal.overflow_add-moved
 overflow_add-moved c =
-    let was = queued_is c.args.pool.now c.args.train.now (behind c.args.front) c.requires.held c.requires.more ∙ ap queued_of c.take_after-chain.ensures.taken in
-    let ends = end_at 65515 (queued c.args.pool.now c.args.train.now) (behind c.args.front) (within_of 65515 c.args.pool.now c.args.train.now c.requires.small) (omega (arith, length-queued c.args.pool.now c.args.train.now c.requires.held)) in
+    let was = queued_is c.args.pool.now c.args.train.now (after c.args.front) c.requires.held c.requires.more ∙ ap queued_of c.take_after-chain.ensures.taken in
+    let ends = end_at 65515 (queued c.args.pool.now c.args.train.now) (after c.args.front) (within_of 65515 c.args.pool.now c.args.train.now c.requires.small) (omega (arith, length-queued c.args.pool.now c.args.train.now c.requires.held)) in
     omega (arith, ends, ap (λ (p : QueuedFragment). p.offset) was, c.requires.within)
 
 change : (c : goal.After-insert_after-arg-2-1) → Changed c.take_after-chain.new.pool c.take_after-chain.new.train c.take_after-chain.result.0 (record (chain_of c.take_after-chain.new.pool c.take_after-chain.result.0) { entries = without_first c.args.n (chain_of c.take_after-chain.new.pool c.take_after-chain.result.0).entries }) c.trim_front.new.pool
@@ -44,14 +44,14 @@ insert_after-requires-clause-held c = (change c).held
 pub insert_after-requires-clause-apart : goal.insert_after-requires-clause-apart
 insert_after-requires-clause-apart c = (change c).apart
 
-all : (c : goal.After-insert_after) → Trimmed c.args.pool.now c.args.train.now (behind c.args.front) c.args.n c.insert_after.new.pool c.insert_after.new.train
+all : (c : goal.After-insert_after) → Trimmed c.args.pool.now c.args.train.now (after c.args.front) c.args.n c.insert_after.new.pool c.insert_after.new.train
 all c =
     let o : IsOwned c.take_after-chain.new.pool (c.take_after-chain.result.0 ∷ numbers c.take_after-chain.new.pool c.take_after-chain.new.train) = owned_after c.take_after-chain.ensures.moves c.requires.held.owned in
-    trimmed_at c.args.pool.now c.take_after-chain.new.pool c.trim_front.new.pool c.insert_after.new.pool c.args.train.now c.take_after-chain.new.train c.insert_after.new.train c.take_after-chain.result.0 (behind c.args.front) c.args.n c.take_after-chain.result.1
-    c.requires.more c.requires.held c.take_after-chain.ensures.cars c.take_after-chain.ensures.taken c.take_after-chain.ensures.moves
+    trimmed_at c.args.pool.now c.take_after-chain.new.pool c.trim_front.new.pool c.insert_after.new.pool c.args.train.now c.take_after-chain.new.train c.insert_after.new.train c.take_after-chain.result.0 (after c.args.front) c.args.n c.take_after-chain.result.1
+    c.requires.more c.requires.held c.take_after-chain.ensures.queued_packets c.take_after-chain.ensures.taken c.take_after-chain.ensures.moves
     (changed c.take_after-chain.new.pool c.trim_front.new.pool c.take_after-chain.new.train c.take_after-chain.result.0 _ (live_first c.take_after-chain.new.pool c.take_after-chain.result.0 (numbers c.take_after-chain.new.pool c.take_after-chain.new.train) o)
     (apart_first c.take_after-chain.new.pool c.take_after-chain.result.0 (numbers c.take_after-chain.new.pool c.take_after-chain.new.train) o) c.take_after-chain.ensures.held c.trim_front.ensures)
-    c.insert_after.ensures.cars c.insert_after.ensures.moves
+    c.insert_after.ensures.queued_packets c.insert_after.ensures.moves
 
 pub returns-clause-queue : goal.returns-clause-queue
 returns-clause-queue c = (all c).queue_is
@@ -60,4 +60,4 @@ pub returns-clause-moves : goal.returns-clause-moves
 returns-clause-moves c = (all c).moves
 
 pub insert_after-requires-clause-front : goal.insert_after-requires-clause-front
-insert_after-requires-clause-front c = front_beside c.take_after-chain.new.pool c.trim_front.new.pool c.take_after-chain.new.train c.args.front ((change c).cars_are) c.take_after-chain.ensures.front
+insert_after-requires-clause-front c = front_beside c.take_after-chain.new.pool c.trim_front.new.pool c.take_after-chain.new.train c.args.front ((change c).queued_packets_are) c.take_after-chain.ensures.front

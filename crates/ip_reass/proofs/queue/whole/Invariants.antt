@@ -1,12 +1,12 @@
 use Rattle.std.proofs.Common.{◌-◌}
-use Rattle.mbuf_chain.specs.Train.{IsCar}
+use Rattle.mbuf_chain.specs.Train.{IsQueuedPlace}
 use Rattle.ip_reass.specs.Fragments.{fragments}
 use Rattle.ip_reass.proofs.Whole.{Row}
 use Rattle.ip_reass.proofs.queue.whole.Given as goal
 
 abbrev pub invariant-fragments : goal.invariant-fragments
 invariant-fragments l = record {
-  place : IsCar l.pool l.train l.at;
+  place : IsQueuedPlace l.pool l.train l.at;
   row : Row (fragments l.pool l.train) l.at.index l.end;
 }
 

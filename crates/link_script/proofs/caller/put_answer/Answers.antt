@@ -7,8 +7,8 @@ use Rattle.link_script.proofs.caller.put_answer.Goals as goal
 pub returns-in-Some : goal.returns-in-Some
 returns-in-Some g c =
     let called = c.call.ensures in
-    let len : length c.request_of.new.room ≡ c.args.rooms.now.bytes.len = omega arith in
-    let same = take-written _ c.request_of.new.room c.args.rooms.now.bytes.items len in (
+    let len : length c.request_of.new.room ≡ c.args.buffers.now.bytes.len = omega arith in
+    let same = take-written _ c.request_of.new.room c.args.buffers.now.bytes.items len in (
       answer_text (Some called.0),
       (Some called.0, (event_of c.in-Some.request c.request_of.new.room, c.in-Some.ensures.event, rw same at called.1), refl),
       called.2,

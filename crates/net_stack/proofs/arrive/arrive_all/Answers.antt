@@ -20,7 +20,7 @@ arrive-requires-clause-owned c = one_owned c.packets.train c.take-chain.new.self
 pub packets-preserved : goal.packets-preserved
 packets-preserved c =
     let more = one_more {ds = c.packets.reass} {ds2 = c.arrive.new.reass} c.take-chain.result.1 c.packets.invariant.way c.packets.invariant.held c.packets.invariant.plain c.packets.invariant.owned c.packets.invariant.reass
-    (some c.packets.train.len (eqb-false _ _ (sym c.is_empty.ensures ∙ c.packets-test.true))) c.take-chain.ensures.cars c.take-chain.ensures.taken c.take-chain.ensures.held c.take-chain.ensures.moves c.arrive.ensures.arrived in
+    (some c.packets.train.len (eqb-false _ _ (sym c.is_empty.ensures ∙ c.packets-test.true))) c.take-chain.ensures.queued_packets c.take-chain.ensures.taken c.take-chain.ensures.held c.take-chain.ensures.moves c.arrive.ensures.arrived in
     record {
       way = more.way;
       reass = c.arrive.ensures.reass;

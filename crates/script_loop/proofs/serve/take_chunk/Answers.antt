@@ -43,8 +43,8 @@ loop-at-preserved g c =
     let at : ℕ = c.in-Some.at in
     let piece : List ℕ = take at rest ++ 10 ∷ [] in
     let place : at + 1 ≡ suc at = omega arith in
-    let behind : c.split_at.result.1.now ≡ drop (suc at) rest = rw place at c.split_at.ensures.back in
-    let cut : rest ≡ piece ++ c.split_at.result.1.now = rw behind (cut-at rest at c.in-Some.ensures.0.high c.in-Some.ensures.1) in
+    let after : c.split_at.result.1.now ≡ drop (suc at) rest = rw place at c.split_at.ensures.back in
+    let cut : rest ≡ piece ++ c.split_at.result.1.now = rw after (cut-at rest at c.in-Some.ensures.0.high c.in-Some.ensures.1) in
     record {
       room = c.in_ok-now.ensures.room;
       within = c.in_ok-now.ensures.within.0;

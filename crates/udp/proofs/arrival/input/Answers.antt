@@ -3,7 +3,7 @@ use Rattle.std.proofs.lemmas.Grind.{common_steps}
 use Rattle.mbuf_chain.specs.Chain.{chain_of, string, with_chain}
 use Rattle.mbuf_chain.specs.Owners.{Moves}
 use Rattle.mbuf_chain.proofs.Laws.Owners.{moves_with, moves_without, shown_with}
-use Rattle.pcb_table.specs.Table.{packet_sought}
+use Rattle.pcb_table.specs.Table.{packet_key}
 use Rattle.udp.specs.declared.arrival.Outcome.{Outcome}
 use Rattle.udp.specs.declared.header.Header.{Header}
 use Rattle.udp.specs.Datagrams.{AreHearers, chains_of, without_header}
@@ -37,7 +37,7 @@ returns-clause-answer c =
     record {
       faultless = first_of (search rules, grind (arith, common_steps));
       sender = ap (λ (x : Header). record { ip = h.src; port = x.source }) said;
-      heard = subst (λ (x : Header). AreHearers c.args.pcbs.now h.dst (packet_sought h.dst x.destination (record { ip = h.src; port = x.source })) c.hearers-to.result.items) said c.hearers-to.ensures.found;
+      heard = subst (λ (x : Header). AreHearers c.args.pcbs.now h.dst (packet_key h.dst x.destination (record { ip = h.src; port = x.source })) c.hearers-to.result.items) said c.hearers-to.ensures.found;
       some = first_of (search rules, grind (arith, common_steps));
       same = refl;
       chain = cut;

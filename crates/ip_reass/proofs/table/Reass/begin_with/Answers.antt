@@ -20,7 +20,7 @@ returns-then-not-reserve-clause-step c = λ rest held new none acc is.
     let fr = freed c.args.pool.now c.reserve.new.pool c.free_chain.new.self c.args.self.now.datagrams c.reserve.new.waiting.datagrams c.args.chain
     (stays c.args.pool.now c.reserve.new.pool c.args.self.now.datagrams c.reserve.new.waiting.datagrams c.args.chain c.requires.owned c.reserve.ensures.moves) c.reserve.ensures.ready.table c.free_chain.ensures in
     lacking rest held new (key_in c.args.head) (fragment_of (arrived c.args.pool.now c.args.chain c.args.head.offset c.args.head.more)) (weight_at c.args.pool.now c.args.chain) c.args.pool.now c.reserve.new.pool c.free_chain.new.self c.args.self.now.datagrams c.reserve.new.waiting.datagrams c.args.counters.now c.reserve.new.counters c.count_ended.new.self _ c.reserve.result c.if-not-reserve.true
-    r.affords fr.shows c.count_ended.ensures is
+    r.has_buffers fr.shows c.count_ended.ensures is
 
 pub returns-then-not-reserve-clause-ready : goal.returns-then-not-reserve-clause-ready
 returns-then-not-reserve-clause-ready c = record {
@@ -82,7 +82,7 @@ returns-clause-step c = λ rest held new none acc goes.
     let b = began c.reserve.new.pool c.new_chain.new.self c.reserve.new.waiting.datagrams c.begin.new.table.items c.args.chain c.in-Ok.holder (length c.as_slice-i.result.now) (key_in c.args.head) c.reserve.ensures.ready.table st.owned c.in-Ok.ensures.ok
     (c.begin.ensures.items ∙ (λ j. ((ap (λ (r : TableView). r.datagrams) c.self.view_is) j) ++ new_datagram (c.key_of.ensures j) c.in-Ok.holder ∷ [])) (ap (λ (ds : List Datagram). length ds) (c.as_slice-i.ensures.value ∙ (ap (λ (r : TableView). r.datagrams) c.self.view_is))) in
     begins_here rest held new (key_in c.args.head) (weight_at c.args.pool.now c.args.chain) c.args.pool.now c.reserve.new.pool c.new_chain.new.self c.args.self.now.datagrams c.reserve.new.waiting.datagrams c.begin.new.table.items c.args.counters.now c.reserve.new.counters c.settle.new.counters c.args.chain (length c.as_slice-i.result.now) c.args.head.offset c.args.head.more c.settle.result c.settle.new.pool c.settle.new.table.items c.reserve.result c.if-not-reserve.false
-    none r.affords (b.stays.chain ∙ st.chain) b (λ here most. c.settle.ensures.step rest held new here most goes)
+    none r.has_buffers (b.stays.chain ∙ st.chain) b (λ here most. c.settle.ensures.step rest held new here most goes)
 
 moved : (c : goal.After-settle) → Moves c.args.pool.now (c.args.chain ∷ held_all c.args.pool.now c.args.self.now.datagrams) c.settle.new.pool (in_hand c.settle.result ++ held_all c.settle.new.pool c.settle.new.table.items)
 moved c =

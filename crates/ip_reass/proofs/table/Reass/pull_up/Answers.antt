@@ -13,7 +13,7 @@ returns-then-not-reserve-clause-tested c = λ cluster rest held acc.
     let r = c.reserve.ensures.reserves (machine c.args.pool.now c.args.self.now.datagrams c.args.counters.now rest) (held ⊕ weight_at c.args.pool.now c.args.chain) refl refl acc in
     let fr = freed c.args.pool.now c.reserve.new.pool c.free_chain.new.self c.args.self.now.datagrams c.reserve.new.waiting.datagrams c.args.chain
     (stays c.args.pool.now c.reserve.new.pool c.args.self.now.datagrams c.reserve.new.waiting.datagrams c.args.chain c.requires.owned c.reserve.ensures.moves) c.reserve.ensures.ready.table c.free_chain.ensures in
-    pulled_lacking rest held (weight_at c.args.pool.now c.args.chain) c.args.pool.now c.reserve.new.pool c.free_chain.new.self c.args.self.now.datagrams c.reserve.new.waiting.datagrams c.args.counters.now c.reserve.new.counters c.count_ended.new.self c.reserve.result c.if-not-reserve.true r.affords fr.shows c.count_ended.ensures
+    pulled_lacking rest held (weight_at c.args.pool.now c.args.chain) c.args.pool.now c.reserve.new.pool c.free_chain.new.self c.args.self.now.datagrams c.reserve.new.waiting.datagrams c.args.counters.now c.reserve.new.counters c.count_ended.new.self c.reserve.result c.if-not-reserve.true r.has_buffers fr.shows c.count_ended.ensures
 
 pub returns-then-not-reserve-clause-ready : goal.returns-then-not-reserve-clause-ready
 returns-then-not-reserve-clause-ready c = record {
@@ -32,7 +32,7 @@ returns-clause-tested c = λ cluster rest held acc.
     let r = c.reserve.ensures.reserves (machine c.args.pool.now c.args.self.now.datagrams c.args.counters.now rest) (held ⊕ weight_at c.args.pool.now c.args.chain) refl refl acc in
     let u = pulled c.args.pool.now c.reserve.new.pool c.m_pullup.new.pool c.args.self.now.datagrams c.reserve.new.waiting.datagrams c.args.chain c.m_pullup.new.chain _ _
     (stays c.args.pool.now c.reserve.new.pool c.args.self.now.datagrams c.reserve.new.waiting.datagrams c.args.chain c.requires.owned c.reserve.ensures.moves) c.reserve.ensures.ready.table c.in-Ok.ensures.ok in
-    pulled_done rest held (weight_at c.args.pool.now c.args.chain) c.args.pool.now c.reserve.new.pool c.m_pullup.new.pool c.args.self.now.datagrams c.reserve.new.waiting.datagrams c.args.counters.now c.reserve.new.counters c.reserve.result c.if-not-reserve.false r.affords u.shows
+    pulled_done rest held (weight_at c.args.pool.now c.args.chain) c.args.pool.now c.reserve.new.pool c.m_pullup.new.pool c.args.self.now.datagrams c.reserve.new.waiting.datagrams c.args.counters.now c.reserve.new.counters c.reserve.result c.if-not-reserve.false r.has_buffers u.shows
 
 pub returns-clause-ready : goal.returns-clause-ready
 returns-clause-ready c =

@@ -6,7 +6,7 @@ use Rattle.mbuf_chain.proofs.tests.large.walked.Given as goal
 abbrev pub invariant-mbufs : goal.invariant-mbufs
 invariant-mbufs l = record {
   place : IsPlace (chain_of l.pool l.chain) l.last;
-  behind : MatchOption l.behind (l.last.index + 1 ≡ length (chain_of l.pool l.chain).entries) (λ q. IsPlace (chain_of l.pool l.chain) q × (q.index ≡ l.last.index + 1));
+  after : MatchOption l.after (l.last.index + 1 ≡ length (chain_of l.pool l.chain).entries) (λ q. IsPlace (chain_of l.pool l.chain) q × (q.index ≡ l.last.index + 1));
 }
 
 abbrev pub decreases-mbufs : goal.decreases-mbufs

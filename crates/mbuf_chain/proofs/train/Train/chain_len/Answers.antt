@@ -1,12 +1,12 @@
 use Rattle.std.proofs.Common.{◌∙◌, sym, ap, length}
 use Rattle.mbuf_chain.specs.Chain.{flat_bytes}
-use Rattle.mbuf_chain.specs.Train.{Car}
-use Rattle.mbuf_chain.proofs.Trains.{live_car, car_is}
+use Rattle.mbuf_chain.specs.Train.{QueuedPacket}
+use Rattle.mbuf_chain.proofs.Trains.{live_queued, queued_packet_is}
 use Rattle.mbuf_chain.proofs.train.Train.chain_len.Goals as goal
 
 pub len_of-requires : goal.len_of-requires
-len_of-requires c = live_car c.args.pool.now c.args.self.now c.args.i c.number_at.result c.requires.held c.number_at.ensures
+len_of-requires c = live_queued c.args.pool.now c.args.self.now c.args.i c.number_at.result c.requires.held c.number_at.ensures
 
 pub returns : goal.returns
 returns c =
-    c.len_of.ensures ∙ sym (ap (λ (car : Car). length (flat_bytes car.entries)) (car_is c.args.pool.now c.args.self.now c.args.i c.number_at.result c.number_at.ensures))
+    c.len_of.ensures ∙ sym (ap (λ (queued_packet : QueuedPacket). length (flat_bytes queued_packet.entries)) (queued_packet_is c.args.pool.now c.args.self.now c.args.i c.number_at.result c.number_at.ensures))

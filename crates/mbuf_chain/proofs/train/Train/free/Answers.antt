@@ -2,7 +2,7 @@ use Rattle.std.proofs.Common.{subst, arith}
 use Rattle.mbuf_chain.specs.Owners.{Moves}
 use Rattle.mbuf_chain.specs.Train.{numbers}
 use Rattle.mbuf_chain.proofs.Laws.Owners.{moves_none, moves_trans}
-use Rattle.mbuf_chain.proofs.Trains.{freed_car, none_left}
+use Rattle.mbuf_chain.proofs.Trains.{freed_packet, none_left}
 use Rattle.mbuf_chain.proofs.train.Train.free.Goals as goal
 
 pub chains-init : goal.chains-init
@@ -16,7 +16,7 @@ chains-smaller c = omega (arith, c.take-chain.ensures.len)
 
 pub chains-preserved : goal.chains-preserved
 chains-preserved c =
-    let freed = freed_car c.chains.invariant.held c.take-chain.ensures.held c.take-chain.ensures.moves c.free_chain.ensures in
+    let freed = freed_packet c.chains.invariant.held c.take-chain.ensures.held c.take-chain.ensures.moves c.free_chain.ensures in
     record { held = freed.held; moves = moves_trans c.chains.invariant.moves freed.moves }
 
 pub returns : goal.returns

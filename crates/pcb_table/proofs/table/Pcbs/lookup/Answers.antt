@@ -1,6 +1,6 @@
 use Rattle.std.proofs.Common.{ℕ, Some, None, ap, sym, subst, ◌∙◌}
 use Rattle.std.specs.Prelude.{option_copied}
-use Rattle.pcb_table.specs.Table.{Table, IsDescriptor, packet_sought}
+use Rattle.pcb_table.specs.Table.{Table, IsDescriptor, packet_key}
 use Rattle.pcb_table.specs.Search.{best_block}
 use Rattle.pcb_table.specs.Sound.{IsCached}
 use Rattle.flat_model.specs.Lookup as flat
@@ -13,7 +13,7 @@ use Rattle.pcb_table.proofs.table.Pcbs.lookup.Goals as goal
 
 pub returns-then-has_ends-clause-found : goal.returns-then-has_ends-clause-found
 returns-then-has_ends-clause-found c =
-    let q = packet_sought c.args.destination c.args.port c.args.source in
+    let q = packet_key c.args.destination c.args.port c.args.source in
     let found = cached_best c.self.inside.blocks.items c.self.inside.cache c.in-Some.cached c.args.destination c.args.port c.args.source
     c.self.invariant.0 c.self.invariant.1 c.in-Some.is (sym c.has_ends.ensures ∙ c.if-has_ends.true) in
     subst (λ (t : Table). Finds (flat.best q) t (Some c.in-Some.cached.fd)) c.self.view_is
@@ -22,34 +22,34 @@ returns-then-has_ends-clause-found c =
 
 pub returns-then-has_ends-clause-range : goal.returns-then-has_ends-clause-range
 returns-then-has_ends-clause-range c =
-    let q = packet_sought c.args.destination c.args.port c.args.source in
+    let q = packet_key c.args.destination c.args.port c.args.source in
     let found = cached_best c.self.inside.blocks.items c.self.inside.cache c.in-Some.cached c.args.destination c.args.port c.args.source
     c.self.invariant.0 c.self.invariant.1 c.in-Some.is (sym c.has_ends.ensures ∙ c.if-has_ends.true) in
     subst IsDescriptor found.1 (best_range q c.self.inside.blocks.items found.0 c.self.invariant.0 found.2)
 
 pub invariant_of-self : goal.invariant_of-self
 invariant_of-self c =
-    let q = packet_sought c.args.destination c.args.port c.args.source in
-    let cached = cached_by_best q c.self.inside.blocks.items c.in-Some-best.block.now (ap (best_block (packet_sought c.args.destination c.args.port c.args.source)) (sym c.as_slice.ensures.value)
+    let q = packet_key c.args.destination c.args.port c.args.source in
+    let cached = cached_by_best q c.self.inside.blocks.items c.in-Some-best.block.now (ap (best_block (packet_key c.args.destination c.args.port c.args.source)) (sym c.as_slice.ensures.value)
     ∙ ap (λ q. best_block q c.as_slice.result.now) (sym c.key_of_packet.ensures) ∙ sym c.best.ensures ∙ ap option_copied c.in-Some-best.is) in
     (c.self.invariant.0, subst (IsCached c.self.inside.blocks.items) (sym c.connection-self-inside.ensures) cached, c.self.invariant.2)
 
 pub returns-in-None-clause-found : goal.returns-in-None-clause-found
 returns-in-None-clause-found c =
-    let q = packet_sought c.args.destination c.args.port c.args.source in
+    let q = packet_key c.args.destination c.args.port c.args.source in
     subst (λ (t : Table). Finds (flat.best q) t None) c.self.view_is
-    (best_none c.self.inside.interface c.self.inside.blocks.items c.self.inside.last_port q (ap (best_block (packet_sought c.args.destination c.args.port c.args.source)) (sym c.as_slice.ensures.value)
+    (best_none c.self.inside.interface c.self.inside.blocks.items c.self.inside.last_port q (ap (best_block (packet_key c.args.destination c.args.port c.args.source)) (sym c.as_slice.ensures.value)
     ∙ ap (λ q. best_block q c.as_slice.result.now) (sym c.key_of_packet.ensures) ∙ sym c.best.ensures ∙ ap option_copied c.in-None.is))
 
 pub returns-in-Some-best-clause-found : goal.returns-in-Some-best-clause-found
 returns-in-Some-best-clause-found c =
-    let q = packet_sought c.args.destination c.args.port c.args.source in
+    let q = packet_key c.args.destination c.args.port c.args.source in
     subst (λ (t : Table). Finds (flat.best q) t (Some c.in-Some-best.block.now.fd)) c.self.view_is
-    (best_some c.self.inside.interface c.self.inside.blocks.items c.self.inside.last_port q c.in-Some-best.block.now c.self.invariant.0 (ap (best_block (packet_sought c.args.destination c.args.port c.args.source)) (sym c.as_slice.ensures.value)
+    (best_some c.self.inside.interface c.self.inside.blocks.items c.self.inside.last_port q c.in-Some-best.block.now c.self.invariant.0 (ap (best_block (packet_key c.args.destination c.args.port c.args.source)) (sym c.as_slice.ensures.value)
     ∙ ap (λ q. best_block q c.as_slice.result.now) (sym c.key_of_packet.ensures) ∙ sym c.best.ensures ∙ ap option_copied c.in-Some-best.is))
 
 pub returns-in-Some-best-clause-range : goal.returns-in-Some-best-clause-range
 returns-in-Some-best-clause-range c =
-    let q = packet_sought c.args.destination c.args.port c.args.source in
-    best_range q c.self.inside.blocks.items c.in-Some-best.block.now c.self.invariant.0 (ap (best_block (packet_sought c.args.destination c.args.port c.args.source)) (sym c.as_slice.ensures.value)
+    let q = packet_key c.args.destination c.args.port c.args.source in
+    best_range q c.self.inside.blocks.items c.in-Some-best.block.now c.self.invariant.0 (ap (best_block (packet_key c.args.destination c.args.port c.args.source)) (sym c.as_slice.ensures.value)
     ∙ ap (λ q. best_block q c.as_slice.result.now) (sym c.key_of_packet.ensures) ∙ sym c.best.ensures ∙ ap option_copied c.in-Some-best.is)

@@ -25,7 +25,7 @@ use denote.Triple.Walked.{Stays, stay_dropped, stay_ref, walk_of, ends_at, says,
 use Rattle.std.proofs.raw_atomic.Walks.{proved_at}
 use Rattle.raw_cells.proofs.Addresses.{address_val, address_typed, told_address}
 use Rattle.raw_cells.specs.Memory.{bytes_owned, block_type}
-use Rattle.raw_cells.proofs.Lying.{Lie, put_behind}
+use Rattle.raw_cells.proofs.Lying.{Lie, put_next}
 use Rattle.raw_cells.specs.contracts.memory.Address.{the_row as Addr}
 use Rattle.raw_cells.specs.contracts.memory.Bytes.{the_row as Row}
 use Rattle.raw_cells.specs.contracts.memory.Bytes.push as f
@@ -71,7 +71,7 @@ push_spec 𝓤 𝓛 𝓜 𝓡 wired =
     assigns_last ! (of_opd ! (get ! refl)) (through ! refl (stop !)) (init ! 0 refl (tt, record { fits = small })) $
     exec ! 𝓣.C 𝓣.Λ En code.Mir.t-2 (at_ret En Post) $ sets ! (of_opd ! (unit_lit !)) refl (tt, tt) $
     use1 𝓛 (‵ (part_at u8 full_share byte b (index + o))) (uint_in 𝓛 full_share w8 byte b (index + o)) $ move ! (0 ∷ 2 ∷ []) $
-    use2 𝓛 (‵ (Lie new.written b o)) (put_behind 𝓛 b d.written byte o (index + o) (omega (arith, asked.1))) $ move ! (1 ∷ []) $
+    use2 𝓛 (‵ (Lie new.written b o)) (put_next 𝓛 b d.written byte o (index + o) (omega (arith, asked.1))) $ move ! (1 ∷ []) $
     rewrite ! 0 (λ (k : ℕ). ‵ (froom (block_type m) b k)) {x = o + length new.written} (omega (arith, more, asked.1)) refl $ move ! (1 ∷ 0 ∷ []) $ fjoin ! $
     flt_i ! (length new.written + m) (2 ^ 63) (omega (arith, few, more, left)) $ fjoin ! $
     rewrite ! 0 (λ (y : Ptr). ‵ (bytes_owned y new.written m)) (sym e) refl $ move ! (1 ∷ 0 ∷ []) $ fjoin ! $ move ! (1 ∷ 0 ∷ []) $ closes ! tt Row new vs rb ro $

@@ -3,7 +3,7 @@ use Rattle.std.specs.List.{insert}
 use Rattle.flat_model.specs.Fits.{fits}
 use Rattle.mbuf_chain.specs.Owners.{times}
 use Rattle.mbuf_chain.specs.Chain.{chain_of, string}
-use Rattle.mbuf_chain.specs.Train.{Car, cars}
+use Rattle.mbuf_chain.specs.Train.{QueuedPacket, queued_packets}
 use Rattle.sockbuf.specs.SockBuf.{SockBufView, IsSockBuf, chains_of, datagrams}
 use Rattle.sockbuf.proofs.Queues.{appended, Appended, held_beside, apart_beside}
 use Rattle.sockbuf.proofs.buffer.SockBuf.append_addr.Goals as goal
@@ -25,8 +25,8 @@ queued : (c : goal.After-self-2-1) → Appended c.args.pool.now c.args.self.now 
 queued c =
     let ready = subst (IsSockBuf c.args.pool.now) (sym c.self.view_is) c.requires.ready in
     let apart = subst (λ (v : SockBufView). times c.args.chain (chains_of c.args.pool.now v) ≡ 0) (sym c.self.view_is) c.requires.apart in
-    let old : List Car = cars c.with_address.new.pool c.self.inside.train in
-    let new : Car = record { number = c.in-Ok.whole; entries = (chain_of c.with_address.new.pool c.in-Ok.whole).entries; tag = 0 } in
+    let old : List QueuedPacket = queued_packets c.with_address.new.pool c.self.inside.train in
+    let new : QueuedPacket = record { number = c.in-Ok.whole; entries = (chain_of c.with_address.new.pool c.in-Ok.whole).entries; tag = 0 } in
     subst (λ (v : SockBufView). Appended c.args.pool.now v c.args.chain c.args.sender c.insert.new.pool
     (record { train = c.insert.new.self; cc = c.self.inside.cc + (16 + c.len-len.result); mbcnt = c.self.inside.mbcnt + (128 + c.memory_of-memory.result) })) c.self.view_is
     (appended {b = record { train = c.self.inside.train; cc = c.self.inside.cc; mbcnt = c.self.inside.mbcnt }} {a = c.args.sender} _ _ ready (record {
@@ -35,7 +35,7 @@ queued c =
       apart = apart;
       entries = c.in-Ok.ensures.entries;
       made = c.in-Ok.ensures.moves;
-      cars = c.insert.ensures.cars ∙ ap (λ (n : ℕ). insert old n new) c.len-end.ensures;
+      queued_packets = c.insert.ensures.queued_packets ∙ ap (λ (n : ℕ). insert old n new) c.len-end.ensures;
       held = c.insert.ensures.held;
       moves = c.insert.ensures.moves;
     }) (omega (arith, c.len-len.ensures)) (omega (arith, c.memory_of-memory.ensures.value)))

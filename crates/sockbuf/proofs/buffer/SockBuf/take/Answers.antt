@@ -10,7 +10,7 @@ some n ne = omega arith
 taken_out : (c : goal.After-self-2-1) → IsTakenOut c.args.pool.now (record { train = c.self.inside.train; cc = c.self.inside.cc; mbcnt = c.self.inside.mbcnt }) c.take-whole.result.0 c.take-whole.result.1 c.take-whole.new.pool c.take-whole.new.self
 taken_out c = record {
   some = some c.self.inside.train.len (eqb-false _ _ (sym c.is_empty.ensures ∙ c.if-is_empty.false));
-  cars = c.take-whole.ensures.cars;
+  queued_packets = c.take-whole.ensures.queued_packets;
   taken = c.take-whole.ensures.taken;
   held = c.take-whole.ensures.held;
   moves = c.take-whole.ensures.moves;

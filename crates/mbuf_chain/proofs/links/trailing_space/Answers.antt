@@ -1,7 +1,7 @@
 use Rattle.std.proofs.Common.{sym, ◌∙◌}
 use Rattle.mbuf_chain.proofs.Heads.{shown_at}
 use Rattle.mbuf_chain.proofs.Grows.{rooms_at, back_then, back_else}
-use Rattle.mbuf_chain.proofs.links.back_room.Goals as goal
+use Rattle.mbuf_chain.proofs.links.trailing_space.Goals as goal
 
 pub head-head-requires : goal.head-head-requires
 head-head-requires c = (shown_at _ _ _ c.requires.pool c.requires.live c.requires.place).out

@@ -1,7 +1,7 @@
 use Rattle.std.proofs.Common.{◌≡◌, ℕ, min, List, length, drop, ap, sym, ◌∙◌, arith, inl, inr}
 use Rattle.std.proofs.lemmas.Bool.{cases_lt}
 use Rattle.std.proofs.lemmas.List.{drop_all, take_rest}
-use Rattle.chain_ops.proofs.copyback.behind.Goals as goal
+use Rattle.chain_ops.proofs.copyback.after.Goals as goal
 
 drop_to : (m : ℕ) (xs : List ℕ) → drop (min (length xs) m) xs ≡ drop m xs
 drop_to m xs = elim (cases_lt m (length xs)) [

@@ -7,7 +7,7 @@ const MOST_BYTES: usize = 65_535;
 
 /// Memory for the work on one line, which is taken once for all lines.
 #[derive(Drop)]
-pub struct Rooms {
+pub struct LineBuffers {
     /// 65,535 bytes: those that a line names, or that are copied out for its answer.
     pub bytes: Vec<u8>,
     /// Room for their digits, two for each.
@@ -23,10 +23,10 @@ fn room(alloc: Global, len: usize) -> Result<Vec<u8>, AllocError>
     vec![in alloc; 0; len]
 }
 
-impl Rooms {
+impl LineBuffers {
     /// All the memory, each byte of it 0. `AllocError` comes only where the host refuses a part of it.
-    pub fn new(alloc: Global) -> Result<Rooms, AllocError> {
-        Ok(Rooms {
+    pub fn new(alloc: Global) -> Result<LineBuffers, AllocError> {
+        Ok(LineBuffers {
             bytes: room(alloc, MOST_BYTES)?,
             digits: room(alloc, 2 * MOST_BYTES)?,
         })

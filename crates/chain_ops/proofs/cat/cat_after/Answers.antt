@@ -1,7 +1,7 @@
 use Rattle.std.proofs.Common.{ap, ◌∙◌}
 use Rattle.mbuf_chain.specs.Chain.{chain_of, flat_bytes}
 use Rattle.chain_ops.proofs.Laws.Strings.{cat_bytes}
-use Rattle.chain_ops.proofs.cat.cat_behind.Goals as goal
+use Rattle.chain_ops.proofs.cat.cat_after.Goals as goal
 
 pub returns-clause-string : goal.returns-clause-string
 returns-clause-string c =

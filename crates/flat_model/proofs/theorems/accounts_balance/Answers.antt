@@ -1,6 +1,6 @@
 -- What is free is what isn't held.
-use Rattle.flat_model.proofs.Books.{free_and_held, references_are, none_held}
-use Rattle.flat_model.proofs.theorems.books_balance.Goals as goal
+use Rattle.flat_model.proofs.Balance.{free_and_held, references_are, none_held}
+use Rattle.flat_model.proofs.theorems.accounts_balance.Goals as goal
 
 pub returns-clause-mbufs : goal.returns-clause-mbufs
 returns-clause-mbufs c = free_and_held

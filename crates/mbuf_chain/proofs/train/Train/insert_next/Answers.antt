@@ -1,0 +1,65 @@
+use Rattle.std.proofs.Common.{◌+◌, ◌∙◌, sym, ap, arith, subst}
+use Rattle.std.specs.Option.{IfSome}
+use Rattle.mbuf_chain.specs.Chain.{ChainView, IsLive, chain_of}
+use Rattle.mbuf_chain.specs.Steps.{placed}
+use Rattle.mbuf_chain.specs.Train.{TrainView}
+use Rattle.mbuf_chain.specs.declared.train.Train.TheInside.{Inside}
+use Rattle.mbuf_chain.proofs.Laws.Owners.{live_with, kept_with}
+use Rattle.mbuf_chain.proofs.Trains.{inserted_after, room_for, live_queued, headed_packet, apart_queued, live_after}
+use Rattle.mbuf_chain.proofs.train.Train.insert_next.Goals as goal
+use Rattle.mbuf_chain.proofs.train.Train.insert_next.Goals.{then-self-before, else-self-before}
+
+pub after-after-requires : goal.after-after-requires
+after-after-requires c = live_queued c.args.pool.now c.args.self.now c.args.before.index c.args.before.number c.requires.held c.requires.before.number
+
+pub tag_of-kept-requires : goal.tag_of-kept-requires
+tag_of-kept-requires c =
+    live_with c.args.pool.now c.place.new.pool c.args.number (placed (chain_of c.args.pool.now c.args.number) c.after-after.result c.args.tag) c.args.before.number c.place.ensures.placed
+    (live_queued c.args.pool.now c.args.self.now c.args.before.index c.args.before.number c.requires.held c.requires.before.number)
+
+pub place-requires-2-clause-live : goal.place-requires-2-clause-live
+place-requires-2-clause-live c =
+    live_with c.args.pool.now c.place.new.pool c.args.number (placed (chain_of c.args.pool.now c.args.number) c.after-after.result c.args.tag) c.args.before.number c.place.ensures.placed
+    (live_queued c.args.pool.now c.args.self.now c.args.before.index c.args.before.number c.requires.held c.requires.before.number)
+
+pub place-requires-2-clause-headed : goal.place-requires-2-clause-headed
+place-requires-2-clause-headed c =
+    ap (λ (v : ChainView). v.front.header)
+    (kept_with c.args.pool.now c.place.new.pool c.args.number (placed (chain_of c.args.pool.now c.args.number) c.after-after.result c.args.tag) c.args.before.number c.place.ensures.placed
+    (apart_queued c.args.pool.now c.args.self.now c.args.before.index c.args.before.number c.args.number c.requires.apart c.requires.before.number))
+    ∙ headed_packet c.args.pool.now c.args.self.now c.args.before.index c.args.before.number c.requires.held c.requires.before.number
+
+pub overflow_add-self : goal.overflow_add-self
+overflow_add-self c =
+    let room = room_for c.args.pool.now c.args.self.now c.args.number (placed (chain_of c.args.pool.now c.args.number) c.after-after.result c.args.tag) c.place.new.pool c.requires.held c.requires.live c.requires.apart c.place.ensures.placed c.place.ensures.bounds in
+    let len = ap (λ (t : TrainView). t.len) c.self.view_is in
+    elim c.if-self-before.branch [
+      | then-self-before w ↦ omega (arith, room, len, ap (λ (s : Inside). s.len) w.self-inside-is)
+      | else-self-before w ↦ omega (arith, room, len, ap (λ (s : Inside). s.len) w.self-inside-is)
+    ]
+
+pub returns-clause-change : goal.returns-clause-change
+returns-clause-change c =
+    let len = ap (λ (t : TrainView). t.len) c.self.view_is in
+    let first = ap (λ (t : TrainView). t.first) c.self.view_is in
+    elim c.if-self-before.branch [
+      | then-self-before w ↦
+          inserted_after c.args.pool.now c.args.self.now c.args.before.number c.args.before.index (c.args.before.index + 1) c.args.number c.args.tag c.tag_of-kept.result c.after-after.result c.place.new.pool c.place-2.new.pool _ c.requires.held c.requires.live
+          c.requires.headed c.requires.apart c.requires.before.number (omega arith) c.after-after.ensures c.tag_of-kept.ensures c.place.ensures.placed c.place-2.ensures.placed (ap (λ (s : Inside). s.first) w.self-inside-is ∙ first)
+          (ap (λ (s : Inside). s.len + 1) w.self-inside-is ∙ ap (λ n. n + 1) len) (λ _. ap (λ (s : Inside). s.last) w.self-inside-is) (λ h. absurd (omega (arith, h, len, w.if-self-before.true)))
+      | else-self-before w ↦
+          inserted_after c.args.pool.now c.args.self.now c.args.before.number c.args.before.index (c.args.before.index + 1) c.args.number c.args.tag c.tag_of-kept.result c.after-after.result c.place.new.pool c.place-2.new.pool _ c.requires.held c.requires.live
+          c.requires.headed c.requires.apart c.requires.before.number (omega arith) c.after-after.ensures c.tag_of-kept.ensures c.place.ensures.placed c.place-2.ensures.placed (ap (λ (s : Inside). s.first) w.self-inside-is ∙ first)
+          (ap (λ (s : Inside). s.len + 1) w.self-inside-is ∙ ap (λ n. n + 1) len) (λ h. absurd (omega (arith, h, len, w.if-self-before.false))) (λ _. ap (λ (s : Inside). s.last) w.self-inside-is ∙ ap (λ (t : TrainView). t.last) c.self.view_is)
+    ]
+
+pub place-requires-clause-link : goal.place-requires-clause-link
+place-requires-clause-link c =
+    subst (λ o. IfSome o (IsLive c.args.pool.now)) (sym c.after-after.ensures) (live_after c.args.pool.now c.args.self.now c.args.before.index c.args.before.number c.requires.held c.requires.before.number)
+
+pub place-requires-2-clause-link : goal.place-requires-2-clause-link
+place-requires-2-clause-link c =
+    live_with c.args.pool.now c.place.new.pool c.args.number (placed (chain_of c.args.pool.now c.args.number) c.after-after.result c.args.tag) c.args.number c.place.ensures.placed c.requires.live
+
+pub overflow_add-before : goal.overflow_add-before
+overflow_add-before c = omega (arith, c.requires.before.within, ap (λ (t : TrainView). t.len) c.self.view_is)
