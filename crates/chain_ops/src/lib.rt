@@ -14,8 +14,6 @@ mod pullup;
 mod split;
 mod step;
 mod store;
-#[cfg(test)]
-mod tests;
 pub mod theorems;
 
 pub use adj::{m_adj, trim_back, trim_front};

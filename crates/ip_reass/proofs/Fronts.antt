@@ -2,7 +2,7 @@
 use Rattle.std.proofs.Common.{◌≡◌, ℕ, ◌≤◌, List, [], ◌∷◌, map, slice_get, Option, None, Some, refl, sym, ap, ◌∙◌, arith}
 use Rattle.mbuf_chain.specs.Chain.{PoolView}
 use Rattle.mbuf_chain.specs.Train.{TrainView, QueuedPacket, queued_packet_of, queued_packets, numbers}
-use Rattle.mbuf_chain.specs.declared.queued_packet.QueuedPlace.{QueuedPlace}
+use Rattle.mbuf_chain.specs.declared.queued_place.QueuedPlace.{QueuedPlace}
 use Rattle.ip_reass.specs.Inside.{IsFront, after}
 
 numbers_of : (p : PoolView) (xs : List ℕ) → map (λ (queued_packet : QueuedPacket). queued_packet.number) (map (queued_packet_of p) xs) ≡ xs

@@ -6,7 +6,7 @@ use Rattle.flat_model.specs.Weight.{nothing}
 use Rattle.flat_model.specs.Overlay.{Fragment}
 use Rattle.mbuf_chain.specs.Chain.{PoolView, chain_of}
 use Rattle.mbuf_chain.specs.Train.{TrainView, IsQueuedPlace}
-use Rattle.mbuf_chain.specs.declared.queued_packet.QueuedPlace.{QueuedPlace}
+use Rattle.mbuf_chain.specs.declared.queued_place.QueuedPlace.{QueuedPlace}
 use Rattle.ip_reass.specs.Fragments.{QueuedFragment, end_of}
 
 -- a chain as a fragment that begins at the offset

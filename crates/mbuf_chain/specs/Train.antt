@@ -1,7 +1,7 @@
 -- Trains: chains linked one after another through their first mbufs, each with a tag (TCP/IP Illustrated, volume 2, chapter 2: mbuf chains linked by m_nextpkt; the tag is this project's own).
 use Rattle.std.specs.Prelude.{◌≡◌, ℕ, zero, suc, ◌+◌, ◌<◌, true, List, [], ◌∷◌, length, map, insert, remove, slice_get, slice_index_or, Option, None, Some}
 use Rattle.mbuf_chain.specs.Chain.{Entry, PoolView, chain_of, alone}
-use Rattle.mbuf_chain.specs.declared.queued_packet.QueuedPlace.{QueuedPlace}
+use Rattle.mbuf_chain.specs.declared.queued_place.QueuedPlace.{QueuedPlace}
 use Rattle.mbuf_chain.specs.Owners.{times, IsOwned, Moves}
 
 -- the numbers of the first chain and of the last, and how many there are

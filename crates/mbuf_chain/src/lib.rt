@@ -10,7 +10,7 @@ mod make;
 mod pieces;
 mod place;
 mod pool;
-mod queued_packet;
+mod queued_place;
 mod reclaim;
 #[cfg(test)]
 mod tests;
@@ -21,7 +21,7 @@ pub use chain::Chain;
 pub use pieces::{Entries, Pieces};
 pub use place::{Place, Segment};
 pub use pool::Pool;
-pub use queued_packet::QueuedPlace;
+pub use queued_place::QueuedPlace;
 pub use reclaim::Reclaim;
 pub use train::Train;
 pub use usage::Usage;

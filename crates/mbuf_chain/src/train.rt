@@ -11,7 +11,7 @@ ghost use Rattle.mbuf_chain.specs.Train.{queued_packets, queued_packet_at, numbe
 use crate::chain::Chain;
 use crate::pieces::Pieces;
 use crate::pool::Pool;
-use crate::queued_packet::QueuedPlace;
+use crate::queued_place::QueuedPlace;
 use std::marker::Model;
 
 /// Chains in a row, each linked after the one before through their first mbufs, and each with a tag

@@ -7,8 +7,6 @@ mod laws;
 mod receive;
 mod send;
 mod stack;
-#[cfg(test)]
-mod tests;
 mod traffic;
 mod transmit;
 

@@ -15,4 +15,3 @@ mod Made
 mod Queueing
 mod Going
 mod Tested
-mod Hosted

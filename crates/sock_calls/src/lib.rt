@@ -14,8 +14,6 @@ mod packets;
 mod receive;
 mod send;
 mod sockets;
-#[cfg(test)]
-mod tests;
 
 pub use destination::send_target;
 pub use net::Net;
