@@ -1,0 +1,91 @@
+//! What becomes of a refusal of host memory: a boot of the stack, a script of calls on sockets and one of calls on chains, each
+//! made once, and made again where memory was refused. `.ci/memory` runs it once for each of its allocations, with that one
+//! refused: the answer has to be `Memory`, with nothing read or written, and the second try has to succeed. It takes no
+//! memory of its own.
+#![tactic(auto)]
+
+mod streams;
+
+use chain_script::{Sizes, run_chains};
+use link_script::{Config, RunFault, Silent, run};
+use net_stack::{BootFault, Stack};
+use std::alloc::Global;
+use std::io;
+use streams::{Counted, Page};
+
+const MACHINE: Config = Config {
+    addr: 0x0a00_0001,
+    bcast: 0x0a00_00ff,
+    mtu: 1500,
+    mbufs: 512,
+    clusters: 64,
+    first_id: 1,
+};
+
+const POOL: Sizes = Sizes {
+    mbufs: 512,
+    clusters: 64,
+};
+
+/// How a call ended: it succeeded, or memory was refused and nothing had been done.
+#[derive(Clone, Copy, PartialEq, Eq)]
+enum End {
+    Done,
+    Refused,
+    Wrong,
+}
+
+fn boots(alloc: Global) -> End {
+    match Stack::boot(alloc, MACHINE) {
+        Ok(stack) => {
+            let _ = stack.end();
+            End::Done
+        }
+        Err(BootFault::Memory) => End::Refused,
+        Err(_) => End::Wrong,
+    }
+}
+
+/// Says how a run ended, of which these are the outcome and the streams.
+fn end_of(outcome: Result<(), RunFault>, reader: &Counted, writer: &Page, want: &[u8]) -> End {
+    match outcome {
+        Ok(()) if writer.text() == want => End::Done,
+        Err(RunFault::Memory) if reader.reads == 0 && writer.writes == 0 => End::Refused,
+        _ => End::Wrong,
+    }
+}
+
+fn runs(alloc: Global) -> End {
+    let mut reader = Silent(Counted::new(b"socket\nmbstat\n"));
+    let mut writer = Silent(Page::new());
+    let outcome = run(alloc, MACHINE, &mut reader, &mut writer);
+    let want = b"ok 3\nmbufs 512/512 clusters 64/64 refs 0 most 0\n";
+    end_of(outcome, &reader.0, &writer.0, want)
+}
+
+fn runs_chains(alloc: Global) -> End {
+    let mut reader = Silent(Counted::new(b"user 0 6869\nshow 0\n"));
+    let mut writer = Silent(Page::new());
+    let outcome = run_chains(alloc, POOL, &mut reader, &mut writer);
+    end_of(outcome, &reader.0, &writer.0, b"ok\nlen 2 P2\n")
+}
+
+/// What is printed of a call, which is made again where memory was refused.
+fn report(call: impl Fn(Global) -> End, alloc: Global) -> &'static str {
+    match call(alloc) {
+        End::Done => "succeeds",
+        End::Wrong => "goes wrong",
+        End::Refused => match call(alloc) {
+            End::Done => "is refused, and succeeds then",
+            End::Refused | End::Wrong => "is refused, and goes wrong then",
+        },
+    }
+}
+
+fn main(rt: HostRuntime) -> io::Result<()> {
+    let alloc = rt.alloc();
+    println!(rt; "Stack::boot {}", report(boots, alloc))?;
+    println!(rt; "run {}", report(runs, alloc))?;
+    println!(rt; "run_chains {}", report(runs_chains, alloc))?;
+    Ok(())
+}
