@@ -156,7 +156,7 @@ fn empty_slots(alloc: Global) -> Result<Vec<Option<Chain>>, AllocError>
 
 impl Caller {
     /// A pool without chains, and empty slots. `BadSizes` comes exactly where the sizes aren't those of a pool, and is
-    /// tested first; `Memory` where the host refuses memory. Nothing is left after then.
+    /// tested first; `Memory` where the host refuses memory. Nothing is left behind.
     pub fn boot(alloc: Global, sizes: Sizes) -> Result<Caller, BootFault>
         ensures ok { IfOk result (λ c. machine_of c.pool c.chains.items ≡ booted sizes.mbufs sizes.clusters) }
         ensures bad { (result ≡ Err boot_fault.BadSizes) ↔ IsBad sizes }

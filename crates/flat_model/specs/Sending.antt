@@ -41,7 +41,7 @@ mtu_to c ip = if is_looped c ip then LOOPBACK_MTU else c.mtu
 abbrev pub parts_of : Config → Sending → List Part
 parts_of c x = cuts (length (datagram x)) (mtu_to c x.to.ip)
 
--- The weight of a later packet. The first one lies in the send's own mbufs, trimmed after; a later one has an mbuf
+-- The weight of a later packet. The first one lies in the send's own mbufs, trimmed at its end; a later one has an mbuf
 -- for its header and one for each mbuf in which its bytes lie, and shares the clusters of these.
 abbrev pub later_weight : List Entry → Part → Weight
 later_weight entries p = mbuf ⊕ weight_of (entries_met entries (IP_HEADER + p.offset) (IP_HEADER + p.offset + p.size))

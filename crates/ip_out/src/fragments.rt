@@ -148,7 +148,7 @@ fn later(
 }
 
 /// Cuts a datagram, which lies in a chain after 20 bytes for its header, into the packets for a link that takes
-/// packets of `mtu` bytes. The first is the chain itself, trimmed after; each other has an mbuf for its header, and
+/// packets of `mtu` bytes. The first is the chain itself, trimmed at its end; each other has an mbuf for its header, and
 /// after it a copy that shares clusters. All are made, or none: `NoBufs` comes exactly where fewer mbufs are free
 /// than the later ones take, and then the chain is freed.
 pub(crate) fn fragments(

@@ -21,7 +21,7 @@ use params::MIN_MTU;
 /// which is plain and has a packet header. No mbuf is empty, and the whole has at most 65,535 bytes. Of `head`, total
 /// length, offset and "more fragments" count for nothing: each packet has its own.
 ///
-/// All packets are made before any is queued. The first is the chain itself, trimmed after; each other has an mbuf for
+/// All packets are made before any is queued. The first is the chain itself, trimmed at its end; each other has an mbuf for
 /// its header, and after it copies that share clusters. It takes one step for each mbuf and each packet.
 ///
 /// Refused: `Lack::Pool` exactly where fewer mbufs are free than the later packets take; nothing is queued then, and

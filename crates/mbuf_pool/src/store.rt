@@ -66,7 +66,7 @@ impl Store {
 
     /// A store of which all is free. `BadSizes`, which is tested first, says that there are not 1 to
     /// 65,535 mbufs, or more than 4,096 clusters. `Memory` says that one of the two requests for
-    /// memory was refused; nothing is left after then.
+    /// memory was refused; nothing is left behind.
     pub fn boot(alloc: Global, sizes: Sizes) -> Result<Store, BootFault>
         ensures ok { IfOk result (λ s. s ≡ free_store sizes) }
         ensures bad { (result ≡ Err BootFault.BadSizes) ↔ IsBad sizes }

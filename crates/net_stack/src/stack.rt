@@ -64,7 +64,7 @@ impl Stack {
     ///
     /// `BadSizes` where the pool would have no mbuf, more than 65,535 of them or more than 4,096 clusters; else `BadConfig`
     /// where the MTU isn't 68 to 4352, an address isn't that of a host, or both addresses are the same; else `Memory`
-    /// where host memory was refused, and then nothing is left after.
+    /// where host memory was refused, and then nothing is left behind.
     pub fn boot(alloc: Global, config: Config) -> Result<Stack, BootFault>
         ensures sizes { (result ≡ Err BootFault.BadSizes) ↔ ¬ HasSizes config }
         ensures config { (result ≡ Err BootFault.BadConfig) ↔ (HasSizes config × ¬ IsConfig config) }

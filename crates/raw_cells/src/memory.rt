@@ -1,6 +1,6 @@
 //! The raw memory of a block. Every raw pointer of the repository stands in this file.
 //!
-//! A pointer and the memory after it are apart here. An `Address` is the pointer: it can be copied
+//! A pointer and the memory behind it are apart here. An `Address` is the pointer: it can be copied
 //! and owns nothing. `Bytes` owns the memory, and a `Deed` is the right to give it back: neither
 //! takes any space, and neither can be dropped, so that a block can't be forgotten.
 ghost use Rattle.std.specs.Prelude.{◌≡◌, ℕ, ◌+◌, ◌^◌, ◌<◌, ◌≤◌, List, [], ◌∷◌, ◌++◌, length, take, drop, IfOk};

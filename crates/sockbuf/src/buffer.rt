@@ -27,7 +27,7 @@ pub enum Refusal {
 
 /// The datagrams that a socket has received and nobody has read, the oldest first. It must be spent, by `end`.
 ///
-/// It takes at most 41,600 bytes, 16 for each sender's address among them, and 83,200 bytes of memory after them: 128
+/// It takes at most 41,600 bytes, 16 for each sender's address among them, and 83,200 bytes of memory for them: 128
 /// for each mbuf and 2048 for each reference to a cluster. A datagram's own mbufs don't count in its own test, as in
 /// `sbappendaddr` of volume 2, chapter 16.
 pub struct SockBuf {
