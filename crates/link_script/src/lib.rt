@@ -19,5 +19,3 @@ pub use laws::{lines_law, prints_law};
 pub use runs::run;
 pub use script_loop::{RunFault, Silent, Sink, Source};
 
-#[cfg(test)]
-mod tests;

@@ -1,7 +1,6 @@
 //! Readers and writers that fail or don't end, by the program's statuses and texts.
-use crate::command_line::Failure;
 use crate::tests::{Breaking, Endless, Slow, expect_program};
-use crate::{RunFault, Silent};
+use link_script::{RunFault, Silent};
 use std::test::Fail;
 
 const COMMANDS: [&str; 2] = ["bsdudp run", "bsdudp chain"];
@@ -57,7 +56,7 @@ fn line_without_end(rt: HostRuntime) -> Result<(), Fail> {
     Ok(())
 }
 
-/// The faults that no stream brings about have their statuses and texts too.
+/// The faults that no stream brings about have their texts too.
 #[test]
 fn other_faults(rt: HostRuntime) -> Result<(), Fail> {
     for (fault, want) in [
@@ -65,9 +64,7 @@ fn other_faults(rt: HostRuntime) -> Result<(), Fail> {
         (RunFault::BadSizes, "bad sizes"),
         (RunFault::BadConfig, "bad config"),
     ] {
-        let failure = Failure::Run(fault);
-        assert_eq!(rt; failure.status(), 3);
-        assert_eq!(rt; failure.to_string(rt.alloc())?.as_str(), want);
+        assert_eq!(rt; fault.to_string(rt.alloc())?.as_str(), want);
     }
     Ok(())
 }

@@ -1,6 +1,6 @@
 //! The words of the command line.
-use crate::program;
 use crate::tests::expect_program;
+use link_script::program;
 use std::io;
 use std::test::Fail;
 

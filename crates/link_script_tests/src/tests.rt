@@ -1,5 +1,4 @@
-use crate::command_line::DEFAULTS;
-use crate::{Config, RunFault, Silent, Sink, Source, program, run};
+use link_script::{Config, RunFault, Silent, Sink, Source, program, run};
 use std::alloc::Global;
 use std::io::{self, Read, Write};
 use std::process::Abort;
@@ -7,6 +6,16 @@ use std::test::Fail;
 
 mod streams;
 mod words;
+
+/// The machine of a command line without options.
+const DEFAULTS: Config = Config {
+    addr: 0x0a00_0001,
+    bcast: 0x0a00_00ff,
+    mtu: 1500,
+    mbufs: 512,
+    clusters: 64,
+    first_id: 1,
+};
 
 /// Gives its bytes, and then an error.
 #[derive(Drop)]
