@@ -1,15 +1,10 @@
 -- A control block of the programs as a socket of the definitions, with an empty queue.
 use Rattle.std.specs.Prelude.{false, [], List, map}
 use Rattle.flat_model.specs.State.{Socket}
-use Rattle.flat_model.specs.Lookup as Lookup
 use Rattle.flat_plain.specs.declared.lookup.Pcb.{Pcb}
-use Rattle.flat_plain.specs.declared.lookup.PlainKey.{PlainKey}
 
 abbrev pub socket_of : Pcb → Socket
 socket_of b = record { fd = b.fd; local = b.local; port = b.port; peer = b.peer; broadcast = false; reuse_port = b.reuse_port; queue = [] }
 
 abbrev pub sockets_of : List Pcb → List Socket
 sockets_of blocks = map socket_of blocks
-
-abbrev pub plain_key_of : PlainKey → Lookup.PlainKey
-plain_key_of q = record { local = q.local; port = q.port; peer = q.peer }

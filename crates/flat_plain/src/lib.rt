@@ -18,7 +18,7 @@ mod sums;
 mod weights;
 
 pub use headers::{Head, head_fault, head_of, packet, udp, udp_fault};
-pub use lookup::{Pcb, PlainKey, best, exact, matches, receivers, score};
+pub use lookup::{Pcb, best, exact, matches, receivers, score};
 pub use maps::{Cell, Fragment, is_covered, overlay, whole};
 pub use needs::{Buffers, need, need_bcast};
 pub use parts::{Part, cuts};

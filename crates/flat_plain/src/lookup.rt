@@ -2,9 +2,9 @@
 ghost use Rattle.std.specs.Prelude.{◌≡◌, ◌≤◌, ◌++◌, ◌==◌, filter, not, if◌then◌else◌, OnOk, IfOk, Some, None};
 ghost use Rattle.std.specs.Option.{option_map};
 ghost use Rattle.flat_model.specs.Lookup as Lookup;
-ghost use Rattle.flat_plain.specs.Blocks.{socket_of, sockets_of, plain_key_of};
+ghost use Rattle.flat_plain.specs.Blocks.{socket_of, sockets_of};
 
-use flat_model::Addr;
+use flat_model::{Addr, LookupKey};
 use std::alloc::{AllocError, Global};
 
 /// What a lookup reads of an open socket.
@@ -15,14 +15,6 @@ pub struct Pcb {
     pub port: Option<u16>,
     pub peer: Option<Addr>,
     pub reuse_port: bool,
-}
-
-/// What is looked for. A packet has all of it set.
-#[derive(Clone, Copy, Debug, PartialEq, Eq)]
-pub struct PlainKey {
-    pub local: Option<u32>,
-    pub port: Option<u16>,
-    pub peer: Option<Addr>,
 }
 
 fn is_addr(a: Addr, b: Addr) -> bool
@@ -79,21 +71,21 @@ fn one_peer(a: Option<Addr>, b: Option<Addr>) -> u32
 }
 
 /// Whether nothing that is set on both sides differs, and the ports are set and equal.
-pub fn matches(q: PlainKey, pcb: Pcb) -> bool
-    ensures { result ≡ Lookup.matches (plain_key_of q) (socket_of pcb) }
+pub fn matches(q: LookupKey, pcb: Pcb) -> bool
+    ensures { result ≡ Lookup.matches q (socket_of pcb) }
 {
     are_same(pcb.port, q.port) && agree_local(pcb.local, q.local) && agree_peer(pcb.peer, q.peer)
 }
 
-fn wildcards(q: PlainKey, pcb: Pcb) -> u32
-    ensures { result ≡ Lookup.wildcards (plain_key_of q) (socket_of pcb) }
+fn wildcards(q: LookupKey, pcb: Pcb) -> u32
+    ensures { result ≡ Lookup.wildcards q (socket_of pcb) }
 {
     one_local(pcb.local, q.local) + one_peer(pcb.peer, q.peer)
 }
 
 /// How many wildcards a control block takes, where it matches.
-pub fn score(q: PlainKey, pcb: Pcb) -> Option<u32>
-    ensures { result ≡ Lookup.score (plain_key_of q) (socket_of pcb) }
+pub fn score(q: LookupKey, pcb: Pcb) -> Option<u32>
+    ensures { result ≡ Lookup.score q (socket_of pcb) }
 {
     if matches(q, pcb) {
         Some(wildcards(q, pcb))
@@ -103,8 +95,8 @@ pub fn score(q: PlainKey, pcb: Pcb) -> Option<u32>
 }
 
 // The youngest that matches with so many wildcards.
-fn youngest(wanted: u32, q: PlainKey, pcbs: &[Pcb]) -> Option<Pcb>
-    ensures { option_map socket_of result ≡ Lookup.youngest wanted (plain_key_of q) (sockets_of pcbs.now) }
+fn youngest(wanted: u32, q: LookupKey, pcbs: &[Pcb]) -> Option<Pcb>
+    ensures { option_map socket_of result ≡ Lookup.youngest wanted q (sockets_of pcbs.now) }
 {
     match pcbs {
         [] => None,
@@ -119,16 +111,16 @@ fn youngest(wanted: u32, q: PlainKey, pcbs: &[Pcb]) -> Option<Pcb>
 }
 
 /// The control block without a wildcard, the youngest of several.
-pub fn exact(q: PlainKey, pcbs: &[Pcb]) -> Option<Pcb>
-    ensures { option_map socket_of result ≡ Lookup.exact (plain_key_of q) (sockets_of pcbs.now) }
+pub fn exact(q: LookupKey, pcbs: &[Pcb]) -> Option<Pcb>
+    ensures { option_map socket_of result ≡ Lookup.exact q (sockets_of pcbs.now) }
 {
     let wanted = 0;
     youngest(wanted, q, pcbs)
 }
 
 /// The control block with the fewest wildcards, the youngest of several.
-pub fn best(q: PlainKey, pcbs: &[Pcb]) -> Option<Pcb>
-    ensures { option_map socket_of result ≡ Lookup.best (plain_key_of q) (sockets_of pcbs.now) }
+pub fn best(q: LookupKey, pcbs: &[Pcb]) -> Option<Pcb>
+    ensures { option_map socket_of result ≡ Lookup.best q (sockets_of pcbs.now) }
 {
     let found = youngest(0, q, pcbs);
     if found.is_some() {
@@ -142,9 +134,9 @@ pub fn best(q: PlainKey, pcbs: &[Pcb]) -> Option<Pcb>
 }
 
 // Adds those that hear a broadcast.
-fn hear(found: &mut Vec<Pcb>, q: PlainKey, pcbs: &[Pcb]) -> Result<(), AllocError>
+fn hear(found: &mut Vec<Pcb>, q: LookupKey, pcbs: &[Pcb]) -> Result<(), AllocError>
     ensures { OnOk result (sockets_of found.new.items
-        ≡ sockets_of found.old.items ++ Lookup.receivers (plain_key_of q) (sockets_of pcbs.now)) }
+        ≡ sockets_of found.old.items ++ Lookup.receivers q (sockets_of pcbs.now)) }
 {
     match pcbs {
         [] => Ok(()),
@@ -162,9 +154,9 @@ fn hear(found: &mut Vec<Pcb>, q: PlainKey, pcbs: &[Pcb]) -> Result<(), AllocErro
 }
 
 /// All that hear a broadcast, up to the first one that doesn't share its port.
-pub fn receivers(alloc: Global, q: PlainKey, pcbs: &[Pcb]) -> Result<Vec<Pcb>, AllocError>
+pub fn receivers(alloc: Global, q: LookupKey, pcbs: &[Pcb]) -> Result<Vec<Pcb>, AllocError>
     ensures { IfOk result (λ v. sockets_of v.items ≡
-        Lookup.receivers (plain_key_of q) (sockets_of pcbs.now)) }
+        Lookup.receivers q (sockets_of pcbs.now)) }
 {
     let mut found = Vec::new(alloc);
     hear(&mut found, q, pcbs)?;
@@ -195,8 +187,8 @@ mod tests {
     }
 
     // A packet to port 7.
-    fn from(peer: Addr) -> PlainKey {
-        PlainKey {
+    fn from(peer: Addr) -> LookupKey {
+        LookupKey {
             local: Some(HERE),
             port: Some(7),
             peer: Some(peer),
@@ -270,7 +262,7 @@ mod tests {
     // What is set where nothing is looked for counts as a wildcard too.
     #[test]
     fn unset_is_a_key(rt: HostRuntime) {
-        let q = PlainKey {
+        let q = LookupKey {
             local: None,
             port: Some(7),
             peer: None,
@@ -287,7 +279,7 @@ mod tests {
         };
         assert_eq!(rt;
             score(
-                PlainKey {
+                LookupKey {
                     local: None,
                     port: None,
                     peer: None
@@ -304,7 +296,7 @@ mod tests {
         let zero = Addr { ip: 0, port: 0 };
         assert_eq!(rt; score(from(zero), pcb(3, None, None)), Some(2));
         assert_eq!(rt; score(from(zero), pcb(3, None, Some(OTHER))), None);
-        let to_zero = PlainKey {
+        let to_zero = LookupKey {
             local: Some(HERE),
             port: Some(0),
             peer: Some(OTHER),

@@ -4,7 +4,8 @@ ghost use Rattle.std.specs.Option.{ForSome};
 ghost use Rattle.flat_model.specs.Calls as Calls;
 ghost use Rattle.flat_plain.specs.Ports.{state_of};
 
-use crate::lookup::{Pcb, PlainKey, best};
+use crate::lookup::{Pcb, best};
+use flat_model::LookupKey;
 
 // How many ports are in the circle.
 const CIRCLE: u16 = 3977;
@@ -14,7 +15,7 @@ fn is_in_use(pcbs: &[Pcb], last: Option<u16>, local: Option<u32>, port: u16) -> 
     ensures { result ≡ Calls.is_in_use (state_of pcbs.now last) local port }
 {
     best(
-        PlainKey {
+        LookupKey {
             local,
             port: Some(port),
             peer: None,

@@ -1,5 +1,5 @@
 use flat_model::{Addr, LookupKey, Opt};
-use flat_plain::{Pcb, PlainKey};
+use flat_plain::Pcb;
 use pcb_table::{Block, Pcbs};
 use std::alloc::Global;
 use std::process::Abort;
@@ -48,23 +48,18 @@ fn same_answers(
     port: u16,
     source: Addr,
 ) -> Result<(), Fail> {
-    let sought = PlainKey {
-        local: Some(destination),
-        port: Some(port),
-        peer: Some(source),
-    };
     let key = LookupKey {
         local: Some(destination),
         port: Some(port),
         peer: Some(source),
     };
-    let best = flat_plain::best(sought, pcbs).map(|pcb| pcb.fd);
+    let best = flat_plain::best(key, pcbs).map(|pcb| pcb.fd);
     assert_eq!(rt; table.lookup(destination, port, source), best);
     // the second time the cache may answer
     assert_eq!(rt; table.lookup(destination, port, source), best);
-    let exact = flat_plain::exact(sought, pcbs).map(|pcb| pcb.fd);
+    let exact = flat_plain::exact(key, pcbs).map(|pcb| pcb.fd);
     assert_eq!(rt; table.exact(key), exact);
-    let plain = flat_plain::receivers(alloc, sought, pcbs)?;
+    let plain = flat_plain::receivers(alloc, key, pcbs)?;
     let heard = table.receivers(destination, port, source);
     assert_eq!(rt; heard.len(), plain.len());
     for (fd, pcb) in heard.iter().zip(plain.iter()) {
