@@ -70,22 +70,40 @@ fn runs_chains(alloc: Global) -> End {
     end_of(outcome, &reader.0, &writer.0, b"ok\nlen 2 P2\n")
 }
 
-/// What is printed of a call, which is made again where memory was refused.
-fn report(call: impl Fn(Global) -> End, alloc: Global) -> &'static str {
-    match call(alloc) {
-        End::Done => "succeeds",
-        End::Wrong => "goes wrong",
-        End::Refused => match call(alloc) {
-            End::Done => "is refused, and succeeds then",
-            End::Refused | End::Wrong => "is refused, and goes wrong then",
-        },
+/// What takes host memory.
+#[derive(Clone, Copy)]
+enum Call {
+    Boot,
+    Run,
+    RunChains,
+}
+
+impl Call {
+    fn make(self, alloc: Global) -> End {
+        match self {
+            Call::Boot => boots(alloc),
+            Call::Run => runs(alloc),
+            Call::RunChains => runs_chains(alloc),
+        }
+    }
+
+    /// What is printed of it; it's made again where memory was refused.
+    fn report(self, alloc: Global) -> &'static str {
+        match self.make(alloc) {
+            End::Done => "succeeds",
+            End::Wrong => "goes wrong",
+            End::Refused => match self.make(alloc) {
+                End::Done => "is refused, and succeeds then",
+                End::Refused | End::Wrong => "is refused, and goes wrong then",
+            },
+        }
     }
 }
 
 fn main(rt: HostRuntime) -> io::Result<()> {
     let alloc = rt.alloc();
-    println!(rt; "Stack::boot {}", report(boots, alloc))?;
-    println!(rt; "run {}", report(runs, alloc))?;
-    println!(rt; "run_chains {}", report(runs_chains, alloc))?;
+    println!(rt; "Stack::boot {}", Call::Boot.report(alloc))?;
+    println!(rt; "run {}", Call::Run.report(alloc))?;
+    println!(rt; "run_chains {}", Call::RunChains.report(alloc))?;
     Ok(())
 }
