@@ -1,2 +1,3 @@
+mod Datagrams
 mod Packets
 mod Reassembly

@@ -10,6 +10,11 @@ pub(crate) fn booted(alloc: Global) -> Option<Pool> {
         mbufs: 64,
         clusters: 16,
     };
+    booted_of(alloc, sizes)
+}
+
+/// A pool of these sizes, or `None` where memory was refused.
+pub(crate) fn booted_of(alloc: Global, sizes: Sizes) -> Option<Pool> {
     let store = Store::boot(alloc, sizes).ok()?;
     Some(Pool::over(store))
 }

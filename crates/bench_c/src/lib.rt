@@ -7,6 +7,7 @@ mod cells;
 mod chain;
 mod cksum;
 mod ops;
+mod output;
 mod pcb;
 mod pool;
 mod reass;
