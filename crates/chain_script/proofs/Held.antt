@@ -1,6 +1,6 @@
 -- What a slot shows.
 use Rattle.std.proofs.Common.{◌≡◌, ℕ, true, false, List, length, get_or, Option, Some, None, ap, ◌∙◌}
-use Rattle.std.specs.Prelude.{is_some, ◌&&◌}
+use Rattle.std.specs.Prelude.{is_some}
 use Rattle.std.proofs.Math.ListN.{get_or-map}
 use Rattle.mbuf_chain.specs.Chain.{Entry, PoolView, chain_of, string, flat_bytes}
 use Rattle.chain_script.specs.Machines.{slot_at, is_held, entries_in, entries_at, header_in, header_at, length_at}

@@ -1,5 +1,5 @@
 -- What is shown of chains and of the pool.
-use Rattle.std.proofs.Common.{◌≡◌, ℕ, ◌+◌, ◌<◌, ◌≤◌, ◌++◌, Some, None, List, length, map, sum, fold, max, get_or, Option, refl, sym, ap, ◌∙◌, arith}
+use Rattle.std.proofs.Common.{◌≡◌, ℕ, ◌+◌, ◌≤◌, Some, None, List, length, map, sum, fold, max, get_or, Option, refl, sym, ap, ◌∙◌, arith}
 use Rattle.std.specs.List.{range_with_len}
 use Rattle.mbuf_chain.specs.declared.usage.Usage.{Usage}
 use Rattle.mbuf_chain.specs.Chain.{PoolView, IsLive, chain_of, without, string, held_mbufs, references, counts, free_clusters}

@@ -1,12 +1,12 @@
 -- A packet arrives: each way on which it ends.
-use Rattle.std.proofs.Common.{◌≡◌, ◌⊎◌, ℕ, suc, ◌+◌, ◌-◌, ◌<◌, ◌≤◌, min, Bool, true, false, List, [], ◌∷◌, ◌++◌, length, take, drop, Option, None, Some, is_some, refl, sym, ap, ◌∙◌, subst, arith, inl, inr}
+use Rattle.std.proofs.Common.{◌≡◌, ◌⊎◌, ℕ, suc, ◌-◌, ◌<◌, ◌≤◌, min, Bool, true, false, List, [], ◌∷◌, ◌++◌, length, take, drop, None, Some, is_some, refl, sym, ap, ◌∙◌, subst, arith, inl, inr}
 use Rattle.std.specs.Prelude.{◌/◌, ◌%◌, ◌==◌, not, nat_lt, slice_index, slice_index_or}
 use Rattle.std.specs.List.{cons_option, AllByRecursion as Each}
 use Rattle.std.proofs.lemmas.Bool.{true≢false, ltb-false, cases_lt}
 use Rattle.std.proofs.lemmas.Option.{none-some, same_Some}
 use Rattle.std.proofs.lemmas.List.{length-take}
 use Rattle.flat_model.specs.Choice.{Choice}
-use Rattle.flat_model.specs.Weight.{Weight, Item, nothing, ◌⊕◌}
+use Rattle.flat_model.specs.Weight.{Weight, Item, ◌⊕◌}
 use Rattle.flat_model.specs.Checksum.{folded_sum}
 use Rattle.flat_model.specs.Header.{head_fault, head_of, total_of}
 use Rattle.flat_model.specs.Count.{counted, counts_more}
@@ -31,8 +31,8 @@ use Rattle.ip_reass.specs.Table.{TableView, IsReady, held_all, unfinished}
 use Rattle.ip_reass.specs.Arrivals.{AreDistinct, CameBy, CameByWire, carried_at, flat_head}
 use Rattle.ip_reass.specs.Arrivals as reass
 use Rattle.sock_calls.specs.Sockets.{SocksView, IsSocks, queued_chains, with_sockets, with_net}
-use Rattle.sock_calls.specs.Delivery.{NetView, seen, state_at, chains_at, IsInput}
-use Rattle.net_stack.specs.Arrivals.{HaveApartKeys, is_ours_or_all, IsSpent, IsTaken, IsArrived}
+use Rattle.sock_calls.specs.Delivery.{NetView, seen, state_at, IsInput}
+use Rattle.net_stack.specs.Arrivals.{HaveApartKeys, is_ours_or_all, IsTaken, IsArrived}
 use Rattle.net_stack.proofs.Cases.{none_passed}
 use Rattle.net_stack.proofs.Aside.{Aside, aside, BesideSocks, beside_socks, one_weighs}
 

@@ -20,7 +20,7 @@ use Rattle.ip_out.specs.Packets.{packets}
 use Rattle.ip_reass.specs.Arrivals.{machine}
 use Rattle.ip_reass.specs.Table.{TableView, IsReady, held_all}
 use Rattle.sock_calls.specs.Sockets.{SocksView, IsSocks, IsCalled, queued_chains, with_sockets}
-use Rattle.net_stack.specs.Stack.{StackView, IsStack, state_of}
+use Rattle.net_stack.specs.Stack.{StackView, state_of}
 use Rattle.net_stack.specs.Transmit.{AreWithin, IsGiven}
 use Rattle.net_stack.specs.Inside.{seen, IsInside}
 use Rattle.net_stack.specs.declared.stack.Stack.TheInside.{Inside}

@@ -1,8 +1,8 @@
 -- A packet from the wire: what it takes, how it lies in its chain, and its arrival.
-use Rattle.std.proofs.Common.{◌≡◌, ◌⊎◌, ℕ, zero, suc, ◌+◌, ◌-◌, ◌<◌, ◌≤◌, min, max, Bool, true, false, cond, List, [], ◌∷◌, ◌++◌, length, take, Option, None, Some, is_some, refl, sym, ap, ◌∙◌, subst, arith, inl, inr}
-use Rattle.std.specs.Prelude.{◌==◌, All, count_by, nat_le, slice_index_or}
+use Rattle.std.proofs.Common.{◌≡◌, ◌⊎◌, ℕ, zero, suc, ◌+◌, ◌-◌, ◌<◌, ◌≤◌, min, max, Bool, true, false, cond, List, [], ◌∷◌, ◌++◌, length, Option, None, Some, is_some, refl, sym, ap, ◌∙◌, subst, arith, inl, inr}
+use Rattle.std.specs.Prelude.{◌==◌, count_by, nat_le, slice_index_or}
 use Rattle.std.specs.List.{AllByRecursion as Each}
-use Rattle.std.proofs.lemmas.Bool.{true≢false, cases_lt, leb-true, leb-false}
+use Rattle.std.proofs.lemmas.Bool.{true≢false, cases_lt}
 use Rattle.std.proofs.lemmas.List.{length-take}
 use Rattle.std.proofs.lemmas.List.Elements.{All-from_recursion}
 use Rattle.flat_model.specs.Weight.{Weight, Item, nothing, ◌⊕◌, times as bag_times}
@@ -10,19 +10,18 @@ use Rattle.flat_model.specs.Layout as flat
 use Rattle.flat_model.specs.Layout.{Need, Room, Plain, Cluster, filled, is_cluster, laid_on, need_of, next_room, or_empty, size_of, wire}
 use Rattle.flat_model.specs.Count.{counted}
 use Rattle.flat_model.specs.State.{State, ends}
-use Rattle.flat_model.specs.Ledger.{HasBuffers, AreTaken, IsFree, count_of, exact_ledger}
+use Rattle.flat_model.specs.Ledger.{HasBuffers, IsFree, exact_ledger}
 use Rattle.flat_model.specs.Arrival.{Arrives, By_wire}
 use Rattle.flat_model.specs.declared.counters.Counters.{Counters}
 use Rattle.flat_model.specs.declared.counters.Why.TheVariants.{NoBufs}
 use Rattle.flat_model.proofs.Laws.{count_cons}
-use Rattle.mbuf_chain.specs.Chain.{ChainView, Entry, PoolView, chain_of, entry_of, flat_bytes, no_entry, references, string, held_mbufs, free_clusters}
+use Rattle.mbuf_chain.specs.Chain.{ChainView, Entry, PoolView, chain_of, entry_of, no_entry, references, string}
 use Rattle.mbuf_chain.specs.Owners.{times, IsOwned, Moves}
 use Rattle.mbuf_chain.proofs.Laws.Owners.{moves_adds, moves_trans, owned_after}
-use Rattle.chain_ops.specs.Makes.{Makes}
-use Rattle.chain_ops.specs.Stored.{AreFree, Has, Lacks, stored_first}
+use Rattle.chain_ops.specs.Stored.{Has, Lacks, stored_first}
 use Rattle.chain_ops.specs.Weights.{laid}
-use Rattle.chain_ops.proofs.Laws.Rooms.{next_some, next_most, rest_rooms, rooms_step, rest_none}
-use Rattle.ledger.specs.Accounts.{item_at, weight_of, weight_at, weight_owned, IsAccounted}
+use Rattle.chain_ops.proofs.Laws.Rooms.{next_some, next_most, rest_rooms, rooms_step}
+use Rattle.ledger.specs.Accounts.{item_at, weight_of, weight_at, IsAccounted}
 use Rattle.ledger.specs.Reserve.{Reserves, are_free}
 use Rattle.ledger.proofs.Laws.{enough_mbufs, enough_clusters}
 use Rattle.pcb_table.specs.Table.{machine}

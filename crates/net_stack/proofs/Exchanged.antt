@@ -1,5 +1,5 @@
 -- A packet from the wire, and a send, as steps of the stack.
-use Rattle.std.proofs.Common.{◌≡◌, ◌≢◌, ◌<◌, ℕ, suc, [], ◌∷◌, get_or, Fits, w8, ◌+◌, ◌/◌, ◌^◌, ◌≤◌, List, ◌++◌, Option, refl, sym, ap, ◌∙◌, subst, arith}
+use Rattle.std.proofs.Common.{◌≡◌, ◌<◌, ℕ, suc, [], ◌∷◌, get_or, Fits, w8, ◌+◌, ◌/◌, ◌^◌, List, ◌++◌, Option, refl, sym, ap, ◌∙◌, subst, arith}
 use Rattle.std.specs.Prelude.{Result}
 use Rattle.std.specs.List.{AllByRecursion as Each}
 use Rattle.std.proofs.lemmas.List.Elements.{All-from_recursion}
@@ -12,7 +12,7 @@ use Rattle.flat_model.specs.declared.config.Config.{Config}
 use Rattle.flat_model.specs.declared.counters.Counters.{Counters}
 use Rattle.flat_model.specs.declared.errno.Errno.{Errno}
 use Rattle.mbuf_chain.specs.Chain.{PoolView}
-use Rattle.mbuf_chain.specs.Owners.{times, IsOwned, Moves}
+use Rattle.mbuf_chain.specs.Owners.{times, IsOwned}
 use Rattle.mbuf_chain.specs.Train.{TrainView, numbers}
 use Rattle.mbuf_chain.proofs.Laws.Owners.{times-append, moves_reordered}
 use Rattle.mbuf_chain.proofs.Laws.Trains.{held_none}
@@ -20,7 +20,7 @@ use Rattle.ip_reass.specs.Table.{TableView, IsReady, held_all, unfinished}
 use Rattle.sock_calls.specs.declared.net.Net.{Net}
 use Rattle.sock_calls.specs.Sockets.{SocksView, queued_chains}
 use Rattle.sock_calls.specs.Delivery.{seen}
-use Rattle.sock_calls.specs.Outgoing.{SendView, CanSend, sending}
+use Rattle.sock_calls.specs.Outgoing.{CanSend, sending}
 use Rattle.net_stack.specs.Stack.{StackView, IsStack, state_of, rest_of, chains_of}
 use Rattle.net_stack.specs.Arrivals.{HasCome}
 use Rattle.net_stack.specs.Sending.{HasSent, no_train, out_chains}

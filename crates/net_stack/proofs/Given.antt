@@ -1,10 +1,9 @@
 -- A packet is taken from the output queue, copied out and freed.
-use Rattle.std.proofs.Common.{◌≡◌, ℕ, ◌≤◌, List, [], ◌∷◌, ◌++◌, length, map, take, drop, Option, Some, None, refl, sym, ap, ◌∙◌, subst}
+use Rattle.std.proofs.Common.{◌≡◌, ℕ, ◌≤◌, List, [], ◌∷◌, ◌++◌, length, take, drop, Some, None, refl, sym, ap, ◌∙◌, subst}
 use Rattle.std.proofs.Math.Seq.{take-append_seam, take-length}
 use Rattle.std.specs.List.{AllByRecursion}
 use Rattle.flat_model.specs.Weight.{Item}
-use Rattle.flat_model.specs.Event.{Reply, Given}
-use Rattle.flat_model.specs.State.{State}
+use Rattle.flat_model.specs.Event.{Given}
 use Rattle.flat_model.specs.Step.{Transmits}
 use Rattle.mbuf_chain.specs.Chain.{PoolView, chain_of, string, without}
 use Rattle.mbuf_chain.specs.Owners.{times, Moves}

@@ -1,5 +1,5 @@
 -- Packets that arrive leave no two unfinished datagrams with one key: a fact of the flat machine.
-use Rattle.std.proofs.Common.{◌≡◌, ℕ, ◌+◌, ◌≤◌, Bool, true, false, List, [], ◌∷◌, ◌++◌, map, Option, Some, None, cond, refl, sym, ap, ◌∙◌, subst, arith, inl, inr}
+use Rattle.std.proofs.Common.{◌≡◌, ℕ, ◌+◌, ◌≤◌, Bool, true, false, List, [], ◌∷◌, ◌++◌, map, Some, None, cond, refl, sym, ap, ◌∙◌, subst, arith, inl, inr}
 use Rattle.std.specs.Prelude.{count_by, filter, find, not}
 use Rattle.std.proofs.lemmas.Bool.{and_parts, eqb-true}
 use Rattle.std.proofs.lemmas.Option.{none-some}
@@ -8,11 +8,10 @@ use Rattle.flat_model.specs.Layout.{Need}
 use Rattle.flat_model.specs.Header.{Head}
 use Rattle.flat_model.specs.Overlay.{Map, Fragment, overlay}
 use Rattle.flat_model.specs.Whole.{bytes_below}
-use Rattle.flat_model.specs.State.{State, Socket, Key, Unfinished, is_key, unfinished_at, begun, begin_unfinished, set_bytes, end_unfinished, ends}
+use Rattle.flat_model.specs.State.{State, Socket, Key, Unfinished, is_key, unfinished_at, begun, begin_unfinished, end_unfinished}
 use Rattle.flat_model.specs.Ledger.{HasBuffers, exact_ledger, need_mbufs, reclaimed}
-use Rattle.flat_model.specs.Arrival.{Origin, By_wire, Looped, Tests, Appends, Delivers, GoesTo, WholeArrives, Settles, Lays, Joins, PullsUp, FragmentArrives, Passes, Arrives, counts_packet, counts_fragment, counts_reassembled, carried}
+use Rattle.flat_model.specs.Arrival.{Origin, By_wire, Looped, Tests, Appends, Delivers, GoesTo, WholeArrives, Settles, Lays, Joins, FragmentArrives, Arrives, counts_packet, counts_fragment, counts_reassembled, carried}
 use Rattle.flat_model.specs.declared.address.Addr.{Addr}
-use Rattle.flat_model.specs.declared.counters.Why.{Why}
 use Rattle.flat_model.proofs.Laws.{count_cons, count-append}
 use Rattle.net_stack.proofs.Cases.{by_choice, by_case}
 use Rattle.net_stack.specs.Arrivals.{HaveApartKeys}

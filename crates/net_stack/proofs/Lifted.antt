@@ -1,19 +1,18 @@
 -- A step of some of the parts is a step of the stack.
-use Rattle.std.proofs.Common.{◌≡◌, ℕ, ◌+◌, ◌<◌, ◌≤◌, List, [], ◌∷◌, ◌++◌, length, map, refl, sym, ap, ◌∙◌, subst, arith}
+use Rattle.std.proofs.Common.{◌≡◌, ℕ, ◌+◌, List, [], ◌∷◌, ◌++◌, map, refl, sym, ap, ◌∙◌, subst, arith}
 use Rattle.flat_model.specs.Weight.{Weight, Item, SameWeight, nothing, all_of, mbuf, ◌⊕◌, times as bag_times}
 use Rattle.flat_model.specs.Whole.{weight_of_pieces}
 use Rattle.flat_model.specs.State.{State, Socket, Unfinished}
-use Rattle.flat_model.specs.Ledger.{weight_of_state}
 use Rattle.flat_model.specs.Event.{Event, Reply, IsEvent}
 use Rattle.flat_model.specs.Step.{Step}
 use Rattle.flat_model.specs.declared.config.Config.{Config}
 use Rattle.flat_model.specs.declared.counters.Counters.{Counters}
 use Rattle.flat_model.proofs.Laws.{step_is_consistent, all_of-append, times-both}
-use Rattle.mbuf_chain.specs.Chain.{PoolView, chain_of}
-use Rattle.mbuf_chain.specs.Owners.{times, live_at, IsOwned, IsAll, Moves}
+use Rattle.mbuf_chain.specs.Chain.{PoolView}
+use Rattle.mbuf_chain.specs.Owners.{times, IsAll, Moves}
 use Rattle.mbuf_chain.specs.Frames.{SameAt}
-use Rattle.mbuf_chain.specs.Train.{TrainView, QueuedPacket, queued_packet_of, queued_packets, numbers, IsHeld}
-use Rattle.mbuf_chain.proofs.Laws.Owners.{times-append, live_at_most, same_beside, same_part, moves_beside, moves_none}
+use Rattle.mbuf_chain.specs.Train.{TrainView, QueuedPacket, queued_packet_of, numbers}
+use Rattle.mbuf_chain.proofs.Laws.Owners.{times-append, live_at_most, same_beside, same_part, moves_beside}
 use Rattle.mbuf_chain.proofs.Laws.Trains.{numbers_same, queued_packets_same, held_same}
 use Rattle.ledger.specs.Accounts.{item_of, weight_at, weight_owned, IsAccounted}
 use Rattle.ledger.proofs.Laws.{accounted_all}

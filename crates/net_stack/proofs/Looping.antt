@@ -1,14 +1,14 @@
 -- The packets of a train arrive one after another.
-use Rattle.std.proofs.Common.{◌≡◌, ℕ, zero, suc, ◌+◌, ◌<◌, ◌≤◌, List, [], ◌∷◌, ◌++◌, length, map, None, refl, sym, ap, ◌∙◌, subst, arith}
+use Rattle.std.proofs.Common.{◌≡◌, ℕ, ◌<◌, List, [], ◌∷◌, ◌++◌, length, map, None, refl, sym, ap, ◌∙◌, subst, arith}
 use Rattle.std.specs.Prelude.{slice_index_or}
 use Rattle.std.specs.List.{remove}
-use Rattle.flat_model.specs.Weight.{Weight, Item, SameWeight, nothing, ◌⊕◌, all_of, times as bag_times}
+use Rattle.flat_model.specs.Weight.{Weight, Item, nothing, ◌⊕◌, all_of}
 use Rattle.flat_model.specs.State.{State}
 use Rattle.flat_model.specs.Ledger.{exact_ledger, weight_of_state}
 use Rattle.flat_model.specs.Arrival.{Looped, Arrives, AllArrive}
 use Rattle.flat_model.specs.declared.counters.Counters.{Counters}
 use Rattle.flat_model.proofs.Laws.{nothing-both, times-both}
-use Rattle.mbuf_chain.specs.Chain.{ChainView, Entry, PoolView, chain_of, entry_of, no_entry}
+use Rattle.mbuf_chain.specs.Chain.{Entry, PoolView, chain_of, entry_of, no_entry}
 use Rattle.mbuf_chain.specs.Owners.{times, IsOwned, Moves}
 use Rattle.mbuf_chain.specs.Frames.{SameAt}
 use Rattle.mbuf_chain.specs.Train.{TrainView, QueuedPacket, no_queued_packet, queued_packets, queued_packet_at, numbers, IsHeld}

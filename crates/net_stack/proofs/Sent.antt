@@ -1,7 +1,6 @@
 -- A send whose packets that come back arrive.
-use Rattle.std.proofs.Common.{◌≡◌, ℕ, ◌+◌, ◌<◌, ◌≤◌, List, [], ◌∷◌, ◌++◌, Option, refl, sym, ap, ◌∙◌, subst, arith}
+use Rattle.std.proofs.Common.{◌≡◌, ℕ, ◌+◌, List, ◌++◌, Option, refl, sym, ap, subst, arith}
 use Rattle.std.specs.Prelude.{Result}
-use Rattle.flat_model.specs.Weight.{Item, nothing}
 use Rattle.flat_model.specs.State.{State}
 use Rattle.flat_model.specs.Ledger.{exact_ledger}
 use Rattle.flat_model.specs.Arrival.{AllArrive}
@@ -9,11 +8,10 @@ use Rattle.flat_model.specs.declared.address.Addr.{Addr}
 use Rattle.flat_model.specs.declared.counters.Counters.{Counters}
 use Rattle.flat_model.specs.declared.errno.Errno.{Errno}
 use Rattle.mbuf_chain.specs.Chain.{PoolView}
-use Rattle.mbuf_chain.specs.Owners.{times, IsOwned, Moves}
+use Rattle.mbuf_chain.specs.Owners.{times, IsOwned}
 use Rattle.mbuf_chain.specs.Frames.{SameAt}
 use Rattle.mbuf_chain.specs.Train.{numbers}
 use Rattle.mbuf_chain.proofs.Laws.Owners.{times-append, live_at_most, moves_beside, moves_trans, owned_after, same_beside}
-use Rattle.ledger.specs.Accounts.{weight_owned, IsAccounted}
 use Rattle.pcb_table.specs.Table.{machine}
 use Rattle.ip_out.specs.Packets.{packets}
 use Rattle.ip_reass.specs.Table.{TableView, IsReady, held_all, unfinished}

@@ -1,32 +1,29 @@
 -- How a stack starts, and what it leaves.
 use Rattle.std.proofs.lemmas.List.{length-replicate}
 use Rattle.mbuf_pool.specs.Store.{StoreView, free_store, free_cluster}
-use Rattle.mbuf_pool.specs.declared.sizes.Sizes.{Sizes}
-use Rattle.std.proofs.Common.{◌≡◌, ◌⊎◌, ℕ, ◌+◌, ◌<◌, ◌≤◌, List, [], ◌∷◌, ◌++◌, length, map, Option, Some, None, refl, sym, ap, ◌∙◌, subst, arith}
+use Rattle.std.proofs.Common.{◌≡◌, ℕ, ◌≤◌, List, [], ◌++◌, length, map, None, sym, ap, ◌∙◌, subst, arith}
 use Rattle.std.specs.FinMap as finmap
 use Rattle.std.specs.FinMap.{get-empty}
 use Rattle.std.specs.Ordering.{nat_cmp}
-use Rattle.flat_model.specs.State.{State, IsConfig, boot}
+use Rattle.flat_model.specs.State.{IsConfig, boot}
 use Rattle.flat_model.specs.Count.{no_counts}
 use Rattle.flat_model.specs.Consistent.{IsConsistent}
 use Rattle.flat_model.specs.declared.config.Config.{Config}
-use Rattle.flat_model.specs.declared.counters.Counters.{Counters}
 use Rattle.flat_model.proofs.Laws.{boot_is_consistent}
 use Rattle.mbuf_chain.specs.Chain.{PoolView}
 use Rattle.mbuf_chain.specs.Frames.{SameAt}
-use Rattle.mbuf_chain.specs.Owners.{times, live_at, IsOwned, IsAll, Moves}
+use Rattle.mbuf_chain.specs.Owners.{times, live_at, IsAll, Moves}
 use Rattle.mbuf_chain.specs.Train.{TrainView, QueuedPacket, queued_packet_of, follow, numbers}
 use Rattle.mbuf_chain.proofs.Laws.Owners.{times-append, live_at_most, live_none, live_one, moves_beside, moves_trans, moves_nothing, same_beside, same_part}
 use Rattle.ledger.specs.Accounts.{item_of}
-use Rattle.pcb_table.specs.Table.{Table, sockets_with}
+use Rattle.pcb_table.specs.Table.{sockets_with}
 use Rattle.ip_out.specs.Packets.{packets}
 use Rattle.ip_out.specs.Queues.{IsQueue}
-use Rattle.ip_reass.specs.Table.{TableView, IsTable, IsReady, held_all, unfinished}
+use Rattle.ip_reass.specs.Table.{IsTable, held_all, unfinished}
 use Rattle.ip_reass.specs.declared.datagram.Datagram.{Datagram}
-use Rattle.sock_calls.specs.declared.net.Net.{Net}
-use Rattle.sock_calls.specs.Sockets.{SocksView, IsSocks, queues_of, queued_chains}
+use Rattle.sock_calls.specs.Sockets.{IsSocks, queues_of, queued_chains}
 use Rattle.net_stack.specs.Boots.{free_pool}
-use Rattle.net_stack.specs.Stack.{StackView, IsStack, state_of, chains_of}
+use Rattle.net_stack.specs.Stack.{IsStack, state_of, chains_of}
 use Rattle.net_stack.specs.Inside.{seen, IsInside}
 use Rattle.net_stack.specs.declared.stack.Stack.TheInside.{Inside}
 use Rattle.net_stack.proofs.Lifted.{ReassKept, reass_kept, OutputKept, output_kept, split}

@@ -1,16 +1,14 @@
 -- A send, tested once or twice.
-use Rattle.std.proofs.Common.{◌≡◌, ℕ, suc, ◌+◌, ◌<◌, ◌≤◌, Bool, true, false, List, [], ◌∷◌, ◌++◌, length, map, Option, refl, sym, ap, ◌∙◌, subst, arith, inl, inr}
-use Rattle.std.specs.Prelude.{◌⊎◌, count_by, Result, Ok, Err, IfErr}
+use Rattle.std.proofs.Common.{◌≡◌, ℕ, ◌+◌, Bool, true, false, List, [], ◌∷◌, ◌++◌, length, Option, refl, sym, ap, ◌∙◌, subst, arith, inl, inr}
+use Rattle.std.specs.Prelude.{◌⊎◌, count_by, Result, Ok, Err}
 use Rattle.std.proofs.lemmas.Bool.{true≢false}
-use Rattle.flat_model.specs.Weight.{Weight, Item, SameWeight, nothing, all_of, mbuf, ◌⊕◌, times as bag_times}
+use Rattle.flat_model.specs.Weight.{Weight, Item, SameWeight, nothing, all_of, mbuf, ◌⊕◌}
 use Rattle.flat_model.specs.Whole.{weight_of_pieces}
 use Rattle.flat_model.specs.Count.{counts_more}
 use Rattle.flat_model.specs.State.{State, Socket, Unfinished, is_key}
-use Rattle.flat_model.specs.Ledger.{exact_ledger, reclaimed, weight_of_state}
-use Rattle.flat_model.specs.Arrival.{AllArrive}
-use Rattle.flat_model.specs.Event.{Reply, Refused, Send, Done, Opened, Sent, Received, Given, Counted, Shown}
+use Rattle.flat_model.specs.Ledger.{exact_ledger, reclaimed}
+use Rattle.flat_model.specs.Event.{Reply, Refused, Done, Opened, Sent, Received, Given, Counted, Shown}
 use Rattle.flat_model.specs.Replies.{sent_reply}
-use Rattle.flat_model.specs.Step.{Step}
 use Rattle.flat_model.specs.declared.address.Addr.{Addr}
 use Rattle.flat_model.specs.declared.counter.Counter.TheVariants.{IpReclaimed}
 use Rattle.flat_model.specs.declared.counters.Counters.{Counters}
@@ -21,7 +19,7 @@ use Rattle.flat_model.proofs.Laws.{times-both}
 use Rattle.mbuf_chain.specs.Chain.{PoolView}
 use Rattle.mbuf_chain.specs.Owners.{times, IsOwned, Moves}
 use Rattle.mbuf_chain.specs.Frames.{SameAt}
-use Rattle.mbuf_chain.specs.Train.{IsHeld, numbers}
+use Rattle.mbuf_chain.specs.Train.{numbers}
 use Rattle.mbuf_chain.proofs.Laws.Owners.{times-append, live_at_most, moves_beside, moves_trans, owned_after, same_beside, same_part}
 use Rattle.mbuf_chain.proofs.Laws.Trains.{held_same, none_left}
 use Rattle.ledger.specs.Accounts.{weight_owned, IsAccounted}
@@ -33,9 +31,9 @@ use Rattle.ip_reass.specs.Same.{length-unfinished, table_weighs}
 use Rattle.sock_calls.specs.Sockets.{queues_of, queued_chains}
 use Rattle.sock_calls.specs.Sends.{SendsOnce}
 use Rattle.sock_calls.specs.Outgoing.{SendView, CanSend, IsSent, sending, state_in}
-use Rattle.sock_calls.proofs.Laws.{Kept, kept, queue_weight, sends_at_once, sends_again}
+use Rattle.sock_calls.proofs.Laws.{Kept, kept, sends_at_once, sends_again}
 use Rattle.net_stack.specs.Arrivals.{HaveApartKeys}
-use Rattle.net_stack.specs.Sending.{is_pool_lack, lacks_pool, whole_in, all_in, out_chains, AreParts, IsTried}
+use Rattle.net_stack.specs.Sending.{is_pool_lack, lacks_pool, all_in, out_chains, AreParts, IsTried}
 use Rattle.net_stack.proofs.Lifted.{ReassKept, reass_kept, OutputKept, output_kept, output_weighs}
 
 -- ---- one test

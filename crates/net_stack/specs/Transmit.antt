@@ -1,5 +1,5 @@
 -- A packet leaves the output queue, for every rest of the machine (this project's own).
-use Rattle.std.specs.Prelude.{◌≡◌, ℕ, ◌≤◌, List, length}
+use Rattle.std.specs.Prelude.{ℕ, ◌≤◌, length}
 use Rattle.std.specs.List.{AllByRecursion}
 use Rattle.flat_model.specs.Weight.{Item}
 use Rattle.flat_model.specs.Event.{Reply}

@@ -1,5 +1,5 @@
 -- Sockets and an output queue beside chains in hand, for the tests.
-use Rattle.std.proofs.Common.{◌≡◌, ◌≢◌, ℕ, ◌+◌, ◌<◌, ◌≤◌, List, [], ◌∷◌, ◌++◌, Option, None, refl, sym, ap, subst, arith}
+use Rattle.std.proofs.Common.{◌≡◌, ◌≢◌, ℕ, ◌+◌, ◌≤◌, List, [], ◌++◌, Option, None, sym, ap, subst, arith}
 use Rattle.std.specs.Prelude.{Result}
 use Rattle.flat_model.specs.Event.{Event, Reply}
 use Rattle.flat_model.specs.declared.address.Addr.{Addr}

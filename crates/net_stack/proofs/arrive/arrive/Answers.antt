@@ -1,4 +1,4 @@
-use Rattle.std.proofs.Common.{◌≡◌, ◌+◌, ◌-◌, ◌≤◌, ℕ, List, length, drop, false, sym, ap, ◌∙◌, arith}
+use Rattle.std.proofs.Common.{ℕ, List, length, sym, ap, ◌∙◌, arith}
 use Rattle.std.proofs.lemmas.List.{length-drop}
 use Rattle.flat_model.specs.declared.counters.Why.TheVariants.{CantForward}
 use Rattle.mbuf_chain.specs.Chain.{Entry, chain_of, flat_bytes, string, with_chain}

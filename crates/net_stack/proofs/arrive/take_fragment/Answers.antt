@@ -1,9 +1,9 @@
-use Rattle.std.proofs.Common.{◌∷◌, ◌++◌, [], arith}
+use Rattle.std.proofs.Common.{◌∷◌, [], arith}
 use Rattle.mbuf_chain.proofs.Laws.Owners.{times-append, owned_after}
 use Rattle.ip_reass.specs.Table.{held_all}
 use Rattle.sock_calls.specs.Sockets.{queued_chains}
 use Rattle.net_stack.proofs.Aside.{beside_socks}
-use Rattle.net_stack.proofs.Arriving.{Arrived, waits, completes}
+use Rattle.net_stack.proofs.Arriving.{waits, completes}
 use Rattle.net_stack.proofs.arrive.take_fragment.Goals as goal
 
 pub arrive-requires-clause-owned : goal.arrive-requires-clause-owned

@@ -1,4 +1,4 @@
-use Rattle.std.proofs.Common.{◌≡◌, take, drop, length, arith}
+use Rattle.std.proofs.Common.{drop, length, arith}
 use Rattle.std.proofs.lemmas.List.{length-take}
 use Rattle.mbuf_chain.specs.Chain.{chain_of, string}
 use Rattle.net_stack.proofs.Given.{all_copied, first_within, in_front, packet_given}

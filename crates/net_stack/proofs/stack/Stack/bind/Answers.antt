@@ -1,8 +1,6 @@
 use Rattle.std.proofs.Common.{arith}
 use Rattle.flat_model.specs.Event.{Bind}
 use Rattle.flat_model.specs.Replies.{done_reply}
-use Rattle.net_stack.specs.Stack.{StackView}
-use Rattle.net_stack.specs.declared.stack.Stack.TheInside.{Inside}
 use Rattle.net_stack.proofs.Called.{Called, blocks_called}
 use Rattle.net_stack.proofs.stack.Stack.bind.Goals as goal
 

@@ -1,7 +1,7 @@
 use Rattle.std.proofs.Common.{ap, ◌∙◌}
 use Rattle.net_stack.specs.Boots.{free_pool}
 use Rattle.net_stack.specs.Stack.{StackView}
-use Rattle.net_stack.proofs.Started.{ReassGone, socks_gone, reass_gone, all_gone}
+use Rattle.net_stack.proofs.Started.{socks_gone, reass_gone, all_gone}
 use Rattle.net_stack.proofs.stack.Stack.end.Goals as goal
 
 pub end-requires-2 : goal.end-requires-2

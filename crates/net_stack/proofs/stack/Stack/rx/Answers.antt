@@ -1,4 +1,4 @@
-use Rattle.std.proofs.Common.{refl, arith}
+use Rattle.std.proofs.Common.{refl}
 use Rattle.flat_model.specs.Event.{Comes, Done}
 use Rattle.net_stack.specs.Inside.{seen}
 use Rattle.net_stack.proofs.Called.{Called, called}

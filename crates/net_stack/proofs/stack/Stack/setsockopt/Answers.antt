@@ -1,8 +1,5 @@
-use Rattle.std.proofs.Common.{arith}
 use Rattle.flat_model.specs.Event.{Set_option}
 use Rattle.flat_model.specs.Replies.{done_reply}
-use Rattle.net_stack.specs.Stack.{StackView}
-use Rattle.net_stack.specs.declared.stack.Stack.TheInside.{Inside}
 use Rattle.net_stack.proofs.Called.{Called, blocks_called}
 use Rattle.net_stack.proofs.stack.Stack.setsockopt.Goals as goal
 
