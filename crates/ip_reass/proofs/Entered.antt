@@ -2,7 +2,7 @@
 use Rattle.std.proofs.Common.{◌≡◌, ℕ, zero, suc, ◌+◌, ◌<◌, Bool, true, not, List, [], ◌∷◌, length, map, get_or, set, remove, refl, sym, ap, ◌∙◌, subst, arith}
 use Rattle.std.specs.Bool.{OnTrue, OnFalse}
 use Rattle.std.proofs.lemmas.Bool.{OnTrue_at, OnTrue_from, OnFalse_at, OnFalse_from}
-use Rattle.std.proofs.lemmas.List.{get_or_default, get_or-map, length-map}
+use Rattle.std.proofs.lemmas.List.{get_or_default, get_or-map, get_or-set_same, length-map}
 use Rattle.flat_model.specs.Overlay.{Map, overlay, is_covered}
 use Rattle.mbuf_chain.specs.Chain.{ChainView, PoolView, chain_of, alone, without}
 use Rattle.mbuf_chain.specs.Owners.{times, IsOwned, Moves}
@@ -83,6 +83,9 @@ pub laid_in_table : (p q : PoolView) (ds : List Datagram) (i c : ℕ) (x : Datag
 laid_in_table p q ds i c x f answer t is l owns =
     let e : get_or ds i no_datagram ≡ get_or ds i x = get_or_default ds i no_datagram x l in
     subst (λ (d : Datagram). Becomes p d c f answer q t → LaysIn p ds i c f answer q (set ds i (record d { fragments = t }))) e (in_place p q ds i c f answer t is l owns)
+
+pub train_put : (ds : List Datagram) (i : ℕ) (x : Datagram) (t : TrainView) → i < length ds → (datagram_at (set ds i (record (get_or ds i x) { fragments = t })) i).fragments ≡ t
+train_put ds i x t l = ap (λ (d : Datagram). d.fragments) (get_or-set_same ds i (record (get_or ds i x) { fragments = t }) no_datagram l)
 
 -- ---- a datagram taken out
 pub taken_out : (p r q : PoolView) (ds : List Datagram) (i c : ℕ) (d : Datagram) → IsTable p ds → i < length ds → d ≡ get_or ds i d → r ≡ without p d.holder

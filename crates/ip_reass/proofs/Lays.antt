@@ -1,5 +1,5 @@
 -- A chain laid among the fragments of a train.
-use Rattle.std.proofs.Common.{◌≡◌, ℕ, zero, suc, ◌+◌, ◌-◌, ◌/◌, ◌%◌, ◌<◌, ◌≤◌, Bool, true, false, cond, eqb, List, [], ◌∷◌, ◌++◌, length, map, take, drop, insert, Option, unwrap_or, refl, sym, ap, ◌∙◌, subst, arith}
+use Rattle.std.proofs.Common.{◌≡◌, ℕ, zero, suc, ◌+◌, ◌-◌, ◌/◌, ◌%◌, ◌<◌, ◌≤◌, Bool, true, false, cond, eqb, List, [], ◌∷◌, ◌++◌, length, map, take, drop, insert, Option, unwrap_or, refl, sym, ap, ◌∙◌, subst, arith, length-append}
 use Rattle.std.specs.FinMap as finmap
 use Rattle.std.proofs.lemmas.Bool.{cond-true, cond-false, le-leb, lt-leb}
 use Rattle.std.proofs.lemmas.List.{take-append-drop, take_at, drop_at, length-take-le, take-map, drop-map, map-append}
@@ -11,7 +11,7 @@ use Rattle.mbuf_chain.proofs.Laws.Owners.{moves_trans, moves_beside, moves_witho
 use Rattle.mbuf_chain.proofs.Laws.Trains.{Beside, beside_without}
 use Rattle.chain_ops.specs.Trims.{without_first}
 use Rattle.ip_reass.specs.Fragments.{QueuedFragment, queued_of, queued, queued_end, cut, cut_to, laid, laid_after, fragment_of, fragment_in, fragments, map_of, Apart, AllEnd, IsQueue}
-use Rattle.ip_reass.specs.Inside.{arrived, reach, AllUpto, AllAbove, trimmed, left_from}
+use Rattle.ip_reass.specs.Inside.{arrived, reach, is_gapless, AllUpto, AllAbove, trimmed, left_from}
 use Rattle.ip_reass.specs.Known.{apart_left, apart_right, end_trimmed, AllEnd-append, AllEnd-take, AllEnd-drop, AllEnd-left_from}
 use Rattle.ip_reass.proofs.Laid.{Around, laid_is, laid_apart, covered_yes, covered_no}
 use Rattle.chain_ops.proofs.Laws.Strings.{without_first_bytes}
@@ -101,6 +101,12 @@ around p t a i is upto above =
       above = above;
     }
 
+-- the fragments then
+pub made_is : (p s : PoolView) (t w : TrainView) (i n c : ℕ) (q : QueuedFragment) → Settled p t i n c q s w → fragments s w ≡ take i (fragments p t) ++ trimmed n (fragment_of q) ∷ left_from (queued_end q) (drop i (fragments p t))
+made_is p s t w i n c q done =
+    let same : map fragment_of (queued p t) ≡ fragments p t = sym (fragments_are p t) in
+    fragments_are s w ∙ (ap (map fragment_of) done.queue_is ∙ (map-settled i n (queued_end q) q (queued p t) ∙ (λ j. take i (same j) ++ trimmed n (fragment_of q) ∷ left_from (queued_end q) (drop i (same j)))))
+
 pub record Laid (p : PoolView) (t : TrainView) (q : QueuedFragment) (s : PoolView) (w : TrainView) : Type 0 where
   pub covered : is_covered (map_of (fragments p t)) (fragment_of q) ≡ false
   pub map_is : map_of (fragments s w) ≡ overlay (map_of (fragments p t)) (fragment_of q)
@@ -117,8 +123,7 @@ laid_in p s t w i n c q is upto above n_is some fits done =
     let w' : Around q.offset (take i (fragments p t)) (drop i (fragments p t)) = around p t q.offset i is upto above in
     let whole : take i (fragments p t) ++ drop i (fragments p t) ≡ fragments p t = take-append-drop i (fragments p t) in
     let same : map fragment_of (queued p t) ≡ fragments p t = sym (fragments_are p t) in
-    let made : fragments s w ≡ take i (fragments p t) ++ trimmed n (fragment_of q) ∷ left_from (queued_end q) (drop i (fragments p t)) =
-    fragments_are s w ∙ (ap (map fragment_of) done.queue_is ∙ (map-settled i n (queued_end q) q (queued p t) ∙ (λ j. take i (same j) ++ trimmed n (fragment_of q) ∷ left_from (queued_end q) (drop i (same j))))) in
+    let made : fragments s w ≡ take i (fragments p t) ++ trimmed n (fragment_of q) ∷ left_from (queued_end q) (drop i (fragments p t)) = made_is p s t w i n c q done in
     record {
       covered = ap (λ (zs : List Fragment). is_covered (map_of zs) (fragment_of q)) (sym whole) ∙ covered_no (fragment_of q) (take i (fragments p t)) (drop i (fragments p t)) w' (omega arith);
       map_is = ap map_of made ∙ (laid_is (fragment_of q) (take i (fragments p t)) (drop i (fragments p t)) w' n n_is some ∙ ap (λ (zs : List Fragment). overlay (map_of zs) (fragment_of q)) whole);
@@ -129,6 +134,23 @@ laid_in p s t w i n c q is upto above n_is some fits done =
       apart = subst (Apart 0) (sym made) (laid_apart (fragment_of q) (take i (fragments p t)) (drop i (fragments p t)) w' n n_is some);
       small = subst (AllEnd 65515) (sym made) (AllEnd-append 65515 (take i (fragments p t)) (trimmed n (fragment_of q) ∷ left_from (queued_end q) (drop i (fragments p t))) (AllEnd-take 65515 i (fragments p t) is.small)
           (omega (arith, end_trimmed n (fragment_of q) (omega arith)), AllEnd-left_from 65515 (queued_end q) (drop i (fragments p t)) (AllEnd-drop 65515 i (fragments p t) is.small)));
+    }
+
+-- ---- what stands in front
+pub record Ahead (s : PoolView) (w : TrainView) (i e : ℕ) (g : Bool) : Type 0 where
+  pub within : i < length (fragments s w)
+  pub gapless : g ≡ is_gapless 0 (take i (fragments s w))
+  pub end : e ≡ reach 0 (take i (fragments s w))
+
+pub ahead_of : (p s : PoolView) (t w : TrainView) (i n c e : ℕ) (g : Bool) (q : QueuedFragment) → i ≤ length (fragments p t) → e ≡ reach 0 (take i (fragments p t)) → g ≡ is_gapless 0 (take i (fragments p t)) → Settled p t i n c q s w → Ahead s w i e g
+ahead_of p s t w i n c e g q l is_e is_g done =
+    let made : fragments s w ≡ take i (fragments p t) ++ trimmed n (fragment_of q) ∷ left_from (queued_end q) (drop i (fragments p t)) = made_is p s t w i n c q done in
+    let long : length (take i (fragments p t)) ≡ i = length-take-le i (fragments p t) l in
+    let same : take i (fragments s w) ≡ take i (fragments p t) = ap (take i) made ∙ take_at (take i (fragments p t)) (trimmed n (fragment_of q) ∷ left_from (queued_end q) (drop i (fragments p t))) i long in
+    record {
+      within = omega (arith, ap (λ (fs : List Fragment). length fs) made, length-append (take i (fragments p t)) (trimmed n (fragment_of q) ∷ left_from (queued_end q) (drop i (fragments p t))), long);
+      gapless = is_g ∙ ap (is_gapless 0) (sym same);
+      end = is_e ∙ ap (reach 0) (sym same);
     }
 
 -- ---- nothing left of it

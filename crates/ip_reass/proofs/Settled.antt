@@ -88,54 +88,50 @@ settles_whole rest held k p q r ds es hs c d i n out m f new l here most la ta w
     }
 
 -- ---- as the code sees it: the table was lent as a slice
-pub record Lent (p : PoolView) (ds : List Datagram) (i c : ℕ) (f : QueuedFragment) (q : PoolView) (es : List Datagram) (x : Datagram) (back : List Datagram) : Type 0 where
+pub record Lent (p : PoolView) (ds : List Datagram) (i c : ℕ) (f : QueuedFragment) (q : PoolView) (es back : List Datagram) : Type 0 where
   pub lays : LaysIn p ds i c f true q es
   pub back_is : back ≡ es
-  pub train_is : x.fragments ≡ lays.train
+  pub train_is : (datagram_at es i).fragments ≡ lays.train
   pub queue : IsQueue q lays.train
 
-pub lent_table : (p q : PoolView) (ds slice es : List Datagram) (i c n : ℕ) (f : QueuedFragment) (answer : Bool) (x : Datagram) (back : List Datagram) → i < length ds → n ≡ length ds → slice ≡ ds → answer ≡ true
-    → LaysIn p slice i c f answer q es → back ≡ take n (es ++ drop (length es) ds) → x ≡ get_or back i x → Lent p ds i c f q es x back
-lent_table p q ds slice es i c n f answer x back l n_is was agrees la back_is at =
+pub lent_table : (p q : PoolView) (ds slice es : List Datagram) (i c n : ℕ) (f : QueuedFragment) (answer : Bool) (back : List Datagram) → i < length ds → n ≡ length ds → slice ≡ ds → answer ≡ true
+    → LaysIn p slice i c f answer q es → back ≡ take n (es ++ drop (length es) ds) → Lent p ds i c f q es back
+lent_table p q ds slice es i c n f answer back l n_is was agrees la back_is =
     let here : LaysIn p ds i c f true q es = subst (λ (zs : List Datagram). LaysIn p zs i c f true q es) was (subst (λ (b : Bool). LaysIn p slice i c f b q es) agrees la) in
     let long : length es ≡ n = omega (arith, ap (λ (zs : List Datagram). length zs) here.change, length-set ds i (record (datagram_at ds i) { fragments = here.train }), n_is) in
-    let same : back ≡ es = back_is ∙ lent n ds es long in
-    let x_is : x ≡ record (datagram_at ds i) { fragments = here.train } = at ∙ (ap (λ (zs : List Datagram). get_or zs i x) (same ∙ here.change) ∙ get_or-set_same ds i (record (datagram_at ds i) { fragments = here.train }) x l) in
     let within : i < length es = omega (arith, long, n_is) in
-    let one : IsUnfinished q (get_or es i x) = (each_at q es i x within here.table.each).0 in
-    let mine : IsUnfinished q x = subst (IsUnfinished q) (sym (at ∙ ap (λ (zs : List Datagram). get_or zs i x) same)) one in
+    let one : IsUnfinished q (datagram_at es i) = (each_at q es i no_datagram within here.table.each).0 in
+    let at : (datagram_at es i).fragments ≡ here.train =
+    ap (λ (zs : List Datagram). (get_or zs i no_datagram).fragments) here.change ∙ ap (λ (d : Datagram). d.fragments) (get_or-set_same ds i (record (datagram_at ds i) { fragments = here.train }) no_datagram l) in
     record {
       lays = here;
-      back_is = same;
-      train_is = ap (λ (d : Datagram). d.fragments) x_is;
-      queue = subst (IsQueue q) (ap (λ (d : Datagram). d.fragments) x_is) mine.queue;
+      back_is = back_is ∙ lent n ds es long;
+      train_is = at;
+      queue = subst (IsQueue q) at one.queue;
     }
 
-module _ (p q : PoolView) (ds es back : List Datagram) (i n : ℕ) (f : QueuedFragment) (x : Datagram) (e : Lent p ds i n f q es x back) where
+module _ (p q : PoolView) (ds es back : List Datagram) (i n : ℕ) (f : QueuedFragment) (e : Lent p ds i n f q es back) where
   -- it waits
   pub lent_kept : (rest : State) (held : Weight) (k : Key) (c : Counters) (new : State) → i < length ds → is_key k (unfinished_of p (datagram_at ds i)) ≡ true → count_by (is_key k) (unfinished p ds) ≤ 1
-      → ((m : ℕ) → ¬ IsWhole (map_of (fragments q x.fragments)) m) → new ≡ machine q back c rest → Lays exact_ledger held k (fragment_of f) (unfinished_of p (datagram_at ds i)) (machine p ds c rest) new
+      → ((m : ℕ) → ¬ IsWhole (map_of (fragments q (datagram_at es i).fragments)) m) → new ≡ machine q back c rest → Lays exact_ledger held k (fragment_of f) (unfinished_of p (datagram_at ds i)) (machine p ds c rest) new
   lent_kept rest held k c new l here most waits is =
       settles_kept rest held k p q ds es c i n f new l here most e.lays (λ m w. waits m (subst (λ (t : TrainView). IsWhole (map_of (fragments q t)) m) (sym e.train_is) w))
       (is ∙ ap (λ (zs : List Datagram). machine q zs c rest) e.back_is)
 
-  whole_here : (m : ℕ) → IsWhole (map_of (fragments q x.fragments)) m → IsWhole (map_of (fragments q e.lays.train)) m
+  whole_here : (m : ℕ) → IsWhole (map_of (fragments q (datagram_at es i).fragments)) m → IsWhole (map_of (fragments q e.lays.train)) m
   whole_here m w = subst (λ (t : TrainView). IsWhole (map_of (fragments q t)) m) e.train_is w
 
   -- a whole datagram is no longer than the longest, and has a fragment
-  pub whole_short : (m : ℕ) → IsWhole (map_of (fragments q x.fragments)) m → m ≤ 65515
+  pub whole_short : (m : ℕ) → IsWhole (map_of (fragments q (datagram_at es i).fragments)) m → m ≤ 65515
   whole_short m w = whole_most (fragments q e.lays.train) m e.queue.apart e.queue.small (whole_here m w)
 
   -- it is whole
-  module _ (l : i < length ds) (r : PoolView) (hs : List Datagram) (out m : ℕ) (bounded : IsBounded q) (w : IsWhole (map_of (fragments q x.fragments)) m) (takes : TakesOut q back i out r hs) where
+  module _ (l : i < length ds) (r : PoolView) (hs : List Datagram) (out m : ℕ) (bounded : IsBounded q) (w : IsWhole (map_of (fragments q (datagram_at es i).fragments)) m) (takes : TakesOut q back i out r hs) where
     taken : TakesOut q es i out r hs
     taken = subst (λ (zs : List Datagram). TakesOut q zs i out r hs) e.back_is takes
 
-    train_at : (datagram_at es i).fragments ≡ e.lays.train
-    train_at = ap (λ (zs : List Datagram). (get_or zs i no_datagram).fragments) e.lays.change ∙ ap (λ (d : Datagram). d.fragments) (get_or-set_same ds i (record (datagram_at ds i) { fragments = e.lays.train }) no_datagram l)
-
     pub lent_entries : (chain_of r out).entries ≡ joined (queued q e.lays.train)
-    lent_entries = taken.entries ∙ ap (λ (t : TrainView). joined (queued q t)) train_at
+    lent_entries = taken.entries ∙ ap (λ (t : TrainView). joined (queued q t)) e.train_is
 
     pub lent_whole : (rest : State) (held : Weight) (k : Key) (c d : Counters) (new : State) → is_key k (unfinished_of p (datagram_at ds i)) ≡ true → count_by (is_key k) (unfinished p ds) ≤ 1 → d ≡ counts_more IpReassembled 1 c
         → WholeArrives exact_ledger held k.source k.destination k.protocol (item_at r out) (machine r hs d rest) new → Lays exact_ledger held k (fragment_of f) (unfinished_of p (datagram_at ds i)) (machine p ds c rest) new

@@ -1,14 +1,14 @@
 -- When fragments make a whole datagram, and its bytes.
-use Rattle.std.proofs.Common.{◌≡◌, ◌≢◌, ℕ, zero, suc, ◌+◌, ◌-◌, ◌<◌, ◌≤◌, Bool, true, false, List, [], ◌∷◌, length, get_or, drop, Option, None, Some, refl, sym, ap, ◌∙◌, subst, inl, inr, arith, length-append}
+use Rattle.std.proofs.Common.{◌≡◌, ◌≢◌, ℕ, zero, suc, ◌+◌, ◌-◌, ◌<◌, ◌≤◌, Bool, true, false, eqb, List, [], ◌∷◌, ◌++◌, length, get_or, take, drop, Option, None, Some, refl, sym, ap, ◌∙◌, subst, inl, inr, arith, length-append, length-drop}
 use Rattle.std.specs.Prelude.{IsSome, IfSome}
-use Rattle.std.proofs.lemmas.Bool.{cases_lt, false≢true}
-use Rattle.std.proofs.lemmas.List.{get_or-append_right, get_or_append_left, drop_all}
+use Rattle.std.proofs.lemmas.Bool.{cases_lt, false≢true, and_parts, and_from, eqb-true, eq-eqb}
+use Rattle.std.proofs.lemmas.List.{get_or-append_right, get_or_append_left, drop_all, take-append-drop}
 use Rattle.flat_model.specs.Overlay.{Held}
 use Rattle.flat_model.specs.Whole.{IsWhole, bytes_below}
 use Rattle.flat_model.proofs.Laws.{whole_bytes}
 use Rattle.flat_model.specs.Overlay.{Fragment}
 use Rattle.ip_reass.specs.Fragments.{end_of, own, map_of, AllEnd, Apart}
-use Rattle.ip_reass.specs.Inside.{reach, bytes_of, fragment_at}
+use Rattle.ip_reass.specs.Inside.{reach, is_gapless, bytes_of, fragment_at}
 use Rattle.ip_reass.specs.Known.{known_here, known_below, known_past, below, within, past, place, nothing_below, nothing_past, reach_grows}
 use Rattle.ip_reass.proofs.Walks.{rest_at}
 
@@ -133,12 +133,56 @@ pub record Row (ps : List Fragment) (i e : ℕ) : Type 0 where
   pub end : reach e (drop i ps) ≡ reach 0 ps
   pub last : i < length ps → last_more (drop i ps) ≡ last_more ps
 
-pub row_none : (ps : List Fragment) (i : ℕ) → i ≡ 0 → Row ps i 0
-row_none ps i z = subst (λ (n : ℕ). Row ps n 0) (sym z) (record { rest = λ r. r; all = λ r. r; end = refl; last = λ l. refl })
-
 last_next : (p : Fragment) (qs : List Fragment) → 0 < length qs → last_more (p ∷ qs) ≡ last_more qs
 last_next p [] l = absurd (omega arith)
 last_next p (q ∷ qs) l = refl
+
+-- it begins where those in front are in a row
+row_from_gapless : (low : ℕ) (ps : List Fragment) → is_gapless low ps ≡ true → InRow low ps
+row_from_gapless low [] g = tt
+row_from_gapless low (p ∷ ps) g =
+    let h = and_parts (eqb p.offset low) (is_gapless (end_of p) ps) g in
+    (eqb-true p.offset low h.0, row_from_gapless (end_of p) ps h.1)
+
+gapless_from_row : (low : ℕ) (ps : List Fragment) → InRow low ps → is_gapless low ps ≡ true
+gapless_from_row low [] r = refl
+gapless_from_row low (p ∷ ps) r = and_from _ _ (eq-eqb p.offset low r.0) (gapless_from_row (end_of p) ps r.1)
+
+row_join : (low : ℕ) (xs ys : List Fragment) → InRow low xs → InRow (reach low xs) ys → InRow low (xs ++ ys)
+row_join low [] ys a b = b
+row_join low (p ∷ xs) ys a b = (a.0, row_join (end_of p) xs ys a.1 b)
+
+row_left : (low : ℕ) (xs ys : List Fragment) → InRow low (xs ++ ys) → InRow low xs
+row_left low [] ys r = tt
+row_left low (p ∷ xs) ys r = (r.0, row_left (end_of p) xs ys r.1)
+
+row_right : (low : ℕ) (xs ys : List Fragment) → InRow low (xs ++ ys) → InRow (reach low xs) ys
+row_right low [] ys r = r
+row_right low (p ∷ xs) ys r = row_right (end_of p) xs ys r.1
+
+reach_join : (low : ℕ) (xs ys : List Fragment) → reach low (xs ++ ys) ≡ reach (reach low xs) ys
+reach_join low [] ys = refl
+reach_join low (p ∷ xs) ys = reach_join (end_of p) xs ys
+
+last_join : (xs ys : List Fragment) → 0 < length ys → last_more ys ≡ last_more (xs ++ ys)
+last_join [] ys l = refl
+last_join (p ∷ xs) ys l = last_join xs ys l ∙ sym (last_next p (xs ++ ys) (omega (arith, length-append xs ys)))
+
+pub row_at : (ps : List Fragment) (i e : ℕ) → is_gapless 0 (take i ps) ≡ true → e ≡ reach 0 (take i ps) → Row ps i e
+row_at ps i e g is_e =
+    let whole : take i ps ++ drop i ps ≡ ps = take-append-drop i ps in
+    record {
+      rest = λ r. subst (InRow 0) whole (row_join 0 (take i ps) (drop i ps) (row_from_gapless 0 (take i ps) g) (subst (λ (n : ℕ). InRow n (drop i ps)) is_e r));
+      all = λ r. subst (λ (n : ℕ). InRow n (drop i ps)) (sym is_e) (row_right 0 (take i ps) (drop i ps) (subst (InRow 0) (sym whole) r));
+      end = ap (λ (n : ℕ). reach n (drop i ps)) is_e ∙ (sym (reach_join 0 (take i ps) (drop i ps)) ∙ ap (reach 0) whole);
+      last = λ l. last_join (take i ps) (drop i ps) (omega (arith, length-drop i ps)) ∙ ap last_more whole;
+    }
+
+-- where they aren't, nothing is whole
+pub gap_stops : (ps : List Fragment) (i : ℕ) → Apart 0 ps → is_gapless 0 (take i ps) ≡ false → (n : ℕ) → ¬ IsWhole (map_of ps) n
+gap_stops ps i a g n w =
+    let all : InRow 0 (take i ps ++ drop i ps) = subst (InRow 0) (sym (take-append-drop i ps)) (whole_only n ps a w).0 in
+    false≢true (sym g ∙ gapless_from_row 0 (take i ps) (row_left 0 (take i ps) (drop i ps) all))
 
 pub row_more : (ps : List Fragment) (i n e f : ℕ) → Row ps i e → i < length ps → (fragment_at ps i).offset ≡ e → f ≡ end_of (fragment_at ps i) → n ≡ i + 1 → Row ps n f
 row_more ps i n e f h l is is_f is_n =

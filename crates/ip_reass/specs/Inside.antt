@@ -1,13 +1,16 @@
 -- Words of the crate's own for the walks over the fragments of a datagram (this project's own).
-use Rattle.std.specs.Prelude.{ℕ, ◌+◌, ◌-◌, ◌<◌, ◌≤◌, Bool, true, nat_le, if◌then◌else◌, List, [], ◌∷◌, ◌++◌, length, slice_index_or, drop, Option, None, Some}
+use Rattle.std.specs.Prelude.{ℕ, ◌+◌, ◌-◌, ◌<◌, ◌≤◌, Bool, true, false, ◌==◌, ◌&&◌, nat_le, if◌then◌else◌, List, [], ◌∷◌, ◌++◌, length, slice_index_or, drop, Option, None, Some}
 use Rattle.std.specs.List.{AllByRecursion}
 use Rattle.chain_ops.specs.Weights.{AreFit}
 use Rattle.flat_model.specs.Weight.{nothing}
-use Rattle.flat_model.specs.Overlay.{Fragment}
+use Rattle.flat_model.specs.Overlay.{Fragment, Map}
+use Rattle.flat_model.specs.Whole.{IsWhole}
 use Rattle.mbuf_chain.specs.Chain.{PoolView, chain_of}
 use Rattle.mbuf_chain.specs.Train.{TrainView, IsQueuedPlace}
 use Rattle.mbuf_chain.specs.declared.queued_place.QueuedPlace.{QueuedPlace}
 use Rattle.ip_reass.specs.Fragments.{QueuedFragment, end_of}
+use Rattle.ip_reass.specs.declared.queue.Laying.{Laying}
+use Rattle.ip_reass.specs.declared.queue.Laying.TheVariants.{Covered, Waits, Whole}
 
 -- a chain as a fragment that begins at the offset
 abbrev pub arrived : PoolView → ℕ → ℕ → Bool → QueuedFragment
@@ -27,6 +30,11 @@ after (Some at) = at.index + 1
 abbrev pub reach : ℕ → List Fragment → ℕ
 reach low [] = low
 reach low (f ∷ fs) = reach (end_of f) fs
+
+-- each begins where the one before ends, the first at low
+abbrev pub is_gapless : ℕ → List Fragment → Bool
+is_gapless low [] = true
+is_gapless low (f ∷ fs) = (f.offset == low) && is_gapless (end_of f) fs
 
 -- all begin at most at a;  all begin above a
 abbrev pub AllUpto : ℕ → List Fragment → Type 0
@@ -57,6 +65,17 @@ no_queued = record { offset = 0; more = true; entries = [] }
 
 abbrev pub queued_at : List QueuedFragment → ℕ → QueuedFragment
 queued_at qs i = slice_index_or qs i no_queued
+
+-- whether something was left of a fragment that was laid, and whether the datagram with this map is whole then
+abbrev pub is_left : Laying → Bool
+is_left Covered = false
+is_left Waits = true
+is_left (Whole n) = true
+
+abbrev pub TellsWhole : Map → Laying → Type 0
+TellsWhole m Covered = Unit {0}
+TellsWhole m Waits = (n : ℕ) → ¬ IsWhole m n
+TellsWhole m (Whole n) = IsWhole m n
 
 -- the bytes of the fragments, one after another
 abbrev pub bytes_of : List Fragment → List ℕ

@@ -7,21 +7,21 @@ ghost use Rattle.flat_model.specs.Arrival.{Lays};
 ghost use Rattle.mbuf_chain.specs.Chain.{PoolView, IsLive, chain_of, string, alone};
 ghost use Rattle.mbuf_chain.specs.Owners.{IsOwned, Moves};
 ghost use Rattle.ip_reass.specs.Arrivals.{GoesOn, HasWhole, in_hand, key_in, machine};
-ghost use Rattle.ip_reass.specs.Fragments.{fragment_of};
+ghost use Rattle.ip_reass.specs.Fragments.{fragment_of, fragments, map_of};
 ghost use Rattle.ip_reass.specs.Layouts.{LeavesAt, queues};
 ghost use Rattle.ip_reass.specs.Table.{IsTable, held_all, unfinished, unfinished_of};
-ghost use Rattle.ip_reass.specs.Inside.{arrived};
+ghost use Rattle.ip_reass.specs.Inside.{TellsWhole, arrived, is_left};
 ghost use Rattle.ip_reass.specs.Steps.{LaysIn, TakesOut, datagram_at};
 
 use crate::arrival::Arrival;
 use crate::datagram::Datagram;
-use crate::queue::{join, lay, whole};
+use crate::queue::{Laying, join, lay};
 use flat_model::{Counter, Counters, Why};
 use ip_out::IpHead;
 use mbuf_chain::{Chain, Pool};
 use params::{IP_HEADER, IP_MAX_DATA};
 
-/// Lays a fragment among those of the datagram at a place. The answer is whether something of it was left.
+/// Lays a fragment among those of the datagram at a place.
 pub(crate) fn lay_in(
     pool: &mut Pool,
     table: &mut [Datagram],
@@ -29,14 +29,15 @@ pub(crate) fn lay_in(
     chain: Chain,
     offset: u32,
     more: bool,
-) -> bool
+) -> Laying
     requires table { IsTable pool.old table.old }
     requires place { i < length table.old }
     requires owned { IsOwned pool.old (chain ∷ held_all pool.old table.old) }
     requires headed { (chain_of pool.old chain).front.header ≡ true }
     requires some { 0 < length (string (chain_of pool.old chain)) }
     requires small { offset + length (string (chain_of pool.old chain)) ≤ IP_MAX_DATA }
-    ensures { LaysIn pool.old table.old i chain (arrived pool.old chain offset more) result pool.new table.new }
+    ensures lays { LaysIn pool.old table.old i chain (arrived pool.old chain offset more) (is_left result) pool.new table.new }
+    ensures whole { TellsWhole (map_of (fragments pool.new (datagram_at table.new i).fragments)) result }
 {
     let datagram = &mut table[i];
     lay(pool, &mut datagram.fragments, chain, offset, more)
@@ -91,12 +92,13 @@ pub(crate) fn settle(
     ensures len { vec_len table.new ≤ vec_len table.old }
     ensures capacity { vec_capacity table.new ≡ vec_capacity table.old }
 {
-    if !lay_in(pool, table.as_mut_slice(), i, chain, head.offset, head.more) {
-        counters.count_ended(Why::FragmentDropped);
-        return Arrival::Dropped(Why::FragmentDropped);
-    }
-    let Some(len) = whole(pool, &table[i].fragments) else {
-        return Arrival::Kept;
+    let len = match lay_in(pool, table.as_mut_slice(), i, chain, head.offset, head.more) {
+        Laying::Covered => {
+            counters.count_ended(Why::FragmentDropped);
+            return Arrival::Dropped(Why::FragmentDropped);
+        }
+        Laying::Waits => return Arrival::Kept,
+        Laying::Whole(len) => len,
     };
     pool.laws();
     let chain = take_out(pool, table, i);

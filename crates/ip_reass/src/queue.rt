@@ -1,38 +1,55 @@
 //! The fragments of an unfinished datagram, in order of offset, as a train (TCP/IP Illustrated, volume 2, chapter 10).
 ghost use Rattle.std.specs.Bool.{OnTrue, OnFalse};
-ghost use Rattle.std.specs.Prelude.{◌≡◌, ℕ, ◌+◌, ◌-◌, ◌*◌, ◌/◌, ◌%◌, ◌==◌, ◌<◌, ◌≤◌, ◌++◌, ◌∷◌, [], true, length, not, take, drop, remove, slice_set, MatchOption};
+ghost use Rattle.std.specs.Prelude.{◌≡◌, ℕ, ◌+◌, ◌-◌, ◌*◌, ◌/◌, ◌%◌, ◌==◌, ◌<◌, ◌≤◌, ◌++◌, ◌∷◌, [], true, length, not, take, drop, remove, slice_set};
 ghost use Rattle.flat_model.specs.Overlay.{overlay, is_covered};
-ghost use Rattle.flat_model.specs.Whole.{IsWhole};
 ghost use Rattle.mbuf_chain.specs.Chain.{IsLive, chain_of, string, alone, flat_bytes};
 ghost use Rattle.mbuf_chain.specs.Owners.{times, Moves};
 ghost use Rattle.mbuf_chain.specs.Train.{numbers, IsQueuedPlace, IsHeld};
 ghost use Rattle.ip_reass.specs.Fragments.{AllEnd, IsQueue, cut, cut_to, fragment_of, fragments, joined, laid, map_of, queued, queued_end};
-ghost use Rattle.ip_reass.specs.Inside.{AllAbove, AllUpto, IsFront, arrived, after, queued_at, reach};
+ghost use Rattle.ip_reass.specs.Inside.{AllAbove, AllUpto, IsFront, TellsWhole, arrived, after, is_gapless, is_left, queued_at, reach};
 
 use crate::place::{insert_after, next_after, take_after};
 use chain_ops::{cat_after, trim_front};
 use mbuf_chain::{Chain, Pool, QueuedPlace, Train};
 use params::{IP_MAX_DATA, IP_MAX_PACKET};
 
-/// The last of the fragments that begin no later than an offset, and where it ends.
-fn find(pool: &Pool, train: &Train, offset: u32) -> (Option<QueuedPlace>, u32)
+/// What stands in front of the place where a fragment goes.
+#[derive(Clone, Copy)]
+struct Before {
+    /// The last of the fragments that begin no later.
+    front: Option<QueuedPlace>,
+    /// Where it ends.
+    end: u32,
+    /// Whether they follow one another from 0 on.
+    gapless: bool,
+}
+
+/// The fragments that begin no later than an offset.
+fn find(pool: &Pool, train: &Train, offset: u32) -> Before
     requires { IsQueue pool.now train.now }
-    ensures front { IsFront pool.now train.now result.0 }
-    ensures upto { AllUpto offset (take (after result.0) (fragments pool.now train.now)) }
-    ensures above { AllAbove offset (drop (after result.0) (fragments pool.now train.now)) }
-    ensures end { result.1 ≡ reach 0 (take (after result.0) (fragments pool.now train.now)) }
+    ensures front { IsFront pool.now train.now result.front }
+    ensures upto { AllUpto offset (take (after result.front) (fragments pool.now train.now)) }
+    ensures above { AllAbove offset (drop (after result.front) (fragments pool.now train.now)) }
+    ensures end { result.end ≡ reach 0 (take (after result.front) (fragments pool.now train.now)) }
+    ensures gapless { result.gapless ≡ is_gapless 0 (take (after result.front) (fragments pool.now train.now)) }
 {
-    let mut front = None;
-    let mut end = 0;
-    'fragments: while let Some(at) = next_after(pool, train, front) {
+    let mut before = Before {
+        front: None,
+        end: 0,
+        gapless: true,
+    };
+    'fragments: while let Some(at) = next_after(pool, train, before.front) {
         let begin = train.tag_at(pool, at) / 2;
         if begin > offset {
-            return (front, end);
+            return before;
         }
-        end = begin + train.len_at(pool, at);
-        front = Some(at);
+        before = Before {
+            front: Some(at),
+            end: begin + train.len_at(pool, at),
+            gapless: before.gapless && begin == before.end,
+        };
     }
-    (front, end)
+    before
 }
 
 /// Where the fragment at a place begins.
@@ -146,6 +163,7 @@ fn settle(
     ensures queue { let f = arrived pool.old chain offset more in
         queued pool.new train.new ≡ take (after front) (queued pool.old train.old)
         ++ cut skip f ∷ cut_to (queued_end f) (drop (after front) (queued pool.old train.old)) }
+    ensures front { IsFront pool.new train.new front }
     ensures held { IsHeld pool.new train.new }
     ensures moves { Moves pool.old (chain ∷ numbers pool.old train.old) pool.new (numbers pool.new train.new) }
 {
@@ -155,9 +173,60 @@ fn settle(
     insert_after(pool, train, front, chain, tag);
 }
 
-/// Lays a fragment among those held: what precedes it keeps its bytes, what follows loses its own to it. The answer is
-/// whether something of it was left; a fragment of which nothing is left is freed, and those held stay as they were.
-pub(crate) fn lay(pool: &mut Pool, train: &mut Train, chain: Chain, offset: u32, more: bool) -> bool
+/// What became of a fragment that was laid among those of its datagram.
+pub(crate) enum Laying {
+    /// Nothing of it was left.
+    Covered,
+    /// The datagram isn't whole with it.
+    Waits,
+    /// The datagram is whole with it, and has so many bytes.
+    Whole(u32),
+}
+
+/// Whether the fragments are a whole datagram: they follow one another from 0, and no more come after the last. Those in
+/// front of a place were passed before.
+fn whole_after(pool: &Pool, train: &Train, before: Before) -> Laying
+    requires queue { IsQueue pool.now train.now }
+    requires front { IsFront pool.now train.now before.front }
+    requires more { after before.front < train.now.len }
+    requires end { before.end ≡ reach 0 (take (after before.front) (fragments pool.now train.now)) }
+    requires gapless { before.gapless ≡ is_gapless 0 (take (after before.front) (fragments pool.now train.now)) }
+    ensures left { is_left result ≡ true }
+    ensures whole { TellsWhole (map_of (fragments pool.now train.now)) result }
+{
+    if !before.gapless {
+        return Laying::Waits;
+    }
+    let Some(mut at) = next_after(pool, train, before.front) else {
+        return Laying::Waits;
+    };
+    let mut end = before.end;
+    'fragments: loop {
+        let tag = train.tag_at(pool, at);
+        if tag / 2 != end {
+            return Laying::Waits;
+        }
+        end += train.len_at(pool, at);
+        let Some(next) = train.next(pool, at) else {
+            if tag % 2 == 1 {
+                return Laying::Waits;
+            }
+            return Laying::Whole(end);
+        };
+        at = next;
+    }
+}
+
+/// Lays a fragment among those held: what precedes it keeps its bytes, what follows loses its own to it. A fragment of which
+/// nothing is left is freed, and those held stay as they were. The fragments are walked once: to the place, and on from
+/// there to the first gap where there is none in front.
+pub(crate) fn lay(
+    pool: &mut Pool,
+    train: &mut Train,
+    chain: Chain,
+    offset: u32,
+    more: bool,
+) -> Laying
     requires queue { IsQueue pool.old train.old }
     requires live { IsLive pool.old chain }
     requires headed { (chain_of pool.old chain).front.header ≡ true }
@@ -165,51 +234,25 @@ pub(crate) fn lay(pool: &mut Pool, train: &mut Train, chain: Chain, offset: u32,
     requires some { 0 < length (string (chain_of pool.old chain)) }
     requires small { offset + length (string (chain_of pool.old chain)) ≤ IP_MAX_DATA }
     ensures covered { is_covered (map_of (fragments pool.old train.old))
-        (fragment_of (arrived pool.old chain offset more)) ≡ not result }
-    ensures map { OnTrue result (map_of (fragments pool.new train.new)
+        (fragment_of (arrived pool.old chain offset more)) ≡ not (is_left result) }
+    ensures map { OnTrue (is_left result) (map_of (fragments pool.new train.new)
         ≡ overlay (map_of (fragments pool.old train.old)) (fragment_of (arrived pool.old chain offset more))) }
-    ensures laid { OnTrue result (queued pool.new train.new
+    ensures whole { TellsWhole (map_of (fragments pool.new train.new)) result }
+    ensures laid { OnTrue (is_left result) (queued pool.new train.new
         ≡ laid (arrived pool.old chain offset more) (queued pool.old train.old)) }
-    ensures none { OnFalse result (queued pool.new train.new ≡ queued pool.old train.old) }
+    ensures none { OnFalse (is_left result) (queued pool.new train.new ≡ queued pool.old train.old) }
     ensures queue { IsQueue pool.new train.new }
     ensures moves { Moves pool.old (chain ∷ numbers pool.old train.old) pool.new (numbers pool.new train.new) }
 {
     let len = pool.len(&chain);
-    let (front, end) = find(pool, train, offset);
-    let skip = end.saturating_sub(offset);
+    let before = find(pool, train, offset);
+    let skip = before.end.saturating_sub(offset);
     if len <= skip {
         pool.free_chain(chain);
-        return false;
+        return Laying::Covered;
     }
-    settle(pool, train, chain, front, offset, skip, len, more);
-    true
-}
-
-/// How many bytes the fragments make, where they are a whole datagram: they follow one another from 0, and no more
-/// come after the last.
-pub(crate) fn whole(pool: &Pool, train: &Train) -> Option<u32>
-    requires { IsQueue pool.now train.now }
-    ensures { MatchOption result ((n : ℕ) → ¬ IsWhole (map_of (fragments pool.now train.now)) n)
-        (λ n. IsWhole (map_of (fragments pool.now train.now)) n) }
-{
-    let mut end = 0;
-    let Some(mut at) = train.first(pool) else {
-        return None;
-    };
-    'fragments: loop {
-        let tag = train.tag_at(pool, at);
-        if tag / 2 != end {
-            return None;
-        }
-        end += train.len_at(pool, at);
-        let Some(next) = train.next(pool, at) else {
-            if tag % 2 == 1 {
-                return None;
-            }
-            return Some(end);
-        };
-        at = next;
-    }
+    settle(pool, train, chain, before.front, offset, skip, len, more);
+    whole_after(pool, train, before)
 }
 
 /// Joins the fragments, in their order, as one chain, as `m_cat` does.

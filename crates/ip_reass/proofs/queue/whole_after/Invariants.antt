@@ -2,7 +2,7 @@ use Rattle.std.proofs.Common.{◌-◌}
 use Rattle.mbuf_chain.specs.Train.{IsQueuedPlace}
 use Rattle.ip_reass.specs.Fragments.{fragments}
 use Rattle.ip_reass.proofs.Whole.{Row}
-use Rattle.ip_reass.proofs.queue.whole.Given as goal
+use Rattle.ip_reass.proofs.queue.whole_after.Given as goal
 
 abbrev pub invariant-fragments : goal.invariant-fragments
 invariant-fragments l = record {
