@@ -56,7 +56,13 @@ fn received(rt: &impl Abort, pool: &mut Pool, table: &Reass, bytes: &[u8]) -> Ch
 }
 
 /// Reads a whole datagram's bytes and frees it: its length.
-fn read_whole(rt: &impl Abort, pool: &mut Pool, table: &Reass, chain: Chain, to: &mut [u8]) -> u32
+pub(super) fn read_whole(
+    rt: &impl Abort,
+    pool: &mut Pool,
+    table: &Reass,
+    chain: Chain,
+    to: &mut [u8],
+) -> u32
     requires owned { IsOwned pool.old (chain ∷ held_all pool.old table.now.datagrams) }
     requires ready { IsReady pool.old table.now }
     ensures { IsReady pool.new table.now }
