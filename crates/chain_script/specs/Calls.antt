@@ -1,5 +1,6 @@
 -- The request that a call stands for. The bytes that a line has stand in front of the room beside it.
 use Rattle.std.specs.Prelude.{◌≡◌, ℕ, ◌<◌, ◌≤◌, List, take, Option, Some, None}
+use Rattle.params.specs.declared.TheConstants.{IP_MAX_PACKET}
 use Rattle.chain_script.specs.Lines as lines
 use Rattle.chain_script.specs.declared.line.Call.{Call}
 use Rattle.chain_script.specs.declared.line.Call.TheVariants.{User, Wire, Copy, Prepend, PullUp, Adjust, Split, Join, WriteOver, ReadOut, Show, Free, Usage}
@@ -21,16 +22,16 @@ request_of Usage room = lines.Ask_usage
 
 -- its slots are slots, and its numbers are those of lines
 abbrev pub IsCall : Call → Type 0
-IsCall (User slot len) = (slot < 64) × (len ≤ 65535)
-IsCall (Wire slot len) = (slot < 64) × (len ≤ 65535)
+IsCall (User slot len) = (slot < 64) × (len ≤ IP_MAX_PACKET)
+IsCall (Wire slot len) = (slot < 64) × (len ≤ IP_MAX_PACKET)
 IsCall (Copy to slot extent) = (to < 64) × (slot < 64)
-IsCall (Prepend slot len) = (slot < 64) × (len ≤ 65535)
+IsCall (Prepend slot len) = (slot < 64) × (len ≤ IP_MAX_PACKET)
 IsCall (PullUp slot n) = slot < 64
 IsCall (Adjust slot n) = slot < 64
 IsCall (Split to slot at) = (to < 64) × (slot < 64)
 IsCall (Join slot other) = (slot < 64) × (other < 64)
-IsCall (WriteOver slot off len) = (slot < 64) × (off ≤ 65535) × (len ≤ 65535)
-IsCall (ReadOut slot off len) = (slot < 64) × (off ≤ 65535) × (len ≤ 65535)
+IsCall (WriteOver slot off len) = (slot < 64) × (off ≤ IP_MAX_PACKET) × (len ≤ IP_MAX_PACKET)
+IsCall (ReadOut slot off len) = (slot < 64) × (off ≤ IP_MAX_PACKET) × (len ≤ IP_MAX_PACKET)
 IsCall (Show slot) = slot < 64
 IsCall (Free slot) = slot < 64
 IsCall Usage = Unit {0}

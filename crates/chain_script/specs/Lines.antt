@@ -1,5 +1,6 @@
 -- The lines of the chain script, and what each asks for (this project's own).
 use Rattle.std.specs.Prelude.{◌≡◌, ℕ, suc, ℤ, pos, negsuc, ◌≤◌, List, [], ◌∷◌, ◌++◌, length, codes, decimal}
+use Rattle.params.specs.declared.TheConstants.{IP_MAX_PACKET}
 use Rattle.flat_model.specs.Grammar.{words, IsNumber, IsHex}
 use Rattle.chain_ops.specs.declared.copym.Extent.{Extent}
 use Rattle.chain_ops.specs.declared.copym.Extent.TheVariants.{All, Part}
@@ -24,12 +25,12 @@ abbrev pub IsSlot : List ℕ → ℕ → Type 0
 IsSlot word slot = IsNumber 63 word slot
 
 abbrev pub IsOffset : List ℕ → ℕ → Type 0
-IsOffset word n = IsNumber 65535 word n
+IsOffset word n = IsNumber IP_MAX_PACKET word n
 
 -- a number with a `-` in front where it's below 0
 abbrev pub IsSigned : List ℕ → ℤ → Type 0
 IsSigned word (pos n) = IsOffset word n
-IsSigned word (negsuc n) = (suc n ≤ 65535) × (word ≡ codes "-" ++ decimal (suc n))
+IsSigned word (negsuc n) = (suc n ≤ IP_MAX_PACKET) × (word ≡ codes "-" ++ decimal (suc n))
 
 -- the word that a line begins with
 abbrev pub keyword : Request → List ℕ

@@ -2,7 +2,7 @@
 use Rattle.std.specs.Prelude.{◌≡◌, ℕ, ◌+◌, ◌-◌, ◌<◌, ◌≤◌, ◌==◌, max, Bool, true, false, not, ◌&&◌, ◌||◌, nat_lt, nat_le, List, [], length, replicate, sum, sum_by, count_by, map, fold, is_some, Option, Some, None, slice_set, slice_index_or}
 use Rattle.std.specs.List.{AllByRecursion, range_with_len}
 use Rattle.flat_model.specs.Layout.{Room, user, wire, is_cluster}
-use Rattle.params.specs.declared.TheConstants.{MHLEN}
+use Rattle.params.specs.declared.TheConstants.{MHLEN, IP_MAX_PACKET}
 use Rattle.flat_model.specs.declared.usage.Mbstat.{Mbstat}
 use Rattle.mbuf_chain.specs.Chain.{Entry, ChainView, alone, flat_bytes, refers}
 use Rattle.mbuf_chain.specs.Owners.{times}
@@ -123,10 +123,10 @@ is_range (Part off len) n = nat_lt 0 len && nat_le (off + len) n
 -- its condition holds
 abbrev pub is_in_range : Machine → Request → Bool
 is_in_range b (Copy to slot extent) = is_range extent (length_at b slot)
-is_in_range b (Prepend slot bytes) = nat_lt 0 (length bytes) && (nat_le (length bytes) MHLEN && nat_le (length bytes + length_at b slot) 65535)
+is_in_range b (Prepend slot bytes) = nat_lt 0 (length bytes) && (nat_le (length bytes) MHLEN && nat_le (length bytes + length_at b slot) IP_MAX_PACKET)
 is_in_range b (Split to slot at) = nat_lt at (length_at b slot)
-is_in_range b (Join slot other) = nat_le (length_at b slot + length_at b other) 65535
-is_in_range b (Write_over slot off bytes) = nat_le (off + length bytes) 65535
+is_in_range b (Join slot other) = nat_le (length_at b slot + length_at b other) IP_MAX_PACKET
+is_in_range b (Write_over slot off bytes) = nat_le (off + length bytes) IP_MAX_PACKET
 is_in_range b (Read_out slot off len) = nat_le (off + len) (length_at b slot)
 is_in_range b request = true
 

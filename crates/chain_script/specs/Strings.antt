@@ -1,6 +1,6 @@
 -- The machine of the chain script by the strings of its slots alone (this project's own): what its answers say of bytes, whatever the layouts are.
 use Rattle.std.specs.Prelude.{◌≡◌, ℕ, ◌+◌, ◌==◌, ◌⊎◌, Bool, true, false, not, ◌&&◌, nat_lt, nat_le, List, [], ◌∷◌, ◌++◌, length, take, drop, map, is_some, unwrap_or, Option, Some, None, slice_set, slice_index_or}
-use Rattle.params.specs.declared.TheConstants.{MHLEN}
+use Rattle.params.specs.declared.TheConstants.{MHLEN, IP_MAX_PACKET}
 use Rattle.flat_model.specs.declared.usage.Mbstat.{Mbstat}
 use Rattle.mbuf_chain.specs.Chain.{flat_bytes}
 use Rattle.chain_ops.specs.Extents.{extent_bytes}
@@ -46,10 +46,10 @@ has_strings ss Ask_usage = true
 
 abbrev pub is_in_strings : List (Option (List ℕ)) → Request → Bool
 is_in_strings ss (Copy to slot extent) = is_range extent (length (bytes_at ss slot))
-is_in_strings ss (Prepend slot bytes) = nat_lt 0 (length bytes) && (nat_le (length bytes) MHLEN && nat_le (length bytes + length (bytes_at ss slot)) 65535)
+is_in_strings ss (Prepend slot bytes) = nat_lt 0 (length bytes) && (nat_le (length bytes) MHLEN && nat_le (length bytes + length (bytes_at ss slot)) IP_MAX_PACKET)
 is_in_strings ss (Split to slot at) = nat_lt at (length (bytes_at ss slot))
-is_in_strings ss (Join slot other) = nat_le (length (bytes_at ss slot) + length (bytes_at ss other)) 65535
-is_in_strings ss (Write_over slot off bytes) = nat_le (off + length bytes) 65535
+is_in_strings ss (Join slot other) = nat_le (length (bytes_at ss slot) + length (bytes_at ss other)) IP_MAX_PACKET
+is_in_strings ss (Write_over slot off bytes) = nat_le (off + length bytes) IP_MAX_PACKET
 is_in_strings ss (Read_out slot off len) = nat_le (off + len) (length (bytes_at ss slot))
 is_in_strings ss request = true
 

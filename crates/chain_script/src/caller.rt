@@ -1,8 +1,9 @@
 //! Slots of chains over a pool, whose calls are made by lines.
-ghost use Rattle.std.specs.Prelude.{◌≡◌, ◌≤◌, ◌<◌, ◌++◌, ℕ, List, Option, Some, Err, length, vec_len, IfOk, ◌↔◌, replicate, None, [], vec_capacity};
+ghost use Rattle.std.specs.Prelude.{◌≡◌, ◌≤◌, ◌<◌, ◌*◌, ◌++◌, ℕ, List, Option, Some, Err, length, vec_len, IfOk, ◌↔◌, replicate, None, [], vec_capacity};
 ghost use Rattle.mbuf_pool.specs.Store.{IsBad};
 ghost use Rattle.mbuf_pool.specs.declared.fault.BootFault.TheVariants as boot_fault;
 ghost use Rattle.mbuf_chain.specs.Owners.{IsAll};
+ghost use Rattle.params.specs.declared.TheConstants.{IP_MAX_PACKET};
 ghost use Rattle.chain_script.specs.Calls.{request_of, IsCall};
 ghost use Rattle.chain_script.specs.Inside.{machine_of, Fits};
 ghost use Rattle.chain_script.specs.Lines.{Read_out};
@@ -36,10 +37,10 @@ fn read_out(
 )
     requires slot { slot < length chains.now }
     requires fits { Fits pool.now chains.now }
-    requires bytes { length bytes.old ≡ 65535 }
-    requires digits { length digits.old ≡ 131070 }
-    requires off { off ≤ 65535 }
-    requires len { len ≤ 65535 }
+    requires bytes { length bytes.old ≡ IP_MAX_PACKET }
+    requires digits { length digits.old ≡ 2 * IP_MAX_PACKET }
+    requires off { off ≤ IP_MAX_PACKET }
+    requires len { len ≤ IP_MAX_PACKET }
     requires text { length text.old ≤ 65536 }
     ensures { (reply : Reply)
         × Step (machine_of pool.now chains.now) (Read_out slot off len) reply (machine_of pool.now chains.now)

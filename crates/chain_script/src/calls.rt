@@ -16,10 +16,7 @@ use chain_ops::{
     m_copym, m_prepend, m_pullup, m_split,
 };
 use mbuf_chain::{Chain, Pool};
-use params::MHLEN;
-
-/// The most bytes of a chain.
-const MOST_BYTES: u32 = 65_535;
+use params::{IP_MAX_PACKET, MHLEN};
 
 /// Puts a chain of bytes to send into an empty slot.
 pub fn user(
@@ -30,7 +27,7 @@ pub fn user(
 ) -> Result<(), Fault>
     requires slot { slot < length chains.old }
     requires fits { Fits pool.old chains.old }
-    requires bytes { length bytes.now ≤ 65535 }
+    requires bytes { length bytes.now ≤ IP_MAX_PACKET }
     ensures fits { Fits pool.new chains.new }
     ensures len { length chains.new ≡ length chains.old }
     ensures step { Step (machine_of pool.old chains.old) (User slot bytes.now) (done_reply result)
@@ -50,9 +47,9 @@ pub fn user(
 
 /// Whether so many bytes may be put in front of so many.
 fn may_prepend(count: usize, total: u32) -> bool
-    ensures { result ≡ (nat_lt 0 count && (nat_le count MHLEN && nat_le (count + total) 65535)) }
+    ensures { result ≡ (nat_lt 0 count && (nat_le count MHLEN && nat_le (count + total) IP_MAX_PACKET)) }
 {
-    0 < count && count <= MHLEN as usize && total <= MOST_BYTES - count as u32
+    0 < count && count <= MHLEN as usize && total <= IP_MAX_PACKET - count as u32
 }
 
 /// Puts bytes in front of a chain.
@@ -122,7 +119,7 @@ pub fn wire(
     bytes: &[u8],
 ) -> Result<(), Fault>
     requires slot { slot < length chains.old }
-    requires bytes { length bytes.now ≤ 65535 }
+    requires bytes { length bytes.now ≤ IP_MAX_PACKET }
     requires fits { Fits pool.old chains.old }
     ensures fits { Fits pool.new chains.new }
     ensures len { length chains.new ≡ length chains.old }
@@ -283,7 +280,7 @@ pub fn join_slots(
     let Some(second) = &chains[other] else {
         return Err(Fault::Chain);
     };
-    if u64::from(pool.len(first)) + u64::from(pool.len(second)) > u64::from(MOST_BYTES) {
+    if u64::from(pool.len(first)) + u64::from(pool.len(second)) > u64::from(IP_MAX_PACKET) {
         return Err(Fault::Range);
     }
     let second = take(chains, other);
@@ -300,8 +297,8 @@ pub fn copyback(
     bytes: &[u8],
 ) -> Result<(), Fault>
     requires slot { slot < length chains.old }
-    requires off { off ≤ 65535 }
-    requires bytes { length bytes.now ≤ 65535 }
+    requires off { off ≤ IP_MAX_PACKET }
+    requires bytes { length bytes.now ≤ IP_MAX_PACKET }
     requires fits { Fits pool.old chains.old }
     ensures fits { Fits pool.new chains.new }
     ensures len { length chains.new ≡ length chains.old }
@@ -312,7 +309,7 @@ pub fn copyback(
         return Err(Fault::Chain);
     };
     let len = bytes.len() as u32;
-    if off + len > MOST_BYTES {
+    if off + len > IP_MAX_PACKET {
         return Err(Fault::Range);
     }
     if !is_writable(pool, chain, off, len) {
@@ -333,8 +330,8 @@ pub fn copydata(
     to: &mut [u8],
 ) -> Result<(), Fault>
     requires slot { slot < length chains.now }
-    requires off { off ≤ 65535 }
-    requires to { length to.old ≤ 65535 }
+    requires off { off ≤ IP_MAX_PACKET }
+    requires to { length to.old ≤ IP_MAX_PACKET }
     requires fits { Fits pool.now chains.now }
     ensures { Step (machine_of pool.now chains.now) (Read_out slot off (length to.old)) (held_reply result to.new)
         (machine_of pool.now chains.now) }

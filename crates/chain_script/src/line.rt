@@ -6,13 +6,14 @@ ghost use Rattle.chain_script.specs.Lines.{Request, IsRequest, IsExtentWords, Is
 ghost use Rattle.chain_script.specs.Calls.{request_of, IsCall, ReadsForm};
 
 use chain_ops::Extent;
+use params::IP_MAX_PACKET;
 use script_loop::{LONGEST_REQUEST, bytes, first_word, is_end, number, one, three, two};
 
 /// The last slot.
 const LAST_SLOT: u32 = 63;
 
 /// The greatest offset, length and number of a line.
-const MOST: u32 = 65_535;
+const MOST: u32 = IP_MAX_PACKET;
 
 /// What a line asks for. Where it has bytes, they stand in a room beside it, and the call tells how many they are.
 #[derive(Clone, Copy)]
@@ -68,7 +69,7 @@ fn extent_of(rest: Option<&[u8]>) -> Option<Extent>
 }
 
 fn user_of(rest: Option<&[u8]>, room: &mut [u8]) -> Option<Call>
-    requires { length room.old ≡ 65535 }
+    requires { length room.old ≡ IP_MAX_PACKET }
     ensures { ReadsForm (codes "user") (left rest.entry) room.new result }
 {
     let (slot, word) = two(rest)?;
@@ -78,7 +79,7 @@ fn user_of(rest: Option<&[u8]>, room: &mut [u8]) -> Option<Call>
 }
 
 fn wire_of(rest: Option<&[u8]>, room: &mut [u8]) -> Option<Call>
-    requires { length room.old ≡ 65535 }
+    requires { length room.old ≡ IP_MAX_PACKET }
     ensures { ReadsForm (codes "wire") (left rest.entry) room.new result }
 {
     let (slot, word) = two(rest)?;
@@ -99,7 +100,7 @@ fn copy_of(rest: Option<&[u8]>) -> Option<Call>
 }
 
 fn prepend_of(rest: Option<&[u8]>, room: &mut [u8]) -> Option<Call>
-    requires { length room.old ≡ 65535 }
+    requires { length room.old ≡ IP_MAX_PACKET }
     ensures { ReadsForm (codes "prepend") (left rest.entry) room.new result }
 {
     let (slot, word) = two(rest)?;
@@ -146,7 +147,7 @@ fn cat_of(rest: Option<&[u8]>) -> Option<Call>
 }
 
 fn copyback_of(rest: Option<&[u8]>, room: &mut [u8]) -> Option<Call>
-    requires { length room.old ≡ 65535 }
+    requires { length room.old ≡ IP_MAX_PACKET }
     ensures { ReadsForm (codes "copyback") (left rest.entry) room.new result }
 {
     let (slot, off, word) = three(rest)?;
@@ -192,7 +193,7 @@ fn usage_of(rest: Option<&[u8]>) -> Option<Call>
 
 /// What the line asks for, where it is of a form.
 pub fn call_of(line: &[u8], room: &mut [u8]) -> Option<Call>
-    requires { length room.old ≡ 65535 }
+    requires { length room.old ≡ IP_MAX_PACKET }
     ensures call { MatchOption result ((request : Request) → IsRequest line.now request → ⊥)
         (λ call. IsRequest line.now (request_of call room.new)) }
     ensures fits { IfSome result (λ call. IsCall call) }

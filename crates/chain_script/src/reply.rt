@@ -1,6 +1,7 @@
 //! The lines that replies are printed as.
-ghost use Rattle.std.specs.Prelude.{◌≡◌, ◌+◌, ◌≤◌, ◌++◌, length, Some, codes, decimal};
+ghost use Rattle.std.specs.Prelude.{◌≡◌, ◌+◌, ◌*◌, ◌≤◌, ◌++◌, length, Some, codes, decimal};
 ghost use Rattle.flat_model.specs.Texts.{share_text};
+ghost use Rattle.params.specs.declared.TheConstants.{IP_MAX_PACKET};
 ghost use Rattle.chain_script.specs.Steps.{Shown, reply_text, answer_text, mbuf_text};
 ghost use Rattle.chain_script.specs.Replies.{fault_reply, done_reply, held_reply};
 
@@ -42,8 +43,8 @@ pub fn put_done(text: &mut Buffer<TEXT>, outcome: Result<(), Fault>)
 /// The line for bytes that were copied out into the room.
 pub fn put_held(text: &mut Buffer<TEXT>, digits: &mut [u8], room: &[u8], outcome: Result<(), Fault>)
     requires text { length text.old ≤ 65536 }
-    requires room { length room.now ≤ 65535 }
-    requires digits { length digits.old ≡ 131070 }
+    requires room { length room.now ≤ IP_MAX_PACKET }
+    requires digits { length digits.old ≡ 2 * IP_MAX_PACKET }
     ensures { text.new ≡ text.old ++ answer_text (Some (held_reply outcome room.now)) }
 {
     match outcome {

@@ -5,6 +5,7 @@ ghost use Rattle.flat_plain.specs.Heads.{head_for};
 
 use crate::sums::checksum;
 use flat_model::{Addr, Why, fold};
+use params::{IP_DEFAULT_TTL, IP_HEADER, IP_MAX_DATA, PROTOCOL_UDP, UDP_HEADER, UDP_MAX_DATA};
 use std::alloc::{AllocError, Global};
 
 /// What differs from packet to packet.
@@ -36,7 +37,7 @@ fn u32_at(bytes: &[u8], at: usize) -> u32
 
 /// What the header of a packet of 20 bytes or more says.
 pub fn head_of(bytes: &[u8]) -> Head
-    requires { 20 ≤ length bytes.now }
+    requires { IP_HEADER ≤ length bytes.now }
     ensures { head_for result ≡ Header.head_of bytes.now }
 {
     let flags = u16_at(bytes, 6);
@@ -54,7 +55,7 @@ pub fn head_of(bytes: &[u8]) -> Head
 pub fn head_fault(bytes: &[u8]) -> Option<Why>
     ensures { result ≡ Header.head_fault bytes.now }
 {
-    if bytes.len() < 20 {
+    if bytes.len() < IP_HEADER as usize {
         return Some(Why::TooSmall);
     }
     if bytes[0] / 16 != 4 {
@@ -66,11 +67,11 @@ pub fn head_fault(bytes: &[u8]) -> Option<Why>
     if 5 < bytes[0] % 16 {
         return Some(Why::Options);
     }
-    if fold(&bytes[..20]) != 65_535 {
+    if fold(&bytes[..IP_HEADER as usize]) != 65_535 {
         return Some(Why::BadSum);
     }
     let total = u16_at(bytes, 2) as usize;
-    if total < 20 {
+    if total < IP_HEADER as usize {
         return Some(Why::BadLength);
     }
     if bytes.len() < total {
@@ -81,12 +82,12 @@ pub fn head_fault(bytes: &[u8]) -> Option<Why>
 
 // The ten bytes in front of the checksum, of a packet that carries n bytes, the checksum, and the addresses.
 fn header(head: Head, n: u16, sum: u16) -> [u8; 20]
-    requires total { n ≤ 65515 }
+    requires total { n ≤ IP_MAX_DATA }
     requires offset { head.offset ≤ 65528 }
     ensures { result ≡ Header.front_bytes (head_for head) n
         ++ Header.two_bytes sum ++ Header.address_bytes head.source head.destination }
 {
-    let total = 20 + n;
+    let total = IP_HEADER as u16 + n;
     let flags = if head.more { 8192 } else { 0 } + (head.offset / 8) as u16;
     [
         69,
@@ -97,7 +98,7 @@ fn header(head: Head, n: u16, sum: u16) -> [u8; 20]
         (head.id % 256) as u8,
         (flags / 256) as u8,
         (flags % 256) as u8,
-        64,
+        IP_DEFAULT_TTL,
         head.protocol,
         (sum / 256) as u8,
         (sum % 256) as u8,
@@ -114,7 +115,7 @@ fn header(head: Head, n: u16, sum: u16) -> [u8; 20]
 
 /// A packet that carries at most 65,515 bytes, at an offset of at most 65,528.
 pub fn packet(alloc: Global, head: Head, carried: &[u8]) -> Result<Vec<u8>, AllocError>
-    requires total { length carried.now ≤ 65515 }
+    requires total { length carried.now ≤ IP_MAX_DATA }
     requires offset { head.offset ≤ 65528 }
     ensures { IfOk result (λ v. v.items ≡ Header.packet (head_for head) carried.now) }
 {
@@ -140,7 +141,7 @@ fn pseudo_header(source: u32, destination: u32, n: u16) -> [u8; 12]
         (destination % 65_536 / 256) as u8,
         (destination % 65_536 % 256) as u8,
         0,
-        17,
+        PROTOCOL_UDP,
         (n / 256) as u8,
         (n % 256) as u8,
     ]
@@ -186,11 +187,11 @@ pub fn udp(
     destination: Addr,
     sent: &[u8],
 ) -> Result<Vec<u8>, AllocError>
-    requires { length sent.now ≤ 65507 }
+    requires { length sent.now ≤ UDP_MAX_DATA }
     ensures { IfOk result (λ v.
         v.items ≡ Header.udp source.ip destination.ip source.port destination.port sent.now) }
 {
-    let n = 8 + sent.len() as u16;
+    let n = UDP_HEADER as u16 + sent.len() as u16;
     let pseudo = pseudo_header(source.ip, destination.ip, n);
     let blank = udp_header(source.port, destination.port, n, 0);
     let covered = joined(alloc, &pseudo, &blank, sent)?;
@@ -207,17 +208,17 @@ pub fn udp_fault(
     destination: u32,
     bytes: &[u8],
 ) -> Result<Option<Why>, AllocError>
-    requires { length bytes.now ≤ 65515 }
+    requires { length bytes.now ≤ IP_MAX_DATA }
     ensures { IfOk result (λ r. r ≡ Header.udp_fault source destination bytes.now) }
 {
-    if bytes.len() < 8 {
+    if bytes.len() < UDP_HEADER as usize {
         return Ok(Some(Why::UdpHeaderDrops));
     }
     let n = u16_at(bytes, 4);
     if bytes.len() < n as usize {
         return Ok(Some(Why::UdpBadLength));
     }
-    if n < 8 {
+    if n < UDP_HEADER as u16 {
         return Ok(Some(Why::UdpBadLength));
     }
     if u16_at(bytes, 6) == 0 {

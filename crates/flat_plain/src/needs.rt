@@ -7,6 +7,7 @@ ghost use Rattle.flat_plain.specs.Needs.{need_of};
 
 use crate::parts::{Part, cuts};
 use crate::rooms::{Room, meets, sent};
+use params::{FRAGMENT_UNIT, IP_HEADER, IP_MAX_PACKET, UDP_HEADER, UDP_MAX_DATA};
 use std::alloc::{AllocError, Global};
 
 /// How many free buffers something takes.
@@ -40,7 +41,7 @@ fn later_mbufs(rooms: &[Room], parts: &[Part]) -> u64
     match parts {
         [] => 0,
         [part, rest @ ..] => {
-            let from = 20 + part.offset as u64;
+            let from = IP_HEADER as u64 + part.offset as u64;
             let here = 1 + meets(rooms, from, from + part.size as u64);
             here + later_mbufs(rooms, rest)
         }
@@ -49,13 +50,13 @@ fn later_mbufs(rooms: &[Room], parts: &[Part]) -> u64
 
 /// What a send of n bytes takes on a link with this MTU.
 pub fn need(alloc: Global, n: u32, mtu: u32) -> Result<Buffers, AllocError>
-    requires short { n ≤ 65507 }
-    requires least { 28 ≤ mtu }
-    requires greatest { mtu ≤ 65535 }
+    requires short { n ≤ UDP_MAX_DATA }
+    requires least { IP_HEADER + FRAGMENT_UNIT ≤ mtu }
+    requires greatest { mtu ≤ IP_MAX_PACKET }
     ensures { IfOk result (λ r. need_of r ≡ Layout.need n mtu) }
 {
     let rooms = sent(alloc, n)?;
-    let parts = cuts(alloc, n + 8, mtu)?;
+    let parts = cuts(alloc, UDP_HEADER + n, mtu)?;
     let later = match parts.as_slice() {
         [] => 0,
         [_, later @ ..] => later_mbufs(&rooms, later),
@@ -68,7 +69,7 @@ pub fn need(alloc: Global, n: u32, mtu: u32) -> Result<Buffers, AllocError>
 
 /// What a send of n bytes to the broadcast address takes.
 pub fn need_bcast(alloc: Global, n: u32) -> Result<Buffers, AllocError>
-    requires { n ≤ 65507 }
+    requires { n ≤ UDP_MAX_DATA }
     ensures { IfOk result (λ r. need_of r ≡ Layout.need_bcast n) }
 {
     let rooms = sent(alloc, n)?;

@@ -3,6 +3,7 @@ ghost use Rattle.std.specs.Prelude.{◌≡◌, ◌+◌, ◌*◌, ◌≤◌, map,
 ghost use Rattle.flat_model.specs.Cuts as Cuts;
 ghost use Rattle.flat_plain.specs.Parts.{part_of};
 
+use params::{FRAGMENT_UNIT, IP_HEADER, IP_MAX_PACKET};
 use std::alloc::{AllocError, Global};
 
 /// One packet's share of a datagram.
@@ -32,14 +33,14 @@ fn part_at(n: u32, chunk: u32, i: u32) -> Part
 
 /// The parts of n bytes after an IP header, for a link that takes packets of `mtu` bytes.
 pub fn cuts(alloc: Global, n: u32, mtu: u32) -> Result<Vec<Part>, AllocError>
-    requires short { n ≤ 65535 }
-    requires least { 28 ≤ mtu }
-    requires greatest { mtu ≤ 65535 }
+    requires short { n ≤ IP_MAX_PACKET }
+    requires least { IP_HEADER + FRAGMENT_UNIT ≤ mtu }
+    requires greatest { mtu ≤ IP_MAX_PACKET }
     ensures parts { IfOk result (λ v. map part_of v.items ≡ Cuts.cuts n mtu) }
     ensures len { IfOk result (λ v. vec_len v ≤ n + 1) }
 {
     let mut parts = Vec::new(alloc);
-    if 20 + n <= mtu {
+    if IP_HEADER + n <= mtu {
         parts.push(Part {
             offset: 0,
             size: n,
@@ -47,7 +48,7 @@ pub fn cuts(alloc: Global, n: u32, mtu: u32) -> Result<Vec<Part>, AllocError>
         })?;
         return Ok(parts);
     }
-    let chunk = (mtu - 20) / 8 * 8;
+    let chunk = (mtu - IP_HEADER) / FRAGMENT_UNIT * FRAGMENT_UNIT;
     let count = (n + (chunk - 1)) / chunk;
     for i in 0..count {
         parts.push(part_at(n, chunk, i))?;

@@ -3,6 +3,7 @@ ghost use Rattle.std.specs.Prelude.{◌≡◌, ◌≤◌, length};
 ghost use Rattle.flat_model.specs.Ledger.{usage_of, weight_of_state};
 ghost use Rattle.flat_model.specs.State.{State};
 ghost use Rattle.flat_model.specs.Weight.{SameWeight, times};
+ghost use Rattle.params.specs.declared.TheConstants.{MAX_CLUSTERS};
 ghost use Rattle.flat_plain.specs.Weights.{weight_of};
 
 use crate::weights::Weight;
@@ -19,7 +20,7 @@ fn times_of(bag: &[u32], cluster: u32) -> u32
 
 /// What is shown of a pool of so many mbufs and clusters, at most 4,096 of these, where all that is held weighs so.
 pub fn usage(mbufs: u32, clusters: u32, held: &Weight) -> Mbstat
-    requires clusters { clusters ≤ 4096 }
+    requires clusters { clusters ≤ MAX_CLUSTERS }
     requires bag { length held.now.bag.items ≤ 65536 }
     ensures { (s : State) → s.config.mbufs ≡ mbufs → s.config.clusters ≡ clusters →
         SameWeight (weight_of_state s) (weight_of held.now) → usage_of s ≡ result }

@@ -6,9 +6,10 @@ ghost use Rattle.flat_plain.specs.Ports.{state_of};
 
 use crate::lookup::{Pcb, best};
 use flat_model::LookupKey;
+use params::{FIRST_EPHEMERAL_PORT, LAST_EPHEMERAL_PORT};
 
 // How many ports are in the circle.
-const CIRCLE: u16 = 3977;
+const CIRCLE: u16 = LAST_EPHEMERAL_PORT - FIRST_EPHEMERAL_PORT + 1;
 
 // Whether a lookup with wildcards finds a socket with this local address and port.
 fn is_in_use(pcbs: &[Pcb], last: Option<u16>, local: Option<u32>, port: u16) -> bool
@@ -27,24 +28,24 @@ fn is_in_use(pcbs: &[Pcb], last: Option<u16>, local: Option<u32>, port: u16) -> 
 
 // The k-th port after the last one chosen.
 fn port_after(last: Option<u16>, k: u16) -> u16
-    requires known { ForSome last (λ p. 1024 ≤ p) }
-    requires small { ForSome last (λ p. p ≤ 5000) }
-    requires turns { k < 3977 }
+    requires known { ForSome last (λ p. FIRST_EPHEMERAL_PORT ≤ p) }
+    requires small { ForSome last (λ p. p ≤ LAST_EPHEMERAL_PORT) }
+    requires turns { k < CIRCLE }
     ensures { result ≡ Calls.port_after last k }
 {
     match last {
-        None => 1024 + k % CIRCLE,
-        Some(port) => 1024 + (port - 1023 + k) % CIRCLE,
+        None => FIRST_EPHEMERAL_PORT + k % CIRCLE,
+        Some(port) => FIRST_EPHEMERAL_PORT + (port - FIRST_EPHEMERAL_PORT + 1 + k) % CIRCLE,
     }
 }
 
 /// The next ephemeral port for a socket with this local address, where `last` was chosen last. `None` says
 /// that the whole circle is in use, which 64 sockets can't bring about.
 pub fn next_port(pcbs: &[Pcb], last: Option<u16>, local: Option<u32>) -> Option<u16>
-    requires known { ForSome last (λ p. 1024 ≤ p) }
-    requires small { ForSome last (λ p. p ≤ 5000) }
+    requires known { ForSome last (λ p. FIRST_EPHEMERAL_PORT ≤ p) }
+    requires small { ForSome last (λ p. p ≤ LAST_EPHEMERAL_PORT) }
     ensures found { IfSome result (λ port. Calls.IsNextPort (state_of pcbs.now last) local port) }
-    ensures none { IfNone result ((k : ℕ) → k < 3977 →
+    ensures none { IfNone result ((k : ℕ) → k < CIRCLE →
         Calls.is_in_use (state_of pcbs.now last) local (Calls.port_after last k) ≡ true) }
 {
     for k in 0..CIRCLE {

@@ -3,6 +3,8 @@ ghost use Rattle.std.specs.Prelude.{◌≡◌, ◌*◌, ◌≤◌, length};
 ghost use Rattle.flat_model.specs.Fits as Fits;
 ghost use Rattle.flat_plain.specs.Queues.{queue_of};
 
+use params::{MCLBYTES, MSIZE, SOCKADDR_BYTES, UDP_RECEIVE_MEMORY, UDP_RECEIVE_SPACE};
+
 /// A datagram in a receive queue, by its sizes. The mbuf for the sender's address counts too.
 #[derive(Clone, Copy, Debug, PartialEq, Eq)]
 pub struct Waiting {
@@ -19,7 +21,7 @@ fn bytes_queued(queue: &[Waiting]) -> u64
 {
     match queue {
         [] => 0,
-        [datagram, rest @ ..] => 16 + datagram.len as u64 + bytes_queued(rest),
+        [datagram, rest @ ..] => SOCKADDR_BYTES as u64 + datagram.len as u64 + bytes_queued(rest),
     }
 }
 
@@ -30,8 +32,8 @@ fn memory_queued(queue: &[Waiting]) -> u64
 {
     match queue {
         [] => 0,
-        [datagram, rest @ ..] => 128 * datagram.mbufs as u64
-            + 2048 * datagram.references as u64
+        [datagram, rest @ ..] => MSIZE as u64 * datagram.mbufs as u64
+            + MCLBYTES as u64 * datagram.references as u64
             + memory_queued(rest),
     }
 }
@@ -41,7 +43,9 @@ pub fn fits(queue: &[Waiting], n: u16) -> bool
     requires { length queue.now ≤ 65536 }
     ensures { result ≡ Fits.fits (queue_of queue.now) n }
 {
-    16 + n as u64 + bytes_queued(queue) <= 41_600 && 16 + n as u64 + memory_queued(queue) <= 83_200
+    let added = SOCKADDR_BYTES as u64 + n as u64;
+    added + bytes_queued(queue) <= UDP_RECEIVE_SPACE as u64
+        && added + memory_queued(queue) <= UDP_RECEIVE_MEMORY as u64
 }
 
 #[cfg(test)]

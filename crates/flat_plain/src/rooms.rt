@@ -4,6 +4,9 @@ ghost use Rattle.flat_model.specs.Layout.{filled, next_room, meets_from, size_of
 ghost use Rattle.flat_model.specs.Layout as Layout;
 ghost use Rattle.flat_plain.specs.Rooms.{room_of, rooms_of};
 
+use params::{
+    CLUSTER_LEADING_SPACE, IP_UDP_HEADERS, MCLBYTES, MHLEN, MINCLSIZE, MLEN, UDP_MAX_DATA,
+};
 use std::alloc::{AllocError, Global};
 
 /// An mbuf of a chain, by the bytes in it.
@@ -39,7 +42,7 @@ impl Room {
 fn next(large: u32, small: u32, left: u32) -> Room
     ensures { room_of result ≡ next_room large small left }
 {
-    if left < 208 {
+    if left < MINCLSIZE {
         Room::InMbuf(left.min(small))
     } else {
         Room::InCluster(left.min(large))
@@ -63,7 +66,7 @@ fn fill(
     }
     let room = next(large, small, left);
     rooms.push(room)?;
-    fill(rooms, most - 1, 2048, 108, left - room.size())?;
+    fill(rooms, most - 1, MCLBYTES, MLEN, left - room.size())?;
     Ok(())
 }
 
@@ -84,22 +87,22 @@ fn layout(alloc: Global, large: u32, small: u32, n: u32) -> Result<Vec<Room>, Al
 pub fn user(alloc: Global, n: u32) -> Result<Vec<Room>, AllocError>
     ensures { IfOk result (λ v. rooms_of v.items ≡ Layout.user n) }
 {
-    layout(alloc, 1992, 100, n)
+    layout(alloc, MCLBYTES - CLUSTER_LEADING_SPACE, MHLEN, n)
 }
 
 /// The layout of n bytes to send after the 28 bytes of their headers, for at most 65,507 bytes.
 pub fn sent(alloc: Global, n: u32) -> Result<Vec<Room>, AllocError>
-    requires { n ≤ 65507 }
+    requires { n ≤ UDP_MAX_DATA }
     ensures rooms { IfOk result (λ v. rooms_of v.items ≡ Layout.sent n) }
     ensures len { IfOk result (λ v. vec_len v ≤ n + 1) }
 {
     let mut rooms = Vec::new(alloc);
-    if n <= 72 {
-        rooms.push(Room::InMbuf(28 + n))?;
+    if n <= MHLEN - IP_UDP_HEADERS {
+        rooms.push(Room::InMbuf(IP_UDP_HEADERS + n))?;
         return Ok(rooms);
     }
-    rooms.push(Room::InMbuf(28))?;
-    fill(&mut rooms, n, 1992, 100, n)?;
+    rooms.push(Room::InMbuf(IP_UDP_HEADERS))?;
+    fill(&mut rooms, n, MCLBYTES - CLUSTER_LEADING_SPACE, MHLEN, n)?;
     Ok(rooms)
 }
 
@@ -107,7 +110,7 @@ pub fn sent(alloc: Global, n: u32) -> Result<Vec<Room>, AllocError>
 pub fn wire(alloc: Global, n: u32) -> Result<Vec<Room>, AllocError>
     ensures { IfOk result (λ v. rooms_of v.items ≡ Layout.wire n) }
 {
-    layout(alloc, 2048, 100, n)
+    layout(alloc, MCLBYTES, MHLEN, n)
 }
 
 // How many of these share a byte with the range from a up to b, where the first one begins at `at`.

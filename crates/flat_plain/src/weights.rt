@@ -11,6 +11,7 @@ ghost use Rattle.flat_plain.specs.Weights.{entries_of, entry_size, weight_begun,
 
 use crate::maps::Cell;
 use crate::parts::Part;
+use params::{IP_HEADER, IP_MAX_DATA, MAX_PROTOCOL_HEADER};
 use std::alloc::{AllocError, Global};
 
 /// So many mbufs, and the number of a cluster for each of them that refers to one.
@@ -87,7 +88,7 @@ pub fn later_weight(alloc: Global, entries: &[Entry], part: Part) -> Result<Weig
         mbufs: 1,
         bag: Vec::new(alloc),
     };
-    let from = 20 + part.offset as u64;
+    let from = IP_HEADER as u64 + part.offset as u64;
     let after = from + part.size as u64;
     add_met(&mut weight, entries, 0, from, after)?;
     Ok(weight)
@@ -99,7 +100,7 @@ pub fn pulled_up(total: u32, weight: Weight) -> Weight
     ensures { weight_of result ≡ Arrival.pulled_up total (weight_of weight) }
 {
     let mut weight = weight;
-    if 40 < total {
+    if MAX_PROTOCOL_HEADER < total {
         weight.mbufs += 1;
     } else if !weight.bag.is_empty() {
         let _cluster = weight.bag.remove(0);
@@ -109,7 +110,7 @@ pub fn pulled_up(total: u32, weight: Weight) -> Weight
 
 /// What the pieces in a table weigh that still own an offset.
 pub fn weight_of_pieces(alloc: Global, cells: &[Option<Cell>]) -> Result<Weight, AllocError>
-    requires { length cells.now ≤ 65515 }
+    requires { length cells.now ≤ IP_MAX_DATA }
     ensures { IfOk result (λ w. weight_of w ≡ Whole.weight_of_pieces (map_of cells.now)) }
 {
     let mut weight = Weight {

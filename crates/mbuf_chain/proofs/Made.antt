@@ -10,7 +10,8 @@ use Rattle.std.proofs.lemmas.List.Sums.{sum_by-cons}
 use Rattle.std.proofs.lemmas.Option.{none-some, same_Some, slice_get_within, get_or_from_slice_get}
 use Rattle.std.proofs.lemmas.List.{length-set}
 use Rattle.mbuf_pool.specs.Cells.{Head, PacketHeader}
-use Rattle.mbuf_pool.specs.Store.{StoreView, MbufView, ClusterView, no_mbuf, free_cluster, TakesCluster, with_cluster, held, is_out, mbuf_of, head_of, cluster_of, count_of, mbufs_out, with_mbuf, IsStore}
+use Rattle.mbuf_pool.specs.Store.{StoreView, MbufView, ClusterView, no_mbuf, free_cluster, TakesCluster, with_cluster, held, is_out, mbuf_of, head_of, cluster_of, count_of, mbufs_out, with_mbuf, released, IsStore}
+use Rattle.mbuf_pool.proofs.Laws.{taken_back}
 use Rattle.mbuf_chain.specs.Chain.{Entry, Front, ChainView, alone, Adds, held_mbufs, references, counts, free_clusters, chain_of, entry_of}
 use Rattle.mbuf_chain.specs.declared.place.Place.{Place}
 use Rattle.mbuf_chain.specs.Chain.{IsLive, IsPlace}
@@ -120,9 +121,6 @@ plain_made s t i header start pool got store low high =
 -- no mbuf is free where all are held
 pub none_free : (s : StoreView) → IsPool s → mbufs_out s ≡ length s.mbufs → held_mbufs (pool_of s) ≡ length s.mbufs
 none_free s (lists, ok, totals) all = held_is s lists ok ∙ all
-
-pub some_free : (s : StoreView) → IsPool s → mbufs_out s < length s.mbufs → held_mbufs (pool_of s) < length s.mbufs
-some_free s (lists, ok, totals) less = omega (arith, held_is s lists ok)
 
 -- an mbuf that is taken was free
 pub one_free : (s t : StoreView) (i : ℕ) (h : Head) → IsPool s → Taken s t i h → held_mbufs (pool_of s) < length s.mbufs
@@ -247,6 +245,15 @@ clustered_made s t u i d header start pool got_cluster got store high =
     subst (λ (f : Front). IsMade s u i (record { front = f; entries = empty_entry start (Some d) ∷ []; cells = i ∷ [] })) (front_for header start 0 (Some d))
     (subst (λ (e : Entry). IsMade s u i (record { front = front_of (head_for header start 0 (Some d)); entries = e ∷ []; cells = i ∷ [] })) (ap (entry_from u i) n.head)
     (added s u i h pool n refl (record { low = omega arith; high = omega arith; kind = refl }) (total_for header start 0 (Some d))))
+
+pub one_free_beside : (s t u : StoreView) (i d : ℕ) (h : Head) → IsPool s → TakesCluster s t d → Taken t u i h → held_mbufs (pool_of s) < length s.mbufs
+one_free_beside s t u i d h (lists, ok, totals) got_cluster got =
+    let m : MbufView = record { head = h; bytes = got.bytes } in
+    omega (arith, held_is s lists ok, outs_total t i (Some m) got.below, off (is_out t i) got.fresh, Rattle.mbuf_chain.proofs.Lists.few_out (with_mbuf t i (Some m)), length-set t.mbufs i (Some m), ap mbufs_out got_cluster.change, ap (λ (v : StoreView). length v.mbufs) got_cluster.change)
+
+-- the cluster is given back, since no mbuf is free
+pub given_back : (s t u v : StoreView) (d : ℕ) → TakesCluster s t d → u ≡ t → v ≡ with_cluster u d (released (cluster_of u d)) → v ≡ s
+given_back s t u v d got same change = change ∙ ap (λ (w : StoreView). with_cluster w d (released (cluster_of w d))) same ∙ taken_back s t d got
 
 -- ---- free clusters
 pub unreferenced : (s : StoreView) → IsPool s → (c : ℕ) → references (pool_of s) c ≡ count_of s c

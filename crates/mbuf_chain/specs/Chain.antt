@@ -6,6 +6,7 @@ use Rattle.std.specs.Option.{option_eq}
 use Rattle.std.specs.Ordering.{nat_cmp}
 use Rattle.std.specs.FinMap as finmap
 use Rattle.std.specs.FinMap.{FinMap}
+use Rattle.params.specs.declared.TheConstants.{MSIZE, MBUF_HEADER, PACKET_HEADER, MCLBYTES}
 use Rattle.mbuf_chain.specs.declared.place.Place.{Place}
 
 -- an entry: the bytes that an mbuf shows, where they begin in the mbuf or in its cluster, and its cluster
@@ -74,18 +75,18 @@ references_of c v = count_by (refers c) v.entries
 
 -- the first place of the room of entry i
 abbrev pub room_start : ChainView → ℕ → ℕ
-room_start v i = if is_some (entry_of v i).cluster then 0 else (if v.front.header then (if i == 0 then 28 else 20) else 20)
+room_start v i = if is_some (entry_of v i).cluster then 0 else (if v.front.header then (if i == 0 then MBUF_HEADER + PACKET_HEADER else MBUF_HEADER) else MBUF_HEADER)
 
 -- the place after the room of an entry
 abbrev pub room_end : Entry → ℕ
-room_end e = if is_some e.cluster then 2048 else 128
+room_end e = if is_some e.cluster then MCLBYTES else MSIZE
 
 -- free places in front of the data of entry i, and after the data of an entry: none where it lies in a cluster
 abbrev pub leading_space : ChainView → ℕ → ℕ
 leading_space v i = if is_some (entry_of v i).cluster then 0 else (entry_of v i).start - room_start v i
 
 abbrev pub trailing_space : Entry → ℕ
-trailing_space e = if is_some e.cluster then 0 else 128 - e.start - length e.bytes
+trailing_space e = if is_some e.cluster then 0 else MSIZE - e.start - length e.bytes
 
 -- n bytes fit in front of the data of entry i, or after the data of an entry: in the room of the mbuf, or in its cluster
 abbrev pub HasLeadingSpace : ChainView → ℕ → ℕ → Type 0

@@ -1,6 +1,7 @@
 -- What a step leaves alone, and how large a pool is (this project's own).
 use Rattle.std.specs.Prelude.{◌≡◌, ℕ, ◌+◌, ◌<◌, ◌≤◌, List, length, Some}
 use Rattle.std.specs.FinMap as finmap
+use Rattle.params.specs.declared.TheConstants.{MAX_MBUFS}
 use Rattle.mbuf_chain.specs.Chain.{ChainView, PoolView, IsLive, chain_of, mbufs_of, held_mbufs, entry_of, room_start, room_end}
 use Rattle.mbuf_chain.specs.Owners.{times}
 
@@ -22,4 +23,4 @@ pub record IsBounded (p : PoolView) : Type 0 where
   pub cells : (c : ℕ) → IsLive p c → length (chain_of p c).cells ≡ mbufs_of (chain_of p c)
   pub fits : (c i : ℕ) → IsLive p c → i < mbufs_of (chain_of p c) → Fits p (chain_of p c) i
   pub few : held_mbufs p ≤ p.mbufs
-  pub small : p.mbufs ≤ 65535
+  pub small : p.mbufs ≤ MAX_MBUFS

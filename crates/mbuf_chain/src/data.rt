@@ -1,5 +1,6 @@
 //! The bytes of an mbuf: lent, and written where no other mbuf shows them.
 ghost use Rattle.std.specs.Prelude.{◌≡◌, ◌≢◌, ℕ, ◌+◌, ◌-◌, ◌<◌, ◌≤◌, ◌^◌, true, length, take, drop};
+ghost use Rattle.params.specs.declared.TheConstants.{MCLBYTES};
 ghost use Rattle.mbuf_pool.specs.Store.{IsStore, is_out, head_of, with_bytes, bytes_in, IsRoom};
 ghost use Rattle.mbuf_pool.specs.Cells.{over};
 ghost use Rattle.mbuf_chain.specs.Chain.{IsLive, IsPlace, IsUnshared, chain_of, entry_of, with_chain, room_start, room_end, entry_in, HasLeadingSpace, HasTrailingSpace};
@@ -23,7 +24,7 @@ pub(crate) fn buffer_of(cell: u32, cluster: Option<u32>) -> Buffer
 /// Writes bytes into a buffer, from a place on.
 fn write(store: &mut Store, buffer: Buffer, start: u32, bytes: &[u8])
     requires room { IsRoom store.old buffer start (length bytes.now) }
-    requires few { length bytes.now ≤ 2048 }
+    requires few { length bytes.now ≤ MCLBYTES }
     ensures change { store.new ≡
         with_bytes store.old buffer (over (bytes_in store.old buffer) start bytes.now) }
     ensures store { IsStore store.new }

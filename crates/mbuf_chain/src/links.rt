@@ -9,15 +9,10 @@ use crate::cells::{bytes_from, count_from, free_from};
 use crate::edit::set_total;
 use crate::place::{Place, Segment};
 use mbuf_pool::{PacketHeader, Store};
-
-/// How many bytes an mbuf has.
-const MBUF_LEN: u32 = 128;
-
-/// Where an mbuf without packet header begins to hold data.
-const DATA_START: u32 = 20;
+use params::{MBUF_HEADER, MSIZE, PACKET_HEADER};
 
 /// Where an mbuf with packet header begins to hold data.
-pub(crate) const PACKET_START: u32 = 28;
+pub(crate) const PACKET_START: u32 = MBUF_HEADER + PACKET_HEADER;
 
 /// How many bytes a chain has.
 pub(crate) fn bytes_of(store: &Store, first: u32) -> u32
@@ -143,11 +138,11 @@ pub(crate) fn segment(store: &Store, first: u32, at: Place) -> Segment
 
 /// Where an mbuf begins to hold data, with or without packet header.
 fn data_start(packet: Option<PacketHeader>) -> u32
-    ensures { result ≡ (if is_some packet then 28 else 20) }
+    ensures { result ≡ (if is_some packet then MBUF_HEADER + PACKET_HEADER else MBUF_HEADER) }
 {
     match packet {
         Some(_) => PACKET_START,
-        None => DATA_START,
+        None => MBUF_HEADER,
     }
 }
 
@@ -179,7 +174,7 @@ pub(crate) fn trailing_space(store: &Store, first: u32, at: Place) -> u32
     if head.cluster.is_some() {
         0
     } else {
-        MBUF_LEN - head.start - head.len
+        MSIZE - head.start - head.len
     }
 }
 

@@ -1,5 +1,6 @@
 //! New chains of one mbuf.
 ghost use Rattle.std.specs.Prelude.{◌≡◌, ◌≢◌, ℕ, ◌+◌, ◌<◌, ◌≤◌, ◌⊎◌, true, Bool, Some, None, length, IfOk, OnOk, OnErr, IsSome};
+ghost use Rattle.params.specs.declared.TheConstants.{MSIZE, MCLBYTES};
 ghost use Rattle.mbuf_pool.specs.Store.{IsStore, mbufs_out};
 ghost use Rattle.mbuf_pool.specs.Cells.{IsHead};
 ghost use Rattle.mbuf_chain.specs.Chain.{IsLive, IsPlace, chain_of, entry_of, Adds, held_mbufs, references, free_clusters, entry_in};
@@ -40,7 +41,6 @@ fn take(store: &mut Store, head: Head) -> Result<u32, NoBufs>
     ensures same { OnErr result (store.new ≡ store.old) }
     ensures store { IsStore store.new }
 {
-    let _ = store.free_mbufs();
     match store.get_with(head) {
         Ok(cell) => Ok(cell),
         Err(refusal) => Err(refusal),
@@ -51,7 +51,7 @@ fn take(store: &mut Store, head: Head) -> Result<u32, NoBufs>
 pub(crate) fn plain(store: &mut Store, header: bool, start: u32) -> Result<u32, NoBufs>
     requires pool { IsPool store.old }
     requires low { start_of header ≤ start }
-    requires high { start ≤ 128 }
+    requires high { start ≤ MSIZE }
     ensures pool { IsPool store.new }
     ensures ok { IfOk result (λ c. Adds (pool_of store.old) (pool_of store.new) c
         (one_mbuf header (empty_entry start None) c)) }
@@ -101,10 +101,11 @@ pub(crate) fn shared(
     }
 }
 
-/// A chain of one empty mbuf on a cluster of its own.
+/// A chain of one empty mbuf on a cluster of its own. Where a cluster is free and no mbuf is, the cluster is given
+/// back.
 pub(crate) fn clustered(store: &mut Store, header: bool, start: u32) -> Result<u32, NoBufs>
     requires pool { IsPool store.old }
-    requires high { start ≤ 2048 }
+    requires high { start ≤ MCLBYTES }
     ensures pool { IsPool store.new }
     ensures ok { IfOk result (λ c. (d : ℕ) × (d < length store.old.clusters)
         × (references (pool_of store.old) d ≡ 0)
@@ -116,13 +117,13 @@ pub(crate) fn clustered(store: &mut Store, header: bool, start: u32) -> Result<u
         (free_clusters (pool_of store.old) ≡ 0)) }
     ensures same { OnErr result (store.new ≡ store.old) }
 {
-    if store.free_mbufs() == 0 {
-        return Err(NoBufs);
-    }
     match store.get_cluster() {
         Ok(cluster) => match take(store, head_for(header, start, 0, Some(cluster))) {
             Ok(cell) => Ok(cell),
-            Err(_) => unreachable!(),
+            Err(refusal) => {
+                store.release(cluster);
+                Err(refusal)
+            }
         },
         Err(refusal) => Err(refusal),
     }

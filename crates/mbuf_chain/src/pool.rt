@@ -1,6 +1,7 @@
 //! The pool.
 ghost use Rattle.std.specs.Prelude.{◌≡◌, ◌≢◌, ℕ, ◌+◌, ◌-◌, ◌<◌, ◌≤◌, ◌⊎◌, true, None, Some, Bool, length, sum, fold, max, IfOk, OnOk, OnErr, IsSome, IfSome, MatchOption, if◌then◌else◌, take, drop};
 ghost use Rattle.std.specs.FinMap as finmap;
+ghost use Rattle.params.specs.declared.TheConstants.{MSIZE, MBUF_HEADER, PACKET_HEADER, MCLBYTES};
 ghost use Rattle.mbuf_pool.specs.Store.{mbufs_out, count_of};
 ghost use Rattle.mbuf_chain.specs.Chain.{IsLive, IsPlace, chain_of, with_chain, without, held_mbufs, references, counts, free_clusters, string, layout, entry_of, Adds, IsUnshared, room_start, room_end, leading_space, trailing_space, entry_in, HasLeadingSpace, HasTrailingSpace};
 ghost use Rattle.mbuf_chain.specs.Pieces.{pieces};
@@ -107,7 +108,7 @@ impl Pool {
     /// changes nothing.
     pub fn new_chain(&mut self) -> Result<Chain, NoBufs>
         ensures ok { IfOk result (λ c. Adds self.old self.new c
-            (one_mbuf true (empty_entry 28 None) c)) }
+            (one_mbuf true (empty_entry (MBUF_HEADER + PACKET_HEADER) None) c)) }
         ensures free { OnOk result (held_mbufs self.old < self.old.mbufs) }
         ensures err { OnErr result (held_mbufs self.old ≡ self.old.mbufs) }
         ensures same { OnErr result (self.new ≡ self.old) }
@@ -119,8 +120,8 @@ impl Pool {
     /// 28, or 20 without packet header, to 128. `NoBufs` comes exactly where no mbuf is free, and
     /// changes nothing.
     pub fn new_plain(&mut self, header: bool, start: u32) -> Result<Chain, NoBufs>
-        requires low { (if header then 28 else 20) ≤ start }
-        requires high { start ≤ 128 }
+        requires low { (if header then MBUF_HEADER + PACKET_HEADER else MBUF_HEADER) ≤ start }
+        requires high { start ≤ MSIZE }
         ensures ok { IfOk result (λ c. Adds self.old self.new c
             (one_mbuf header (empty_entry start None) c)) }
         ensures free { OnOk result (held_mbufs self.old < self.old.mbufs) }
@@ -379,7 +380,7 @@ impl Pool {
     /// A chain of one empty mbuf on a cluster of its own, in which it begins at `start`, at most 2048.
     /// `NoBufs` comes exactly where no mbuf or no cluster is free, and changes nothing.
     pub fn new_cluster(&mut self, header: bool, start: u32) -> Result<Chain, NoBufs>
-        requires { start ≤ 2048 }
+        requires { start ≤ MCLBYTES }
         ensures ok { IfOk result (λ c. (d : ℕ) × (d < self.old.clusters)
             × (references self.old d ≡ 0)
             × Adds self.old self.new c (one_mbuf header (empty_entry start (Some d)) c)) }

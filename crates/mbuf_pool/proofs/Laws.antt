@@ -1,7 +1,7 @@
 -- What callers can use of a store.
-use Rattle.std.proofs.Common.{◌≡◌, ◌≢◌, ℕ, zero, suc, ◌+◌, ◌<◌, Bool, true, IsTrue, cond, if◌then◌else◌, ◌==◌, ◌-◌, Option, None, Some, is_some, is_none, List, [], ◌∷◌, length, take, count_by, slice_index_or, unwrap_or, refl, sym, ap, ◌∙◌, subst, arith, inl, inr, ◌≤◌, get_or, ext_get_or, slice_set}
+use Rattle.std.proofs.Common.{◌≡◌, ◌≢◌, ℕ, zero, suc, ◌+◌, ◌<◌, Bool, true, IsTrue, cond, if◌then◌else◌, ◌==◌, ◌-◌, Option, None, Some, is_some, is_none, List, [], ◌∷◌, length, take, count_by, slice_index_or, unwrap_or, refl, sym, ap, ◌∙◌, subst, arith, inl, inr, ◌≤◌, get_or, ext_get_or, slice_get, slice_set}
 use Rattle.std.proofs.lemmas.Bool.{cases_eq, cases_lt, eq-eqb, ne_eqb, false≢true}
-use Rattle.std.proofs.lemmas.Option.{slice_get_within}
+use Rattle.std.proofs.lemmas.Option.{slice_get_within, none-some, same_Some}
 use Rattle.std.proofs.lemmas.List.{length-set, get_or-set_same, get_or-set_other, get_or_past}
 use Rattle.std.proofs.lemmas.List.Sums.{sum_by-cons}
 use Rattle.raw_cells.specs.Over.{over}
@@ -12,7 +12,8 @@ use Rattle.raw_cells.specs.declared.part.Buffer.{Buffer}
 use Rattle.raw_cells.specs.declared.part.Buffer.TheVariants.{Mbuf, Cluster}
 pub use Rattle.raw_cells.proofs.Laws.{over_below, over_above, over_in, length_over}
 use Rattle.mbuf_pool.proofs.Changes.{head_size_le}
-use Rattle.mbuf_pool.specs.Store.{MbufView, ClusterView, StoreView, no_mbuf, new_head, free_cluster, is_out, mbuf_of, head_of, cluster_of, count_of, free_mbufs, free_clusters, held, released, with_mbuf, with_cluster, with_bytes, bytes_in, write, IsRoom, IsPart, IsStore, TakesMbuf, TakesCluster, SetsHead}
+use Rattle.mbuf_pool.proofs.Reading.{some_or_none}
+use Rattle.mbuf_pool.specs.Store.{MbufView, ClusterView, StoreView, no_mbuf, new_head, free_cluster, is_out, mbuf_of, head_of, cluster_of, count_of, free_mbufs, mbufs_out, free_clusters, held, released, with_mbuf, with_cluster, with_bytes, bytes_in, write, IsRoom, IsPart, IsStore, TakesMbuf, TakesCluster, SetsHead}
 
 -- ---- one mbuf, or one cluster, in place of another
 pub mbuf_here : (s : StoreView) (i : ℕ) (m : Option MbufView) → i < length s.mbufs → slice_index_or (with_mbuf s i m).mbufs i None ≡ m
@@ -55,6 +56,18 @@ pub taken_count : (old new : StoreView) (c : ℕ) → TakesCluster old new c →
 taken_count old new c h =
     ap (λ (s : StoreView). count_of s c) h.change
     ∙ ap (λ (v : ClusterView). v.count) (cluster_here old c (record { count = 1; bytes = h.bytes }) (slice_get_within old.clusters c free_cluster h.was_free))
+
+set_back : (vs : List ClusterView) (c : ℕ) (v w : ClusterView) → slice_get vs c ≡ Some w → slice_set (slice_set vs c v) c w ≡ vs
+set_back [] c v w is = absurd (none-some w is)
+set_back (x ∷ xs) zero v w is = ap (λ (y : ClusterView). y ∷ xs) (sym (same_Some x w is))
+set_back (x ∷ xs) (suc c) v w is = ap (λ (l : List ClusterView). x ∷ l) (set_back xs c v w is)
+
+-- a cluster that was just handed out and is given back leaves all as it was
+pub taken_back : (old new : StoreView) (c : ℕ) → TakesCluster old new c → with_cluster new c (released (cluster_of new c)) ≡ old
+taken_back old new c h =
+    let v : ClusterView = record { count = 1; bytes = h.bytes } in
+    let there : cluster_of new c ≡ v = ap (λ (s : StoreView). cluster_of s c) h.change ∙ cluster_here old c v (slice_get_within old.clusters c free_cluster h.was_free) in
+    (λ j. with_cluster (h.change j) c (released (there j))) ∙ (λ j. record old { clusters = set_back old.clusters c v free_cluster h.was_free j })
 
 -- ---- counts
 pub count_held : (s : StoreView) (c : ℕ) → 0 < count_of s c → count_of (with_cluster s c (held (cluster_of s c))) c ≡ count_of s c + 1
@@ -111,6 +124,9 @@ store_written s p ws ok room = go p.buffer p.start p.len room
         }
 
 -- ---- where nothing is free
+pub free_or_out : (s : StoreView) → free_mbufs s + mbufs_out s ≡ length s.mbufs
+free_or_out s = some_or_none s.mbufs
+
 none_left : (ms : List (Option MbufView)) (i : ℕ) → count_by is_none ms ≡ 0 → i < length ms → is_some (slice_index_or ms i None) ≡ true
 none_left [] i e lt = absurd (omega arith)
 none_left (None ∷ ms) i e lt = absurd (omega (arith, sum_by-cons (λ x. cond {A = ℕ} (is_none x) 1 0) None ms))

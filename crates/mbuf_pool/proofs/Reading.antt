@@ -15,7 +15,8 @@ use Rattle.mbuf_pool.proofs.FreeList.{first_free, few_free}
 use Rattle.mbuf_pool.proofs.Blocks.{block_part}
 use Rattle.mbuf_pool.proofs.Shown.{seen_is, mbufs_long, clusters_long, is_store, mbufs_free, clusters_free, out_within, out_mbuf, counted_within, counted_cluster, count_at}
 
-some_or_none : {X : Type 0} (xs : List (Option X)) → count_by is_none xs + count_by is_some xs ≡ length xs
+-- each is there or is not
+pub some_or_none : {X : Type 0} (xs : List (Option X)) → count_by is_none xs + count_by is_some xs ≡ length xs
 some_or_none [] = refl
 some_or_none (None ∷ xs) = omega (arith, some_or_none xs, sum_by-cons (λ x. cond {A = ℕ} (is_none x) 1 0) None xs, sum_by-cons (λ x. cond {A = ℕ} (is_some x) 1 0) None xs)
 some_or_none (Some x ∷ xs) = omega (arith, some_or_none xs, sum_by-cons (λ x. cond {A = ℕ} (is_none x) 1 0) (Some x) xs, sum_by-cons (λ x. cond {A = ℕ} (is_some x) 1 0) (Some x) xs)

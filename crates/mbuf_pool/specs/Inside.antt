@@ -1,6 +1,7 @@
 -- How the fields of a store mean what it shows, and when they do.
 use Rattle.std.specs.Prelude.{◌≡◌, ℕ, ◌+◌, ◌*◌, ◌<◌, ◌==◌, if◌then◌else◌, cond, Option, Some, None, List, [], length, map, take, drop, slice_index}
 use Rattle.std.specs.List.{range_with_len}
+use Rattle.params.specs.declared.TheConstants.{MSIZE, MCLBYTES}
 use Rattle.raw_cells.specs.Cells as cells
 use Rattle.raw_cells.specs.Cells.{Cells, IsSized}
 use Rattle.mbuf_pool.specs.FreeList.{times, walk, IsFreeList}
@@ -10,10 +11,10 @@ use Rattle.mbuf_pool.specs.declared.store.Store.TheInside.{Inside}
 
 -- ---- buffers of the region
 abbrev pub mbuf_bytes : Cells → ℕ → List ℕ
-mbuf_bytes r i = take 128 (drop (128 * i) r.bytes)
+mbuf_bytes r i = take MSIZE (drop (MSIZE * i) r.bytes)
 
 abbrev pub cluster_bytes : Cells → ℕ → List ℕ
-cluster_bytes r c = take 2048 (drop (128 * length r.heads + 2048 * c) r.bytes)
+cluster_bytes r c = take MCLBYTES (drop (MSIZE * length r.heads + MCLBYTES * c) r.bytes)
 
 -- what is linked after a free mbuf, and after a free cluster
 abbrev pub next_mbuf : Cells → ℕ → Option ℕ

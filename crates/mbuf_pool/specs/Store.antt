@@ -1,6 +1,7 @@
 -- What a contract sees of a store: the mbufs and clusters that are in use (this project's own; mbufs, clusters and their counts are those of TCP/IP Illustrated, volume 2, chapter 2).
 use Rattle.std.specs.Prelude.{◌≡◌, ℕ, ◌+◌, ◌-◌, ◌<◌, ◌≤◌, ◌==◌, ◌⊎◌, if◌then◌else◌, Bool, IsTrue, is_some, is_none, unwrap_or, Some, None, Option, List, [], length, map, take, drop, replicate, count_by, slice_index_or, slice_set, slice_get}
 use Rattle.std.specs.List.{range_with_len}
+use Rattle.params.specs.declared.TheConstants.{MSIZE, MCLBYTES, MAX_MBUFS, MAX_CLUSTERS}
 use Rattle.raw_cells.specs.Over.{over}
 use Rattle.raw_cells.specs.Cells.{head_size}
 use Rattle.raw_cells.specs.declared.head.Head.{Head}
@@ -91,21 +92,21 @@ free_store z = record { mbufs = replicate z.mbufs None; clusters = replicate z.c
 pub record TakesMbuf (old new : StoreView) (i : ℕ) : Type 0 where
   pub was_free : slice_get old.mbufs i ≡ Some None
   pub bytes : List ℕ
-  pub long : length bytes ≡ 128
+  pub long : length bytes ≡ MSIZE
   pub change : new ≡ with_mbuf old i (Some (record { head = new_head; bytes = bytes }))
 
 -- the same with this head
 pub record TakesWith (old new : StoreView) (i : ℕ) (h : Head) : Type 0 where
   pub was_free : slice_get old.mbufs i ≡ Some None
   pub bytes : List ℕ
-  pub long : length bytes ≡ 128
+  pub long : length bytes ≡ MSIZE
   pub change : new ≡ with_mbuf old i (Some (record { head = h; bytes = bytes }))
 
 -- the cluster c was free and has the count 1; what its bytes are is not said
 pub record TakesCluster (old new : StoreView) (c : ℕ) : Type 0 where
   pub was_free : slice_get old.clusters c ≡ Some free_cluster
   pub bytes : List ℕ
-  pub long : length bytes ≡ 2048
+  pub long : length bytes ≡ MCLBYTES
   pub change : new ≡ with_cluster old c (record { count = 1; bytes = bytes })
 
 -- the mbuf i has a new head, which takes some bytes of its own at the beginning of the mbuf; its other bytes are as they were
@@ -124,8 +125,8 @@ with_bytes s (Cluster c) bs = with_cluster s c (record { count = count_of s c; b
 
 -- the n bytes from `at` on lie in a cluster in use, or after the head of an mbuf in use that refers to no cluster
 abbrev pub IsRoom : StoreView → Buffer → ℕ → ℕ → Type 0
-IsRoom s (Mbuf i) at n = IsTrue (is_out s i) × ((head_of s i).cluster ≡ None) × (head_size (head_of s i) ≤ at) × (at + n ≤ 128)
-IsRoom s (Cluster c) at n = (0 < count_of s c) × (at + n ≤ 2048)
+IsRoom s (Mbuf i) at n = IsTrue (is_out s i) × ((head_of s i).cluster ≡ None) × (head_size (head_of s i) ≤ at) × (at + n ≤ MSIZE)
+IsRoom s (Cluster c) at n = (0 < count_of s c) × (at + n ≤ MCLBYTES)
 
 abbrev pub IsPart : StoreView → Part → Type 0
 IsPart s p = IsRoom s p.buffer p.start p.len
@@ -140,12 +141,12 @@ write s p ws = with_bytes s p.buffer (over (bytes_in s p.buffer) p.start (take p
 
 -- ---- what is true of every store
 pub record IsStore (s : StoreView) : Type 0 where
-  pub mbufs : (0 < length s.mbufs) × (length s.mbufs ≤ 65535)
-  pub clusters : length s.clusters ≤ 4096
-  pub mbuf_bytes : (i : ℕ) → IsTrue (is_out s i) → length (mbuf_of s i).bytes ≡ 128
-  pub cluster_bytes : (c : ℕ) → 0 < count_of s c → length (cluster_of s c).bytes ≡ 2048
+  pub mbufs : (0 < length s.mbufs) × (length s.mbufs ≤ MAX_MBUFS)
+  pub clusters : length s.clusters ≤ MAX_CLUSTERS
+  pub mbuf_bytes : (i : ℕ) → IsTrue (is_out s i) → length (mbuf_of s i).bytes ≡ MSIZE
+  pub cluster_bytes : (c : ℕ) → 0 < count_of s c → length (cluster_of s c).bytes ≡ MCLBYTES
 
 -- ---- sizes
 -- a store is not made of so many
 abbrev pub IsBad : Sizes → Type 0
-IsBad z = (z.mbufs ≡ 0) ⊎ (65535 < z.mbufs) ⊎ (4096 < z.clusters)
+IsBad z = (z.mbufs ≡ 0) ⊎ (MAX_MBUFS < z.mbufs) ⊎ (MAX_CLUSTERS < z.clusters)

@@ -9,15 +9,10 @@ use crate::counts::Counts;
 use crate::fault::{BootFault, NoBufs};
 use crate::link::{First, next_cluster, set_next_cluster};
 use crate::sizes::Sizes;
+use params::{MAX_CLUSTERS, MAX_MBUFS};
 use raw_cells::{Head, Part, Region};
 use std::alloc::{AllocError, Global};
 use std::marker::Model;
-
-/// The most mbufs that a store has.
-const MOST_MBUFS: u32 = 65_535;
-
-/// The most clusters that a store has.
-const MOST_CLUSTERS: u32 = 4096;
 
 /// The count of a cluster that no one holds.
 const FREE: u16 = 0;
@@ -71,7 +66,7 @@ impl Store {
         ensures ok { IfOk result (λ s. s ≡ free_store sizes) }
         ensures bad { (result ≡ Err BootFault.BadSizes) ↔ IsBad sizes }
     {
-        if sizes.mbufs == 0 || sizes.mbufs > MOST_MBUFS || sizes.clusters > MOST_CLUSTERS {
+        if sizes.mbufs == 0 || sizes.mbufs > MAX_MBUFS || sizes.clusters > MAX_CLUSTERS {
             return Err(BootFault::BadSizes);
         }
         let Ok(mut store) = Store::all_out(alloc, sizes) else {
@@ -88,8 +83,8 @@ impl Store {
 
     // A store of which everything is handed out, each cluster to one holder.
     fn all_out(alloc: Global, sizes: Sizes) -> Result<Store, AllocError>
-        requires mbufs { (0 < sizes.mbufs) × (sizes.mbufs ≤ 65535) }
-        requires clusters { sizes.clusters ≤ 4096 }
+        requires mbufs { (0 < sizes.mbufs) × (sizes.mbufs ≤ MAX_MBUFS) }
+        requires clusters { sizes.clusters ≤ MAX_CLUSTERS }
         ensures { IfOk result (λ s. IsAllOut s sizes) }
     {
         let counts = Vec::from_elem(alloc, 1, sizes.clusters as usize)?;

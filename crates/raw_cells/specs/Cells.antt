@@ -1,5 +1,6 @@
 -- What a contract sees of a region (this project's own layout; the sizes are those of a 32-bit 4.4BSD, TCP/IP Illustrated, volume 2, section 2.2).
 use Rattle.std.specs.Prelude.{◌≡◌, ℕ, ◌+◌, ◌*◌, ◌<◌, ◌≤◌, ◌⊎◌, ◌≢◌, if◌then◌else◌, is_some, Some, None, Option, option_map, List, length, take, drop, replicate, slice_index_or, slice_set}
+use Rattle.params.specs.declared.TheConstants.{MSIZE, MBUF_HEADER, PACKET_HEADER, MCLBYTES, MAX_MBUFS, MAX_CLUSTERS}
 use Rattle.raw_cells.specs.Over.{over}
 use Rattle.raw_cells.specs.declared.head.Head.{Head}
 use Rattle.raw_cells.specs.declared.head.PacketHeader.{PacketHeader}
@@ -19,7 +20,7 @@ zero_head = record { next = Some 0; next_packet = Some 0; len = 0; start = 0; ki
 
 -- how many bytes of the mbuf the head takes. Its room is the rest
 abbrev pub head_size : Head → ℕ
-head_size h = if is_some h.cluster then 32 else (if is_some h.packet then 28 else 20)
+head_size h = if is_some h.cluster then 32 else (if is_some h.packet then MBUF_HEADER + PACKET_HEADER else MBUF_HEADER)
 
 -- the link can be told from the mark that stands for none
 abbrev pub IsLink : Option ℕ → Type 0
@@ -34,7 +35,7 @@ abbrev pub head_of : Cells → ℕ → Head
 head_of c i = slice_index_or c.heads i zero_head
 
 abbrev pub region_size : ℕ → ℕ → ℕ
-region_size mbufs clusters = 128 * mbufs + 2048 * clusters
+region_size mbufs clusters = MSIZE * mbufs + MCLBYTES * clusters
 
 -- a region as it is made: every byte is 0
 abbrev pub zero_cells : ℕ → ℕ → Cells
@@ -43,13 +44,13 @@ zero_cells mbufs clusters = record { heads = replicate mbufs zero_head; bytes = 
 -- what is true of every region
 pub record IsSized (c : Cells) : Type 0 where
   pub block : length c.bytes ≡ region_size (length c.heads) c.clusters
-  pub mbufs : (0 < length c.heads) × (length c.heads ≤ 65535)
-  pub clusters : c.clusters ≤ 4096
+  pub mbufs : (0 < length c.heads) × (length c.heads ≤ MAX_MBUFS)
+  pub clusters : c.clusters ≤ MAX_CLUSTERS
 
 -- where an mbuf or a cluster begins in the block
 abbrev pub origin : Cells → Buffer → ℕ
-origin c (Mbuf i) = 128 * i
-origin c (Cluster i) = 128 * length c.heads + 2048 * i
+origin c (Mbuf i) = MSIZE * i
+origin c (Cluster i) = MSIZE * length c.heads + MCLBYTES * i
 
 -- where a part begins in the block
 abbrev pub place : Cells → Part → ℕ
@@ -57,8 +58,8 @@ place c p = origin c p.buffer + p.start
 
 -- the n bytes from s on lie in a cluster, or in the room of an mbuf that refers to no cluster
 abbrev pub IsRoom : Cells → Buffer → ℕ → ℕ → Type 0
-IsRoom c (Mbuf i) s n = (i < length c.heads) × ((head_of c i).cluster ≡ None) × (head_size (head_of c i) ≤ s) × (s + n ≤ 128)
-IsRoom c (Cluster i) s n = (i < c.clusters) × (s + n ≤ 2048)
+IsRoom c (Mbuf i) s n = (i < length c.heads) × ((head_of c i).cluster ≡ None) × (head_size (head_of c i) ≤ s) × (s + n ≤ MSIZE)
+IsRoom c (Cluster i) s n = (i < c.clusters) × (s + n ≤ MCLBYTES)
 
 abbrev pub IsPart : Cells → Part → Type 0
 IsPart c p = IsRoom c p.buffer p.start p.len
@@ -81,7 +82,7 @@ write c p ws = record c { bytes = over c.bytes (place c p) (take p.len ws) }
 
 -- c with a new head for the mbuf i, whose first bytes are then b
 abbrev pub with_head : Cells → ℕ → Head → List ℕ → Cells
-with_head c i h b = record { heads = slice_set c.heads i h; bytes = over c.bytes (128 * i) b; clusters = c.clusters }
+with_head c i h b = record { heads = slice_set c.heads i h; bytes = over c.bytes (MSIZE * i) b; clusters = c.clusters }
 
 -- the mbuf i has a new head: it takes some bytes of its own at the beginning of the mbuf, and every other byte and head is as it was
 abbrev pub SetsHead : Cells → Cells → ℕ → Head → Type 0

@@ -1,6 +1,7 @@
 -- How a head lies in the first bytes of its mbuf, low bytes first (this project's own).
 use Rattle.std.specs.Prelude.{◌≡◌, ℕ, ◌+◌, ◌*◌, ◌/◌, ◌%◌, ◌<◌, ◌≤◌, ◌==◌, if◌then◌else◌, is_some, Option, Some, None, List, map, length, get_or}
 use Rattle.std.specs.List.{range_with_len}
+use Rattle.params.specs.declared.TheConstants.{MSIZE, MAX_MBUFS, MAX_CLUSTERS}
 use Rattle.raw_cells.specs.Cells.{Cells, region_size}
 use Rattle.raw_cells.specs.declared.head.Head.{Head}
 use Rattle.raw_cells.specs.declared.head.PacketHeader.{PacketHeader}
@@ -43,10 +44,10 @@ abbrev pub head_in : List ℕ → ℕ → Head
 head_in bs o = head_by bs o (u16_at bs (o + 18))
 
 abbrev pub heads_in : ℕ → List ℕ → List Head
-heads_in n bs = map (λ i. head_in bs (128 * i)) (range_with_len 0 n)
+heads_in n bs = map (λ i. head_in bs (MSIZE * i)) (range_with_len 0 n)
 
 abbrev pub seen : Inside → Cells
 seen r = record { heads = heads_in r.mbufs r.block; bytes = r.block; clusters = r.clusters }
 
 abbrev pub IsRegion : Inside → Type 0
-IsRegion r = (length r.block ≡ region_size r.mbufs r.clusters) × (0 < r.mbufs) × (r.mbufs ≤ 65535) × (r.clusters ≤ 4096)
+IsRegion r = (length r.block ≡ region_size r.mbufs r.clusters) × (0 < r.mbufs) × (r.mbufs ≤ MAX_MBUFS) × (r.clusters ≤ MAX_CLUSTERS)

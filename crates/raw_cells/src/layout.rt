@@ -5,6 +5,7 @@ ghost use Rattle.raw_cells.specs.Layout.{head_in, link_of, packet_in, cluster_in
 
 use crate::head::{Head, PacketHeader};
 use byteorder::{ByteOrder, LittleEndian};
+use params::{MBUF_HEADER, PACKET_HEADER};
 
 /// In place of a number, that there is no such mbuf.
 const NO_MBUF: u32 = 0xffff_ffff;
@@ -86,9 +87,9 @@ pub(crate) fn head_len(head: &Head) -> usize
     if head.cluster.is_some() {
         32
     } else if head.packet.is_some() {
-        28
+        (MBUF_HEADER + PACKET_HEADER) as usize
     } else {
-        20
+        MBUF_HEADER as usize
     }
 }
 

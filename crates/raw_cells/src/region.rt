@@ -7,14 +7,15 @@ use crate::block::Block;
 use crate::head::Head;
 use crate::layout::{clear_packet, encode, head_len, put_data, put_link, put_u32, read_head};
 use crate::part::{Buffer, Part};
+use params::{MAX_CLUSTERS, MAX_MBUFS, MCLBYTES, MSIZE};
 use std::alloc::{AllocError, Global};
 use std::marker::Model;
 
 /// How many bytes an mbuf has.
-const MBUF_LEN: usize = 128;
+const MBUF_LEN: usize = MSIZE as usize;
 
 /// How many bytes a cluster has.
-const CLUSTER_LEN: usize = 2048;
+const CLUSTER_LEN: usize = MCLBYTES as usize;
 
 /// One block of memory that is cut into mbufs and, after them, clusters. It is freed with its owner.
 ///
@@ -46,8 +47,8 @@ impl Region {
     /// byte is 0: each head reads as zeros too, without a packet header or a cluster. It is the one
     /// request for memory, and `AllocError` says that it was refused.
     pub fn new(alloc: Global, mbufs: u32, clusters: u32) -> Result<Region, AllocError>
-        requires mbufs { (0 < mbufs) × (mbufs ≤ 65535) }
-        requires clusters { clusters ≤ 4096 }
+        requires mbufs { (0 < mbufs) × (mbufs ≤ MAX_MBUFS) }
+        requires clusters { clusters ≤ MAX_CLUSTERS }
         ensures { IfOk result (λ r. r ≡ zero_cells mbufs clusters) }
     {
         let block = Block::new(

@@ -3,12 +3,9 @@ ghost use Rattle.std.specs.Prelude.{◌≡◌, ◌+◌, ◌<◌, ◌≤◌};
 ghost use Rattle.raw_cells.specs.Cells.{IsHead};
 
 use crate::{Buffer, Head, PacketHeader, Part, Region};
+use params::{MAX_CLUSTERS, MAX_MBUFS};
 use std::alloc::{AllocError, Global};
 use std::test::Fail;
-
-const MOST_MBUFS: u32 = 65_535;
-
-const MOST_CLUSTERS: u32 = 4096;
 
 /// What 128 bytes of zeros say as a head.
 const ZEROS: Head = Head {
@@ -40,7 +37,7 @@ fn part(buffer: Buffer, start: u32, len: u32) -> Part
 
 /// The head of the last mbuf of a region of that size, once `head` was set there.
 fn head_of_last(alloc: Global, mbufs: u32, clusters: u32, head: Head) -> Result<Head, AllocError>
-    requires sizes { (0 < mbufs) × (mbufs ≤ 65535) × (clusters ≤ 4096) }
+    requires sizes { (0 < mbufs) × (mbufs ≤ MAX_MBUFS) × (clusters ≤ MAX_CLUSTERS) }
     requires links { IsHead head }
 {
     let mut region = Region::new(alloc, mbufs, clusters)?;
@@ -70,7 +67,7 @@ fn each_form_of_head_is_read_back(rt: HostRuntime) -> Result<(), Fail> {
     for head in [ZEROS, PLAIN, first, cluster, after] {
         assert_eq!(rt; head_of_last(rt.alloc(), 2, 1, head)?, head);
         assert_eq!(rt;
-            head_of_last(rt.alloc(), MOST_MBUFS, MOST_CLUSTERS, head)?,
+            head_of_last(rt.alloc(), MAX_MBUFS, MAX_CLUSTERS, head)?,
             head
         );
     }
@@ -143,7 +140,7 @@ fn a_copy_takes_its_part_alone(rt: HostRuntime) -> Result<(), Fail> {
 
 /// Whether the last mbuf and the last cluster of a region of that size hold what was written to them.
 fn last_ones_hold_bytes(alloc: Global, mbufs: u32, clusters: u32) -> Result<bool, AllocError>
-    requires sizes { (0 < mbufs) × (mbufs ≤ 65535) × (0 < clusters) × (clusters ≤ 4096) }
+    requires sizes { (0 < mbufs) × (mbufs ≤ MAX_MBUFS) × (0 < clusters) × (clusters ≤ MAX_CLUSTERS) }
 {
     let mut region = Region::new(alloc, mbufs, clusters)?;
     let mbuf = part(Buffer::Mbuf(mbufs - 1), 20, 108);
@@ -159,7 +156,7 @@ fn last_ones_hold_bytes(alloc: Global, mbufs: u32, clusters: u32) -> Result<bool
 #[test]
 fn the_last_mbuf_and_the_last_cluster_hold_bytes(rt: HostRuntime) -> Result<(), Fail> {
     assert!(rt; last_ones_hold_bytes(rt.alloc(), 1, 1)?);
-    assert!(rt; last_ones_hold_bytes(rt.alloc(), MOST_MBUFS, MOST_CLUSTERS)?);
+    assert!(rt; last_ones_hold_bytes(rt.alloc(), MAX_MBUFS, MAX_CLUSTERS)?);
     Ok(())
 }
 

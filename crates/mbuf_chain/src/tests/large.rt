@@ -5,10 +5,8 @@ ghost use Rattle.mbuf_chain.specs.Chain.{IsLive, chain_of};
 use super::steps::booted;
 use crate::{Chain, Place, Pool};
 use mbuf_pool::NoBufs;
+use params::{MAX_MBUFS, MBUF_HEADER};
 use std::test::Fail;
-
-/// The most mbufs that a pool has.
-const MOST: u32 = 65_535;
 
 /// How many of them stay at the front.
 const KEPT: u32 = 40_000;
@@ -21,7 +19,7 @@ fn chain_of_empty(pool: &mut Pool, mbufs: u32) -> Result<Chain, NoBufs>
     let chain = pool.new_chain()?;
     let mut last = pool.first(&chain);
     'mbufs: for _ in 1..mbufs {
-        let Ok(back) = pool.new_plain(false, 20) else {
+        let Ok(back) = pool.new_plain(false, MBUF_HEADER) else {
             break;
         };
         last = pool.link(&chain, last, back);
@@ -60,17 +58,17 @@ fn cut_and_free(pool: &mut Pool, chain: Chain, keep: u32) -> (u32, u32)
 #[test]
 #[tactic(auto, using(crate::proofs::Maps::map_steps))]
 fn all_mbufs_in_one_chain(rt: HostRuntime) -> Result<(), Fail> {
-    let mut pool = booted(rt.alloc(), MOST, 0)?;
-    let chain = chain_of_empty(&mut pool, MOST).expect(&rt, "an mbuf is free");
+    let mut pool = booted(rt.alloc(), MAX_MBUFS, 0)?;
+    let chain = chain_of_empty(&mut pool, MAX_MBUFS).expect(&rt, "an mbuf is free");
     assert_eq!(rt; pool.free_mbufs(), 0);
-    assert_eq!(rt; pool.mbufs(&chain), MOST);
-    assert_eq!(rt; walked(&pool, &chain).index, MOST - 1);
+    assert_eq!(rt; pool.mbufs(&chain), MAX_MBUFS);
+    assert_eq!(rt; walked(&pool, &chain).index, MAX_MBUFS - 1);
     assert_eq!(rt; pool.last(&chain), walked(&pool, &chain));
-    assert_eq!(rt; pool.layout(&chain).count(), MOST as usize);
-    assert_eq!(rt; pool.pieces(&chain).count(), MOST as usize);
+    assert_eq!(rt; pool.layout(&chain).count(), MAX_MBUFS as usize);
+    assert_eq!(rt; pool.pieces(&chain).count(), MAX_MBUFS as usize);
     assert_eq!(rt; pool.len(&chain), 0);
     let counts = cut_and_free(&mut pool, chain, KEPT);
-    assert_eq!(rt; counts, (KEPT, MOST - KEPT));
-    assert_eq!(rt; pool.free_mbufs(), MOST);
+    assert_eq!(rt; counts, (KEPT, MAX_MBUFS - KEPT));
+    assert_eq!(rt; pool.free_mbufs(), MAX_MBUFS);
     Ok(())
 }

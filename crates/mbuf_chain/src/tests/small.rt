@@ -5,6 +5,7 @@ ghost use Rattle.mbuf_chain.specs.Chain.{IsLive};
 use super::steps::{booted, put_back, put_front};
 use crate::Pool;
 use mbuf_pool::NoBufs;
+use params::MBUF_HEADER;
 use std::test::Fail;
 
 /// Whether no mbuf is to be had.
@@ -12,7 +13,7 @@ use std::test::Fail;
 fn lacks_mbuf(pool: &mut Pool) -> bool
     ensures { (k : ℕ) → IsLive pool.old k → IsLive pool.new k }
 {
-    match pool.new_plain(false, 20) {
+    match pool.new_plain(false, MBUF_HEADER) {
         Ok(chain) => {
             pool.free_chain(chain);
             false

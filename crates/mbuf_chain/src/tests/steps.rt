@@ -4,6 +4,7 @@ ghost use Rattle.mbuf_chain.specs.Chain.{IsLive, IsPlace, IsUnshared, chain_of, 
 
 use crate::{Chain, Place, Pool};
 use mbuf_pool::{BootFault, Sizes, Store};
+use params::{MCLBYTES, MSIZE};
 use std::alloc::{AllocError, Global};
 use std::process::Abort;
 
@@ -60,9 +61,15 @@ pub(super) fn put_back(rt: &impl Abort, pool: &mut Pool, chain: &Chain, at: Plac
     ensures live { (k : ℕ) → IsLive pool.old k → IsLive pool.new k }
 {
     let segment = pool.segment(chain, at);
-    let end = if segment.cluster.is_some() { 2048 } else { 128 };
-    assert!(rt; bytes.len() <= 2048);
-    assert!(rt; u64::from(segment.start) + u64::from(segment.len) + bytes.len() as u64 <= end);
+    let end = if segment.cluster.is_some() {
+        MCLBYTES
+    } else {
+        MSIZE
+    };
+    assert!(rt; bytes.len() <= MCLBYTES as usize);
+    assert!(rt;
+        u64::from(segment.start) + u64::from(segment.len) + bytes.len() as u64 <= u64::from(end)
+    );
     must_be_unshared(rt, pool, chain, at);
     pool.put_back(chain, at, bytes);
 }
@@ -116,7 +123,9 @@ pub(super) fn overwrite(
     ensures live { (k : ℕ) → IsLive pool.old k → IsLive pool.new k }
 {
     let len = pool.segment(chain, at).len;
-    assert!(rt; bytes.len() <= 2048 && u64::from(offset) + bytes.len() as u64 <= u64::from(len));
+    assert!(rt;
+        bytes.len() <= MCLBYTES as usize && u64::from(offset) + bytes.len() as u64 <= u64::from(len)
+    );
     must_be_unshared(rt, pool, chain, at);
     pool.overwrite(chain, at, offset, bytes);
 }

@@ -5,6 +5,7 @@ ghost use Rattle.mbuf_chain.specs.Train.{IsHeld};
 
 use super::steps::{append, booted, put_back};
 use crate::{Pool, Train};
+use params::MBUF_HEADER;
 use std::process::Abort;
 use std::test::Fail;
 
@@ -47,7 +48,9 @@ fn bytes_of_another_chain(rt: HostRuntime) -> Result<(), Fail> {
     let chain = pool.new_chain().expect(&rt, "an mbuf is free");
     let at = pool.first(&chain);
     put_back(&rt, &mut pool, &chain, at, b"data");
-    let other = pool.new_plain(false, 20).expect(&rt, "an mbuf is free");
+    let other = pool
+        .new_plain(false, MBUF_HEADER)
+        .expect(&rt, "an mbuf is free");
     let from = pool.first(&other);
     put_back(&rt, &mut pool, &other, from, b"gram");
     let at = pool.first(&chain);

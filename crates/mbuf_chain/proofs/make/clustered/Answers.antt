@@ -1,12 +1,10 @@
-use Rattle.std.proofs.Common.{arith, inl, inr, subst, ◌∙◌}
+use Rattle.std.proofs.Common.{inl, inr, sym, ap, subst, ◌∙◌, length}
 use Rattle.mbuf_pool.specs.Cells.{Head}
 use Rattle.std.proofs.lemmas.Option.{slice_get_within}
-use Rattle.mbuf_chain.specs.Cells.{Taken}
-use Rattle.mbuf_chain.proofs.Made.{clustered_made, none_free, some_free, cluster_free, free_are, was_unreferenced}
+use Rattle.mbuf_pool.specs.Store.{StoreView, mbufs_out}
+use Rattle.mbuf_chain.specs.Cells.{Taken, IsPool}
+use Rattle.mbuf_chain.proofs.Made.{clustered_made, none_free, one_free_beside, given_back, cluster_free, free_are, was_unreferenced}
 use Rattle.mbuf_chain.proofs.make.clustered.Goals as goal
-
-pub returns-then-free_mbufs-eq0-clause-err : goal.returns-then-free_mbufs-eq0-clause-err
-returns-then-free_mbufs-eq0-clause-err c = inl (none_free _ c.requires.pool (omega (arith, c.free_mbufs.ensures.rest, c.if-free_mbufs-eq0.true)))
 
 pub returns-in-Ok-take-clause-pool : goal.returns-in-Ok-take-clause-pool
 returns-in-Ok-take-clause-pool c =
@@ -24,7 +22,18 @@ pub returns-in-Err-clause-err : goal.returns-in-Err-clause-err
 returns-in-Err-clause-err c = inr (free_are _ c.requires.pool ∙ c.in-Err.ensures.err)
 
 pub returns-in-Ok-take-clause-free : goal.returns-in-Ok-take-clause-free
-returns-in-Ok-take-clause-free c = some_free _ c.requires.pool (omega (arith, c.free_mbufs.ensures.rest, c.if-free_mbufs-eq0.false))
+returns-in-Ok-take-clause-free c = one_free_beside _ _ _ _ _ _ c.requires.pool c.in-Ok.ensures.ok c.in-Ok-take.ensures.ok
 
 pub returns-in-Ok-take-clause-cluster : goal.returns-in-Ok-take-clause-cluster
 returns-in-Ok-take-clause-cluster c = cluster_free _ _ _ c.requires.pool c.in-Ok.ensures.ok
+
+pub returns-in-Err-take-clause-pool : goal.returns-in-Err-take-clause-pool
+returns-in-Err-take-clause-pool c = subst IsPool (sym (given_back _ _ _ _ _ c.in-Ok.ensures.ok c.in-Err-take.ensures.same c.release.ensures.change)) c.requires.pool
+
+pub returns-in-Err-take-clause-err : goal.returns-in-Err-take-clause-err
+returns-in-Err-take-clause-err c = inl (none_free _ c.requires.pool (
+    ap mbufs_out (sym c.in-Ok.ensures.ok.change) ∙ c.in-Err-take.ensures.err ∙ ap (λ (v : StoreView). length v.mbufs) c.in-Ok.ensures.ok.change
+    ))
+
+pub returns-in-Err-take-clause-same : goal.returns-in-Err-take-clause-same
+returns-in-Err-take-clause-same c = given_back _ _ _ _ _ c.in-Ok.ensures.ok c.in-Err-take.ensures.same c.release.ensures.change
