@@ -5,19 +5,20 @@ use Rattle.flat_model.specs.Layout.{Need}
 use Rattle.flat_model.specs.Header.{head_of}
 use Rattle.flat_model.specs.Overlay.{Map, Fragment}
 use Rattle.flat_model.specs.Whole.{bytes_below}
-use Rattle.flat_model.specs.Count.{counted}
+use Rattle.flat_model.specs.Count.{counted, value_of}
 use Rattle.flat_model.specs.State.{State, Socket, Datagram, Key, Unfinished, change_socket, begun, begin_unfinished, set_bytes, end_unfinished, ends}
 use Rattle.flat_model.specs.Ledger.{Ledger, HasBuffers, need_mbufs, reclaimed}
 use Rattle.flat_model.specs.Arrival as Arrival
 use Rattle.flat_model.specs.Arrival.{Origin, By_wire, Looped}
 use Rattle.flat_model.specs.declared.address.Addr.{Addr}
+use Rattle.flat_model.specs.declared.counter.Counter.TheVariants.{IpLocalout}
 use Rattle.flat_model.specs.declared.counters.Counters.{Counters}
 use Rattle.flat_model.specs.declared.counters.Why.{Why}
 use Rattle.flat_model.specs.declared.counters.Why.TheVariants.{TooSmall, BadVersion, BadHeaderLength, Options, BadSum, BadLength, TooShort, CantForward, BadFragment, FragmentDropped, NoProtocol, UdpHeaderDrops, UdpBadLength, UdpBadSum, UdpNoPort, UdpNoPortBroadcast, UdpFullSocket, NoBufs}
 use Rattle.flat_model.proofs.Each.{by_choice, by_case}
 
 -- a packet that ends isn't a send
-pub counted-localout : (why : Why) (c : Counters) → (counted why c).ip_localout ≡ c.ip_localout
+pub counted-localout : (why : Why) (c : Counters) → value_of IpLocalout (counted why c) ≡ value_of IpLocalout c
 unfolding counted
 counted-localout TooSmall c = refl
 counted-localout BadVersion c = refl

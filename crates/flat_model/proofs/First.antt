@@ -10,6 +10,8 @@ use Rattle.flat_model.specs.Event.{Reply, IsAddr}
 use Rattle.flat_model.specs.declared.errno.Errno.{Errno}
 use Rattle.flat_model.specs.declared.option.Opt.{Opt}
 use Rattle.flat_model.specs.declared.option.Opt.TheVariants.{Broadcast, ReusePort}
+use Rattle.flat_model.specs.Count.{value_of}
+use Rattle.flat_model.specs.declared.counter.Counter.TheVariants.{IpLocalout}
 use Rattle.flat_model.specs.State.{IsConfig, State, Socket, Datagram, loopback, limited_broadcast, socket_at, change_socket}
 use Rattle.flat_model.specs.declared.config.Config.{Config}
 use Rattle.flat_model.specs.Calls as Calls
@@ -37,7 +39,7 @@ pub record IsKept (c : Config) (out : List Item) (next count : ℕ) (s : State) 
   pub config : s.config ≡ c
   pub output : s.output ≡ out
   pub id : s.next_id ≡ next
-  pub sends : s.counters.ip_localout ≡ count
+  pub sends : value_of IpLocalout s.counters ≡ count
   pub sockets : Each IsSound s.sockets
 
 module _ (M : Ledger) (c : Config) (out : List Item) (next count : ℕ) (boots : IsConfig c) where

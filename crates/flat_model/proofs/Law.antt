@@ -3,6 +3,8 @@ use Rattle.std.proofs.Common.{◌≡◌, ◌≢◌, ℕ, ◌+◌, ◌-◌, ◌%�
 use Rattle.std.specs.Prelude.{filter_map, Contains}
 use Rattle.std.specs.List.{AllByRecursion as Each, cons_option}
 use Rattle.std.proofs.lemmas.List.Elements.{All-from_recursion, recursion_from_All, All-contains}
+use Rattle.flat_model.specs.Count.{value_of}
+use Rattle.flat_model.specs.declared.counter.Counter.TheVariants.{IpLocalout}
 use Rattle.flat_model.specs.Cuts.{Part, cuts}
 use Rattle.flat_model.specs.Event.{Event, Open, Bind, Connect, Send, Receive, Close, Set_option, Comes, Transmit, Tick, Ask_counters, Ask_usage}
 use Rattle.flat_model.specs.State.{State, Socket, Datagram, boot, loopback}
@@ -24,7 +26,7 @@ module _ (L M : Ledger) (first second : Config) (sent came : List Turn) (s t : S
 
   -- the log is short enough for its identifications to differ
   few : length told.log < 65536
-  few = let count : s.counters.ip_localout ≡ min (length told.log) (2 ^ 64 - 1) = told.count in let small : s.counters.ip_localout < 2 ^ 16 = w.few in omega arith
+  few = let count : value_of IpLocalout s.counters ≡ min (length told.log) (2 ^ 64 - 1) = told.count in let small : value_of IpLocalout s.counters < 2 ^ 16 = w.few in omega arith
 
   number_of : (log : List Sending) (x : Sending) → Told.Numbered L first w.first_boots log → Among log x → (j : ℕ) × (j < length log) × (x.id ≡ (first.first_id + j) % 65536)
   number_of [] x n a = absurd a

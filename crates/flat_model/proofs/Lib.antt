@@ -1,3 +1,4 @@
+mod Counting
 mod Values
 mod WorkedRun
 mod Sendable

@@ -1,6 +1,6 @@
 -- The runs of the first machine: every packet given out is of a send, and the last of a send only where it was answered.
 use Rattle.std.proofs.Common.{◌≡◌, ℕ, ◌+◌, ◌-◌, ◌%◌, ◌^◌, ◌<◌, ◌≤◌, Bool, true, false, List, [], ◌∷◌, ◌++◌, length, map, take, refl, sym, ◌∙◌, ap, subst, ◌⊎◌, inl, inr, arith, min, Option, Some, None, cond}
-use Rattle.std.specs.Prelude.{◌==◌, find, filter_map, unwrap_or, ⊤, Contains, IfSome}
+use Rattle.std.specs.Prelude.{nat_lt, ◌==◌, find, filter_map, unwrap_or, ⊤, Contains, IfSome}
 use Rattle.std.specs.List.{AllByRecursion as Each, cons_option}
 use Rattle.std.proofs.lemmas.Bool.{or_parts, eqb-false, ltb-false, le-ltb, cond-false}
 use Rattle.std.proofs.lemmas.Option.{none-some, same_Some}
@@ -17,7 +17,7 @@ use Rattle.flat_model.specs.Event as Event
 use Rattle.flat_model.specs.State.{IsConfig, State, Socket, Datagram, boot, loopback, socket_at}
 use Rattle.flat_model.specs.declared.config.Config.{Config}
 use Rattle.flat_model.specs.Calls.{Refuses, OnSocket, GetsPort, source_for}
-use Rattle.flat_model.specs.Count.{one_more}
+use Rattle.flat_model.specs.Count.{counts_more, more_by, value_of}
 use Rattle.flat_model.specs.Ledger.{Ledger, HasBuffers}
 use Rattle.flat_model.specs.Send as Send
 use Rattle.flat_model.specs.Send.{target, to_link, to_self, enqueued, counts_send, spent, overflows, send_faults}
@@ -25,6 +25,8 @@ use Rattle.flat_model.specs.Arrival as Arrival
 use Rattle.flat_model.specs.Step.{StepBy, Transmits}
 use Rattle.flat_model.specs.Run.{Turn, Leads}
 use Rattle.flat_model.specs.Sending.{Sending, datagram, packet_for, packets, parts_of, is_looped}
+use Rattle.flat_model.specs.declared.counter.Counter.TheVariants.{IpLocalout, IpFragmented, OutDropped}
+use Rattle.flat_model.specs.declared.counters.Counters.{Counters}
 use Rattle.flat_model.proofs.Runs.{one_more_turn}
 use Rattle.flat_model.proofs.Sendable.{IsSendable}
 use Rattle.flat_model.specs.Wire.{packet_out, given, IsAnswered}
@@ -103,8 +105,8 @@ module _ (L : Ledger) (c : Config) (boots : IsConfig c) where
 
   pub record IsTold (turns : List Turn) (s : State) : Type 0 where
     pub log : List Sending
-    pub kept : IsKept c s.output s.next_id s.counters.ip_localout s
-    pub count : s.counters.ip_localout ≡ min (length log) (2 ^ 64 - 1)
+    pub kept : IsKept c s.output s.next_id (value_of IpLocalout s.counters) s
+    pub count : value_of IpLocalout s.counters ≡ min (length log) (2 ^ 64 - 1)
     pub next : s.next_id ≡ (c.first_id + length log) % 65536
     pub numbered : Numbered log
     pub output : Each (IsGiven log turns s) (all_bytes s.output)
@@ -145,7 +147,7 @@ module _ (L : Ledger) (c : Config) (boots : IsConfig c) where
   }
 
   -- a turn that changes neither queue nor log
-  quiet : (turns : List Turn) (turn : Turn) (old new : State) → IsTold turns old → IsEvent turn.event → StepBy L old turn.event turn.reply new → IsKept c old.output old.next_id old.counters.ip_localout new → packet_out turn ≡ None → IsTold (turns ++ turn ∷ []) new
+  quiet : (turns : List Turn) (turn : Turn) (old new : State) → IsTold turns old → IsEvent turn.event → StepBy L old turn.event turn.reply new → IsKept c old.output old.next_id (value_of IpLocalout old.counters) new → packet_out turn ≡ None → IsTold (turns ++ turn ∷ []) new
   quiet turns turn old new told range step k none = record {
     log = told.log;
     kept = record { config = k.config; output = refl; id = refl; sends = refl; sockets = k.sockets };
@@ -174,7 +176,7 @@ module _ (L : Ledger) (c : Config) (boots : IsConfig c) where
   module _ (turns : List Turn) (fd : ℕ) (to : Option Addr) (me : Socket) (bytes : List ℕ) (before old new : State) (reply : Reply)
       (told : IsTold turns before) (leads : Leads L (boot c) turns before) (at : socket_at fd before ≡ Some me)
       (range : IsEvent (Send fd to bytes)) (step : StepBy L before (Send fd to bytes) reply new)
-      (k : IsKept c before.output before.next_id before.counters.ip_localout old) (same : old.sockets ≡ before.sockets)
+      (k : IsKept c before.output before.next_id (value_of IpLocalout before.counters) old) (same : old.sockets ≡ before.sockets)
       (sound : IsSound me) (aim : IsTarget (target before me to)) (short : length bytes ≤ 9216) where
     module _ (port : ℕ) (named : State) (clusters : List ℕ) (g : GetsPort old me.local me.port port named) where
       x : Sending
@@ -189,24 +191,28 @@ module _ (L : Ledger) (c : Config) (boots : IsConfig c) where
       left : State
       left = spent fd port (parts_of named.config x) named
 
-      got : IsKept c before.output before.next_id before.counters.ip_localout named × (port < 65536)
-      got = First.gets L c before.output before.next_id before.counters.ip_localout boots old named me.local me.port port k sound.port g
+      got : IsKept c before.output before.next_id (value_of IpLocalout before.counters) named × (port < 65536)
+      got = First.gets L c before.output before.next_id (value_of IpLocalout before.counters) boots old named me.local me.port port k sound.port g
 
       abbrev Next : State → Type 0
-      Next = IsKept c (take 50 (before.output ++ link)) ((before.next_id + 1) % 65536) (one_more before.counters.ip_localout)
+      Next = IsKept c (take 50 (before.output ++ link)) ((before.next_id + 1) % 65536) (more_by 1 (value_of IpLocalout before.counters))
 
-      counts_dropped : (b : Bool) (s : State) → (cond b (record (s.counters) { out_dropped = one_more s.counters.out_dropped }) s.counters).ip_localout ≡ s.counters.ip_localout
+      counts_dropped : (b : Bool) (s : State) → value_of IpLocalout (cond b (counts_more OutDropped 1 s.counters) s.counters) ≡ value_of IpLocalout s.counters
       counts_dropped true s = refl
       counts_dropped false s = refl
+
+      counts_cut : (b : Bool) (s : State) → value_of IpLocalout (let sent : Counters = counts_more IpLocalout 1 s.counters in cond b (counts_more IpFragmented 1 sent) sent) ≡ more_by 1 (value_of IpLocalout s.counters)
+      counts_cut true s = refl
+      counts_cut false s = refl
 
       put : (socket : Socket) → IsSound socket → IsSound (record socket { port = Some port })
       put socket s = record { local = s.local; port = λ p e. subst (λ q. q < 65536) (same_Some port p e) got.1; peer = s.peer }
 
-      left_is : IsKept c before.output ((before.next_id + 1) % 65536) (one_more before.counters.ip_localout) left
+      left_is : IsKept c before.output ((before.next_id + 1) % 65536) (more_by 1 (value_of IpLocalout before.counters)) left
       unfolding left
-      left_is = First.changes L c before.output ((before.next_id + 1) % 65536) (one_more before.counters.ip_localout) boots fd (λ socket. record socket { port = Some port })
+      left_is = First.changes L c before.output ((before.next_id + 1) % 65536) (more_by 1 (value_of IpLocalout before.counters)) boots fd (λ socket. record socket { port = Some port })
           (counts_send (parts_of named.config x) named)
-          (record { config = got.0.config; output = got.0.output; id = ap (λ n. (n + 1) % 65536) got.0.id; sends = ap one_more got.0.sends; sockets = got.0.sockets })
+          (record { config = got.0.config; output = got.0.output; id = ap (λ n. (n + 1) % 65536) got.0.id; sends = counts_cut (nat_lt 1 (length (parts_of named.config x))) named ∙ ap (more_by 1) got.0.sends; sockets = got.0.sockets })
           put
 
       queued_is : Next (enqueued link left)
@@ -243,7 +249,7 @@ module _ (L : Ledger) (c : Config) (boots : IsConfig c) where
       leaves h = record {
         log = x ∷ told.log;
         kept = record { config = after.config; output = refl; id = refl; sends = refl; sockets = after.sockets };
-        count = after.sends ∙ (let count : before.counters.ip_localout ≡ min (length told.log) (2 ^ 64 - 1) = told.count in omega arith);
+        count = after.sends ∙ (let count : value_of IpLocalout before.counters ≡ min (length told.log) (2 ^ 64 - 1) = told.count in omega arith);
         next = after.id ∙ (let next : before.next_id ≡ (c.first_id + length told.log) % 65536 = told.next in omega arith);
         numbered = (k.id ∙ told.next, told.numbered);
         output = subst (λ xs. Each Given (all_bytes xs)) (sym after.output)
@@ -277,7 +283,7 @@ module _ (L : Ledger) (c : Config) (boots : IsConfig c) where
           sendable : is_looped named.config x.to.ip ≡ false → IsSendable c.mtu x
           sendable e = record {
             id = let next : old.next_id ≡ (c.first_id + length told.log) % 65536 = k.id ∙ told.next in omega arith;
-            source = First.source_small L c before.output before.next_id before.counters.ip_localout boots old.config me x.to.ip k.config sound.local;
+            source = First.source_small L c before.output before.next_id (value_of IpLocalout before.counters) boots old.config me x.to.ip k.config sound.local;
             ip = aim.ip;
             to_port = aim.port;
             port = got.1;
@@ -338,8 +344,8 @@ module _ (L : Ledger) (c : Config) (boots : IsConfig c) where
                   both e = cc
               answered_at p (inr fit) last e = answered (omega (arith, length-map before.output (λ (item : Item). item.bytes))) e
 
-          after : IsKept c (take 50 (before.output ++ to_link named.config x.to.ip (packets named.config clusters x))) ((before.next_id + 1) % 65536) (one_more before.counters.ip_localout) new
-          after = kept_all L Next (First.closed L c (take 50 (before.output ++ link)) ((before.next_id + 1) % 65536) (one_more before.counters.ip_localout) boots) (to_self named.config x.to.ip (packets named.config clusters x)) (enqueued link left) new queued_is h.0
+          after : IsKept c (take 50 (before.output ++ to_link named.config x.to.ip (packets named.config clusters x))) ((before.next_id + 1) % 65536) (more_by 1 (value_of IpLocalout before.counters)) new
+          after = kept_all L Next (First.closed L c (take 50 (before.output ++ link)) ((before.next_id + 1) % 65536) (more_by 1 (value_of IpLocalout before.counters)) boots) (to_self named.config x.to.ip (packets named.config clusters x)) (enqueued link left) new queued_is h.0
 
   -- ---- every step
 
@@ -362,7 +368,7 @@ module _ (L : Ledger) (c : Config) (boots : IsConfig c) where
 
   module _ (turns : List Turn) (old new : State) (reply : Reply) (told : IsTold turns old) (leads : Leads L (boot c) turns old) where
     abbrev Now : State → Type 0
-    Now = IsKept c old.output old.next_id old.counters.ip_localout
+    Now = IsKept c old.output old.next_id (value_of IpLocalout old.counters)
 
     silent : (event : Event) → IsEvent event → StepBy L old event reply new → Now new → packet_out (record { event = event; reply = reply }) ≡ None → IsTold (turns ++ record { event = event; reply = reply } ∷ []) new
     silent event range step k e = quiet turns (record { event = event; reply = reply }) old new told range step k e
@@ -377,8 +383,8 @@ module _ (L : Ledger) (c : Config) (boots : IsConfig c) where
     transmits step [] e h = silent Transmit tt step (subst Now (sym h.1) told.kept) (ap (given Transmit) h.0)
     transmits step (item ∷ later) e h = record {
       log = told.log;
-      kept = subst (λ s. IsKept c s.output s.next_id s.counters.ip_localout s) (sym h.1) (record { config = told.kept.config; output = refl; id = refl; sends = refl; sockets = told.kept.sockets });
-      count = ap (λ (s : State). s.counters.ip_localout) h.1 ∙ told.count;
+      kept = subst (λ s. IsKept c s.output s.next_id (value_of IpLocalout s.counters) s) (sym h.1) (record { config = told.kept.config; output = refl; id = refl; sends = refl; sockets = told.kept.sockets });
+      count = ap (λ (s : State). (value_of IpLocalout s.counters)) h.1 ∙ told.count;
       next = ap (λ (s : State). s.next_id) h.1 ∙ told.next;
       numbered = told.numbered;
       output = subst (λ (s : State). Each (IsGiven told.log (turns ++ turn ∷ []) new) (all_bytes s.output)) (sym h.1) held.1;
@@ -403,8 +409,8 @@ module _ (L : Ledger) (c : Config) (boots : IsConfig c) where
         (λ e (answer, mid, a, rest).
         let passed = none_passed (send_faults old me to (length bytes)) e in
         let short : length bytes ≤ 9216 = ltb-false _ _ passed.1.0 in
-        let k : Now mid = kept_has_buffers L Now (First.closed L c old.output old.next_id old.counters.ip_localout boots) old mid nothing _ answer told.kept a in
-        let sound : IsSound me = First.found L c old.output old.next_id old.counters.ip_localout boots fd old me told.kept at in
+        let k : Now mid = kept_has_buffers L Now (First.closed L c old.output old.next_id (value_of IpLocalout old.counters) boots) old mid nothing _ answer told.kept a in
+        let sound : IsSound me = First.found L c old.output old.next_id (value_of IpLocalout old.counters) boots fd old me told.kept at in
         let aim : IsTarget (target old me to) = target_is old me to told.kept.config sound (some_addr to is.0) in
         let same : mid.sockets ≡ old.sockets = has_buffers_sockets old mid nothing _ answer a in
         by_choice rest
@@ -413,15 +419,15 @@ module _ (L : Ledger) (c : Config) (boots : IsConfig c) where
         (λ errno e r. silent (Send fd to bytes) is step (refuses errno r) refl))
 
     pub told_step : (event : Event) → IsEvent event → StepBy L old event reply new → IsTold (turns ++ record { event = event; reply = reply } ∷ []) new
-    told_step Open is h = silent Open is h (First.opens L c old.output old.next_id old.counters.ip_localout boots old new reply told.kept h) refl
-    told_step (Bind fd a) is h = silent (Bind fd a) is h (on_fd fd _ h (λ me at r. First.binds L c old.output old.next_id old.counters.ip_localout boots fd a me old new reply told.kept is r)) refl
-    told_step (Connect fd a) is h = silent (Connect fd a) is h (on_fd fd _ h (λ me at r. First.connects L c old.output old.next_id old.counters.ip_localout boots fd a me old new reply told.kept is
-        (First.found L c old.output old.next_id old.counters.ip_localout boots fd old me told.kept at) r)) refl
+    told_step Open is h = silent Open is h (First.opens L c old.output old.next_id (value_of IpLocalout old.counters) boots old new reply told.kept h) refl
+    told_step (Bind fd a) is h = silent (Bind fd a) is h (on_fd fd _ h (λ me at r. First.binds L c old.output old.next_id (value_of IpLocalout old.counters) boots fd a me old new reply told.kept is r)) refl
+    told_step (Connect fd a) is h = silent (Connect fd a) is h (on_fd fd _ h (λ me at r. First.connects L c old.output old.next_id (value_of IpLocalout old.counters) boots fd a me old new reply told.kept is
+        (First.found L c old.output old.next_id (value_of IpLocalout old.counters) boots fd old me told.kept at) r)) refl
     told_step (Send fd to bytes) is h = sends fd to bytes is h
-    told_step (Receive fd most) is h = silent (Receive fd most) is h (on_fd fd _ h (λ me at r. First.receives L c old.output old.next_id old.counters.ip_localout boots fd most me.queue old new reply told.kept r)) refl
-    told_step (Close fd) is h = silent (Close fd) is h (on_fd fd _ h (λ me at r. First.closes L c old.output old.next_id old.counters.ip_localout boots fd old new reply told.kept r)) refl
-    told_step (Set_option fd option on) is h = silent (Set_option fd option on) is h (on_fd fd _ h (λ me at r. First.sets L c old.output old.next_id old.counters.ip_localout boots fd option on old new reply told.kept r)) refl
-    told_step (Comes packet) is h = silent (Comes packet) is h (First.comes_in L c old.output old.next_id old.counters.ip_localout boots packet old new told.kept h.1) refl
+    told_step (Receive fd most) is h = silent (Receive fd most) is h (on_fd fd _ h (λ me at r. First.receives L c old.output old.next_id (value_of IpLocalout old.counters) boots fd most me.queue old new reply told.kept r)) refl
+    told_step (Close fd) is h = silent (Close fd) is h (on_fd fd _ h (λ me at r. First.closes L c old.output old.next_id (value_of IpLocalout old.counters) boots fd old new reply told.kept r)) refl
+    told_step (Set_option fd option on) is h = silent (Set_option fd option on) is h (on_fd fd _ h (λ me at r. First.sets L c old.output old.next_id (value_of IpLocalout old.counters) boots fd option on old new reply told.kept r)) refl
+    told_step (Comes packet) is h = silent (Comes packet) is h (First.comes_in L c old.output old.next_id (value_of IpLocalout old.counters) boots packet old new told.kept h.1) refl
     told_step Transmit is h = transmits h old.output refl h
     told_step Tick is h = silent Tick is h (subst Now (sym h.1) (record { config = told.kept.config; output = refl; id = refl; sends = refl; sockets = told.kept.sockets })) refl
     told_step Ask_counters is h = silent Ask_counters is h (subst Now (sym h.1) told.kept) refl

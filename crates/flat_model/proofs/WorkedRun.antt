@@ -7,7 +7,8 @@ use Rattle.std.proofs.lemmas.List.Elements.{All-from_recursion}
 use Rattle.flat_model.specs.Choice.{Choice, Case}
 use Rattle.flat_model.specs.Run.{Run, Turn}
 use Rattle.flat_model.specs.Layout.{filled, laid_on}
-use Rattle.flat_model.specs.Count.{counted}
+use Rattle.flat_model.specs.Count.{counted, counts_more}
+use Rattle.flat_model.specs.declared.counter.Counter.TheVariants.{IpTotal}
 use Rattle.flat_model.specs.Event.{Event, Reply, Open, Bind, Receive, Comes, Done, Opened, Received, IsBytes}
 use Rattle.flat_model.specs.State.{State, boot}
 use Rattle.flat_model.specs.declared.config.Config.{Config}
@@ -63,7 +64,7 @@ binds = at_some _ (at_none (7, s1, (refl, refl), refl, refl))
 s3 : State
 s3 = record s2 {
   sockets = record (fresh 3) { port = Some 7; queue = record { sender = record { ip = 167772162; port = 5000 }; item = record { bytes = 104 ∷ 105 ∷ []; weight = record { mbufs = 2; bag = [] } } } ∷ [] } ∷ [];
-  counters = record (s2.counters) { ip_total = 1 };
+  counters = counts_more IpTotal 1 s2.counters;
 }
 
 -- the packet comes into the socket's queue
@@ -83,13 +84,13 @@ comes = (
   ),
 )
 
-receives : Step s3 (Receive 3 100) (Received (record { ip = 167772162; port = 5000 }) (104 ∷ 105 ∷ [])) (record s2 { counters = record (s2.counters) { ip_total = 1 } })
+receives : Step s3 (Receive 3 100) (Received (record { ip = 167772162; port = 5000 }) (104 ∷ 105 ∷ [])) (record s2 { counters = counts_more IpTotal 1 s2.counters })
 unfolding s3
 receives = at_some _ (refl, refl)
 
 -- the four turns are a run
 a_run : Run plain (turn Open (Opened 3) ∷ turn (Bind 3 (record { ip = 0; port = 7 })) Done ∷ turn (Comes w) Done ∷ turn (Receive 3 100) (Received (record { ip = 167772162; port = 5000 }) (104 ∷ 105 ∷ [])) ∷ [])
-    (record s2 { counters = record (s2.counters) { ip_total = 1 } })
+    (record s2 { counters = counts_more IpTotal 1 s2.counters })
 a_run = (tt, s1, opens, (record { ip = omega arith; port = omega arith }, s2, binds, ((small, omega arith), s3, comes, (tt, _, receives, refl))))
   where
     small : IsBytes w

@@ -11,12 +11,13 @@ use Rattle.flat_model.specs.Overlay.{Map, Fragment, overlay, is_covered}
 use Rattle.flat_model.specs.Whole.{IsWhole, bytes_below, weight_of_pieces}
 use Rattle.flat_model.specs.Lookup.{best, receivers}
 use Rattle.flat_model.specs.Fits.{fits}
-use Rattle.flat_model.specs.Count.{one_more}
+use Rattle.flat_model.specs.Count.{counts_more}
 use Rattle.flat_model.specs.State.{State, Socket, Datagram, Key, Unfinished, limited_broadcast, change_socket, unfinished_at, begun, begin_unfinished, set_bytes, end_unfinished, ends}
 use Rattle.flat_model.specs.declared.config.Config.{Config}
 use Rattle.flat_model.specs.Calls.{is_ours}
 use Rattle.flat_model.specs.Ledger.{Ledger, HasBuffers, need_mbufs}
 use Rattle.flat_model.specs.declared.address.Addr.{Addr}
+use Rattle.flat_model.specs.declared.counter.Counter.TheVariants.{IpTotal, IpFragments, IpReassembled}
 use Rattle.flat_model.specs.declared.counters.Why.{Why}
 use Rattle.flat_model.specs.declared.counters.Why.TheVariants.{CantForward, BadFragment, FragmentDropped, NoProtocol, UdpNoPort, UdpNoPortBroadcast, UdpFullSocket, NoBufs}
 
@@ -57,7 +58,7 @@ is_bad_fragment h n = (n == 0) || (h.more && not (n % FRAGMENT_UNIT == 0)) || na
 
 -- one more fragment passed these tests
 abbrev pub counts_fragment : State → State
-counts_fragment s = record s { counters = record (s.counters) { ip_fragments = one_more s.counters.ip_fragments } }
+counts_fragment s = record s { counters = counts_more IpFragments 1 s.counters }
 
 -- The weight once the header stands in one plain mbuf (`m_pullup` of volume 2, chapter 2, which moves 40 bytes): a
 -- packet of at most 40 bytes leaves its cluster, a longer one has one mbuf more.
@@ -73,13 +74,13 @@ pub record IsJoin (pieces joined : Weight) (n : ℕ) : Type 0 where
 
 -- one more datagram was made whole
 abbrev pub counts_reassembled : State → State
-counts_reassembled s = record s { counters = record (s.counters) { ip_reassembled = one_more s.counters.ip_reassembled } }
+counts_reassembled s = record s { counters = counts_more IpReassembled 1 s.counters }
 
 -- ---- what a packet says
 
 -- one more packet reached the input
 abbrev pub counts_packet : State → State
-counts_packet s = record s { counters = record (s.counters) { ip_total = one_more s.counters.ip_total } }
+counts_packet s = record s { counters = counts_more IpTotal 1 s.counters }
 
 -- an address that this machine hears
 abbrev pub is_for_us : Config → ℕ → Bool

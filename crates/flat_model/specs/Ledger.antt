@@ -5,7 +5,8 @@ use Rattle.std.specs.List.{range_with_len}
 use Rattle.flat_model.specs.Weight.{Weight, ◌⊕◌, all_of, nothing, mbuf, times}
 use Rattle.flat_model.specs.Layout.{Need}
 use Rattle.flat_model.specs.Whole.{weight_of_pieces}
-use Rattle.flat_model.specs.Count.{more_by}
+use Rattle.flat_model.specs.Count.{counts_more}
+use Rattle.flat_model.specs.declared.counter.Counter.TheVariants.{IpReclaimed}
 use Rattle.flat_model.specs.declared.usage.Mbstat.{Mbstat}
 use Rattle.flat_model.specs.State.{State}
 
@@ -86,7 +87,7 @@ loose_ledger = record {
 
 -- all unfinished datagrams are dropped, and counted
 abbrev pub reclaimed : State → State
-reclaimed s = record s { unfinished = []; counters = record (s.counters) { ip_reclaimed = more_by (length s.unfinished) s.counters.ip_reclaimed } }
+reclaimed s = record s { unfinished = []; counters = counts_more IpReclaimed (length s.unfinished) s.counters }
 
 -- A test, and the state that it leaves. Where the buffers are too few, all unfinished datagrams are dropped and the
 -- test is made once more: that answer stands. Where none was held, this drops nothing and the answer is the same.

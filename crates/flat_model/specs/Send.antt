@@ -8,8 +8,10 @@ use Rattle.flat_model.specs.Choice.{Choice}
 use Rattle.flat_model.specs.Weight.{Item, nothing}
 use Rattle.flat_model.specs.Cuts.{Part}
 use Rattle.flat_model.specs.Layout.{Need, need, need_bcast}
-use Rattle.flat_model.specs.Count.{one_more}
+use Rattle.flat_model.specs.Count.{counts_more}
 use Rattle.flat_model.specs.Event.{Reply, Sent, Refused}
+use Rattle.flat_model.specs.declared.counter.Counter.TheVariants.{IpLocalout, IpFragmented, OutDropped}
+use Rattle.flat_model.specs.declared.counters.Counters.{Counters}
 use Rattle.flat_model.specs.declared.errno.Errno.{Errno}
 use Rattle.flat_model.specs.declared.errno.Errno.TheVariants.{Access, DestinationRequired, MessageSize, IsConnected, NoBufs}
 use Rattle.flat_model.specs.declared.errno.Lack.TheVariants.{Pool, Queue}
@@ -66,17 +68,14 @@ overflows s packets = nat_lt OUTPUT_QUEUE_PACKETS (length (s.output ++ packets))
 abbrev pub enqueued : List Item → State → State
 enqueued packets s = record s {
   output = take OUTPUT_QUEUE_PACKETS (s.output ++ packets);
-  counters = if overflows s packets then record (s.counters) { out_dropped = one_more s.counters.out_dropped } else s.counters;
+  counters = if overflows s packets then counts_more OutDropped 1 s.counters else s.counters;
 }
 
 -- the identification is spent, and wraps at 65,536; the send is counted, and also where it was cut
 abbrev pub counts_send : List Part → State → State
 counts_send parts s = record s {
   next_id = (s.next_id + 1) % 65536;
-  counters = record (s.counters) {
-    ip_localout = one_more s.counters.ip_localout;
-    ip_fragmented = if nat_lt 1 (length parts) then one_more s.counters.ip_fragmented else s.counters.ip_fragmented;
-  };
+  counters = (let sent : Counters = counts_more IpLocalout 1 s.counters in if nat_lt 1 (length parts) then counts_more IpFragmented 1 sent else sent);
 }
 
 -- the socket keeps the port too; its address and its peer are as before

@@ -5,8 +5,9 @@ use Rattle.params.specs.declared.TheConstants.{MAX_SOCKETS}
 use Rattle.flat_model.specs.Choice.{Choice}
 use Rattle.flat_model.specs.Weight.{Item, nothing}
 use Rattle.flat_model.specs.Layout.{wire, need_of, laid_on, weight_of}
-use Rattle.flat_model.specs.Count.{more_by}
+use Rattle.flat_model.specs.Count.{counts_more}
 use Rattle.flat_model.specs.Event.{Event, Reply, Open, Bind, Connect, Send, Receive, Close, Set_option, Comes, Transmit, Tick, Ask_counters, Ask_usage, Done, Given, Counted, Shown}
+use Rattle.flat_model.specs.declared.counter.Counter.TheVariants.{IpFragtimeout}
 use Rattle.flat_model.specs.declared.usage.Mbstat.{Mbstat}
 use Rattle.flat_model.specs.State.{State, Unfinished, ends}
 use Rattle.flat_model.specs.Ledger.{Ledger, HasBuffers, AreTaken, exact_ledger, loose_ledger}
@@ -21,7 +22,7 @@ ticked s =
     let older : List Unfinished = map (λ (u : Unfinished). record u { ticks = u.ticks - 1 }) s.unfinished in
     record s {
       unfinished = filter (λ u. nat_lt 0 u.ticks) older;
-      counters = record (s.counters) { ip_fragtimeout = more_by (count_by (λ u. u.ticks == 0) older) s.counters.ip_fragtimeout };
+      counters = counts_more IpFragtimeout (count_by (λ u. u.ticks == 0) older) s.counters;
     }
 
 -- the link takes the oldest packet of the output queue

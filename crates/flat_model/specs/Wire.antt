@@ -1,6 +1,8 @@
 -- Two machines on one wire (this project's own). The wire loses, repeats and reorders packets, and others send on it
 -- too, but nobody forges the first machine's address.
 use Rattle.std.specs.Prelude.{◌≡◌, ◌≢◌, ◌⊎◌, ℕ, ◌<◌, ◌≤◌, ◌^◌, List, ◌∷◌, ◌++◌, length, take, filter_map, All, Contains, Option, Some, None}
+use Rattle.flat_model.specs.Count.{value_of}
+use Rattle.flat_model.specs.declared.counter.Counter.TheVariants.{IpLocalout}
 use Rattle.flat_model.specs.Header.{u32_at}
 use Rattle.flat_model.specs.Event.{Event, Reply, Send, Sent, Receive, Received, Comes, Transmit, Given}
 use Rattle.flat_model.specs.State.{IsConfig, State, Socket, Datagram, boot, socket_at}
@@ -68,7 +70,7 @@ pub record AreWired (L M : Ledger) (first second : Config) (sent came : List Tur
   pub second_runs : Leads M (boot second) came t
   pub not_addr : first.addr ≢ second.addr
   pub not_bcast : first.addr ≢ second.bcast
-  pub few : s.counters.ip_localout < 2 ^ 16
+  pub few : value_of IpLocalout s.counters < 2 ^ 16
   pub wire : All (λ packet. ComesFrom first.addr packet → Contains (filter_map packet_out sent) packet) (filter_map packet_in came)
 
 -- Then what waits in the second's queues with the first's address as its sender was sent so by the first, whole, from

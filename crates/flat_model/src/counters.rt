@@ -1,7 +1,7 @@
 ghost use Rattle.std.specs.Prelude.{◌≡◌};
-ghost use Rattle.flat_model.specs.Count.{counted, counter_of, counts_more, more_by, no_counts, value_of};
+ghost use Rattle.flat_model.specs.Count.{counted, counter_of, counts_more, no_counts, value_of};
 
-use crate::counter::Counter;
+use crate::counter::{COUNTERS, Counter};
 use thiserror::Error;
 
 /// Why a packet, or a receiver's part of one, ended: a case for each counter that can end one. The tests are
@@ -65,46 +65,11 @@ pub enum Why {
     NoBufs,
 }
 
-/// The counters, in the order in which they're printed (`ipstat` and `udpstat` of volume 2, chapters 8 and 23, in
-/// this project's own selection). One at its greatest value stays there. Those without a comment of their own
-/// count what the case of [`Why`] with their name ends.
-#[derive(Clone, Copy, Debug, Default, PartialEq, Eq)]
+/// What each counter has counted. One at its greatest value stays there.
+#[derive(Clone, Copy, Debug, PartialEq, Eq)]
 pub struct Counters {
-    /// Packets that reached the input of IP, by wire or by loopback.
-    pub ip_total: u64,
-    pub ip_toosmall: u64,
-    pub ip_badvers: u64,
-    pub ip_badhlen: u64,
-    pub ip_options: u64,
-    pub ip_badsum: u64,
-    pub ip_badlen: u64,
-    pub ip_tooshort: u64,
-    pub ip_cantforward: u64,
-    pub ip_badfrag: u64,
-    /// Fragments that passed the tests of their size.
-    pub ip_fragments: u64,
-    pub ip_fragdropped: u64,
-    /// Unfinished datagrams whose time was over.
-    pub ip_fragtimeout: u64,
-    /// Unfinished datagrams dropped for their buffers.
-    pub ip_reclaimed: u64,
-    /// Datagrams made whole.
-    pub ip_reassembled: u64,
-    pub ip_noproto: u64,
-    pub udp_hdrops: u64,
-    pub udp_badlen: u64,
-    pub udp_badsum: u64,
-    pub udp_noport: u64,
-    pub udp_noportbcast: u64,
-    pub udp_fullsock: u64,
-    /// Sends that were given to the output of IP.
-    pub ip_localout: u64,
-    /// Those of them that were cut.
-    pub ip_fragmented: u64,
-    /// Sends refused for the output queue.
-    pub out_dropped: u64,
-    /// Packets, or receivers' parts of them, lost for want of a buffer.
-    pub nobufs: u64,
+    /// By their places in the type [`Counter`].
+    values: [u64; COUNTERS],
 }
 
 impl Why {
@@ -140,41 +105,16 @@ impl Counters {
     pub fn none() -> Counters
         ensures { result ≡ no_counts }
     {
-        Counters::default()
+        Counters {
+            values: [0; COUNTERS],
+        }
     }
 
     /// The value of a counter.
     pub fn value(&self, counter: Counter) -> u64
         ensures { result ≡ value_of counter self.now }
     {
-        match counter {
-            Counter::IpTotal => self.ip_total,
-            Counter::IpToosmall => self.ip_toosmall,
-            Counter::IpBadvers => self.ip_badvers,
-            Counter::IpBadhlen => self.ip_badhlen,
-            Counter::IpOptions => self.ip_options,
-            Counter::IpBadsum => self.ip_badsum,
-            Counter::IpBadlen => self.ip_badlen,
-            Counter::IpTooshort => self.ip_tooshort,
-            Counter::IpCantforward => self.ip_cantforward,
-            Counter::IpBadfrag => self.ip_badfrag,
-            Counter::IpFragments => self.ip_fragments,
-            Counter::IpFragdropped => self.ip_fragdropped,
-            Counter::IpFragtimeout => self.ip_fragtimeout,
-            Counter::IpReclaimed => self.ip_reclaimed,
-            Counter::IpReassembled => self.ip_reassembled,
-            Counter::IpNoproto => self.ip_noproto,
-            Counter::UdpHdrops => self.udp_hdrops,
-            Counter::UdpBadlen => self.udp_badlen,
-            Counter::UdpBadsum => self.udp_badsum,
-            Counter::UdpNoport => self.udp_noport,
-            Counter::UdpNoportbcast => self.udp_noportbcast,
-            Counter::UdpFullsock => self.udp_fullsock,
-            Counter::IpLocalout => self.ip_localout,
-            Counter::IpFragmented => self.ip_fragmented,
-            Counter::OutDropped => self.out_dropped,
-            Counter::Nobufs => self.nobufs,
-        }
+        self.values[counter as usize]
     }
 
     /// Counts one more.
@@ -188,34 +128,8 @@ impl Counters {
     pub fn count_more(&mut self, counter: Counter, more: u64)
         ensures { self.new ≡ counts_more counter more self.old }
     {
-        match counter {
-            Counter::IpTotal => add(&mut self.ip_total, more),
-            Counter::IpToosmall => add(&mut self.ip_toosmall, more),
-            Counter::IpBadvers => add(&mut self.ip_badvers, more),
-            Counter::IpBadhlen => add(&mut self.ip_badhlen, more),
-            Counter::IpOptions => add(&mut self.ip_options, more),
-            Counter::IpBadsum => add(&mut self.ip_badsum, more),
-            Counter::IpBadlen => add(&mut self.ip_badlen, more),
-            Counter::IpTooshort => add(&mut self.ip_tooshort, more),
-            Counter::IpCantforward => add(&mut self.ip_cantforward, more),
-            Counter::IpBadfrag => add(&mut self.ip_badfrag, more),
-            Counter::IpFragments => add(&mut self.ip_fragments, more),
-            Counter::IpFragdropped => add(&mut self.ip_fragdropped, more),
-            Counter::IpFragtimeout => add(&mut self.ip_fragtimeout, more),
-            Counter::IpReclaimed => add(&mut self.ip_reclaimed, more),
-            Counter::IpReassembled => add(&mut self.ip_reassembled, more),
-            Counter::IpNoproto => add(&mut self.ip_noproto, more),
-            Counter::UdpHdrops => add(&mut self.udp_hdrops, more),
-            Counter::UdpBadlen => add(&mut self.udp_badlen, more),
-            Counter::UdpBadsum => add(&mut self.udp_badsum, more),
-            Counter::UdpNoport => add(&mut self.udp_noport, more),
-            Counter::UdpNoportbcast => add(&mut self.udp_noportbcast, more),
-            Counter::UdpFullsock => add(&mut self.udp_fullsock, more),
-            Counter::IpLocalout => add(&mut self.ip_localout, more),
-            Counter::IpFragmented => add(&mut self.ip_fragmented, more),
-            Counter::OutDropped => add(&mut self.out_dropped, more),
-            Counter::Nobufs => add(&mut self.nobufs, more),
-        }
+        let value = &mut self.values[counter as usize];
+        *value = value.saturating_add(more);
     }
 
     /// Counts a packet, or a receiver's part of one, that ended for this cause.
@@ -225,13 +139,6 @@ impl Counters {
     {
         self.count(why.counter());
     }
-}
-
-/// Adds to a counter; the greatest value stays.
-fn add(counter: &mut u64, more: u64)
-    ensures { counter.new ≡ more_by more counter.old }
-{
-    *counter = counter.saturating_add(more);
 }
 
 #[cfg(test)]
@@ -247,7 +154,6 @@ mod tests {
             counters.count_ended(Why::NoBufs);
         }
         assert_eq!(rt; counters.value(Counter::Nobufs), u64::MAX);
-        assert_eq!(rt; counters.nobufs, u64::MAX);
         assert_eq!(rt; counters.value(Counter::IpTotal), 0);
         assert_eq!(rt; Counter::all()[25].name(), "nobufs");
     }

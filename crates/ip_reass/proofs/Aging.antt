@@ -17,7 +17,7 @@ use Rattle.mbuf_chain.proofs.Laws.Owners.{times-append, moves_beside}
 use Rattle.ip_reass.specs.Table.{aged, held, held_all, holds, IsUnfinished, AllUnfinished, IsTable, unfinished_of, unfinished}
 use Rattle.flat_model.specs.State.{State}
 use Rattle.flat_model.specs.Step.{ticked}
-use Rattle.flat_model.specs.Count.{counts_more, more_by}
+use Rattle.flat_model.specs.Count.{counts_more}
 use Rattle.flat_model.specs.declared.counters.Counters.{Counters}
 use Rattle.flat_model.specs.declared.counter.Counter.TheVariants.{IpFragtimeout}
 use Rattle.mbuf_chain.specs.Frames.{SameAt}
@@ -184,4 +184,4 @@ pub tick_step : (rest : State) (c : Counters) (p q : PoolView) (old new : List D
 tick_step rest c p q old new n e same left =
     let shows : unfinished q new ≡ filter (λ (u : Unfinished). ltb 0 u.ticks) (older (unfinished p old)) = unfinished_same p q new same ∙ (ap (unfinished p) e ∙ aged_is p old) in
     let count : count_by (λ (u : Unfinished). eqb u.ticks 0) (older (unfinished p old)) ≡ n = omega (arith, gone_is p old) in
-    λ j. record rest { unfinished = sym shows j; counters = record c { ip_fragtimeout = more_by (count j) c.ip_fragtimeout } }
+    λ j. record rest { unfinished = sym shows j; counters = counts_more IpFragtimeout (count j) c }

@@ -7,7 +7,7 @@ ghost use Rattle.std.specs.Prelude.{◌≡◌, IfOk, ◌≤◌};
 ghost use Rattle.ip_reass.specs.Table.{IsReady};
 
 use crate::Reass;
-use flat_model::{Counters, Why};
+use flat_model::{Counter, Counters, Why};
 use ip_out::IpHead;
 use mbuf_chain::Pool;
 use mbuf_pool::{Sizes, Store};
@@ -204,7 +204,10 @@ fn two(
     );
     assert_eq!(rt; given, Became::Whole(72));
     assert!(rt; table.is_empty());
-    assert_eq!(rt; (pool.free_mbufs(), counters.ip_fragments > 2), (16, true));
+    assert_eq!(rt;
+        (pool.free_mbufs(), counters.value(Counter::IpFragments) > 2),
+        (16, true)
+    );
     table.end(&mut pool);
     let mut bytes = [b'-'; 9];
     for i in 0..9 {
@@ -399,7 +402,13 @@ fn four_fields_of_a_key(rt: HostRuntime) -> Result<(), Fail> {
     assert_eq!(rt; given, Became::Whole(16));
     assert_eq!(rt; whole.as_slice(), b"aaaaaaaabbbbbbbb".as_slice());
     assert_eq!(rt; (table.len(), pool.free_mbufs()), (4, 8));
-    assert_eq!(rt; (counters.ip_fragments, counters.ip_reassembled), (6, 1));
+    assert_eq!(rt;
+        (
+            counters.value(Counter::IpFragments),
+            counters.value(Counter::IpReassembled)
+        ),
+        (6, 1)
+    );
     table.end(&mut pool);
     assert_eq!(rt; pool.free_mbufs(), 16);
     Ok(())
@@ -489,9 +498,9 @@ fn a_pool_of_one_mbuf(rt: HostRuntime) -> Result<(), Fail> {
     }
     assert_eq!(rt;
         (
-            counters.ip_fragments,
-            counters.nobufs,
-            counters.ip_reclaimed
+            counters.value(Counter::IpFragments),
+            counters.value(Counter::Nobufs),
+            counters.value(Counter::IpReclaimed)
         ),
         (2, 2, 0)
     );
@@ -532,7 +541,13 @@ fn all_are_reclaimed_at_once(rt: HostRuntime) -> Result<(), Fail> {
     let (mut pool, mut table) = booted(rt.alloc(), 512, 64)?;
     let mut counters = Counters::none();
     flood(&rt, &mut pool, &mut table, &mut counters, 300);
-    assert_eq!(rt; (counters.ip_fragments, counters.ip_reclaimed), (300, 256));
+    assert_eq!(rt;
+        (
+            counters.value(Counter::IpFragments),
+            counters.value(Counter::IpReclaimed)
+        ),
+        (300, 256)
+    );
     assert_eq!(rt; (table.len(), pool.free_mbufs()), (44, 424));
     assert_eq!(rt; ticks(&rt, &mut pool, &mut table, 60), (0, 44));
     assert_eq!(rt; pool.free_mbufs(), 512);
@@ -567,7 +582,7 @@ fn a_pull_up_may_drop_its_own_datagram(rt: HostRuntime) -> Result<(), Fail> {
         &mut whole,
     );
     assert_eq!(rt; (again, pool.free_mbufs()), (Became::Kept, 0));
-    assert_eq!(rt; (table.len(), counters.ip_reclaimed), (1, 1));
+    assert_eq!(rt; (table.len(), counters.value(Counter::IpReclaimed)), (1, 1));
     table.end(&mut pool);
     assert_eq!(rt; (pool.free_mbufs(), pool.free_clusters()), (3, 1));
     Ok(())

@@ -1,11 +1,12 @@
 -- A test of the pool is the machine's, for each state whose accounts the pool keeps.
 use Rattle.std.proofs.Common.{◌≡◌, ℕ, Bool, true, false, List, [], ◌∷◌, length, refl, sym, ◌∙◌, subst, arith, inl, inr}
-use Rattle.flat_model.specs.Count.{more_by}
+use Rattle.flat_model.specs.Count.{counts_more}
 use Rattle.flat_model.specs.Weight.{Weight, Item, mbuf, nothing, ◌⊕◌, all_of, SameWeight}
 use Rattle.flat_model.specs.Whole.{weight_of_pieces}
 use Rattle.flat_model.specs.State.{State, Socket, Datagram, Unfinished}
 use Rattle.flat_model.specs.Layout.{Need}
 use Rattle.flat_model.specs.Ledger.{weight_of_state, exact_ledger, HasBuffers, reclaimed}
+use Rattle.flat_model.specs.declared.counter.Counter.TheVariants.{IpReclaimed}
 use Rattle.flat_model.specs.declared.counters.Counters.{Counters}
 use Rattle.mbuf_chain.specs.Chain.{PoolView}
 use Rattle.mbuf_chain.specs.Owners.{IsOwned, Moves}
@@ -55,7 +56,7 @@ pub record GivesBack (p : PoolView) (waited : List ℕ) (us : List Unfinished) (
   pub owned : IsOwned p waited
   pub weighs : SameWeight (weight_owned p waited) (weight_of_unfinished us)
   pub none : length vs ≡ 0
-  pub counters : d ≡ record c { ip_reclaimed = more_by (length us) c.ip_reclaimed }
+  pub counters : d ≡ counts_more IpReclaimed (length us) c
 
 pub reserves_again : {p q : PoolView} {need : Need} {waited : List ℕ} {us vs : List Unfinished} {c d : Counters} (s : State) (held : Weight) (answer : Bool)
     → GivesBack p waited us c q vs d → are_free p need.mbufs need.clusters ≡ false → answer ≡ are_free q need.mbufs need.clusters
@@ -64,6 +65,6 @@ reserves_again {p} {q} {need} {waited} {us} {vs} {c} {d} s held answer g lacking
     let w : SameWeight (weight_owned p waited) (weight_of_unfinished s.unfinished) = subst (λ (x : List Unfinished). SameWeight (weight_owned p waited) (weight_of_unfinished x)) (sym is_us) g.weighs in
     let after : IsAccounted q (reclaimed s) held = accounted_after b g.moves g.owned refl (shifts_reclaimed p q s held waited w) in
     let none : [] ≡ vs = sym (no_length vs g.none) in
-    let counted : (reclaimed s).counters ≡ d = (λ i. record (is_c i) { ip_reclaimed = more_by (length (is_us i)) (is_c i).ip_reclaimed }) ∙ sym g.counters in
+    let counted : (reclaimed s).counters ≡ d = (λ i. counts_more IpReclaimed (length (is_us i)) (is_c i)) ∙ sym g.counters in
     subst (λ (m : State). Reserves s held need answer m q) (λ i. record s { unfinished = none i; counters = counted i })
     (record { has_buffers = has_buffers_again p q s held need answer b after lacking is; accounted = after })

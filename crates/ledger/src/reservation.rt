@@ -8,7 +8,7 @@ ghost use Rattle.ledger.specs.Accounts.{IsAccounted};
 ghost use Rattle.ledger.specs.Reserve.{are_free, Reserves};
 
 use crate::Waiting;
-use flat_model::Counters;
+use flat_model::{Counter, Counters};
 use mbuf_chain::Pool;
 
 /// Whether so many mbufs and clusters are free.
@@ -21,7 +21,7 @@ fn are_free(pool: &Pool, mbufs: u32, clusters: u32) -> bool
 }
 
 /// Tests whether so many mbufs and clusters are free, before a step takes them. Where they aren't, all that waits is
-/// given back and counted in `ip_reclaimed`, and the test is made once more: that answer stands. Where they are,
+/// given back and counted as `IpReclaimed`, and the test is made once more: that answer stands. Where they are,
 /// nothing changes.
 ///
 /// `true` says that they are free now, so that the caller takes them without a refusal. Nothing is set aside: a call
@@ -52,6 +52,6 @@ pub fn reserve<R: Waiting>(
         return true;
     }
     let datagrams = waiting.reclaim(pool);
-    counters.ip_reclaimed = counters.ip_reclaimed.saturating_add(u64::from(datagrams));
+    counters.count_more(Counter::IpReclaimed, u64::from(datagrams));
     are_free(pool, mbufs, clusters)
 }

@@ -18,4 +18,3 @@ pub use flat_model::Config;
 pub use laws::{lines_law, prints_law};
 pub use runs::run;
 pub use script_loop::{RunFault, Silent, Sink, Source};
-

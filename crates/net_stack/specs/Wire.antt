@@ -1,5 +1,7 @@
 -- Two stacks on one wire that loses, repeats and reorders packets, and on which others send too (this project's own).
 use Rattle.std.specs.Prelude.{◌≡◌, ◌≢◌, ◌<◌, ◌^◌, List, filter_map, All, Contains}
+use Rattle.flat_model.specs.Count.{value_of}
+use Rattle.flat_model.specs.declared.counter.Counter.TheVariants.{IpLocalout}
 use Rattle.flat_model.specs.Run.{Turn}
 use Rattle.flat_model.specs.State.{IsConfig, boot}
 use Rattle.flat_model.specs.Wire.{ComesFrom, packet_in, packet_out}
@@ -21,5 +23,5 @@ pub record AreOnOneWire (first second : Config) (sent came : List Turn) (s t : S
   pub second_calls : AreCalls second_start came t
   pub not_addr : first.addr ≢ second.addr
   pub not_bcast : first.addr ≢ second.bcast
-  pub few : s.counters.ip_localout < 2 ^ 16
+  pub few : value_of IpLocalout s.counters < 2 ^ 16
   pub wire : All (λ packet. ComesFrom first.addr packet → Contains (filter_map packet_out sent) packet) (filter_map packet_in came)

@@ -75,7 +75,7 @@ impl Stack {
     }
 
     /// The clock ticks, in 4.4BSD each half second: each unfinished datagram has a tick less, and those that have none left
-    /// are freed, and counted as `ip_fragtimeout` (`ip_slowtimo` of volume 2, chapter 10).
+    /// are freed, and counted as `IpFragtimeout` (`ip_slowtimo` of volume 2, chapter 10).
     pub fn tick(&mut self)
         ensures { Step (state_of self.old) Tick Done (state_of self.new) }
     {

@@ -27,7 +27,7 @@ impl Stack {
     /// header tells, the rest is left. Fewer than 65,536 bytes.
     ///
     /// Where the pool has too few buffers for the packet, all unfinished datagrams are dropped, and it's tested once more;
-    /// where it has too few then, the packet is lost, counted as `nobufs` and not as `ip_total`.
+    /// where it has too few then, the packet is lost, counted as `Nobufs` and not as `IpTotal`.
     pub fn rx(&mut self, packet: &[u8])
         requires { length packet.now < 2 ^ 16 }
         ensures { Step (state_of self.old) (Comes packet.now) Done (state_of self.new) }

@@ -4,7 +4,7 @@ mod fragments;
 mod traffic;
 mod two;
 
-use flat_model::{Addr, Config, Counters, Errno, Mbstat, Opt};
+use flat_model::{Addr, Config, Counter, Counters, Errno, Mbstat, Opt};
 use net_stack::{BootFault, Stack};
 use std::alloc::Global;
 use std::test::Fail;
@@ -36,6 +36,15 @@ const fn free(free_mbufs: u32, mbufs: u32, free_clusters: u32, refs: u32, most: 
         refs,
         most,
     }
+}
+
+/// These counters have counted so much, and the others nothing.
+fn counted(values: &[(Counter, u64)]) -> Counters {
+    let mut counters = Counters::none();
+    for (counter, value) in values {
+        counters.count_more(*counter, *value);
+    }
+    counters
 }
 
 /// 10.0.0.2.

@@ -1,12 +1,13 @@
 -- A send step by step: its packets, and what is put where. Only this crate reads it.
 use Rattle.std.specs.Prelude.{◌≡◌, ◌≢◌, ℕ, ◌+◌, ◌≤◌, ◌%◌, ◌==◌, nat_lt, Bool, true, false, if◌then◌else◌, List, [], ◌++◌, length, take, drop, count_by}
 use Rattle.params.specs.declared.TheConstants.{MIN_MTU, LOOPBACK, IP_HEADER, IP_UDP_HEADERS, OUTPUT_QUEUE_PACKETS, IP_DEFAULT_TTL, PROTOCOL_UDP}
-use Rattle.flat_model.specs.Count.{one_more}
+use Rattle.flat_model.specs.Count.{counts_more}
 use Rattle.flat_model.specs.Layout.{sent, laid_on, is_cluster}
 use Rattle.flat_model.specs.Send.{need_to, to_link, to_self}
 use Rattle.flat_model.specs.Sending as flat
 use Rattle.flat_model.specs.declared.address.Addr.{Addr}
 use Rattle.flat_model.specs.declared.config.Config.{Config}
+use Rattle.flat_model.specs.declared.counter.Counter.TheVariants.{IpLocalout, IpFragmented, OutDropped}
 use Rattle.flat_model.specs.declared.counters.Counters.{Counters}
 use Rattle.mbuf_chain.specs.Chain.{PoolView, Adds, chain_of, held_mbufs, string}
 use Rattle.mbuf_chain.specs.Owners.{Moves}
@@ -89,11 +90,9 @@ pub record AreMade (p : PoolView) (c : Config) (x : flat.Sending) (q : PoolView)
 -- the counters of a send: whether it was cut, and whether a packet of it was lost
 abbrev pub counts_sent : Bool → Bool → Counters → Counters
 counts_sent cut lost c =
-    let cut_too : Counters = record c {
-      ip_localout = one_more c.ip_localout;
-      ip_fragmented = if cut then one_more c.ip_fragmented else c.ip_fragmented;
-    } in
-    if lost then record cut_too { out_dropped = one_more cut_too.out_dropped } else cut_too
+    let sent : Counters = counts_more IpLocalout 1 c in
+    let cut_too : Counters = if cut then counts_more IpFragmented 1 sent else sent in
+    if lost then counts_more OutDropped 1 cut_too else cut_too
 
 -- A send that has its buffers, from p, t and n to q, u and m.
 pub record IsPut (fd : ℕ) (to : Addr) (bytes : List ℕ) (p : PoolView) (t : Table) (n : Net) (lost : Bool) (q : PoolView) (u : Table) (m : Net) : Type 0 where

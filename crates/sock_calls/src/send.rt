@@ -10,7 +10,7 @@ ghost use Rattle.sock_calls.specs.Sockets.{from_three};
 use crate::destination::send_target;
 use crate::net::Net;
 use crate::packets::{Heading, need_to, packets};
-use flat_model::{Addr, Counters, Errno, Lack, Need};
+use flat_model::{Addr, Counter, Counters, Errno, Lack, Need};
 use ip_out::Packets;
 use mbuf_chain::Pool;
 use params::{IP_UDP_HEADERS, UDP_SEND_SPACE};
@@ -22,12 +22,12 @@ use std::mem;
 fn count_send(counters: &mut Counters, is_cut: bool, is_lost: bool)
     ensures { counters.new ≡ counts_sent is_cut is_lost counters.old }
 {
-    counters.ip_localout = counters.ip_localout.saturating_add(1);
+    counters.count(Counter::IpLocalout);
     if is_cut {
-        counters.ip_fragmented = counters.ip_fragmented.saturating_add(1);
+        counters.count(Counter::IpFragmented);
     }
     if is_lost {
-        counters.out_dropped = counters.out_dropped.saturating_add(1);
+        counters.count(Counter::OutDropped);
     }
 }
 

@@ -5,7 +5,7 @@ mod host;
 mod nobody;
 mod sends;
 
-use flat_model::{Addr, Errno, Opt};
+use flat_model::{Addr, Counter, Counters, Errno, Opt};
 use host::Host;
 use std::test::Fail;
 
@@ -18,6 +18,15 @@ const THERE: u32 = 0x0a00_0002;
 
 /// 127.0.0.1.
 const LOOPBACK: u32 = 0x7f00_0001;
+
+/// These counters have counted so much, and the others nothing.
+fn counted(values: &[(Counter, u64)]) -> Counters {
+    let mut counters = Counters::none();
+    for (counter, value) in values {
+        counters.count_more(*counter, *value);
+    }
+    counters
+}
 
 #[test]
 fn sixty_four_sockets(rt: HostRuntime) -> Result<(), Fail> {

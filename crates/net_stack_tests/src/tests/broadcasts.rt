@@ -1,7 +1,7 @@
 //! Broadcasts: sent both ways, heard by two sockets that share a port, and lost for want of buffers. Packets and counts were
 //! worked out by hand.
-use crate::tests::{LARGE, NEAR, PLAIN, free};
-use flat_model::{Addr, Config, Counters, Errno, Lack, Opt};
+use crate::tests::{LARGE, NEAR, PLAIN, counted, free};
+use flat_model::{Addr, Config, Counter, Counters, Errno, Lack, Opt};
 use net_stack::Stack;
 use std::alloc::Global;
 use std::test::Fail;
@@ -112,12 +112,11 @@ fn loses_the_copy_of_a_broadcast_without_an_address_mbuf(rt: HostRuntime) -> Res
     let mut stack = with_mbufs(rt.alloc(), 4)?;
     assert_eq!(rt; stack.sendto(3, Some(ALL), &[0x61; 300]), Ok(300));
     assert_eq!(rt; stack.recvfrom(3, &mut [0; 9]), Err(Errno::WouldBlock));
-    let counters = Counters {
-        ip_total: 1,
-        ip_localout: 1,
-        nobufs: 1,
-        ..Counters::none()
-    };
+    let counters = counted(&[
+        (Counter::IpTotal, 1),
+        (Counter::IpLocalout, 1),
+        (Counter::Nobufs, 1),
+    ]);
     assert_eq!(rt; stack.counters(), counters);
     let _ = stack.end();
     Ok(())

@@ -1,7 +1,7 @@
 //! Packets cut short, fragments of a machine that hears itself, and fragments that nothing makes whole. The counts and bytes
 //! were worked out by hand.
-use crate::tests::{LARGE, free};
-use flat_model::{Addr, Config, Counters};
+use crate::tests::{LARGE, counted, free};
+use flat_model::{Addr, Config, Counter};
 use net_stack::Stack;
 use std::test::Fail;
 
@@ -31,12 +31,11 @@ fn counts_each_front_of_a_packet(rt: HostRuntime) -> Result<(), Fail> {
     for n in 0..30 {
         stack.rx(&HI[..n]);
     }
-    let counters = Counters {
-        ip_total: 30,
-        ip_toosmall: 20,
-        ip_tooshort: 10,
-        ..Counters::none()
-    };
+    let counters = counted(&[
+        (Counter::IpTotal, 30),
+        (Counter::IpToosmall, 20),
+        (Counter::IpTooshort, 10),
+    ]);
     assert_eq!(rt; stack.counters(), counters);
     assert_eq!(rt; stack.mbstat(), free(512, 512, 64, 0, 0));
     let _ = stack.end();
@@ -49,14 +48,13 @@ fn puts_fragments_together_that_come_back(rt: HostRuntime) -> Result<(), Fail> {
     assert_eq!(rt; stack.socket(), Ok(3));
     assert_eq!(rt; stack.bind(3, ANY), Ok(()));
     assert_eq!(rt; stack.sendto(3, Some(SELF), &[0x61; 3000]), Ok(3000));
-    let counters = Counters {
-        ip_total: 2,
-        ip_fragments: 2,
-        ip_reassembled: 1,
-        ip_localout: 1,
-        ip_fragmented: 1,
-        ..Counters::none()
-    };
+    let counters = counted(&[
+        (Counter::IpTotal, 2),
+        (Counter::IpFragments, 2),
+        (Counter::IpReassembled, 1),
+        (Counter::IpLocalout, 1),
+        (Counter::IpFragmented, 1),
+    ]);
     assert_eq!(rt; stack.counters(), counters);
     assert_eq!(rt; stack.mbstat(), free(505, 512, 62, 4, 2));
     let mut room = [0; 3000];
@@ -77,12 +75,11 @@ fn drops_a_fragment_after_sixty_ticks(rt: HostRuntime) -> Result<(), Fail> {
     assert_eq!(rt; stack.mbstat(), free(510, 512, 64, 0, 0));
     stack.tick();
     assert_eq!(rt; stack.mbstat(), free(512, 512, 64, 0, 0));
-    let counters = Counters {
-        ip_total: 1,
-        ip_fragments: 1,
-        ip_fragtimeout: 1,
-        ..Counters::none()
-    };
+    let counters = counted(&[
+        (Counter::IpTotal, 1),
+        (Counter::IpFragments, 1),
+        (Counter::IpFragtimeout, 1),
+    ]);
     assert_eq!(rt; stack.counters(), counters);
     let _ = stack.end();
     Ok(())
@@ -96,15 +93,14 @@ fn gives_fragments_back_for_a_send(rt: HostRuntime) -> Result<(), Fail> {
     assert_eq!(rt; stack.bind(3, ANY), Ok(()));
     assert_eq!(rt; stack.sendto(3, Some(SELF), &[0x61; 3000]), Ok(3000));
     assert_eq!(rt; stack.sendto(3, Some(SELF), &[0x61; 3000]), Ok(3000));
-    let counters = Counters {
-        ip_total: 4,
-        ip_fragments: 4,
-        ip_reclaimed: 1,
-        ip_localout: 2,
-        ip_fragmented: 2,
-        nobufs: 2,
-        ..Counters::none()
-    };
+    let counters = counted(&[
+        (Counter::IpTotal, 4),
+        (Counter::IpFragments, 4),
+        (Counter::IpReclaimed, 1),
+        (Counter::IpLocalout, 2),
+        (Counter::IpFragmented, 2),
+        (Counter::Nobufs, 2),
+    ]);
     assert_eq!(rt; stack.counters(), counters);
     assert_eq!(rt; stack.mbstat(), free(2, 6, 62, 2, 1));
     let _ = stack.end();

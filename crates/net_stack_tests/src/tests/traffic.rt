@@ -1,6 +1,6 @@
 //! Packets from the wire and to it, and a machine that hears itself. The bytes of packets were worked out apart from this code.
 use crate::tests::PLAIN;
-use flat_model::{Addr, Config, Errno, Lack};
+use flat_model::{Addr, Config, Counter, Errno, Lack};
 use net_stack::Stack;
 use std::test::Fail;
 
@@ -49,7 +49,13 @@ fn receives_what_comes(rt: HostRuntime) -> Result<(), Fail> {
     assert_eq!(rt; (room[0], room[1]), (b'h', b'i'));
     assert_eq!(rt; stack.recvfrom(3, &mut room), Err(Errno::WouldBlock));
     let counters = stack.counters();
-    assert_eq!(rt; (counters.ip_total, counters.ip_fragments), (1, 0));
+    assert_eq!(rt;
+        (
+            counters.value(Counter::IpTotal),
+            counters.value(Counter::IpFragments)
+        ),
+        (1, 0)
+    );
     let pool = stack.end();
     assert_eq!(rt; pool.free_mbufs(), 16);
     Ok(())

@@ -1,6 +1,6 @@
 //! Two machines on one wire, which turns the packets' order round and doubles them.
-use crate::tests::{LARGE, NEAR, free};
-use flat_model::{Addr, Config, Counters, Errno};
+use crate::tests::{LARGE, NEAR, counted, free};
+use flat_model::{Addr, Config, Counter, Counters, Errno};
 use net_stack::Stack;
 use std::process::Abort;
 use std::test::Fail;
@@ -42,15 +42,14 @@ fn carry_last_first(rt: &impl Abort, from: &mut Stack, to: &mut Stack) {
 }
 
 /// What the hearer counts, of which so many datagrams timed out.
-fn heard(ip_fragtimeout: u64) -> Counters {
-    Counters {
-        ip_total: 14,
-        ip_fragments: 14,
-        ip_fragdropped: 6,
-        ip_fragtimeout,
-        ip_reassembled: 1,
-        ..Counters::none()
-    }
+fn heard(timeouts: u64) -> Counters {
+    counted(&[
+        (Counter::IpTotal, 14),
+        (Counter::IpFragments, 14),
+        (Counter::IpFragdropped, 6),
+        (Counter::IpFragtimeout, timeouts),
+        (Counter::IpReassembled, 1),
+    ])
 }
 
 #[test]

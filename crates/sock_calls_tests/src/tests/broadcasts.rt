@@ -1,7 +1,7 @@
 //! Broadcasts: sent, heard by two sockets that share a port, and lost for want of buffers.
 use super::host::Host;
-use super::{BROADCAST, HERE, THERE};
-use flat_model::{Addr, Counters, Errno, Lack, Mbstat, Opt};
+use super::{BROADCAST, HERE, THERE, counted};
+use flat_model::{Addr, Counter, Counters, Errno, Lack, Mbstat, Opt};
 use std::test::Fail;
 
 const ALL: Addr = Addr {
@@ -94,11 +94,7 @@ fn a_broadcast_goes_out_and_a_copy_comes_back(rt: HostRuntime) -> Result<(), Fai
 #[test]
 fn a_broadcast_finds_few_mbufs(rt: HostRuntime) -> Result<(), Fail> {
     // with three the copy finds none, with four the address of the sender
-    let lost = Counters {
-        ip_localout: 1,
-        nobufs: 1,
-        ..Counters::none()
-    };
+    let lost = counted(&[(Counter::IpLocalout, 1), (Counter::Nobufs, 1)]);
     for (mbufs, sent, counters) in [
         (3, Err(Errno::NoBufs(Lack::Pool)), Counters::none()),
         (4, Ok(300), lost),

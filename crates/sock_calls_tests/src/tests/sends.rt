@@ -1,7 +1,7 @@
 //! Sends to the link, and what they're refused for.
 use super::host::Host;
-use super::{BROADCAST, THERE};
-use flat_model::{Addr, Counters, Errno, Lack, Opt};
+use super::{BROADCAST, THERE, counted};
+use flat_model::{Addr, Counter, Counters, Errno, Lack, Opt};
 use std::test::Fail;
 
 const NEAR: Addr = Addr { ip: THERE, port: 7 };
@@ -83,11 +83,7 @@ fn the_output_queue_takes_fifty(rt: HostRuntime) -> Result<(), Fail> {
         host.sendto(&rt, 3, Some(NEAR), b"hi"),
         Err(Errno::NoBufs(Lack::Queue))
     );
-    let counters = Counters {
-        ip_localout: 51,
-        out_dropped: 1,
-        ..Counters::none()
-    };
+    let counters = counted(&[(Counter::IpLocalout, 51), (Counter::OutDropped, 1)]);
     assert_eq!(rt; host.counters(), counters);
     assert_eq!(rt; host.tx(&rt, &mut room), Some(30));
     assert!(rt; room == PACKET);

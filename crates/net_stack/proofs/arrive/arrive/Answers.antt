@@ -6,6 +6,8 @@ use Rattle.chain_ops.specs.Trims.{only_first, without_first}
 use Rattle.chain_ops.proofs.Laws.Strings.{without_first_bytes}
 use Rattle.ledger.specs.Accounts.{weight_at}
 use Rattle.ip_out.specs.declared.head.IpHead.{IpHead}
+use Rattle.ip_reass.specs.Table.{unfinished}
+use Rattle.sock_calls.specs.Sockets.{with_net}
 use Rattle.net_stack.specs.Arrivals.{is_ours_or_all}
 use Rattle.net_stack.proofs.Arriving.{changed, freed, ends_here, refused, forwarded, for_us, cut_length, fragment_arrives, whole_arrives}
 use Rattle.net_stack.proofs.arrive.arrive.Goals as goal
@@ -13,7 +15,8 @@ use Rattle.net_stack.proofs.arrive.arrive.Goals as goal
 pub returns-in-Err-clause-arrived : goal.returns-in-Err-clause-arrived
 returns-in-Err-clause-arrived c =
     ends_here c.in-Err.why c.requires.reass c.requires.socks c.requires.owned c.free_chain.ensures c.count.ensures c.count_ended.ensures
-    (λ rest held origin. refused (string (chain_of c.args.pool.now c.args.chain)) origin held (weight_at c.args.pool.now c.args.chain) _ c.in-Err.why c.in-Err.ensures.err)
+    (λ rest held origin. refused (string (chain_of c.args.pool.now c.args.chain)) origin held (weight_at c.args.pool.now c.args.chain)
+    (with_net c.args.pool.now c.args.socks.now (unfinished c.args.pool.now c.args.reass.now.datagrams) c.args.counters.now rest) c.in-Err.why c.in-Err.ensures.err)
 
 pub returns-in-Err-clause-reass : goal.returns-in-Err-clause-reass
 returns-in-Err-clause-reass c = (freed c.args.chain c.requires.owned c.requires.reass c.requires.socks c.free_chain.ensures).reass.table
@@ -21,7 +24,8 @@ returns-in-Err-clause-reass c = (freed c.args.chain c.requires.owned c.requires.
 pub returns-then-not-is_for_us-clause-arrived : goal.returns-then-not-is_for_us-clause-arrived
 returns-then-not-is_for_us-clause-arrived c =
     ends_here CantForward c.requires.reass c.requires.socks c.requires.owned c.free_chain-then-not-is_for_us.ensures c.count.ensures c.count_ended-then-not-is_for_us.ensures
-    (λ rest held origin. forwarded (string (chain_of c.args.pool.now c.args.chain)) origin held (weight_at c.args.pool.now c.args.chain) _ c.in-Ok.ensures.ok.0
+    (λ rest held origin. forwarded (string (chain_of c.args.pool.now c.args.chain)) origin held (weight_at c.args.pool.now c.args.chain)
+    (with_net c.args.pool.now c.args.socks.now (unfinished c.args.pool.now c.args.reass.now.datagrams) c.args.counters.now rest) c.in-Ok.ensures.ok.0
     (ap (λ (x : IpHead). is_ours_or_all c.args.socks.now.pcbs.addr c.args.socks.now.pcbs.bcast x.dst) (sym c.in-Ok.ensures.ok.1) ∙ sym c.is_for_us.ensures ∙ c.if-not-is_for_us.true))
 
 pub returns-then-not-is_for_us-clause-reass : goal.returns-then-not-is_for_us-clause-reass
@@ -29,64 +33,64 @@ returns-then-not-is_for_us-clause-reass c = (freed c.args.chain c.requires.owned
 
 pub take_fragment-requires-clause-socks : goal.take_fragment-requires-clause-socks
 take_fragment-requires-clause-socks c =
-    let is = for_us c.is_for_us.result c.requires.reass c.requires.socks c.requires.owned c.in-Ok.ensures.ok.0 c.in-Ok.ensures.ok.1 c.is_for_us.ensures c.if-not-is_for_us.false c.count.ensures
+    let is = for_us {a = c.args.counters.now} c.is_for_us.result c.requires.reass c.requires.socks c.requires.owned c.in-Ok.ensures.ok.0 c.in-Ok.ensures.ok.1 c.is_for_us.ensures c.if-not-is_for_us.false c.count.ensures
     (c.trim_back.ensures ∙ ap (λ (n : ℕ). with_chain c.args.pool.now c.args.chain (record (chain_of c.args.pool.now c.args.chain) { entries = only_first n (chain_of c.args.pool.now c.args.chain).entries })) c.from.ensures) in
     is.cut.beside.socks.ready
 
 pub take_fragment-requires-clause-reass : goal.take_fragment-requires-clause-reass
 take_fragment-requires-clause-reass c =
-    let is = for_us c.is_for_us.result c.requires.reass c.requires.socks c.requires.owned c.in-Ok.ensures.ok.0 c.in-Ok.ensures.ok.1 c.is_for_us.ensures c.if-not-is_for_us.false c.count.ensures
+    let is = for_us {a = c.args.counters.now} c.is_for_us.result c.requires.reass c.requires.socks c.requires.owned c.in-Ok.ensures.ok.0 c.in-Ok.ensures.ok.1 c.is_for_us.ensures c.if-not-is_for_us.false c.count.ensures
     (c.trim_back.ensures ∙ ap (λ (n : ℕ). with_chain c.args.pool.now c.args.chain (record (chain_of c.args.pool.now c.args.chain) { entries = only_first n (chain_of c.args.pool.now c.args.chain).entries })) c.from.ensures) in
     is.cut.beside.reass.table
 
 pub take_fragment-requires-clause-owned : goal.take_fragment-requires-clause-owned
 take_fragment-requires-clause-owned c =
-    let is = for_us c.is_for_us.result c.requires.reass c.requires.socks c.requires.owned c.in-Ok.ensures.ok.0 c.in-Ok.ensures.ok.1 c.is_for_us.ensures c.if-not-is_for_us.false c.count.ensures
+    let is = for_us {a = c.args.counters.now} c.is_for_us.result c.requires.reass c.requires.socks c.requires.owned c.in-Ok.ensures.ok.0 c.in-Ok.ensures.ok.1 c.is_for_us.ensures c.if-not-is_for_us.false c.count.ensures
     (c.trim_back.ensures ∙ ap (λ (n : ℕ). with_chain c.args.pool.now c.args.chain (record (chain_of c.args.pool.now c.args.chain) { entries = only_first n (chain_of c.args.pool.now c.args.chain).entries })) c.from.ensures) in
     is.cut.beside.owned
 
 pub take_fragment-requires-clause-headed : goal.take_fragment-requires-clause-headed
 take_fragment-requires-clause-headed c =
-    let is = for_us c.is_for_us.result c.requires.reass c.requires.socks c.requires.owned c.in-Ok.ensures.ok.0 c.in-Ok.ensures.ok.1 c.is_for_us.ensures c.if-not-is_for_us.false c.count.ensures
+    let is = for_us {a = c.args.counters.now} c.is_for_us.result c.requires.reass c.requires.socks c.requires.owned c.in-Ok.ensures.ok.0 c.in-Ok.ensures.ok.1 c.is_for_us.ensures c.if-not-is_for_us.false c.count.ensures
     (c.trim_back.ensures ∙ ap (λ (n : ℕ). with_chain c.args.pool.now c.args.chain (record (chain_of c.args.pool.now c.args.chain) { entries = only_first n (chain_of c.args.pool.now c.args.chain).entries })) c.from.ensures) in
     is.cut.header ∙ c.requires.headed
 
 pub take_fragment-requires-clause-total : goal.take_fragment-requires-clause-total
 take_fragment-requires-clause-total c =
-    let is = for_us c.is_for_us.result c.requires.reass c.requires.socks c.requires.owned c.in-Ok.ensures.ok.0 c.in-Ok.ensures.ok.1 c.is_for_us.ensures c.if-not-is_for_us.false c.count.ensures
+    let is = for_us {a = c.args.counters.now} c.is_for_us.result c.requires.reass c.requires.socks c.requires.owned c.in-Ok.ensures.ok.0 c.in-Ok.ensures.ok.1 c.is_for_us.ensures c.if-not-is_for_us.false c.count.ensures
     (c.trim_back.ensures ∙ ap (λ (n : ℕ). with_chain c.args.pool.now c.args.chain (record (chain_of c.args.pool.now c.args.chain) { entries = only_first n (chain_of c.args.pool.now c.args.chain).entries })) c.from.ensures) in
     cut_length is
 
 pub trim_front-requires : goal.trim_front-requires
 trim_front-requires c =
-    let is = for_us c.is_for_us.result c.requires.reass c.requires.socks c.requires.owned c.in-Ok.ensures.ok.0 c.in-Ok.ensures.ok.1 c.is_for_us.ensures c.if-not-is_for_us.false c.count.ensures
+    let is = for_us {a = c.args.counters.now} c.is_for_us.result c.requires.reass c.requires.socks c.requires.owned c.in-Ok.ensures.ok.0 c.in-Ok.ensures.ok.1 c.is_for_us.ensures c.if-not-is_for_us.false c.count.ensures
     (c.trim_back.ensures ∙ ap (λ (n : ℕ). with_chain c.args.pool.now c.args.chain (record (chain_of c.args.pool.now c.args.chain) { entries = only_first n (chain_of c.args.pool.now c.args.chain).entries })) c.from.ensures) in
     is.cut.live
 
 pub input-requires-clause-ready : goal.input-requires-clause-ready
 input-requires-clause-ready c =
-    let is = for_us c.is_for_us.result c.requires.reass c.requires.socks c.requires.owned c.in-Ok.ensures.ok.0 c.in-Ok.ensures.ok.1 c.is_for_us.ensures c.if-not-is_for_us.false c.count.ensures
+    let is = for_us {a = c.args.counters.now} c.is_for_us.result c.requires.reass c.requires.socks c.requires.owned c.in-Ok.ensures.ok.0 c.in-Ok.ensures.ok.1 c.is_for_us.ensures c.if-not-is_for_us.false c.count.ensures
     (c.trim_back.ensures ∙ ap (λ (n : ℕ). with_chain c.args.pool.now c.args.chain (record (chain_of c.args.pool.now c.args.chain) { entries = only_first n (chain_of c.args.pool.now c.args.chain).entries })) c.from.ensures) in
     let off = changed c.args.chain (without_first 20 (chain_of c.trim_back.new.pool c.args.chain).entries) is.cut.beside.owned is.cut.beside.reass.table is.cut.beside.socks.ready c.trim_front.ensures in
     off.beside.socks.ready
 
 pub input-requires-clause-waits : goal.input-requires-clause-waits
 input-requires-clause-waits c =
-    let is = for_us c.is_for_us.result c.requires.reass c.requires.socks c.requires.owned c.in-Ok.ensures.ok.0 c.in-Ok.ensures.ok.1 c.is_for_us.ensures c.if-not-is_for_us.false c.count.ensures
+    let is = for_us {a = c.args.counters.now} c.is_for_us.result c.requires.reass c.requires.socks c.requires.owned c.in-Ok.ensures.ok.0 c.in-Ok.ensures.ok.1 c.is_for_us.ensures c.if-not-is_for_us.false c.count.ensures
     (c.trim_back.ensures ∙ ap (λ (n : ℕ). with_chain c.args.pool.now c.args.chain (record (chain_of c.args.pool.now c.args.chain) { entries = only_first n (chain_of c.args.pool.now c.args.chain).entries })) c.from.ensures) in
     let off = changed c.args.chain (without_first 20 (chain_of c.trim_back.new.pool c.args.chain).entries) is.cut.beside.owned is.cut.beside.reass.table is.cut.beside.socks.ready c.trim_front.ensures in
     off.beside.reass.table
 
 pub input-requires-clause-owned : goal.input-requires-clause-owned
 input-requires-clause-owned c =
-    let is = for_us c.is_for_us.result c.requires.reass c.requires.socks c.requires.owned c.in-Ok.ensures.ok.0 c.in-Ok.ensures.ok.1 c.is_for_us.ensures c.if-not-is_for_us.false c.count.ensures
+    let is = for_us {a = c.args.counters.now} c.is_for_us.result c.requires.reass c.requires.socks c.requires.owned c.in-Ok.ensures.ok.0 c.in-Ok.ensures.ok.1 c.is_for_us.ensures c.if-not-is_for_us.false c.count.ensures
     (c.trim_back.ensures ∙ ap (λ (n : ℕ). with_chain c.args.pool.now c.args.chain (record (chain_of c.args.pool.now c.args.chain) { entries = only_first n (chain_of c.args.pool.now c.args.chain).entries })) c.from.ensures) in
     let off = changed c.args.chain (without_first 20 (chain_of c.trim_back.new.pool c.args.chain).entries) is.cut.beside.owned is.cut.beside.reass.table is.cut.beside.socks.ready c.trim_front.ensures in
     off.beside.owned
 
 pub input-requires-clause-most : goal.input-requires-clause-most
 input-requires-clause-most c =
-    let is = for_us c.is_for_us.result c.requires.reass c.requires.socks c.requires.owned c.in-Ok.ensures.ok.0 c.in-Ok.ensures.ok.1 c.is_for_us.ensures c.if-not-is_for_us.false c.count.ensures
+    let is = for_us {a = c.args.counters.now} c.is_for_us.result c.requires.reass c.requires.socks c.requires.owned c.in-Ok.ensures.ok.0 c.in-Ok.ensures.ok.1 c.is_for_us.ensures c.if-not-is_for_us.false c.count.ensures
     (c.trim_back.ensures ∙ ap (λ (n : ℕ). with_chain c.args.pool.now c.args.chain (record (chain_of c.args.pool.now c.args.chain) { entries = only_first n (chain_of c.args.pool.now c.args.chain).entries })) c.from.ensures) in
     let off = changed c.args.chain (without_first 20 (chain_of c.trim_back.new.pool c.args.chain).entries) is.cut.beside.owned is.cut.beside.reass.table is.cut.beside.socks.ready c.trim_front.ensures in
     omega (
@@ -99,13 +103,13 @@ input-requires-clause-most c =
 
 pub returns-then-is_fragment-clause-arrived : goal.returns-then-is_fragment-clause-arrived
 returns-then-is_fragment-clause-arrived c =
-    let is = for_us c.is_for_us.result c.requires.reass c.requires.socks c.requires.owned c.in-Ok.ensures.ok.0 c.in-Ok.ensures.ok.1 c.is_for_us.ensures c.if-not-is_for_us.false c.count.ensures
+    let is = for_us {a = c.args.counters.now} c.is_for_us.result c.requires.reass c.requires.socks c.requires.owned c.in-Ok.ensures.ok.0 c.in-Ok.ensures.ok.1 c.is_for_us.ensures c.if-not-is_for_us.false c.count.ensures
     (c.trim_back.ensures ∙ ap (λ (n : ℕ). with_chain c.args.pool.now c.args.chain (record (chain_of c.args.pool.now c.args.chain) { entries = only_first n (chain_of c.args.pool.now c.args.chain).entries })) c.from.ensures) in
     fragment_arrives is (sym c.is_fragment.ensures ∙ c.if-is_fragment.true) c.take_fragment.ensures.taken
 
 pub returns-else-is_fragment-clause-arrived : goal.returns-else-is_fragment-clause-arrived
 returns-else-is_fragment-clause-arrived c =
-    let is = for_us c.is_for_us.result c.requires.reass c.requires.socks c.requires.owned c.in-Ok.ensures.ok.0 c.in-Ok.ensures.ok.1 c.is_for_us.ensures c.if-not-is_for_us.false c.count.ensures
+    let is = for_us {a = c.args.counters.now} c.is_for_us.result c.requires.reass c.requires.socks c.requires.owned c.in-Ok.ensures.ok.0 c.in-Ok.ensures.ok.1 c.is_for_us.ensures c.if-not-is_for_us.false c.count.ensures
     (c.trim_back.ensures ∙ ap (λ (n : ℕ). with_chain c.args.pool.now c.args.chain (record (chain_of c.args.pool.now c.args.chain) { entries = only_first n (chain_of c.args.pool.now c.args.chain).entries })) c.from.ensures) in
     let off = changed c.args.chain (without_first 20 (chain_of c.trim_back.new.pool c.args.chain).entries) is.cut.beside.owned is.cut.beside.reass.table is.cut.beside.socks.ready c.trim_front.ensures in
     whole_arrives is (sym c.is_fragment.ensures ∙ c.if-is_fragment.false) off c.input.ensures.input

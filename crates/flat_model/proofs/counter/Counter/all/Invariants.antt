@@ -1,0 +1,7 @@
+use Rattle.std.proofs.Common.{◌≡◌, length, take}
+use Rattle.flat_model.specs.Count.{all_counters}
+use Rattle.flat_model.proofs.counter.Counter.all.Given as goal
+
+-- the first are set
+abbrev pub invariant-loop-i : goal.invariant-loop-i
+invariant-loop-i l = (length l.all ≡ 26) × (take l.i l.all ≡ take l.i all_counters)
