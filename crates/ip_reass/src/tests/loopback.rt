@@ -9,7 +9,7 @@ use super::booted;
 use super::steps::{Became, HEAD, buffers, read_whole, ticks};
 use crate::{Arrival, Reass};
 use chain_ops::{Extent, from_user, from_wire, m_cat, m_copym, m_prepend, trim_back};
-use flat_model::{Counters, Why};
+use flat_model::{Counter, Counters, Why};
 use ip_out::IpHead;
 use mbuf_chain::{Chain, Pool};
 use std::process::Abort;
@@ -150,7 +150,13 @@ fn packets_by_loopback(rt: HostRuntime) -> Result<(), Fail> {
         assert_eq!(rt; whole[..8], *[0; 8].as_slice());
         assert!(rt; whole[8..3008].iter().all(|byte| *byte == b'a'));
         assert_eq!(rt; whole[3008..], *b"--".as_slice());
-        assert_eq!(rt; (counters.ip_fragments, counters.ip_reassembled), (2, 1));
+        assert_eq!(rt;
+            (
+                counters.value(Counter::IpFragments),
+                counters.value(Counter::IpReassembled)
+            ),
+            (2, 1)
+        );
         assert_eq!(rt; buffers(&pool), (mbufs, 64, 0, 0));
         table.end(&mut pool);
     }
@@ -164,7 +170,13 @@ fn no_mbuf_for_the_key_of_the_first(rt: HostRuntime) -> Result<(), Fail> {
     let (was, is, held) = both_arrive(&rt, &mut pool, &mut table, &mut counters, &mut []);
     assert_eq!(rt; (was, is), (Became::Dropped(Why::NoBufs), Became::Kept));
     assert_eq!(rt; held, (2, 62, 2, 1));
-    assert_eq!(rt; (counters.ip_fragments, counters.nobufs), (2, 1));
+    assert_eq!(rt;
+        (
+            counters.value(Counter::IpFragments),
+            counters.value(Counter::Nobufs)
+        ),
+        (2, 1)
+    );
     assert_eq!(rt; ticks(&rt, &mut pool, &mut table, 60), (0, 1));
     assert_eq!(rt; buffers(&pool), (6, 64, 0, 0));
     table.end(&mut pool);
