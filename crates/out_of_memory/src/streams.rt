@@ -9,6 +9,7 @@ pub struct Counted<'a> {
 }
 
 impl Counted<'_> {
+    /// Gives these bytes, and hasn't been asked yet.
     pub fn new(bytes: &[u8]) -> Counted<'_> {
         Counted {
             left: bytes,
@@ -36,6 +37,7 @@ pub struct Page {
 }
 
 impl Page {
+    /// Nothing is written, and it hasn't been asked yet.
     pub fn new() -> Page {
         Page {
             bytes: [0; ROOM],
