@@ -1,7 +1,7 @@
 -- Bytes that were stored, and 28 bytes in front of them, can be output.
 use Rattle.std.proofs.Common.{◌≡◌, ℕ, ◌+◌, ◌≤◌, Bool, true, false, cond, List, [], ◌++◌, length, count_by, ap, ◌∙◌, arith}
 use Rattle.std.proofs.lemmas.List.{length-append}
-use Rattle.flat_model.specs.Layout.{is_cluster, user, sent, laid_on}
+use Rattle.flat_model.specs.Amounts.Layout.{is_cluster, user, sent, laid_on}
 use Rattle.mbuf_chain.specs.Chain.{ChainView, PoolView, alone, chain_of, string, without}
 use Rattle.chain_ops.specs.Makes.{Makes}
 use Rattle.chain_ops.specs.Prepends.{has_front, prepended, prepended_front}

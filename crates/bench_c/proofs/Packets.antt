@@ -3,7 +3,7 @@ use Rattle.std.proofs.Common.{◌≡◌, ℕ, ◌+◌, ◌≤◌, List, [], ◌�
 use Rattle.std.specs.Prelude.{slice_index_or}
 use Rattle.std.proofs.lemmas.List.{length-append, length-take, length-drop}
 use Rattle.mbuf_chain.specs.Chain.{ChainView, Entry, entry_of, flat_bytes, no_entry, string}
-use Rattle.flat_model.specs.Header.{udp}
+use Rattle.flat_model.specs.Packets.Header.{udp}
 use Rattle.udp.specs.Datagrams.{built}
 
 pub record HasRoom (v : ChainView) : Type 0 where

@@ -1,7 +1,7 @@
 //! The sums of in_cksum that `bench/cksum` times.
 
 ghost use Rattle.std.specs.Prelude.{◌≡◌, ◌++◌};
-ghost use Rattle.flat_model.specs.Checksum.{checksum, folded_sum};
+ghost use Rattle.flat_model.specs.Packets.Checksum.{checksum, folded_sum};
 
 use in_cksum::{Sum, sum_slice};
 

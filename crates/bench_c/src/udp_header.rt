@@ -1,7 +1,7 @@
 //! The calls of udp that `bench/udp_header` times: the header of a packet written, and a datagram checked.
 
 ghost use Rattle.std.specs.Prelude.{◌≡◌, ◌≤◌, length, IfOk, None};
-ghost use Rattle.flat_model.specs.Header.{u16_at};
+ghost use Rattle.flat_model.specs.Packets.Header.{u16_at};
 ghost use Rattle.mbuf_chain.specs.Chain.{IsLive, chain_of, entry_of, string};
 
 use crate::boot::booted;

@@ -4,8 +4,8 @@ use Rattle.std.specs.Prelude.{◌⊎◌, nat_le}
 use Rattle.std.proofs.lemmas.Bool.{cases_lt, le-leb, lt-leb, cond-true, cond-false}
 use Rattle.std.proofs.lemmas.List.{length-append, take_all}
 use Rattle.mbuf_chain.specs.Chain.{Entry, ChainView, alone, leading_space}
-use Rattle.flat_model.specs.Layout as flat
-use Rattle.flat_model.specs.Layout.{Room, Plain, Cluster, is_cluster, next_room, size_of, laid_on, user, sent}
+use Rattle.flat_model.specs.Amounts.Layout as flat
+use Rattle.flat_model.specs.Amounts.Layout.{Room, Plain, Cluster, is_cluster, next_room, size_of, laid_on, user, sent}
 use Rattle.chain_ops.specs.Prepends.{prepended}
 use Rattle.chain_ops.specs.Stored.{stored_first, first_start}
 use Rattle.chain_ops.specs.Weights.{laid}

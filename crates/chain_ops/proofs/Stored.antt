@@ -10,8 +10,8 @@ use Rattle.mbuf_chain.specs.Steps.{one_mbuf, joined}
 use Rattle.mbuf_chain.specs.Owners.{times}
 use Rattle.mbuf_chain.proofs.Laws.Owners.{times-append}
 use Rattle.mbuf_chain.proofs.Laws.Accounts.{references-with, free-same, free-taken}
-use Rattle.flat_model.specs.Layout as flat
-use Rattle.flat_model.specs.Layout.{Room, Plain, Cluster, filled, or_empty, is_cluster, next_room, size_of, laid_on, user, wire}
+use Rattle.flat_model.specs.Amounts.Layout as flat
+use Rattle.flat_model.specs.Amounts.Layout.{Room, Plain, Cluster, filled, or_empty, is_cluster, next_room, size_of, laid_on, user, wire}
 use Rattle.chain_ops.specs.Weights.{laid}
 use Rattle.chain_ops.proofs.Laws.Rooms.{next_some, next_most, rest_rooms, rooms_step}
 use Rattle.chain_ops.specs.Stored.{AreFree, IsTaken, stored, stored_first, first_start, rooms_for}

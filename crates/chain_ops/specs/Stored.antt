@@ -4,7 +4,7 @@ use Rattle.std.specs.List.{AllByRecursion}
 use Rattle.params.specs.declared.TheConstants.{MBUF_HEADER, MHLEN, MCLBYTES}
 use Rattle.mbuf_chain.specs.Chain.{Entry, PoolView, references, free_clusters}
 use Rattle.mbuf_chain.specs.Owners.{times}
-use Rattle.flat_model.specs.Layout.{Room, Plain, Cluster, filled, or_empty, is_cluster}
+use Rattle.flat_model.specs.Amounts.Layout.{Room, Plain, Cluster, filled, or_empty, is_cluster}
 use Rattle.chain_ops.specs.Makes.{LacksMbufs, HasMbufs}
 use Rattle.chain_ops.specs.Rooms.{room_low, at_end}
 

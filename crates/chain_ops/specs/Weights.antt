@@ -3,7 +3,7 @@ use Rattle.std.specs.Prelude.{◌+◌, ◌<◌, ◌≤◌, List, length, map, is
 use Rattle.std.specs.List.{AllByRecursion}
 use Rattle.params.specs.declared.TheConstants.{MBUF_HEADER}
 use Rattle.mbuf_chain.specs.Chain.{Entry, room_end}
-use Rattle.flat_model.specs.Layout as flat
+use Rattle.flat_model.specs.Amounts.Layout as flat
 
 -- the bytes and the cluster of each entry
 abbrev pub laid : List Entry → List flat.Entry

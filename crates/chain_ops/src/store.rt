@@ -2,7 +2,7 @@
 ghost use Rattle.std.specs.Prelude.{◌≡◌, ℕ, ◌+◌, ◌-◌, ◌<◌, ◌≤◌, ◌⊎◌, List, Bool, true, false, Option, Some, None, min, nat_le, length, count_by, IfOk, OnOk, OnErr, if◌then◌else◌};
 ghost use Rattle.mbuf_chain.specs.Chain.{alone, held_mbufs, references, free_clusters, string, chain_of, Adds};
 ghost use Rattle.mbuf_chain.specs.Steps.{one_mbuf};
-ghost use Rattle.flat_model.specs.Layout.{user, wire, is_cluster, next_room, size_of};
+ghost use Rattle.flat_model.specs.Amounts.Layout.{user, wire, is_cluster, next_room, size_of};
 ghost use Rattle.chain_ops.specs.Makes.{Makes};
 ghost use Rattle.chain_ops.specs.Rooms.{room_low};
 ghost use Rattle.chain_ops.specs.Stored.{AreFree, IsTaken, Lacks, Has, rooms_for, stored_first, first_start};

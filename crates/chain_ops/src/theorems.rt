@@ -3,8 +3,8 @@ ghost use Rattle.std.specs.Prelude.{◌≡◌, ◌≢◌, ℕ, ◌+◌, ◌<◌,
 ghost use Rattle.mbuf_chain.specs.Chain.{Entry, Front, PoolView, IsLive, without, alone, flat_bytes};
 ghost use Rattle.mbuf_chain.specs.Owners.{Moves};
 ghost use Rattle.chain_ops.specs.Makes.{Makes};
-ghost use Rattle.flat_model.specs.Weight.{Covers, IsSubBag, ◌⊕◌};
-ghost use Rattle.flat_model.specs.Layout.{weight_of, entries_met, user, sent, wire, is_cluster, laid_on};
+ghost use Rattle.flat_model.specs.Amounts.Weight.{Covers, IsSubBag, ◌⊕◌};
+ghost use Rattle.flat_model.specs.Amounts.Layout.{weight_of, entries_met, user, sent, wire, is_cluster, laid_on};
 ghost use Rattle.chain_ops.specs.Copies.{copied, copied_all};
 ghost use Rattle.chain_ops.specs.Rooms.{room_low};
 ghost use Rattle.chain_ops.specs.Joins.{cat};

@@ -8,7 +8,7 @@ use Rattle.mbuf_chain.specs.Chain.{PoolView, chain_of, mbufs_of, references_of, 
 use Rattle.mbuf_chain.proofs.Laws.Accounts.{held_by_owners, references_by_owners}
 use Rattle.chain_ops.specs.Makes.{HasMbufs, LacksMbufs}
 use Rattle.chain_script.specs.Machines.{Slot, entries_in, mbufs_held, count, clusters_free, lacks}
-use Rattle.chain_script.specs.Inside.{numbers, slot_of, machine_of, Fits}
+use Rattle.chain_script.specs.Inside.Slots.{numbers, slot_of, machine_of, Fits}
 
 sum_slots : (f : Option Slot → ℕ) (g : ℕ → ℕ) (p : PoolView) → f None ≡ 0 → ((c : ℕ) → f (slot_of p (Some c)) ≡ g c) → (slots : List (Option ℕ))
     → sum_by f (map (slot_of p) slots) ≡ sum_by g (numbers slots)

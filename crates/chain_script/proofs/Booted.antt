@@ -6,7 +6,7 @@ use Rattle.std.specs.Ordering.{nat_cmp}
 use Rattle.mbuf_chain.specs.Chain.{ChainView, PoolView}
 use Rattle.mbuf_chain.proofs.Laws.Owners.{live_none}
 use Rattle.chain_script.specs.Machines.{Slot}
-use Rattle.chain_script.specs.Inside.{numbers, slot_of, Fits}
+use Rattle.chain_script.specs.Inside.Slots.{numbers, slot_of, Fits}
 
 none_numbered : (n : ℕ) → numbers (replicate n None) ≡ []
 none_numbered zero = refl

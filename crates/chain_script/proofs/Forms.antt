@@ -1,9 +1,9 @@
 -- From the words after a keyword to what they ask for: each keyword has one form.
 use Rattle.std.proofs.Common.{◌≡◌, ℕ, ◌≤◌, List, ◌∷◌, length, if◌then◌else◌, codes, bytes_eq, Option, Some, None, sym, ap, ◌∙◌, subst, arith}
 use Rattle.std.specs.Prelude.{MatchOption, IfSome}
-use Rattle.flat_model.specs.Grammar.{words}
+use Rattle.flat_model.specs.Scripts.Grammar.{words}
 use Rattle.chain_script.specs.Lines.{Request, User, Wire, Copy, Prepend, Pull_up, Adjust, Split, Join, Write_over, Read_out, Show, Free, Ask_usage, keyword, HasWords, IsRequest}
-use Rattle.chain_script.specs.Calls.{request_of, IsCall, IsForm, ReadsForm}
+use Rattle.chain_script.specs.Inside.Calls.{request_of, IsCall, IsForm, ReadsForm}
 use Rattle.chain_script.specs.declared.line.Call.{Call}
 
 place : List ℕ → ℕ

@@ -4,7 +4,7 @@ use Rattle.std.specs.Prelude.{is_some}
 use Rattle.std.proofs.Math.ListN.{get_or-map}
 use Rattle.mbuf_chain.specs.Chain.{Entry, PoolView, chain_of, string, flat_bytes}
 use Rattle.chain_script.specs.Machines.{slot_at, is_held, entries_in, entries_at, header_in, header_at, length_at}
-use Rattle.chain_script.specs.Inside.{slot_of, machine_of}
+use Rattle.chain_script.specs.Inside.Slots.{slot_of, machine_of}
 
 at_slot : (p : PoolView) (slots : List (Option ℕ)) (i : ℕ) → slot_at (machine_of p slots) i ≡ slot_of p (get_or slots i None)
 at_slot p slots i = get_or-map (slot_of p) slots i None

@@ -17,7 +17,7 @@ use Rattle.chain_ops.specs.Writes.{is_writable, copied_back, copyback_need}
 use Rattle.chain_script.specs.Lines.{Copy, Pull_up, Split, Join, Write_over}
 use Rattle.chain_script.specs.Machines.{put, lacks, is_range, count, entries_at, header_at, is_held, emptied}
 use Rattle.chain_script.specs.Steps.{Ready, No_buffers, Shared, Step}
-use Rattle.chain_script.specs.Inside.{machine_of, Fits}
+use Rattle.chain_script.specs.Inside.Slots.{machine_of, Fits}
 use Rattle.chain_script.proofs.SlotLemmas.{changed_fits, joined, joined_fits, parted, parted_fits, live_slot, same_slot, apart_chains}
 use Rattle.chain_script.proofs.Accounts.{count_is, has_all, lacks_mbufs, lt_yes, lt_no, le_yes}
 use Rattle.chain_script.proofs.Faults.{shared, no_buffers, done}

@@ -1,11 +1,11 @@
-pub mod SlotLemmas
-pub mod Accounts
-pub mod Faults
-pub mod Held
-pub mod Stores
-pub mod Forms
-pub mod Joined
-pub mod Signs
-pub mod Shown
-pub mod Booted
-pub mod Told
+mod SlotLemmas
+mod Accounts
+mod Faults
+mod Held
+mod Stores
+mod Forms
+mod Joined
+mod Signs
+mod Shown
+mod Booted
+mod Told

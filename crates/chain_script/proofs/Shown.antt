@@ -8,7 +8,7 @@ use Rattle.mbuf_chain.proofs.Laws.Accounts.{held-without}
 use Rattle.chain_script.specs.Machines.{usage_of}
 use Rattle.chain_script.specs.Steps.{Laid, Wrong_chain, Step, shapes_of}
 use Rattle.chain_script.specs.Lines.{Show}
-use Rattle.chain_script.specs.Inside.{machine_of, Fits}
+use Rattle.chain_script.specs.Inside.Slots.{machine_of, Fits}
 use Rattle.chain_script.proofs.Accounts.{held_is, count_is, free_is}
 use Rattle.chain_script.proofs.Faults.{wrong_chain, done}
 use Rattle.chain_script.proofs.Held.{is_there, is_empty, entries_are, length_is}

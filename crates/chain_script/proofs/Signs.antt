@@ -2,7 +2,7 @@
 use Rattle.std.proofs.Common.{◌≡◌, ℕ, suc, ◌≤◌, ◌∷◌, ◌++◌, List, codes, sym, ◌∙◌, arith}
 use Rattle.std.specs.Prelude.{ℤ, pos, negsuc, decimal}
 use Rattle.std.proofs.lemmas.Fmt.{decimal_injective}
-use Rattle.flat_model.specs.Grammar.{IsNumber}
+use Rattle.flat_model.specs.Scripts.Grammar.{IsNumber}
 use Rattle.chain_script.specs.Lines.{IsSigned}
 
 pub signed_none : (word : List ℕ) → ((n : ℕ) → IsNumber 65535 word n → ⊥) → ((n : ℕ) → suc n ≤ 65535 → word ≡ codes "-" ++ decimal (suc n) → ⊥)

@@ -8,7 +8,7 @@ use Rattle.mbuf_chain.specs.Chain.{ChainView, PoolView, IsLive, chain_of, no_cha
 use Rattle.mbuf_chain.specs.Owners.{times, live_at, Moves}
 use Rattle.mbuf_chain.proofs.Laws.Owners.{times_same, live_at_most, live_from, moves_without}
 use Rattle.chain_script.specs.Machines.{Slot, put, emptied}
-use Rattle.chain_script.specs.Inside.{number_in, numbers, slot_of, machine_of, Fits}
+use Rattle.chain_script.specs.Inside.Slots.{number_in, numbers, slot_of, machine_of, Fits}
 
 -- ---- how often a number stands in the slots
 abbrev times_in : ℕ → Option ℕ → ℕ

@@ -3,7 +3,7 @@ use Rattle.std.proofs.Common.{◌≡◌, ℕ, ◌+◌, ◌<◌, Bool, true, fals
 use Rattle.std.specs.Prelude.{◌&&◌, nat_lt, nat_le, ℤ}
 use Rattle.std.specs.List.{AllByRecursion}
 use Rattle.params.specs.declared.TheConstants.{CLUSTER_LEADING_SPACE, MHLEN}
-use Rattle.flat_model.specs.Layout.{Room, user, wire, is_cluster}
+use Rattle.flat_model.specs.Amounts.Layout.{Room, user, wire, is_cluster}
 use Rattle.mbuf_chain.specs.Chain.{Entry, Front, ChainView, PoolView, IsLive, alone, chain_of, without, with_chain, references, string}
 use Rattle.mbuf_chain.specs.Owners.{Moves}
 use Rattle.mbuf_chain.proofs.Laws.Owners.{moves_trans, moves_without, moves_with, moves_adds, shown_with}
@@ -14,7 +14,7 @@ use Rattle.chain_ops.specs.Trims.{adjusted}
 use Rattle.chain_script.specs.Lines.{User, Wire, Prepend, Adjust, Free}
 use Rattle.chain_script.specs.Machines.{AreFreeIn, count, put, lacks, view_at, is_in_range}
 use Rattle.chain_script.specs.Steps.{Ready, No_buffers, Step}
-use Rattle.chain_script.specs.Inside.{machine_of, Fits}
+use Rattle.chain_script.specs.Inside.Slots.{machine_of, Fits}
 use Rattle.chain_script.proofs.SlotLemmas.{made, changed, changed_fits, freed, freed_fits, live_slot, same_slot}
 use Rattle.chain_script.proofs.Accounts.{count_is, has_all, lacks_mbufs, lacks_clusters}
 use Rattle.chain_script.proofs.Faults.{no_buffers, done}

@@ -1,26 +1,4 @@
--- How the machine of the chain script stands in memory: a pool, and in each slot a chain of it or none. Only this crate reads it.
-use Rattle.std.specs.Prelude.{ℕ, List, [], ◌∷◌, map, Option, Some, None}
-use Rattle.mbuf_chain.specs.Chain.{PoolView, chain_of}
-use Rattle.mbuf_chain.specs.Owners.{IsAll}
-use Rattle.chain_script.specs.Machines.{Machine, Slot}
-
--- the numbers of the chains
-abbrev pub number_in : Option ℕ → List ℕ → List ℕ
-number_in None ks = ks
-number_in (Some c) ks = c ∷ ks
-
-abbrev pub numbers : List (Option ℕ) → List ℕ
-numbers [] = []
-numbers (slot ∷ slots) = number_in slot (numbers slots)
-
--- what a slot shows
-abbrev pub slot_of : PoolView → Option ℕ → Option Slot
-slot_of p None = None
-slot_of p (Some c) = Some (record { header = (chain_of p c).front.header; entries = (chain_of p c).entries })
-
-abbrev pub machine_of : PoolView → List (Option ℕ) → Machine
-machine_of p slots = record { mbufs = p.mbufs; clusters = p.clusters; slots = map (slot_of p) slots }
-
--- each chain of the pool stands in one slot
-abbrev pub Fits : PoolView → List (Option ℕ) → Type 0
-Fits p slots = IsAll p (numbers slots)
+-- What only this crate reads.
+pub mod Calls
+pub mod Replies
+pub mod Slots

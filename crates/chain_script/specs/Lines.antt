@@ -1,7 +1,7 @@
 -- The lines of the chain script, and what each asks for (this project's own).
 use Rattle.std.specs.Prelude.{◌≡◌, ℕ, suc, ℤ, pos, negsuc, ◌≤◌, List, [], ◌∷◌, ◌++◌, length, codes, decimal}
 use Rattle.params.specs.declared.TheConstants.{IP_MAX_PACKET}
-use Rattle.flat_model.specs.Grammar.{words, IsNumber, IsHex}
+use Rattle.flat_model.specs.Scripts.Grammar.{words, IsNumber, IsHex}
 use Rattle.chain_ops.specs.declared.copym.Extent.{Extent}
 use Rattle.chain_ops.specs.declared.copym.Extent.TheVariants.{All, Part}
 

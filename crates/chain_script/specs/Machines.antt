@@ -1,7 +1,7 @@
 -- The machine of the chain script: slots of chains over a pool, as lists (this project's own).
 use Rattle.std.specs.Prelude.{◌≡◌, ℕ, ◌+◌, ◌-◌, ◌<◌, ◌≤◌, ◌==◌, max, Bool, true, false, not, ◌&&◌, ◌||◌, nat_lt, nat_le, List, [], length, replicate, sum, sum_by, count_by, map, fold, is_some, Option, Some, None, slice_set, slice_index_or}
 use Rattle.std.specs.List.{AllByRecursion, range_with_len}
-use Rattle.flat_model.specs.Layout.{Room, user, wire, is_cluster}
+use Rattle.flat_model.specs.Amounts.Layout.{Room, user, wire, is_cluster}
 use Rattle.params.specs.declared.TheConstants.{MHLEN, IP_MAX_PACKET}
 use Rattle.flat_model.specs.declared.usage.Mbstat.{Mbstat}
 use Rattle.mbuf_chain.specs.Chain.{Entry, ChainView, alone, flat_bytes, refers}

@@ -1,8 +1,8 @@
 -- What the machine of the chain script answers, and the lines that its answers are printed as (this project's own).
 use Rattle.std.specs.Prelude.{◌≡◌, ℕ, Bool, true, false, not, List, [], ◌∷◌, ◌++◌, length, take, drop, map, flat_map, count_by, codes, decimal, Option, Some, None, if◌then◌else◌}
 use Rattle.params.specs.declared.TheConstants.{CLUSTER_LEADING_SPACE}
-use Rattle.flat_model.specs.Layout.{user, wire, is_cluster}
-use Rattle.flat_model.specs.Texts.{hex_text, usage_text}
+use Rattle.flat_model.specs.Amounts.Layout.{user, wire, is_cluster}
+use Rattle.flat_model.specs.Scripts.Texts.{hex_text, usage_text}
 use Rattle.flat_model.specs.declared.usage.Mbstat.{Mbstat}
 use Rattle.mbuf_chain.specs.Chain.{Entry, flat_bytes}
 use Rattle.chain_ops.specs.Extents.{extent_header, extent_copied}

@@ -6,8 +6,8 @@ ghost use Rattle.chain_ops.specs.Joins.{cat};
 ghost use Rattle.chain_script.specs.Lines.{User, Wire, Copy, Prepend, Pull_up, Adjust, Split, Join, Write_over, Read_out, Free};
 ghost use Rattle.chain_script.specs.Machines.{is_range};
 ghost use Rattle.chain_script.specs.Steps.{Step};
-ghost use Rattle.chain_script.specs.Replies.{done_reply, held_reply};
-ghost use Rattle.chain_script.specs.Inside.{machine_of, Fits};
+ghost use Rattle.chain_script.specs.Inside.Replies.{done_reply, held_reply};
+ghost use Rattle.chain_script.specs.Inside.Slots.{machine_of, Fits};
 
 use crate::fault::Fault;
 use crate::slots::{put, take};

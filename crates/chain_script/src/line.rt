@@ -3,7 +3,7 @@ ghost use Rattle.std.specs.Prelude.{◌≡◌, ◌≤◌, ℕ, ℤ, List, [], �
 ghost use Rattle.chain_ops.specs.declared.copym.Extent.{Extent};
 ghost use Rattle.script_loop.specs.Left.{left};
 ghost use Rattle.chain_script.specs.Lines.{Request, IsRequest, IsExtentWords, IsSigned};
-ghost use Rattle.chain_script.specs.Calls.{request_of, IsCall, ReadsForm};
+ghost use Rattle.chain_script.specs.Inside.Calls.{request_of, IsCall, ReadsForm};
 
 use chain_ops::Extent;
 use params::IP_MAX_PACKET;

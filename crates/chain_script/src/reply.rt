@@ -1,9 +1,9 @@
 //! The lines that replies are printed as.
 ghost use Rattle.std.specs.Prelude.{◌≡◌, ◌+◌, ◌*◌, ◌≤◌, ◌++◌, length, Some, codes, decimal};
-ghost use Rattle.flat_model.specs.Texts.{share_text};
+ghost use Rattle.flat_model.specs.Scripts.Texts.{share_text};
 ghost use Rattle.params.specs.declared.TheConstants.{IP_MAX_PACKET};
 ghost use Rattle.chain_script.specs.Steps.{Shown, reply_text, answer_text, mbuf_text};
-ghost use Rattle.chain_script.specs.Replies.{fault_reply, done_reply, held_reply};
+ghost use Rattle.chain_script.specs.Inside.Replies.{fault_reply, done_reply, held_reply};
 
 use crate::fault::Fault;
 use mbuf_chain::Usage;

@@ -3,7 +3,7 @@ ghost use Rattle.std.specs.Prelude.{◌≡◌, ℕ, ◌+◌, ◌*◌, ◌<◌, �
 ghost use Rattle.mbuf_chain.specs.Chain.{IsLive, chain_of, references, string};
 ghost use Rattle.chain_script.specs.Lines.{Show, Ask_usage};
 ghost use Rattle.chain_script.specs.Steps.{Reply, Laid, Step, answer_text, shape_text, shapes_of, count_in};
-ghost use Rattle.chain_script.specs.Inside.{machine_of, Fits};
+ghost use Rattle.chain_script.specs.Inside.Slots.{machine_of, Fits};
 
 use crate::fault::Fault;
 use crate::reply::{TEXT, put_done, put_mbuf, put_usage};

@@ -2,22 +2,19 @@
 -- their own are in src/theorems.rt.
 
 -- ---- lists and weights: what is added up, and how often a cluster stands in it
-pub use Rattle.flat_model.proofs.Totals.{count_cons}
-pub use Rattle.flat_model.proofs.Kept.{count-append}
-pub use Rattle.flat_model.proofs.Weights.{nothing-both, both-nothing, both-assoc, all_of-append, mbufs-all_of, weight_of-append, times-both, times-all_of}
+pub use Rattle.flat_model.proofs.Lists.Totals.{count_cons, count-append}
+pub use Rattle.flat_model.proofs.Amounts.Weights.{nothing-both, both-nothing, both-assoc, all_of-append, mbufs-all_of, weight_of-append, times-both, times-all_of, same_weight-refl, same_weight-sym, same_weight-trans, same_weight-both, same_weight-swap, count_of-same, free_mbufs-same, free_clusters-same, has_enough-same, has_buffers-same}
 -- ---- the same weight in another order, and that tests answer the same for it
-pub use Rattle.flat_model.proofs.Weights.{same_weight-refl, same_weight-sym, same_weight-trans, same_weight-both, same_weight-swap}
-pub use Rattle.flat_model.proofs.Weights.{count_of-same, free_mbufs-same, free_clusters-same, has_enough-same, has_buffers-same}
 -- ---- the accounts of a consistent state
-pub use Rattle.flat_model.proofs.Balance.{free_and_held, references_are, none_held}
+pub use Rattle.flat_model.proofs.Machine.Balance.{free_and_held, references_are, none_held}
 -- ---- sends: both parts of one are the whole, and the other way round
-pub use Rattle.flat_model.proofs.Putting.{put_goes, goes_put}
+pub use Rattle.flat_model.proofs.Machine.Putting.{put_goes, goes_put}
 -- ---- runs: one more event, and what a script prints
-pub use Rattle.flat_model.proofs.Ranges.{in_range}
-pub use Rattle.flat_model.proofs.Runs.{one_more_turn, print_of_run}
+pub use Rattle.flat_model.proofs.Runs.Ranges.{in_range}
+pub use Rattle.flat_model.proofs.Runs.Runs.{one_more_turn, print_of_run}
 -- ---- what holds of every state
-pub use Rattle.flat_model.proofs.KeptSteps.{boot_is_consistent, step_is_consistent, run_is_consistent}
+pub use Rattle.flat_model.proofs.Machine.KeptSteps.{boot_is_consistent, step_is_consistent, run_is_consistent}
 -- ---- the bytes of a whole map, by their offsets
-pub use Rattle.flat_model.proofs.Maps.{IsMapOf, whole_bytes}
+pub use Rattle.flat_model.proofs.Fragments.Maps.{IsMapOf, whole_bytes}
 -- ---- the folded sum depends on the sum's remainder by 65,535, and on whether it is 0
-pub use Rattle.flat_model.proofs.Folds.{fold16-below, fold16-small, fold16-shift, fold16-high, fold16-halves, fold16-add_first, fold16-add_second}
+pub use Rattle.flat_model.proofs.Packets.Folds.{fold16-below, fold16-small, fold16-shift, fold16-high, fold16-halves, fold16-add_first, fold16-add_second}

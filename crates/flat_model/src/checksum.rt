@@ -1,7 +1,7 @@
 //! The fold of the Internet checksum (RFC 1071): the plain program, and the law that ties the definition
 //! to the standard's words.
 ghost use Rattle.std.specs.Prelude.{◌≡◌, ℕ, ◌+◌, ◌/◌, ◌%◌, ◌<◌};
-ghost use Rattle.flat_model.specs.Checksum.{fold16, folded_sum};
+ghost use Rattle.flat_model.specs.Packets.Checksum.{fold16, folded_sum};
 
 /// The folded sum of the words of `bytes`, one pair at a time, as RFC 1071 section 1 tells it.
 ///

@@ -1,5 +1,5 @@
 ghost use Rattle.std.specs.Prelude.{MatchResult, IsTrue, ◌↔◌};
-ghost use Rattle.flat_model.specs.State.{HasSizes, IsConfig, IsHost, IsRefused};
+ghost use Rattle.flat_model.specs.Machine.State.{HasSizes, IsConfig, IsHost, IsRefused};
 
 use params::{FIRST_MULTICAST, LOOPBACK, MAX_CLUSTERS, MAX_MBUFS, MAX_MTU, MIN_MTU};
 use thiserror::Error;

@@ -1,5 +1,5 @@
 ghost use Rattle.std.specs.Prelude.{◌≡◌};
-ghost use Rattle.flat_model.specs.Count.{counted, counter_of, counts_more, no_counts, value_of};
+ghost use Rattle.flat_model.specs.Machine.Count.{counted, counter_of, counts_more, no_counts, value_of};
 
 use crate::counter::{COUNTERS, Counter};
 use thiserror::Error;
@@ -133,7 +133,7 @@ impl Counters {
     }
 
     /// Counts a packet, or a receiver's part of one, that ended for this cause.
-    #[tactic(auto, unfolding(crate::specs::Count::counted))]
+    #[tactic(auto, unfolding(crate::specs::Machine::Count::counted))]
     pub fn count_ended(&mut self, why: Why)
         ensures { self.new ≡ counted why self.old }
     {

@@ -56,7 +56,7 @@ pub enum Errno {
 }
 
 impl Lack {
-    ghost use Rattle.flat_model.specs.Errnos.{lack_name};
+    ghost use Rattle.flat_model.specs.Scripts.Errnos.{lack_name};
 
     /// The word for it after `ENOBUFS`.
     pub fn name(self) -> &'static str
@@ -70,7 +70,7 @@ impl Lack {
 }
 
 impl Errno {
-    ghost use Rattle.flat_model.specs.Errnos.{number_of, name_of};
+    ghost use Rattle.flat_model.specs.Scripts.Errnos.{number_of, name_of};
 
     /// Its number in 4.4BSD (sys/errno.h), 9 to 65.
     pub fn number(self) -> u8

@@ -1,17 +1,17 @@
 //! Theorems of the definitions. Each is a function that does nothing, and its contract is the theorem.
 ghost use Rattle.std.specs.Prelude.{◌≡◌, ◌+◌, ℕ, Bool, List, [], ◌∷◌, ◌++◌, ◌≤◌, ◌<◌, length, All};
-ghost use Rattle.flat_model.specs.Overlay.{Fragment};
-ghost use Rattle.flat_model.specs.Weight.{nothing};
-ghost use Rattle.flat_model.specs.Ledger.{exact_ledger, loose_ledger, weight_of_state, free_mbufs, usage_of};
-ghost use Rattle.flat_model.specs.Event.{Event, Reply, IsEvent};
-ghost use Rattle.flat_model.specs.State.{IsConfig, State, boot};
-ghost use Rattle.flat_model.specs.Consistent.{IsConsistent};
-ghost use Rattle.flat_model.specs.Step.{Step, Loose};
-ghost use Rattle.flat_model.specs.Run.{Turn, Leads, Run};
-ghost use Rattle.flat_model.specs.Script.{Prints, IsPrintOfRun, PrintsRun, all_events};
+ghost use Rattle.flat_model.specs.Fragments.Overlay.{Fragment};
+ghost use Rattle.flat_model.specs.Amounts.Weight.{nothing};
+ghost use Rattle.flat_model.specs.Machine.Ledger.{exact_ledger, loose_ledger, weight_of_state, free_mbufs, usage_of};
+ghost use Rattle.flat_model.specs.Machine.Event.{Event, Reply, IsEvent};
+ghost use Rattle.flat_model.specs.Machine.State.{IsConfig, State, boot};
+ghost use Rattle.flat_model.specs.Runs.Consistent.{IsConsistent};
+ghost use Rattle.flat_model.specs.Machine.Step.{Step, Loose};
+ghost use Rattle.flat_model.specs.Runs.Run.{Turn, Leads, Run};
+ghost use Rattle.flat_model.specs.Scripts.Script.{Prints, IsPrintOfRun, PrintsRun, all_events};
 ghost use Rattle.flat_model.specs.declared.config.Config.{Config};
-ghost use Rattle.flat_model.specs.Wire.{ReceivedLaw, WireLaw};
-ghost use Rattle.flat_model.specs.Laws.{CutsJoin, IsFragmentOf, OverlayOrder};
+ghost use Rattle.flat_model.specs.Runs.Wire.{ReceivedLaw, WireLaw};
+ghost use Rattle.flat_model.specs.Runs.Laws.{CutsJoin, IsFragmentOf, OverlayOrder};
 
 /// The parts of a string put together are the string. All but the last are a multiple of 8 long, and
 /// each packet is at most as long as the link takes (RFC 791 section 3.2, "Fragmentation and Reassembly").

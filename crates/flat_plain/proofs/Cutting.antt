@@ -5,7 +5,7 @@ use Rattle.std.specs.Prelude.{nat_le}
 use Rattle.std.proofs.lemmas.List.{map-append}
 use Rattle.std.proofs.lemmas.List.FromFn.{map-range_with_len_more}
 use Rattle.std.proofs.lemmas.Bool.{cond-true, cond-false, le-leb, lt-leb}
-use Rattle.flat_model.specs.Cuts as Cuts
+use Rattle.flat_model.specs.Fragments.Cuts as Cuts
 use Rattle.flat_plain.specs.declared.parts.Part.{Part}
 use Rattle.flat_plain.specs.Parts.{part_of}
 

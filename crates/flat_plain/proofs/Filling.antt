@@ -3,8 +3,8 @@ use Rattle.std.proofs.Common.{◌≡◌, ℕ, zero, suc, ◌+◌, ◌-◌, ◌<�
 use Rattle.std.specs.Prelude.{nat_lt, nat_le}
 use Rattle.std.proofs.lemmas.Bool.{cond-false, lt-leb}
 use Rattle.std.proofs.lemmas.List.{map-append, append_assoc, append-nil, take_all}
-use Rattle.flat_model.specs.Layout.{filled, next_room, or_empty, size_of, meets_from}
-use Rattle.flat_model.specs.Layout as Layout
+use Rattle.flat_model.specs.Amounts.Layout.{filled, next_room, or_empty, size_of, meets_from}
+use Rattle.flat_model.specs.Amounts.Layout as Layout
 use Rattle.flat_plain.specs.declared.rooms.Room.{Room}
 use Rattle.flat_plain.specs.Rooms.{room_of, rooms_of}
 

@@ -2,8 +2,8 @@
 use Rattle.std.proofs.Common.{◌≡◌, ℕ, ◌+◌, Bool, true, false, List, [], ◌++◌, length, take, refl, sym, ◌∙◌, ap, Some, None, cond}
 use Rattle.std.specs.Prelude.{nat_lt, ◌==◌, not}
 use Rattle.std.proofs.lemmas.List.{append-nil}
-use Rattle.flat_model.specs.Checksum.{checksum, folded_sum}
-use Rattle.flat_model.specs.Header.{Head, packet, udp, udp_fault, front_bytes, two_bytes, address_bytes, pseudo_header, not_zero, u16_at}
+use Rattle.flat_model.specs.Packets.Checksum.{checksum, folded_sum}
+use Rattle.flat_model.specs.Packets.Header.{Head, packet, udp, udp_fault, front_bytes, two_bytes, address_bytes, pseudo_header, not_zero, u16_at}
 use Rattle.flat_model.specs.declared.counters.Why.TheVariants.{UdpBadSum}
 
 pub packet_is : (h : Head) (t blank full : List ℕ) (sum : ℕ) → blank ≡ front_bytes h (length t) ++ two_bytes 0 ++ address_bytes h.source h.destination → sum ≡ checksum blank

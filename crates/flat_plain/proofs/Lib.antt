@@ -1,5 +1,5 @@
-pub mod Filling
-pub mod Cutting
-pub mod Heading
-pub mod Placing
-pub mod Weighing
+mod Filling
+mod Cutting
+mod Heading
+mod Placing
+mod Weighing

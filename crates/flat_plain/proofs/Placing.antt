@@ -4,7 +4,7 @@ use Rattle.std.specs.Prelude.{nat_lt, nat_le, ◌&&◌, count_by, slice_index}
 use Rattle.std.specs.List.{range_with_len}
 use Rattle.std.proofs.lemmas.List.Sums.{sum_by-cons}
 use Rattle.std.proofs.lemmas.Bool.{le-ltb}
-use Rattle.flat_model.specs.Overlay.{Held, Map, Fragment, fragment_end, stays, is_within, first_owned, overlay}
+use Rattle.flat_model.specs.Fragments.Overlay.{Held, Map, Fragment, fragment_end, stays, is_within, first_owned, overlay}
 
 module _ (map : Map) (f : Fragment) (k : ℕ) where
   pub place_new : map k ≡ None → is_within f k ≡ true → (first : ℕ) → first_owned map f ≡ first

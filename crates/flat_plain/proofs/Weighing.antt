@@ -6,15 +6,15 @@ use Rattle.std.proofs.lemmas.List.{take_all, get_or_past}
 use Rattle.std.proofs.lemmas.List.Elements.{filter_map-append}
 use Rattle.std.proofs.lemmas.List.FromFn.{map-range_with_len_more}
 use Rattle.std.proofs.lemmas.List.Sums.{fold-append}
-use Rattle.flat_model.specs.Weight as flat
-use Rattle.flat_model.specs.Weight.{nothing, ◌⊕◌, all_of, times, SameWeight}
-use Rattle.flat_model.specs.State.{State}
-use Rattle.flat_model.specs.Ledger.{weight_of_state, count_of, free_mbufs, free_clusters, usage_of}
-use Rattle.flat_model.specs.Layout as Layout
-use Rattle.flat_model.specs.Layout.{meets_from}
-use Rattle.flat_model.specs.Overlay.{Held, Piece, Map}
-use Rattle.flat_model.specs.Whole as Whole
-use Rattle.flat_model.specs.Whole.{piece_at, pieces_below}
+use Rattle.flat_model.specs.Amounts.Weight as flat
+use Rattle.flat_model.specs.Amounts.Weight.{nothing, ◌⊕◌, all_of, times, SameWeight}
+use Rattle.flat_model.specs.Machine.State.{State}
+use Rattle.flat_model.specs.Machine.Ledger.{weight_of_state, count_of, free_mbufs, free_clusters, usage_of}
+use Rattle.flat_model.specs.Amounts.Layout as Layout
+use Rattle.flat_model.specs.Amounts.Layout.{meets_from}
+use Rattle.flat_model.specs.Fragments.Overlay.{Held, Piece, Map}
+use Rattle.flat_model.specs.Fragments.Whole as Whole
+use Rattle.flat_model.specs.Fragments.Whole.{piece_at, pieces_below}
 use Rattle.flat_model.proofs.Laws.{count_cons, count-append, times-both, both-nothing, both-assoc, nothing-both, all_of-append}
 use Rattle.flat_plain.specs.declared.maps.Cell.{Cell}
 use Rattle.flat_plain.specs.declared.weights.Entry.{Entry}

@@ -1,6 +1,6 @@
 -- A control block of the programs as a socket of the definitions, with an empty queue.
 use Rattle.std.specs.Prelude.{false, [], List, map}
-use Rattle.flat_model.specs.State.{Socket}
+use Rattle.flat_model.specs.Machine.State.{Socket}
 use Rattle.flat_plain.specs.declared.lookup.Pcb.{Pcb}
 
 abbrev pub socket_of : Pcb → Socket

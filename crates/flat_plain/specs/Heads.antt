@@ -1,5 +1,5 @@
 -- A head of the programs as a head of the definitions.
-use Rattle.flat_model.specs.Header as Header
+use Rattle.flat_model.specs.Packets.Header as Header
 use Rattle.flat_plain.specs.declared.headers.Head.{Head}
 
 abbrev pub head_for : Head → Header.Head

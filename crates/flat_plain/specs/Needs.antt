@@ -1,5 +1,5 @@
 -- A need of the programs as a need of the definitions.
-use Rattle.flat_model.specs.Layout as Layout
+use Rattle.flat_model.specs.Amounts.Layout as Layout
 use Rattle.flat_plain.specs.declared.needs.Buffers.{Buffers}
 
 abbrev pub need_of : Buffers → Layout.Need

@@ -1,5 +1,5 @@
 -- A part of the programs as a part of the definitions.
-use Rattle.flat_model.specs.Cuts as Cuts
+use Rattle.flat_model.specs.Fragments.Cuts as Cuts
 use Rattle.flat_plain.specs.declared.parts.Part.{Part}
 
 abbrev pub part_of : Part → Cuts.Part

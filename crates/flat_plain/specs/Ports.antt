@@ -1,7 +1,7 @@
 -- A machine with these control blocks, whose last ephemeral port is known. What else there is makes no difference
 -- to the choice of a port.
 use Rattle.std.specs.Prelude.{ℕ, List, Option}
-use Rattle.flat_model.specs.State.{State, boot}
+use Rattle.flat_model.specs.Machine.State.{State, boot}
 use Rattle.flat_plain.specs.declared.lookup.Pcb.{Pcb}
 use Rattle.flat_plain.specs.Blocks.{sockets_of}
 

@@ -1,7 +1,7 @@
 -- A queue of the programs as a queue of the definitions. Which bytes and which clusters there are makes no
 -- difference to its limits: all are 0.
 use Rattle.std.specs.Prelude.{List, map, replicate}
-use Rattle.flat_model.specs.State.{Datagram}
+use Rattle.flat_model.specs.Machine.State.{Datagram}
 use Rattle.flat_plain.specs.declared.queues.Waiting.{Waiting}
 
 abbrev pub datagram_of : Waiting → Datagram

@@ -1,6 +1,6 @@
 -- A room of the programs as a room of the definitions.
 use Rattle.std.specs.Prelude.{List, map}
-use Rattle.flat_model.specs.Layout as Layout
+use Rattle.flat_model.specs.Amounts.Layout as Layout
 use Rattle.flat_plain.specs.declared.rooms.Room.{Room}
 use Rattle.flat_plain.specs.declared.rooms.Room.TheVariants.{InMbuf, InCluster}
 

@@ -1,8 +1,8 @@
 -- A table of the programs as a map of the definitions.
 use Rattle.std.specs.Prelude.{ℕ, Bool, false, List, Option, Some, None, slice_index_or, filter_map}
-use Rattle.flat_model.specs.Weight.{Weight}
-use Rattle.flat_model.specs.Overlay as Overlay
-use Rattle.flat_model.specs.Overlay.{Held, Map}
+use Rattle.flat_model.specs.Amounts.Weight.{Weight}
+use Rattle.flat_model.specs.Fragments.Overlay as Overlay
+use Rattle.flat_model.specs.Fragments.Overlay.{Held, Map}
 use Rattle.flat_plain.specs.declared.maps.Cell.{Cell}
 use Rattle.flat_plain.specs.declared.maps.Fragment.{Fragment}
 

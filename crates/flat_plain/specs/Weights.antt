@@ -1,7 +1,7 @@
 -- Weights and mbufs of the programs as those of the definitions.
 use Rattle.std.specs.Prelude.{ℕ, ◌==◌, if◌then◌else◌, List, map, Option, Some, None}
-use Rattle.flat_model.specs.Weight as flat
-use Rattle.flat_model.specs.Layout as Layout
+use Rattle.flat_model.specs.Amounts.Weight as flat
+use Rattle.flat_model.specs.Amounts.Layout as Layout
 use Rattle.flat_plain.specs.declared.maps.Cell.{Cell}
 use Rattle.flat_plain.specs.declared.weights.Entry.{Entry}
 use Rattle.flat_plain.specs.declared.weights.Weight.{Weight}

@@ -1,6 +1,6 @@
 //! The bytes of a packet, and what its header says.
 ghost use Rattle.std.specs.Prelude.{◌≡◌, ◌+◌, ◌*◌, ◌<◌, ◌≤◌, ◌++◌, length, IfOk};
-ghost use Rattle.flat_model.specs.Header as Header;
+ghost use Rattle.flat_model.specs.Packets.Header as Header;
 ghost use Rattle.flat_plain.specs.Heads.{head_for};
 
 use crate::sums::checksum;

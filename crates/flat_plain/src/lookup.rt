@@ -1,7 +1,7 @@
 //! Which socket a packet or a call finds. Lists have the youngest first.
 ghost use Rattle.std.specs.Prelude.{◌≡◌, ◌≤◌, ◌++◌, ◌==◌, filter, not, if◌then◌else◌, OnOk, IfOk, Some, None};
 ghost use Rattle.std.specs.Option.{option_map};
-ghost use Rattle.flat_model.specs.Lookup as Lookup;
+ghost use Rattle.flat_model.specs.Sockets.Lookup as Lookup;
 ghost use Rattle.flat_plain.specs.Blocks.{socket_of, sockets_of};
 
 use flat_model::{Addr, LookupKey};

@@ -1,8 +1,8 @@
 //! The bytes of an unfinished datagram, as a table with a place for each offset.
 ghost use Rattle.std.specs.Prelude.{◌≡◌, ℕ, ◌+◌, ◌<◌, ◌≤◌, ◌&&◌, nat_lt, length, count_by, true, false, None, IsSome, IfSome, IfNone};
 ghost use Rattle.std.specs.List.{range_with_len};
-ghost use Rattle.flat_model.specs.Overlay as Overlay;
-ghost use Rattle.flat_model.specs.Whole.{IsWhole};
+ghost use Rattle.flat_model.specs.Fragments.Overlay as Overlay;
+ghost use Rattle.flat_model.specs.Fragments.Whole.{IsWhole};
 ghost use Rattle.flat_plain.specs.Tables.{map_of, held_of, fragment_of, more_of};
 
 /// What lies at an offset, and the piece that brought it.

@@ -1,6 +1,6 @@
 //! How a datagram is cut for a link.
 ghost use Rattle.std.specs.Prelude.{◌≡◌, ◌+◌, ◌*◌, ◌≤◌, map, IfOk, vec_len};
-ghost use Rattle.flat_model.specs.Cuts as Cuts;
+ghost use Rattle.flat_model.specs.Fragments.Cuts as Cuts;
 ghost use Rattle.flat_plain.specs.Parts.{part_of};
 
 use params::{FRAGMENT_UNIT, IP_HEADER, IP_MAX_PACKET};

@@ -1,8 +1,8 @@
 //! How much of a pool is in use.
 ghost use Rattle.std.specs.Prelude.{◌≡◌, ◌≤◌, length};
-ghost use Rattle.flat_model.specs.Ledger.{usage_of, weight_of_state};
-ghost use Rattle.flat_model.specs.State.{State};
-ghost use Rattle.flat_model.specs.Weight.{SameWeight, times};
+ghost use Rattle.flat_model.specs.Machine.Ledger.{usage_of, weight_of_state};
+ghost use Rattle.flat_model.specs.Machine.State.{State};
+ghost use Rattle.flat_model.specs.Amounts.Weight.{SameWeight, times};
 ghost use Rattle.params.specs.declared.TheConstants.{MAX_CLUSTERS};
 ghost use Rattle.flat_plain.specs.Weights.{weight_of};
 

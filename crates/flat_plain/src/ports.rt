@@ -1,7 +1,7 @@
 //! Which ephemeral port is chosen next.
 ghost use Rattle.std.specs.Prelude.{◌≡◌, ℕ, ◌<◌, ◌≤◌, true, IfNone, IfSome};
 ghost use Rattle.std.specs.Option.{ForSome};
-ghost use Rattle.flat_model.specs.Calls as Calls;
+ghost use Rattle.flat_model.specs.Machine.Calls as Calls;
 ghost use Rattle.flat_plain.specs.Ports.{state_of};
 
 use crate::lookup::{Pcb, best};

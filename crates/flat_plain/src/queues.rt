@@ -1,6 +1,6 @@
 //! How much a receive queue takes.
 ghost use Rattle.std.specs.Prelude.{◌≡◌, ◌*◌, ◌≤◌, length};
-ghost use Rattle.flat_model.specs.Fits as Fits;
+ghost use Rattle.flat_model.specs.Sockets.Fits as Fits;
 ghost use Rattle.flat_plain.specs.Queues.{queue_of};
 
 use params::{MCLBYTES, MSIZE, SOCKADDR_BYTES, UDP_RECEIVE_MEMORY, UDP_RECEIVE_SPACE};

@@ -1,7 +1,7 @@
 //! Into which buffers bytes go.
 ghost use Rattle.std.specs.Prelude.{◌≡◌, ◌+◌, ◌*◌, ◌^◌, ◌<◌, ◌≤◌, ◌++◌, length, map, OnOk, IfOk, vec_len};
-ghost use Rattle.flat_model.specs.Layout.{filled, next_room, meets_from, size_of};
-ghost use Rattle.flat_model.specs.Layout as Layout;
+ghost use Rattle.flat_model.specs.Amounts.Layout.{filled, next_room, meets_from, size_of};
+ghost use Rattle.flat_model.specs.Amounts.Layout as Layout;
 ghost use Rattle.flat_plain.specs.Rooms.{room_of, rooms_of};
 
 use params::{

@@ -1,6 +1,6 @@
 //! The Internet checksum, over flat_model's own plain program of the fold.
 ghost use Rattle.std.specs.Prelude.{◌≡◌};
-ghost use Rattle.flat_model.specs.Checksum as Checksum;
+ghost use Rattle.flat_model.specs.Packets.Checksum as Checksum;
 
 use flat_model::fold;
 

@@ -1,10 +1,10 @@
 //! What items weigh, and how much of a pool that is.
 ghost use Rattle.std.specs.Prelude.{◌≡◌, ℕ, ◌+◌, ◌*◌, ◌^◌, ◌<◌, ◌≤◌, ◌++◌, length, filter_map, Option, OnOk, IfOk};
-ghost use Rattle.flat_model.specs.Arrival as Arrival;
-ghost use Rattle.flat_model.specs.Layout as Layout;
-ghost use Rattle.flat_model.specs.Sending as Sending;
-ghost use Rattle.flat_model.specs.Weight.{◌⊕◌};
-ghost use Rattle.flat_model.specs.Whole as Whole;
+ghost use Rattle.flat_model.specs.Machine.Arrival as Arrival;
+ghost use Rattle.flat_model.specs.Amounts.Layout as Layout;
+ghost use Rattle.flat_model.specs.Machine.Sending as Sending;
+ghost use Rattle.flat_model.specs.Amounts.Weight.{◌⊕◌};
+ghost use Rattle.flat_model.specs.Fragments.Whole as Whole;
 ghost use Rattle.flat_plain.specs.Parts.{part_of};
 ghost use Rattle.flat_plain.specs.Tables.{map_of, weight_at};
 ghost use Rattle.flat_plain.specs.Weights.{entries_of, entry_size, weight_begun, weight_of};

@@ -3,7 +3,7 @@ use Rattle.std.proofs.Common.{◌≡◌, ℕ, zero, suc, ◌+◌, ◌*◌, ◌/�
 use Rattle.std.proofs.lemmas.Nat.{and_mask}
 use Rattle.std.proofs.lemmas.Simd.{sum-zip2, length-chunk, chunk-fits}
 use lib.Lanes.{Each1, zip2, sum_l, number_l, digits_l}
-use Rattle.in_cksum.specs.Swapped.{swapped_sum}
+use Rattle.in_cksum.specs.Inside.{swapped_sum}
 
 -- the low and the high halves of the n lanes of x
 abbrev pub lows : ℕ → ℕ → List ℕ

@@ -1,5 +1,5 @@
-pub mod Words
-pub mod Blocks
-pub mod Wrapped
-pub mod Ranges
-pub mod Rests
+mod Words
+mod Blocks
+mod Wrapped
+mod Ranges
+mod Rests

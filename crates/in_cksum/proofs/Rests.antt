@@ -2,9 +2,9 @@
 use Rattle.std.proofs.Common.{◌≡◌, ℕ, ◌+◌, ◌-◌, ◌*◌, ◌/◌, ◌<◌, ◌≤◌, List, [], ◌∷◌, length, get_or, slice_index_or, take, take_all, drop, bit_and, Fits, w8, w16, w32, w64, ap, ◌∙◌, arith, inl, inr}
 use Rattle.std.proofs.lemmas.Nat.{and_mask}
 use Rattle.std.specs.Int.{from_le_bytes}
-use Rattle.flat_model.specs.Checksum.{fold16}
+use Rattle.flat_model.specs.Packets.Checksum.{fold16}
 use Rattle.flat_model.proofs.Laws.{fold16-high}
-use Rattle.in_cksum.specs.Swapped.{CountsAs, IsAdded, IsLeft, swapped_sum}
+use Rattle.in_cksum.specs.Inside.{CountsAs, IsAdded, IsLeft, swapped_sum}
 
 -- ---- 8 and 4 bytes
 

@@ -2,10 +2,10 @@
 use Rattle.std.proofs.Common.{◌≡◌, ℕ, zero, suc, ◌+◌, ◌*◌, ◌/◌, ◌%◌, ◌<◌, ◌≤◌, List, [], ◌∷◌, ◌++◌, length, get_or, length-append, Bool, not, nat_eq, cond, ◌⊎◌, inl, inr, ap₂, Fits, w8, refl, sym, ap, ◌∙◌, arith}
 use Rattle.std.specs.Int.{w16, swap_bytes}
 use mathlib.Core.Bool.{beq}
-use Rattle.flat_model.specs.Checksum.{word_sum, fold16, folded_sum}
+use Rattle.flat_model.specs.Packets.Checksum.{word_sum, fold16, folded_sum}
 use Rattle.flat_model.proofs.Laws.{fold16-high, fold16-small, fold16-shift, fold16-below, fold16-add_first, fold16-add_second}
 use Rattle.in_cksum.specs.Partial.{Partial, sum_of}
-use Rattle.in_cksum.specs.Swapped.{swapped_sum}
+use Rattle.in_cksum.specs.Inside.{swapped_sum}
 
 -- the bytes at even places, and those at odd places
 firsts : List ℕ → ℕ

@@ -1,2 +1,2 @@
 pub mod Partial
-pub mod Swapped
+pub mod Inside

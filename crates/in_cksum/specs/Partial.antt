@@ -1,6 +1,6 @@
 -- What a sum over pieces knows of the bytes that it was given so far.
 use Rattle.std.specs.Prelude.{ℕ, ◌%◌, ◌==◌, Bool, List, length}
-use Rattle.flat_model.specs.Checksum.{folded_sum}
+use Rattle.flat_model.specs.Packets.Checksum.{folded_sum}
 
 -- This project's own: the folded sum of the bytes so far, and whether the next byte is the low half of
 -- a word.

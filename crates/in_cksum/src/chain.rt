@@ -1,6 +1,6 @@
 //! The checksum of bytes that lie in a chain.
 ghost use Rattle.std.specs.Prelude.{◌≡◌, ℕ, ◌+◌, ◌≤◌, ◌++◌, List, length, take, drop};
-ghost use Rattle.flat_model.specs.Checksum.{checksum};
+ghost use Rattle.flat_model.specs.Packets.Checksum.{checksum};
 ghost use Rattle.mbuf_chain.specs.Chain.{IsLive, chain_of, string};
 ghost use Rattle.in_cksum.specs.Partial.{sum_of};
 
@@ -13,7 +13,7 @@ use mbuf_chain::{Chain, Pool};
 /// It makes no difference how the chain is cut, and empty mbufs count for nothing. No byte is copied. It takes
 /// one step for each mbuf up to the last byte, and none after it (`in_cksum` of TCP/IP Illustrated volume 2,
 /// chapter 8; RFC 1071).
-#[tactic(auto, using(mbuf_chain::proofs::Iterators::concat_pieces))]
+#[tactic(auto, using(mbuf_chain::proofs::Laws::Iterators::concat_pieces))]
 pub fn cksum_chain(pool: &Pool, chain: &Chain, off: u32, len: u32, start: Sum) -> u16
     requires live { IsLive pool.now chain.now }
     requires within { off + len ≤ length (string (chain_of pool.now chain.now)) }

@@ -1,6 +1,6 @@
 //! The words of one part of the bytes, as they lie in memory: by lanes, and the rest by words of 8 bytes.
 ghost use Rattle.std.specs.Prelude.{◌≡◌, ◌+◌, ◌<◌, ◌≤◌, ◌^◌, length};
-ghost use Rattle.in_cksum.specs.Swapped.{CountsAs, IsAdded, IsLeft, lanes_total, swapped_sum};
+ghost use Rattle.in_cksum.specs.Inside.{CountsAs, IsAdded, IsLeft, lanes_total, swapped_sum};
 
 use std::simd::prelude::*;
 

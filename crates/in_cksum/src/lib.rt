@@ -7,7 +7,7 @@
 
 ghost use Rattle.std.specs.Prelude.{◌≡◌, ℕ, ◌+◌, ◌++◌, if◌then◌else◌, List, []};
 ghost use Rattle.std.specs.Int.{w16, swap_bytes};
-ghost use Rattle.flat_model.specs.Checksum.{checksum, fold16, folded_sum};
+ghost use Rattle.flat_model.specs.Packets.Checksum.{checksum, fold16, folded_sum};
 ghost use Rattle.in_cksum.specs.Partial.{Partial, sum_of};
 
 use std::marker::Model;

@@ -1,28 +1,28 @@
 -- A datagram that goes both ways: a copy of its chain, and the packets of each.
-use Rattle.std.proofs.Common.{◌≡◌, ◌≢◌, ℕ, zero, suc, ◌+◌, ◌-◌, ◌<◌, ◌≤◌, Bool, true, false, List, [], ◌∷◌, ◌++◌, length, take, drop, map, Option, None, Some, unwrap_or, refl, sym, ap, ◌∙◌, subst, arith, take_all}
+use Rattle.std.proofs.Common.{◌≡◌, ◌≢◌, ℕ, suc, ◌+◌, ◌-◌, Bool, true, List, [], ◌∷◌, ◌++◌, length, take, drop, map, Option, Some, unwrap_or, refl, sym, ap, ◌∙◌, subst, arith, take_all}
 use Rattle.std.specs.Prelude.{nat_lt, slice_index_or, sum_by}
 use Rattle.std.specs.FinMap as finmap
-use Rattle.flat_model.specs.Weight.{Item}
-use Rattle.flat_model.specs.Cuts.{Part, cuts}
-use Rattle.flat_model.specs.Layout as flat
-use Rattle.flat_model.specs.Layout.{entries_met}
-use Rattle.flat_model.specs.Sending.{items, later_weight}
+use Rattle.flat_model.specs.Amounts.Weight.{Item}
+use Rattle.flat_model.specs.Fragments.Cuts.{Part, cuts}
+use Rattle.flat_model.specs.Amounts.Layout as flat
+use Rattle.flat_model.specs.Amounts.Layout.{entries_met}
+use Rattle.flat_model.specs.Machine.Sending.{items, later_weight}
 use Rattle.std.proofs.lemmas.List.{length-map}
-use Rattle.mbuf_chain.specs.Chain.{Entry, ChainView, PoolView, IsLive, chain_of, no_chain, entry_of, no_entry, flat_bytes, string, alone, held_mbufs, with_chain, without, Adds}
-use Rattle.mbuf_chain.specs.Owners.{Moves, IsOwned, times, live_at}
+use Rattle.mbuf_chain.specs.Chain.{Entry, ChainView, PoolView, IsLive, chain_of, no_chain, no_entry, flat_bytes, string, alone, held_mbufs, with_chain, without}
+use Rattle.mbuf_chain.specs.Owners.{Moves, IsOwned, times}
 use Rattle.mbuf_chain.specs.Train.{TrainView, QueuedPacket, queued_packets, numbers, IsHeld}
 use Rattle.mbuf_chain.proofs.Laws.Maps.{insert_same}
-use Rattle.mbuf_chain.proofs.Laws.Owners.{times-append, times_same, times_other, live_one, live_at_most, live_adds, moves_adds, moves_trans, moves_beside, moves_nothing, moves_reordered, owned_more}
+use Rattle.mbuf_chain.proofs.Laws.Owners.{times-append, times_other, live_one, live_adds, moves_adds, moves_trans, moves_beside, moves_nothing, moves_reordered, owned_more}
 use Rattle.mbuf_chain.proofs.Laws.Steps.{adds_in_place, live_beside}
 use Rattle.mbuf_chain.proofs.Laws.Trains.{Beside, beside_moves, length-queued_packets}
 use Rattle.chain_ops.specs.Makes.{Makes}
-use Rattle.chain_ops.specs.Copies.{copied_entry, copied_all}
+use Rattle.chain_ops.specs.Copies.{copied_all}
 use Rattle.chain_ops.specs.Weights.{laid, HaveBytes}
 use Rattle.chain_ops.proofs.Laws.Makes.{makes_kept, makes_held, apart_made}
 use Rattle.chain_ops.proofs.Laws.Strings.{copied_all_bytes}
 use Rattle.ledger.specs.Accounts.{item_of}
 use Rattle.ip_out.specs.declared.head.IpHead.{IpHead}
-use Rattle.ip_out.specs.Packets.{IsDatagram, packets, packets_of, parts_of, part_bytes, part_need, later_need}
+use Rattle.ip_out.specs.Packets.{IsDatagram, packets, packets_of, parts_of, part_bytes, later_need}
 use Rattle.ip_out.proofs.Sends.{aside_gone}
 
 -- ---- the copy

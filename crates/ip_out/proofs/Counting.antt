@@ -6,10 +6,10 @@ use Rattle.std.proofs.lemmas.Bool.{cases_lt, lt-ltb, le-ltb, cond-true, cond-fal
 use Rattle.std.proofs.lemmas.Nat.{div_below, le-div}
 use Rattle.std.proofs.lemmas.List.Sums.{sum_by-cons}
 use Rattle.std.proofs.lemmas.List.FromFn.{sum_by-map-range_with_len_more, length-map-range_with_len}
-use Rattle.flat_model.specs.Cuts.{Part, part, cuts, chunk, chunks}
+use Rattle.flat_model.specs.Fragments.Cuts.{Part, part, cuts, chunk, chunks}
 use Rattle.ip_out.specs.Inside.{here, later_parts, Counts}
 use Rattle.chain_ops.proofs.Laws.Rooms.{rest_rooms, rooms_step}
-use Rattle.flat_model.specs.Layout.{Room, Plain, Cluster, size_of, is_cluster, filled, next_room, or_empty, meets_from, need_of_part, sent, need}
+use Rattle.flat_model.specs.Amounts.Layout.{Room, Plain, Cluster, size_of, is_cluster, filled, next_room, or_empty, meets_from, need_of_part, sent, need}
 
 -- how often rooms, the first of which begins at `at`, meet parts
 abbrev pub over : List Room → ℕ → List Part → ℕ

@@ -3,9 +3,9 @@ use Rattle.std.proofs.Common.{◌≡◌, ℕ, zero, suc, ◌+◌, ◌-◌, ◌<�
 use Rattle.std.specs.Prelude.{◌⊎◌, slice_index_or}
 use Rattle.std.specs.List.{AllByRecursion}
 use Rattle.std.proofs.lemmas.Bool.{cases_lt}
-use Rattle.flat_model.specs.Layout as flat
-use Rattle.flat_model.specs.Layout.{Room, Plain, Cluster, size_of, filled, next_room, laid_on, sent}
-use Rattle.mbuf_chain.specs.Chain.{Entry, ChainView, entry_of, no_entry, string}
+use Rattle.flat_model.specs.Amounts.Layout as flat
+use Rattle.flat_model.specs.Amounts.Layout.{Room, Plain, Cluster, size_of, filled, next_room, laid_on, sent}
+use Rattle.mbuf_chain.specs.Chain.{Entry, ChainView, no_entry, string}
 use Rattle.chain_ops.specs.Weights.{laid, HaveBytes}
 use Rattle.chain_ops.proofs.Laws.Rooms.{next_some}
 use Rattle.ip_out.specs.Packets.{IsDatagram}

@@ -1,18 +1,18 @@
 -- The first packet: the chain itself, trimmed, with its header written over its first bytes.
-use Rattle.std.proofs.Common.{◌≡◌, ◌≢◌, ℕ, zero, suc, ◌+◌, ◌-◌, ◌*◌, ◌<◌, ◌≤◌, min, Bool, true, false, List, [], ◌∷◌, ◌++◌, length, take, drop, map, refl, sym, ap, ◌∙◌, subst, arith, None, Some, Option}
+use Rattle.std.proofs.Common.{◌≡◌, ℕ, zero, suc, ◌+◌, ◌-◌, ◌<◌, ◌≤◌, min, List, [], ◌∷◌, ◌++◌, length, take, drop, map, refl, sym, ap, ◌∙◌, subst, arith, None}
 use Rattle.std.specs.List.{insert, cons_option}
 use Rattle.std.specs.Prelude.{slice_set, slice_index_or, sum_by}
 use Rattle.std.proofs.lemmas.List.Sums.{sum_by-cons}
 use Rattle.std.proofs.lemmas.List.{length-take, length-append, append_assoc}
-use Rattle.flat_model.specs.Weight.{Weight, Item}
-use Rattle.flat_model.specs.Cuts.{Part, part, cuts}
-use Rattle.flat_model.specs.Layout.{weight_of}
-use Rattle.flat_model.specs.Sending.{items}
+use Rattle.flat_model.specs.Amounts.Weight.{Item}
+use Rattle.flat_model.specs.Fragments.Cuts.{Part, part, cuts}
+use Rattle.flat_model.specs.Amounts.Layout.{weight_of}
+use Rattle.flat_model.specs.Machine.Sending.{items}
 use Rattle.mbuf_chain.specs.declared.place.Place.{Place}
-use Rattle.mbuf_chain.specs.Chain.{Entry, ChainView, PoolView, IsLive, IsUnshared, chain_of, entry_of, entry_in, no_entry, flat_bytes, string, with_chain, held_mbufs, mbufs_of}
+use Rattle.mbuf_chain.specs.Chain.{Entry, ChainView, PoolView, IsLive, chain_of, entry_of, entry_in, no_entry, flat_bytes, string, with_chain, held_mbufs, mbufs_of}
 use Rattle.mbuf_chain.specs.Steps.{narrowed, overwritten, with_entry, with_entry_in}
-use Rattle.mbuf_chain.specs.Owners.{Moves, times, live_at, IsOwned}
-use Rattle.mbuf_chain.specs.Train.{TrainView, QueuedPacket, queued_packet_of, queued_packets, numbers, IsHeld}
+use Rattle.mbuf_chain.specs.Owners.{Moves, times, IsOwned}
+use Rattle.mbuf_chain.specs.Train.{TrainView, QueuedPacket, queued_packets, numbers, IsHeld}
 use Rattle.mbuf_chain.proofs.Laws.Owners.{owned_more, moves_trans, moves_beside, times_same, moves_within, live_at_most, live_one, shown_with}
 use Rattle.mbuf_chain.proofs.Laws.Steps.{live_shown}
 use Rattle.mbuf_chain.proofs.Laws.Accounts.{held_moves}

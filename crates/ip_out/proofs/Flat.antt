@@ -1,15 +1,15 @@
 -- The packets in the words of the flat machine.
-use Rattle.std.proofs.Common.{◌≡◌, ℕ, zero, suc, ◌+◌, ◌-◌, ◌*◌, ◌≤◌, min, Bool, true, false, cond, List, [], ◌∷◌, ◌++◌, length, take, drop, map, refl, sym, ap, ◌∙◌, arith}
-use Rattle.std.specs.Prelude.{nat_le, nat_lt}
+use Rattle.std.proofs.Common.{◌≡◌, ℕ, ◌+◌, ◌-◌, ◌*◌, ◌≤◌, min, Bool, true, false, cond, List, [], ◌∷◌, ◌++◌, length, take, drop, map, refl, sym, ap, ◌∙◌, arith}
+use Rattle.std.specs.Prelude.{nat_le}
 use Rattle.std.specs.List.{AllByRecursion, range_with_len}
 use Rattle.std.proofs.lemmas.List.{length-take, length-drop}
-use Rattle.flat_model.specs.Weight.{Item}
-use Rattle.flat_model.specs.Cuts.{Part, part, cuts, chunk, chunks}
-use Rattle.flat_model.specs.Header.{Head, packet}
-use Rattle.flat_model.specs.Layout as flat
-use Rattle.flat_model.specs.Layout.{laid_on, sent}
-use Rattle.flat_model.specs.Sending as sending
-use Rattle.flat_model.specs.Sending.{Sending, items, datagram, mtu_to, later_weight}
+use Rattle.flat_model.specs.Amounts.Weight.{Item}
+use Rattle.flat_model.specs.Fragments.Cuts.{Part, part, cuts, chunk, chunks}
+use Rattle.flat_model.specs.Packets.Header.{Head, packet}
+use Rattle.flat_model.specs.Amounts.Layout as flat
+use Rattle.flat_model.specs.Amounts.Layout.{laid_on, sent}
+use Rattle.flat_model.specs.Machine.Sending as sending
+use Rattle.flat_model.specs.Machine.Sending.{Sending, items, datagram, mtu_to, later_weight}
 use Rattle.flat_model.specs.declared.config.Config.{Config}
 use Rattle.mbuf_chain.specs.Chain.{ChainView, string}
 use Rattle.chain_ops.specs.Weights.{laid}

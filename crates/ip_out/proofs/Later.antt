@@ -1,9 +1,9 @@
 -- A later fragment: an mbuf with a header, and a copy linked after it.
-use Rattle.std.proofs.Common.{◌≡◌, ◌≢◌, ℕ, ◌+◌, ◌<◌, ◌≤◌, Bool, true, false, List, [], ◌∷◌, ◌++◌, length, take, drop, refl, sym, ap, ◌∙◌, subst, arith, None}
+use Rattle.std.proofs.Common.{◌≡◌, ◌≢◌, ℕ, ◌+◌, ◌<◌, ◌≤◌, Bool, true, false, List, ◌∷◌, ◌++◌, length, take, drop, refl, sym, ap, ◌∙◌, arith, None}
 use Rattle.std.proofs.lemmas.List.{length-take, length-drop}
 use Rattle.std.proofs.lemmas.Bool.{ne_eqb}
 use Rattle.mbuf_chain.specs.declared.place.Place.{Place}
-use Rattle.mbuf_chain.specs.Chain.{Entry, ChainView, PoolView, IsLive, IsPlace, chain_of, entry_in, alone, string, flat_bytes, with_chain, without, Adds}
+use Rattle.mbuf_chain.specs.Chain.{Entry, ChainView, PoolView, IsLive, chain_of, entry_in, alone, string, flat_bytes, with_chain, without, Adds}
 use Rattle.mbuf_chain.specs.Steps.{one_mbuf, empty_entry, with_entry, with_entry_in, with_back, joined}
 use Rattle.mbuf_chain.proofs.Laws.Owners.{live_adds, shown_adds}
 use Rattle.mbuf_chain.proofs.Laws.Steps.{live_beside, apart, new_entry, filled, linked_new}

@@ -1,15 +1,15 @@
 -- Packets go from a train to the end of the output queue.
-use Rattle.std.proofs.Common.{◌≡◌, ℕ, zero, suc, ◌+◌, ◌<◌, ◌≤◌, Bool, true, false, List, [], ◌∷◌, ◌++◌, length, take, map, refl, sym, ap, ◌∙◌, subst, arith, append-nil, inl, inr}
+use Rattle.std.proofs.Common.{◌≡◌, ℕ, zero, suc, ◌+◌, ◌<◌, ◌≤◌, List, [], ◌∷◌, ◌++◌, length, take, map, refl, sym, ap, ◌∙◌, arith, inl, inr}
 use Rattle.std.specs.Prelude.{nat_lt, slice_index_or, ◌⊎◌}
 use Rattle.std.specs.List.{insert, remove}
 use Rattle.std.proofs.lemmas.Bool.{lt-ltb, le-ltb}
-use Rattle.std.proofs.lemmas.List.{map-append, length-map, length-append, append_assoc, take_all}
+use Rattle.std.proofs.lemmas.List.{map-append, length-map, length-append, append_assoc}
 use Rattle.std.proofs.lemmas.List.Edits.{insert_end}
-use Rattle.flat_model.specs.Weight.{Item}
-use Rattle.mbuf_chain.specs.Chain.{PoolView, IsLive, chain_of, alone}
+use Rattle.flat_model.specs.Amounts.Weight.{Item}
+use Rattle.mbuf_chain.specs.Chain.{PoolView, IsLive, chain_of}
 use Rattle.mbuf_chain.specs.Owners.{Moves, IsOwned, times}
 use Rattle.mbuf_chain.specs.Train.{TrainView, QueuedPacket, no_queued_packet, queued_packet_of, queued_packets, queued_packet_at, numbers, IsHeld}
-use Rattle.mbuf_chain.proofs.Laws.Owners.{moves_trans, moves_beside, moves_after, owned_beside, owned_after, times-append, live_at_most, live_owned, times_same}
+use Rattle.mbuf_chain.proofs.Laws.Owners.{moves_trans, moves_beside, owned_beside, times-append, live_at_most, live_owned, times_same}
 use Rattle.mbuf_chain.proofs.Laws.Trains.{Beside, beside_moves, length-queued_packets, none_left}
 use Rattle.ledger.specs.Accounts.{item_of}
 use Rattle.ip_out.specs.Packets.{packets}

@@ -1,13 +1,13 @@
 -- The packets of a datagram beside the output queue.
-use Rattle.std.proofs.Common.{◌≡◌, ℕ, ◌+◌, ◌<◌, ◌≤◌, Bool, true, false, List, [], ◌∷◌, ◌++◌, length, take, map, refl, sym, ap, ◌∙◌, subst, arith, append-nil}
+use Rattle.std.proofs.Common.{◌≡◌, ℕ, false, List, [], ◌∷◌, ◌++◌, length, take, map, ap, ◌∙◌, subst, arith, append-nil}
 use Rattle.std.specs.Prelude.{nat_lt}
-use Rattle.std.proofs.lemmas.Bool.{ltb-true, ltb-false}
+use Rattle.std.proofs.lemmas.Bool.{ltb-false}
 use Rattle.std.proofs.lemmas.List.{take_all}
-use Rattle.flat_model.specs.Weight.{Item}
+use Rattle.flat_model.specs.Amounts.Weight.{Item}
 use Rattle.mbuf_chain.specs.Chain.{PoolView, IsLive, without}
 use Rattle.mbuf_chain.specs.Owners.{Moves, IsOwned, times}
-use Rattle.mbuf_chain.specs.Train.{TrainView, QueuedPacket, queued_packets, numbers, IsHeld}
-use Rattle.mbuf_chain.proofs.Laws.Owners.{times-append, times_same, moves_beside, moves_without, owned_more, owned_beside}
+use Rattle.mbuf_chain.specs.Train.{TrainView, QueuedPacket, numbers, IsHeld}
+use Rattle.mbuf_chain.proofs.Laws.Owners.{times-append, moves_beside, moves_without, owned_more, owned_beside}
 use Rattle.mbuf_chain.proofs.Laws.Trains.{Beside, beside_moves}
 use Rattle.ledger.specs.Accounts.{item_of}
 use Rattle.ip_out.specs.Packets.{packets}

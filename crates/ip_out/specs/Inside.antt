@@ -2,9 +2,9 @@
 use Rattle.std.specs.Prelude.{◌≡◌, ℕ, ◌+◌, ◌-◌, ◌*◌, ◌/◌, ◌%◌, ◌<◌, ◌≤◌, min, max, nat_lt, if◌then◌else◌, List, [], ◌∷◌, ◌++◌, length, map, drop, sum_by, None}
 use Rattle.std.specs.List.{range_with_len}
 use Rattle.params.specs.declared.TheConstants.{IP_HEADER, FRAGMENT_UNIT}
-use Rattle.flat_model.specs.Weight.{Item}
-use Rattle.flat_model.specs.Cuts.{Part, cuts, part}
-use Rattle.flat_model.specs.Sending.{later_weight}
+use Rattle.flat_model.specs.Amounts.Weight.{Item}
+use Rattle.flat_model.specs.Fragments.Cuts.{Part, cuts, part}
+use Rattle.flat_model.specs.Machine.Sending.{later_weight}
 use Rattle.mbuf_chain.specs.Chain.{Entry, PoolView, ChainView, string}
 use Rattle.mbuf_chain.specs.Train.{TrainView, numbers, IsHeld}
 use Rattle.mbuf_chain.specs.Owners.{Moves, IsOwned}

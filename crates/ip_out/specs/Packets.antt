@@ -3,10 +3,10 @@
 use Rattle.std.specs.Prelude.{◌≡◌, ℕ, ◌+◌, ◌-◌, ◌≤◌, true, List, ◌++◌, length, take, drop, map, sum_by, slice_index_or, None}
 use Rattle.std.specs.List.{AllByRecursion}
 use Rattle.params.specs.declared.TheConstants.{IP_HEADER, IP_MAX_PACKET}
-use Rattle.flat_model.specs.Weight.{Item}
-use Rattle.flat_model.specs.Cuts.{Part, cuts}
-use Rattle.flat_model.specs.Layout.{entries_met}
-use Rattle.flat_model.specs.Sending.{items}
+use Rattle.flat_model.specs.Amounts.Weight.{Item}
+use Rattle.flat_model.specs.Fragments.Cuts.{Part, cuts}
+use Rattle.flat_model.specs.Amounts.Layout.{entries_met}
+use Rattle.flat_model.specs.Machine.Sending.{items}
 use Rattle.mbuf_chain.specs.Chain.{PoolView, ChainView, string, entry_of, no_entry}
 use Rattle.mbuf_chain.specs.Train.{TrainView, QueuedPacket, queued_packets}
 use Rattle.chain_ops.specs.Weights.{laid, HaveBytes}

@@ -1,7 +1,7 @@
 -- The output queue: a train of packets (`ifqueue` of volume 2, chapter 3).
 use Rattle.std.specs.Prelude.{◌≡◌, ℕ, ◌<◌, ◌≤◌, List, ◌++◌, length, take}
 use Rattle.params.specs.declared.TheConstants.{OUTPUT_QUEUE_PACKETS}
-use Rattle.flat_model.specs.Weight.{Item}
+use Rattle.flat_model.specs.Amounts.Weight.{Item}
 use Rattle.flat_model.specs.declared.errno.Lack.{Lack}
 use Rattle.flat_model.specs.declared.errno.Lack.TheVariants.{Pool, Queue}
 use Rattle.mbuf_chain.specs.Chain.{PoolView, without}

@@ -1,6 +1,6 @@
 -- Where the packets of a datagram go (`ip_output`, `looutput` and `ether_output` of volume 2, chapters 8, 5 and 4).
 use Rattle.std.specs.Prelude.{ℕ, ◌+◌, List, [], length}
-use Rattle.flat_model.specs.Weight.{Item}
+use Rattle.flat_model.specs.Amounts.Weight.{Item}
 use Rattle.mbuf_chain.specs.Chain.{ChainView}
 use Rattle.ip_out.specs.declared.ways.Way.{Way}
 use Rattle.ip_out.specs.declared.ways.Way.TheVariants.{Link, Loopback, Both}

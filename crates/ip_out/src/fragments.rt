@@ -1,6 +1,6 @@
 //! The packets of a datagram: the chain itself, trimmed, and copies that share its clusters.
 ghost use Rattle.std.specs.Prelude.{◌≡◌, ℕ, ◌+◌, ◌*◌, ◌%◌, ◌<◌, ◌≤◌, [], ◌∷◌, true, false, length, sum_by, IfOk, OnOk, OnErr};
-ghost use Rattle.flat_model.specs.Cuts.{part};
+ghost use Rattle.flat_model.specs.Fragments.Cuts.{part};
 ghost use Rattle.mbuf_chain.specs.Chain.{IsLive, chain_of, string, alone, held_mbufs, without, Adds};
 ghost use Rattle.mbuf_chain.specs.Steps.{one_mbuf};
 ghost use Rattle.mbuf_chain.specs.Owners.{Moves};

@@ -1,6 +1,6 @@
 //! IP headers: what they say, and their bytes.
 ghost use Rattle.std.specs.Prelude.{◌≡◌, ℕ, List, [], ◌∷◌, ◌+◌, ◌%◌, ◌≤◌, length, take, IfOk, IfErr, Some, None};
-ghost use Rattle.flat_model.specs.Header.{u16_at, u32_at, two_bytes, four_bytes, head_fault};
+ghost use Rattle.flat_model.specs.Packets.Header.{u16_at, u32_at, two_bytes, four_bytes, head_fault};
 ghost use Rattle.mbuf_chain.specs.Chain.{IsLive, chain_of, string};
 ghost use Rattle.ip_out.specs.Headings.{flags_of, written, blank_bytes, head_bytes, head_in};
 

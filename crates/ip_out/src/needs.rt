@@ -1,6 +1,6 @@
 //! How many free buffers a send takes.
 ghost use Rattle.std.specs.Prelude.{◌≡◌, ◌+◌, ◌-◌, ◌*◌, ◌/◌, ◌<◌, ◌≤◌};
-ghost use Rattle.flat_model.specs.Layout.{need, need_bcast};
+ghost use Rattle.flat_model.specs.Amounts.Layout.{need, need_bcast};
 ghost use Rattle.ip_out.specs.Inside.{Counts};
 
 use flat_model::Need;

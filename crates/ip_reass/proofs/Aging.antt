@@ -9,15 +9,15 @@ use Rattle.std.specs.List.{AllByRecursion}
 use Rattle.std.proofs.lemmas.List.Elements.{All-from_recursion, recursion_from_All}
 use Rattle.std.specs.List.Sorted.{IsPermutation}
 use Rattle.std.proofs.lemmas.List.Sums.{sum_by-cons}
-use Rattle.flat_model.specs.State.{Unfinished}
+use Rattle.flat_model.specs.Machine.State.{Unfinished}
 use Rattle.flat_model.proofs.Laws.{count_cons}
 use Rattle.mbuf_chain.specs.Chain.{PoolView}
 use Rattle.mbuf_chain.specs.Owners.{times, Moves}
 use Rattle.mbuf_chain.proofs.Laws.Owners.{times-append, moves_beside}
 use Rattle.ip_reass.specs.Table.{aged, held, held_all, holds, IsUnfinished, AllUnfinished, IsTable, unfinished_of, unfinished}
-use Rattle.flat_model.specs.State.{State}
-use Rattle.flat_model.specs.Step.{ticked}
-use Rattle.flat_model.specs.Count.{counts_more}
+use Rattle.flat_model.specs.Machine.State.{State}
+use Rattle.flat_model.specs.Machine.Step.{ticked}
+use Rattle.flat_model.specs.Machine.Count.{counts_more}
 use Rattle.flat_model.specs.declared.counters.Counters.{Counters}
 use Rattle.flat_model.specs.declared.counter.Counter.TheVariants.{IpFragtimeout}
 use Rattle.mbuf_chain.specs.Frames.{SameAt}

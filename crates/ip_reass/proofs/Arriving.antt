@@ -4,14 +4,14 @@ use Rattle.std.specs.Prelude.{filter_map, slice_get}
 use Rattle.std.specs.List.{cons_option}
 use Rattle.std.proofs.lemmas.Bool.{false≢true, cases_lt, le-leb, lt-leb, lt-ltb, le-ltb, eq-eqb, ne_eqb, ltb-false, or_parts, and_left, cond-true, cond-false}
 use Rattle.std.proofs.lemmas.Option.{none-some}
-use Rattle.flat_model.specs.Weight.{Weight, Item, SameWeight, nothing, mbuf, ◌⊕◌, all_of, times}
-use Rattle.flat_model.specs.Whole.{weight_of_pieces}
-use Rattle.flat_model.specs.Overlay.{Fragment}
-use Rattle.flat_model.specs.State.{State, Socket, Key, Unfinished, is_key, begun, begin_unfinished, ends}
-use Rattle.flat_model.specs.Count.{counted, counts_more}
-use Rattle.flat_model.specs.Ledger.{exact_ledger, HasBuffers, need_mbufs}
-use Rattle.flat_model.specs.Arrival.{Origin, By_wire, Looped, Tests, Lays, Joins, FragmentArrives, is_bad_fragment, counts_fragment}
-use Rattle.flat_model.specs.Arrival as flat
+use Rattle.flat_model.specs.Amounts.Weight.{Weight, Item, SameWeight, nothing, mbuf, ◌⊕◌, all_of, times}
+use Rattle.flat_model.specs.Fragments.Whole.{weight_of_pieces}
+use Rattle.flat_model.specs.Fragments.Overlay.{Fragment}
+use Rattle.flat_model.specs.Machine.State.{State, Socket, Key, Unfinished, is_key, begun, begin_unfinished, ends}
+use Rattle.flat_model.specs.Machine.Count.{counted, counts_more}
+use Rattle.flat_model.specs.Machine.Ledger.{exact_ledger, HasBuffers, need_mbufs}
+use Rattle.flat_model.specs.Machine.Arrival.{Origin, By_wire, Looped, Tests, Lays, Joins, FragmentArrives, is_bad_fragment, counts_fragment}
+use Rattle.flat_model.specs.Machine.Arrival as flat
 use Rattle.flat_model.specs.declared.counters.Counters.{Counters}
 use Rattle.flat_model.specs.declared.counter.Counter.TheVariants.{IpFragments}
 use Rattle.flat_model.specs.declared.counters.Why.TheVariants.{BadFragment, NoBufs}
@@ -33,9 +33,9 @@ use Rattle.ledger.specs.Accounts.{IsAccounted, Shifts, weight_of, weight_at, wei
 use Rattle.ledger.proofs.Laws.{accounted_after}
 use Rattle.ip_out.specs.declared.head.IpHead.{IpHead}
 use Rattle.ip_reass.specs.Fragments.{fragment_of}
-use Rattle.ip_reass.specs.Inside.{arrived}
+use Rattle.ip_reass.specs.Inside.Walks.{arrived}
 use Rattle.ip_reass.specs.Table.{has_key, held_all, IsTable, unfinished, unfinished_of}
-use Rattle.ip_reass.specs.Steps.{datagram_at}
+use Rattle.ip_reass.specs.Inside.Steps.{datagram_at}
 use Rattle.ip_reass.specs.Same.{held_all_same, table_same, unfinished_same, queues_same, table_weighs}
 use Rattle.ip_reass.specs.Layouts.{queues}
 use Rattle.ip_reass.specs.Arrivals.{AreDistinct, machine, flat_head, key_in, carried_at, CameBy, IsPulled, pulled_entries, carried_entries}

@@ -3,7 +3,7 @@ use Rattle.std.proofs.Common.{◌≡◌, ℕ, zero, suc, ◌+◌, ◌<◌, Bool,
 use Rattle.std.specs.Bool.{OnTrue, OnFalse}
 use Rattle.std.proofs.lemmas.Bool.{OnTrue_at, OnTrue_from, OnFalse_at, OnFalse_from}
 use Rattle.std.proofs.lemmas.List.{get_or_default, get_or-map, get_or-set_same, length-map}
-use Rattle.flat_model.specs.Overlay.{Map, overlay, is_covered}
+use Rattle.flat_model.specs.Fragments.Overlay.{Map, overlay, is_covered}
 use Rattle.mbuf_chain.specs.Chain.{ChainView, PoolView, chain_of, alone, without}
 use Rattle.mbuf_chain.specs.Owners.{times, IsOwned, Moves}
 use Rattle.mbuf_chain.specs.Frames.{SameAt}
@@ -13,7 +13,7 @@ use Rattle.ledger.specs.Accounts.{weight_of}
 use Rattle.ip_reass.specs.Fragments.{QueuedFragment, fragment_of, fragments, queued, laid, joined, map_of, IsQueue}
 use Rattle.ip_reass.specs.Table.{held, held_all, IsUnfinished, IsTable, unfinished, unfinished_of}
 use Rattle.ip_reass.specs.Layouts.{queue_of, queues}
-use Rattle.ip_reass.specs.Steps.{datagram_at, no_datagram, LaysIn, TakesOut}
+use Rattle.ip_reass.specs.Inside.Steps.{datagram_at, no_datagram, LaysIn, TakesOut}
 use Rattle.ip_reass.specs.declared.datagram.Datagram.{Datagram}
 use Rattle.ip_reass.proofs.Steps.{fragments_are}
 use Rattle.ip_reass.proofs.Places.{held_at, each_at, each_put, others_each, put_moves, put_shows, put_queues, gone_moves, gone_shows, gone_queues}

@@ -9,7 +9,7 @@ use Rattle.mbuf_chain.specs.Train.{TrainView, queued_packet_of, numbers, IsHeld}
 use Rattle.mbuf_chain.proofs.Laws.Owners.{times_same, live_owned}
 use Rattle.chain_ops.specs.Weights.{IsFit, AreFit}
 use Rattle.ip_reass.specs.Fragments.{queued_of, queued}
-use Rattle.ip_reass.specs.Inside.{AllFit, AllSome}
+use Rattle.ip_reass.specs.Inside.Walks.{AllFit, AllSome}
 
 low_of : (o : Option ℕ) (header first : Bool) (start : ℕ) → cond (is_some o) 0 (cond header (cond first 28 20) 20) ≤ start → cond (is_some o) 0 20 ≤ start
 low_of (Some c) header first start l = l

@@ -3,7 +3,7 @@ use Rattle.std.proofs.Common.{◌≡◌, ℕ, ◌≤◌, List, [], ◌∷◌, ma
 use Rattle.mbuf_chain.specs.Chain.{PoolView}
 use Rattle.mbuf_chain.specs.Train.{TrainView, QueuedPacket, queued_packet_of, queued_packets, numbers}
 use Rattle.mbuf_chain.specs.declared.queued_place.QueuedPlace.{QueuedPlace}
-use Rattle.ip_reass.specs.Inside.{IsFront, after}
+use Rattle.ip_reass.specs.Inside.Walks.{IsFront, after}
 
 numbers_of : (p : PoolView) (xs : List ℕ) → map (λ (queued_packet : QueuedPacket). queued_packet.number) (map (queued_packet_of p) xs) ≡ xs
 numbers_of p [] = refl

@@ -4,11 +4,11 @@ use Rattle.std.specs.Prelude.{nat_lt}
 use Rattle.std.specs.List.{cons_option}
 use Rattle.std.specs.FinMap as finmap
 use Rattle.std.proofs.lemmas.List.{length-map}
-use Rattle.flat_model.specs.Weight.{Weight, all_of, ◌⊕◌, times, Covers}
-use Rattle.flat_model.specs.Layout as flat
-use Rattle.flat_model.specs.Overlay.{Fragment}
-use Rattle.flat_model.specs.Whole.{IsWhole, weight_of_pieces}
-use Rattle.flat_model.specs.Arrival.{IsJoin}
+use Rattle.flat_model.specs.Amounts.Weight.{Weight, all_of, ◌⊕◌, times, Covers}
+use Rattle.flat_model.specs.Amounts.Layout as flat
+use Rattle.flat_model.specs.Fragments.Overlay.{Fragment}
+use Rattle.flat_model.specs.Fragments.Whole.{IsWhole, weight_of_pieces}
+use Rattle.flat_model.specs.Machine.Arrival.{IsJoin}
 use Rattle.mbuf_chain.specs.Chain.{Entry, Front, ChainView, PoolView, IsLive, chain_of, no_chain, without, flat_bytes, trailing_space}
 use Rattle.mbuf_chain.specs.Steps.{with_back}
 use Rattle.mbuf_chain.specs.Owners as owners
@@ -26,11 +26,11 @@ use Rattle.chain_ops.proofs.Laws.Joins.{cat_length, cat_bag, cat_fit, covers_fit
 use Rattle.ledger.specs.Accounts.{weight_of}
 use Rattle.flat_model.proofs.Laws.{times-both}
 use Rattle.ip_reass.specs.Fragments.{QueuedFragment, queued_of, queued, fragment_of, fragments, joined, joined_after, IsQueue, map_of}
-use Rattle.ip_reass.specs.Inside.{bytes_of, queued_at, AllFit, AllSome}
+use Rattle.ip_reass.specs.Inside.Walks.{bytes_of, queued_at, AllFit, AllSome}
 use Rattle.ip_reass.proofs.Steps.{fragments_are, length-queued, queued_is}
 use Rattle.ip_reass.proofs.Edits.{map-remove}
 use Rattle.ip_reass.proofs.Whole.{bytes_are}
-use Rattle.ip_reass.specs.Weighs.{weight_is}
+use Rattle.ip_reass.specs.Inside.Weighs.{weight_is}
 
 -- ---- the lists
 pub joined_next : (es : List Entry) (qs : List QueuedFragment) → 0 < length qs → joined_after es qs ≡ joined_after (cat es (queued_at qs 0).entries) (remove qs 0)
@@ -176,7 +176,7 @@ join_is p t n is some fit w =
     }
 
 -- **the bytes of the join are those of the map, in order**
-pub joined_bytes : (p : PoolView) (t : TrainView) (n : ℕ) → IsQueue p t → IsWhole (map_of (fragments p t)) n → Rattle.flat_model.specs.Whole.bytes_below (map_of (fragments p t)) n ≡ flat_bytes (joined (queued p t))
+pub joined_bytes : (p : PoolView) (t : TrainView) (n : ℕ) → IsQueue p t → IsWhole (map_of (fragments p t)) n → Rattle.flat_model.specs.Fragments.Whole.bytes_below (map_of (fragments p t)) n ≡ flat_bytes (joined (queued p t))
 joined_bytes p t n is w = (bytes_are (fragments p t) n is.apart w).0 ∙ (ap bytes_of (fragments_are p t) ∙ sym (queue_bytes (queued p t)))
 
 pub joined_len : (p : PoolView) (t : TrainView) (n : ℕ) → IsQueue p t → IsWhole (map_of (fragments p t)) n → n ≡ length (flat_bytes (joined (queued p t)))

@@ -2,12 +2,12 @@
 use Rattle.std.proofs.Common.{◌≡◌, ℕ, zero, suc, ◌+◌, ◌-◌, ◌<◌, ◌≤◌, min, Bool, true, false, List, [], ◌∷◌, ◌++◌, length, count_by, Option, None, Some, refl, sym, ap, ◌∙◌, inl, inr, ◌⊎◌, arith, length-drop}
 use Rattle.std.specs.List.{range_with_len}
 use Rattle.std.proofs.lemmas.Bool.{cases_lt, le-leb, lt-leb, lt-ltb, le-ltb, and_from, and_left, and_right, cond-true, cond-false}
-use Rattle.flat_model.specs.Overlay.{Held, Piece, Map, Fragment, stays, first_owned, is_covered, brought, cut_back, is_within, lies, overlay}
-use Rattle.flat_model.specs.Overlay as flat
+use Rattle.flat_model.specs.Fragments.Overlay.{Held, Piece, Map, Fragment, stays, first_owned, is_covered, brought, cut_back, is_within, lies, overlay}
+use Rattle.flat_model.specs.Fragments.Overlay as flat
 use Rattle.flat_model.proofs.Laws.{count_cons}
 use Rattle.ip_reass.specs.Fragments.{end_of, own, map_of, Apart}
-use Rattle.ip_reass.specs.Inside.{reach, AllUpto, AllAbove, trimmed, left_from}
-use Rattle.ip_reass.specs.Known.{known_here, known_below, known_past, below, within, past, place, none_or_some, nothing_past, nothing_upto, known_left, known_right, apart_join, apart_lower, left, left_whole, left_none, left_cut, end_trimmed, byte_trimmed, left_from_none, left_from_apart}
+use Rattle.ip_reass.specs.Inside.Walks.{reach, AllUpto, AllAbove, trimmed, left_from}
+use Rattle.ip_reass.specs.Inside.Known.{known_here, known_below, known_past, below, within, past, place, none_or_some, nothing_past, nothing_upto, known_left, known_right, apart_join, apart_lower, left, left_whole, left_none, left_cut, end_trimmed, byte_trimmed, left_from_none, left_from_apart}
 
 -- ---- the fragments that begin up to a, and those that begin above
 -- between a and where the last of them ends, the fragments before know each byte

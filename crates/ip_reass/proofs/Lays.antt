@@ -3,7 +3,7 @@ use Rattle.std.proofs.Common.{◌≡◌, ℕ, zero, suc, ◌+◌, ◌-◌, ◌/�
 use Rattle.std.specs.FinMap as finmap
 use Rattle.std.proofs.lemmas.Bool.{cond-true, cond-false, le-leb, lt-leb}
 use Rattle.std.proofs.lemmas.List.{take-append-drop, take_at, drop_at, length-take-le, take-map, drop-map, map-append}
-use Rattle.flat_model.specs.Overlay.{Fragment, overlay, is_covered}
+use Rattle.flat_model.specs.Fragments.Overlay.{Fragment, overlay, is_covered}
 use Rattle.mbuf_chain.specs.Chain.{ChainView, PoolView, IsLive, chain_of, without, flat_bytes, string, no_chain}
 use Rattle.mbuf_chain.specs.Owners.{times, Moves}
 use Rattle.mbuf_chain.specs.Train.{TrainView, numbers, queued_packets, IsHeld}
@@ -11,8 +11,8 @@ use Rattle.mbuf_chain.proofs.Laws.Owners.{moves_trans, moves_beside, moves_witho
 use Rattle.mbuf_chain.proofs.Laws.Trains.{Beside, beside_without}
 use Rattle.chain_ops.specs.Trims.{without_first}
 use Rattle.ip_reass.specs.Fragments.{QueuedFragment, queued_of, queued, queued_end, cut, cut_to, laid, laid_after, fragment_of, fragment_in, fragments, map_of, Apart, AllEnd, IsQueue}
-use Rattle.ip_reass.specs.Inside.{arrived, reach, is_gapless, AllUpto, AllAbove, trimmed, left_from}
-use Rattle.ip_reass.specs.Known.{apart_left, apart_right, end_trimmed, AllEnd-append, AllEnd-take, AllEnd-drop, AllEnd-left_from}
+use Rattle.ip_reass.specs.Inside.Walks.{arrived, reach, is_gapless, AllUpto, AllAbove, trimmed, left_from}
+use Rattle.ip_reass.specs.Inside.Known.{apart_left, apart_right, end_trimmed, AllEnd-append, AllEnd-take, AllEnd-drop, AllEnd-left_from}
 use Rattle.ip_reass.proofs.Laid.{Around, laid_is, laid_apart, covered_yes, covered_no}
 use Rattle.chain_ops.proofs.Laws.Strings.{without_first_bytes}
 use Rattle.ip_reass.proofs.Edits.{map-insert, weight_trimmed}

@@ -2,7 +2,7 @@
 use Rattle.std.proofs.Common.{◌≡◌, ℕ, zero, suc, ◌+◌, ◌<◌, ◌≤◌, Bool, true, false, not, cond, List, [], ◌∷◌, ◌++◌, length, map, filter, find, count_by, get_or, set, insert, remove, Option, None, Some, unwrap_or, refl, sym, ap, ◌∙◌, arith, ◌⊎◌, inl, inr}
 use Rattle.std.proofs.lemmas.Bool.{cond-true, cond-false}
 use Rattle.std.proofs.lemmas.Option.{none-some}
-use Rattle.flat_model.specs.State.{Unfinished}
+use Rattle.flat_model.specs.Machine.State.{Unfinished}
 use Rattle.flat_model.proofs.Laws.{count_cons}
 use Rattle.mbuf_chain.specs.Chain.{PoolView}
 use Rattle.mbuf_chain.specs.Owners.{times, IsOwned, Moves}

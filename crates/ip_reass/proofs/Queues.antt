@@ -4,16 +4,16 @@ use Rattle.std.specs.Prelude.{slice_get}
 use Rattle.std.proofs.lemmas.Bool.{false≢true, cond-true, cond-false}
 use Rattle.std.proofs.lemmas.List.{get_or-map, length-map, length-set, take-map}
 use Rattle.std.proofs.lemmas.Option.{none-some}
-use Rattle.flat_model.specs.Overlay.{Fragment, is_covered}
-use Rattle.flat_model.specs.State.{Key}
+use Rattle.flat_model.specs.Fragments.Overlay.{Fragment, is_covered}
+use Rattle.flat_model.specs.Machine.State.{Key}
 use Rattle.flat_model.specs.declared.counters.Counters.{Counters}
 use Rattle.mbuf_chain.specs.Chain.{Entry, ChainView, PoolView, chain_of, string}
 use Rattle.ip_out.specs.declared.head.IpHead.{IpHead}
 use Rattle.ip_reass.specs.Arrivals.{carried_entries, key_in}
 use Rattle.ip_reass.specs.Fragments.{QueuedFragment, laid, joined, fragment_of, fragments, map_of}
-use Rattle.ip_reass.specs.Inside.{arrived}
+use Rattle.ip_reass.specs.Inside.Walks.{arrived}
 use Rattle.ip_reass.specs.Table.{TableView, has_key}
-use Rattle.ip_reass.specs.Steps.{datagram_at, no_datagram, LaysIn}
+use Rattle.ip_reass.specs.Inside.Steps.{datagram_at, no_datagram, LaysIn}
 use Rattle.ip_reass.specs.Layouts.{KeyedQueue, queue_of, queues, goes_by, with_laid, laid_under, under, without_key, Leaves, WaitOrNone, HasLayout, fragment_carried, no_queue, queue_at, LeavesAt}
 use Rattle.ip_reass.specs.declared.datagram.Datagram.{Datagram}
 use Rattle.ip_reass.specs.declared.arrival.Arrival.{Arrival}

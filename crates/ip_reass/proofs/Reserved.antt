@@ -2,12 +2,12 @@
 use Rattle.std.proofs.Common.{◌≡◌, ℕ, ◌<◌, ◌≤◌, Bool, true, false, List, [], ◌∷◌, ◌++◌, length, find, count_by, get_or, None, refl, sym, ap, ◌∙◌, subst, arith, inl, inr, length-append}
 use Rattle.std.proofs.lemmas.Bool.{false≢true, and_from, eq-eqb}
 use Rattle.std.proofs.lemmas.List.Sums.{count_by-le-length}
-use Rattle.flat_model.specs.Weight.{Weight, ◌⊕◌}
-use Rattle.flat_model.specs.Overlay.{Fragment}
-use Rattle.flat_model.specs.State.{State, Key, Unfinished, is_key, begun, begin_unfinished}
-use Rattle.flat_model.specs.Count.{counted}
-use Rattle.flat_model.specs.Ledger.{exact_ledger, HasBuffers, need_mbufs}
-use Rattle.flat_model.specs.Arrival.{Lays}
+use Rattle.flat_model.specs.Amounts.Weight.{Weight, ◌⊕◌}
+use Rattle.flat_model.specs.Fragments.Overlay.{Fragment}
+use Rattle.flat_model.specs.Machine.State.{State, Key, Unfinished, is_key, begun, begin_unfinished}
+use Rattle.flat_model.specs.Machine.Count.{counted}
+use Rattle.flat_model.specs.Machine.Ledger.{exact_ledger, HasBuffers, need_mbufs}
+use Rattle.flat_model.specs.Machine.Arrival.{Lays}
 use Rattle.flat_model.specs.declared.counters.Counters.{Counters}
 use Rattle.flat_model.specs.declared.counters.Why.TheVariants.{NoBufs}
 use Rattle.flat_model.proofs.Laws.{count-append}
@@ -18,11 +18,11 @@ use Rattle.mbuf_chain.specs.Frames.{IsBounded, SameAt}
 use Rattle.mbuf_chain.proofs.Laws.Owners.{times_same, chain_same, moves_trans, moves_beside, moves_without, same_beside, same_without, owned_after, live_first, apart_first, live_at_most}
 use Rattle.mbuf_chain.proofs.Laws.Accounts.{owned_at_most}
 use Rattle.ip_reass.specs.Fragments.{fragment_of}
-use Rattle.ip_reass.specs.Inside.{arrived}
+use Rattle.ip_reass.specs.Inside.Walks.{arrived}
 use Rattle.ip_reass.specs.Table.{held, held_all, new_datagram, IsTable, unfinished, unfinished_of}
 use Rattle.ip_reass.specs.Same.{held_all_same, table_same, unfinished_same, queues_same}
 use Rattle.ip_reass.specs.Layouts.{queues}
-use Rattle.ip_reass.specs.Steps.{datagram_at, no_datagram}
+use Rattle.ip_reass.specs.Inside.Steps.{datagram_at, no_datagram}
 use Rattle.ip_reass.specs.Arrivals.{machine, BeginsAt}
 use Rattle.ip_reass.specs.declared.datagram.Datagram.{Datagram}
 use Rattle.ip_reass.specs.declared.arrival.Arrival.{Arrival}

@@ -2,13 +2,13 @@
 use Rattle.std.proofs.Common.{◌≡◌, ℕ, zero, suc, ◌<◌, ◌≤◌, Bool, true, not, cond, List, [], ◌∷◌, ◌++◌, length, map, filter, count_by, get_or, set, take, drop, remove, refl, sym, ap, ◌∙◌, subst, arith, inl, inr}
 use Rattle.std.proofs.lemmas.Bool.{false≢true}
 use Rattle.std.proofs.lemmas.List.{get_or-map, get_or-set_same, length-map, length-set}
-use Rattle.flat_model.specs.Weight.{Weight, Item}
-use Rattle.flat_model.specs.Overlay.{Map, overlay}
-use Rattle.flat_model.specs.Whole.{IsWhole, bytes_below, weight_of_pieces}
-use Rattle.flat_model.specs.State.{State, Key, Unfinished, is_key, end_unfinished}
-use Rattle.flat_model.specs.Count.{counts_more}
-use Rattle.flat_model.specs.Ledger.{exact_ledger}
-use Rattle.flat_model.specs.Arrival.{Lays, Settles, IsJoin, WholeArrives, counts_reassembled}
+use Rattle.flat_model.specs.Amounts.Weight.{Weight, Item}
+use Rattle.flat_model.specs.Fragments.Overlay.{Map, overlay}
+use Rattle.flat_model.specs.Fragments.Whole.{IsWhole, bytes_below, weight_of_pieces}
+use Rattle.flat_model.specs.Machine.State.{State, Key, Unfinished, is_key, end_unfinished}
+use Rattle.flat_model.specs.Machine.Count.{counts_more}
+use Rattle.flat_model.specs.Machine.Ledger.{exact_ledger}
+use Rattle.flat_model.specs.Machine.Arrival.{Lays, Settles, IsJoin, WholeArrives, counts_reassembled}
 use Rattle.flat_model.specs.declared.counters.Counters.{Counters}
 use Rattle.flat_model.specs.declared.counter.Counter.TheVariants.{IpReassembled}
 use Rattle.mbuf_chain.specs.Chain.{Entry, PoolView, chain_of, flat_bytes, string}
@@ -17,7 +17,7 @@ use Rattle.ledger.specs.Accounts.{item_of, item_at, weight_of}
 use Rattle.ip_reass.specs.Fragments.{QueuedFragment, fragment_of, fragments, map_of, queued, laid, joined, IsQueue}
 use Rattle.ip_reass.specs.Layouts.{KeyedQueue, queue_of, queues, no_queue, queue_at}
 use Rattle.ip_reass.specs.Table.{unfinished, unfinished_of}
-use Rattle.ip_reass.specs.Steps.{datagram_at, no_datagram, LaysIn, TakesOut}
+use Rattle.ip_reass.specs.Inside.Steps.{datagram_at, no_datagram, LaysIn, TakesOut}
 use Rattle.ip_reass.specs.Arrivals.{machine}
 use Rattle.ip_reass.specs.declared.datagram.Datagram.{Datagram}
 use Rattle.mbuf_chain.specs.Owners.{Moves}

@@ -2,7 +2,7 @@
 use Rattle.std.proofs.Common.{◌≡◌, ℕ, zero, suc, ◌+◌, ◌-◌, ◌*◌, ◌/◌, ◌%◌, ◌<◌, ◌≤◌, eqb, List, [], ◌∷◌, ◌++◌, length, map, set, take, drop, insert, remove, refl, sym, ap, ◌∙◌, subst, arith}
 use Rattle.std.proofs.lemmas.Bool.{cond-true, cond-false, le-leb, lt-leb}
 use Rattle.std.proofs.lemmas.List.{get_or-map, drop_all, set_split, length-map, take-append-drop}
-use Rattle.flat_model.specs.Overlay.{Fragment}
+use Rattle.flat_model.specs.Fragments.Overlay.{Fragment}
 use Rattle.mbuf_chain.specs.Chain.{Entry, ChainView, PoolView, IsLive, chain_of, with_chain}
 use Rattle.mbuf_chain.specs.Owners.{times, Moves}
 use Rattle.mbuf_chain.specs.Train.{TrainView, QueuedPacket, no_queued_packet, queued_packet_at, numbers, queued_packets, IsHeld}
@@ -10,7 +10,7 @@ use Rattle.mbuf_chain.proofs.Laws.Owners.{moves_trans, moves_beside, moves_with,
 use Rattle.mbuf_chain.proofs.Laws.Trains.{Beside, beside_with, FreedPacket, length-queued_packets}
 use Rattle.chain_ops.specs.Trims.{without_first}
 use Rattle.ip_reass.specs.Fragments.{QueuedFragment, queued_of, queued, queued_end, cut, cut_to, fragment_of, fragment_in, fragments, AllEnd}
-use Rattle.ip_reass.specs.Inside.{queued_at, no_queued}
+use Rattle.ip_reass.specs.Inside.Walks.{queued_at, no_queued}
 use Rattle.ip_reass.proofs.Edits.{insert_remove, take-remove, drop-remove, map-remove, map-insert}
 
 -- ---- fragments by place

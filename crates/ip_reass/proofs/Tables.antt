@@ -1,7 +1,7 @@
 -- Steps over the table of unfinished datagrams.
 use Rattle.std.proofs.Common.{◌≡◌, ◌⊎◌, ℕ, zero, suc, ◌+◌, ◌<◌, Bool, true, false, List, [], ◌∷◌, ◌++◌, length, map, get_or, take, drop, refl, sym, ap, ◌∙◌, subst, inl, inr, arith}
 use Rattle.std.proofs.lemmas.List.{map-append}
-use Rattle.flat_model.specs.State.{Unfinished, begun}
+use Rattle.flat_model.specs.Machine.State.{Unfinished, begun}
 use Rattle.mbuf_chain.specs.Chain.{PoolView, without}
 use Rattle.mbuf_chain.specs.Owners.{times, IsOwned, Moves}
 use Rattle.mbuf_chain.specs.Frames.{SameAt}
@@ -12,7 +12,7 @@ use Rattle.ledger.specs.Accounts.{weight_of}
 use Rattle.ip_reass.specs.Table.{held, held_all, new_datagram, IsUnfinished, AllUnfinished, IsTable, unfinished_of, unfinished}
 use Rattle.ip_reass.specs.Fragments.{queued, queued_of}
 use Rattle.ip_reass.specs.declared.datagram.Datagram.{Datagram}
-use Rattle.flat_model.specs.State.{Key}
+use Rattle.flat_model.specs.Machine.State.{Key}
 use Rattle.std.specs.Prelude.{find, slice_get}
 use Rattle.std.proofs.Common.{None}
 use Rattle.std.proofs.lemmas.Bool.{cond-true, cond-false}

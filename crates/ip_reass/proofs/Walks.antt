@@ -1,12 +1,12 @@
 -- Walks over the fragments of a train.
 use Rattle.std.proofs.Common.{◌≡◌, ℕ, zero, suc, ◌+◌, ◌/◌, ◌%◌, ◌<◌, ◌≤◌, Bool, true, false, ◌&&◌, eqb, List, [], ◌∷◌, length, take, drop, remove, refl, sym, ap, ◌∙◌, subst, arith}
 use Rattle.std.proofs.lemmas.List.{get_or-map, length-map}
-use Rattle.flat_model.specs.Overlay.{Fragment}
+use Rattle.flat_model.specs.Fragments.Overlay.{Fragment}
 use Rattle.mbuf_chain.specs.Chain.{PoolView, flat_bytes}
 use Rattle.mbuf_chain.specs.Train.{TrainView, no_queued_packet, queued_packet_at, queued_packets, IsHeld}
 use Rattle.mbuf_chain.proofs.Laws.Trains.{length-queued_packets}
 use Rattle.ip_reass.specs.Fragments.{fragment_in, fragments, end_of, Apart, AllEnd}
-use Rattle.ip_reass.specs.Inside.{fragment_at, no_fragment, reach, is_gapless, AllUpto, AllAbove}
+use Rattle.ip_reass.specs.Inside.Walks.{fragment_at, no_fragment, reach, is_gapless, AllUpto, AllAbove}
 
 -- ---- fragments by place
 pub length-fragments : (p : PoolView) (t : TrainView) → IsHeld p t → length (fragments p t) ≡ t.len

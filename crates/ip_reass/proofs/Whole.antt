@@ -3,13 +3,13 @@ use Rattle.std.proofs.Common.{◌≡◌, ◌≢◌, ℕ, zero, suc, ◌+◌, ◌
 use Rattle.std.specs.Prelude.{IsSome, IfSome}
 use Rattle.std.proofs.lemmas.Bool.{cases_lt, false≢true, and_parts, and_from, eqb-true, eq-eqb}
 use Rattle.std.proofs.lemmas.List.{get_or-append_right, get_or_append_left, drop_all, take-append-drop}
-use Rattle.flat_model.specs.Overlay.{Held}
-use Rattle.flat_model.specs.Whole.{IsWhole, bytes_below}
+use Rattle.flat_model.specs.Fragments.Overlay.{Held}
+use Rattle.flat_model.specs.Fragments.Whole.{IsWhole, bytes_below}
 use Rattle.flat_model.proofs.Laws.{whole_bytes}
-use Rattle.flat_model.specs.Overlay.{Fragment}
+use Rattle.flat_model.specs.Fragments.Overlay.{Fragment}
 use Rattle.ip_reass.specs.Fragments.{end_of, own, map_of, AllEnd, Apart}
-use Rattle.ip_reass.specs.Inside.{reach, is_gapless, bytes_of, fragment_at}
-use Rattle.ip_reass.specs.Known.{known_here, known_below, known_past, below, within, past, place, nothing_below, nothing_past, reach_grows}
+use Rattle.ip_reass.specs.Inside.Walks.{reach, is_gapless, bytes_of, fragment_at}
+use Rattle.ip_reass.specs.Inside.Known.{known_here, known_below, known_past, below, within, past, place, nothing_below, nothing_past, reach_grows}
 use Rattle.ip_reass.proofs.Walks.{rest_at}
 
 -- each begins where the one before ends, the first at low

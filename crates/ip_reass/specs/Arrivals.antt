@@ -2,13 +2,13 @@
 -- every rest of the machine.
 use Rattle.std.specs.Prelude.{◌≡◌, ◌⊎◌, ℕ, ◌+◌, ◌<◌, ◌≤◌, Bool, true, false, is_some, nat_le, if◌then◌else◌, List, [], ◌∷◌, length, drop, count_by, None}
 use Rattle.params.specs.declared.TheConstants.{IP_HEADER, MINCLSIZE, MAX_PROTOCOL_HEADER}
-use Rattle.flat_model.specs.Weight.{Weight, Item, ◌⊕◌}
-use Rattle.flat_model.specs.Header.{Head}
-use Rattle.flat_model.specs.Overlay.{Fragment}
-use Rattle.flat_model.specs.State.{State, Key, is_key, begun, begin_unfinished}
-use Rattle.flat_model.specs.Count.{counted}
-use Rattle.flat_model.specs.Ledger.{exact_ledger, HasBuffers, need_mbufs}
-use Rattle.flat_model.specs.Arrival.{Origin, By_wire, Looped, Tests, Lays, WholeArrives}
+use Rattle.flat_model.specs.Amounts.Weight.{Weight, Item, ◌⊕◌}
+use Rattle.flat_model.specs.Packets.Header.{Head}
+use Rattle.flat_model.specs.Fragments.Overlay.{Fragment}
+use Rattle.flat_model.specs.Machine.State.{State, Key, is_key, begun, begin_unfinished}
+use Rattle.flat_model.specs.Machine.Count.{counted}
+use Rattle.flat_model.specs.Machine.Ledger.{exact_ledger, HasBuffers, need_mbufs}
+use Rattle.flat_model.specs.Machine.Arrival.{Origin, By_wire, Looped, Tests, Lays, WholeArrives}
 use Rattle.flat_model.specs.declared.counters.Counters.{Counters}
 use Rattle.flat_model.specs.declared.counters.Why.TheVariants.{NoBufs}
 use Rattle.mbuf_chain.specs.Chain.{ChainView, Entry, PoolView, alone, chain_of, entry_of, string}

@@ -4,7 +4,7 @@ use Rattle.std.specs.Prelude.{ℕ, ◌+◌, ◌-◌, ◌/◌, ◌%◌, ◌<◌, 
 use Rattle.params.specs.declared.TheConstants.{IP_MAX_DATA}
 use Rattle.chain_ops.specs.Trims.{without_first}
 use Rattle.chain_ops.specs.Joins.{cat}
-use Rattle.flat_model.specs.Overlay.{Piece, Held, Map, Fragment}
+use Rattle.flat_model.specs.Fragments.Overlay.{Piece, Held, Map, Fragment}
 use Rattle.mbuf_chain.specs.Chain.{Entry, PoolView, flat_bytes}
 use Rattle.mbuf_chain.specs.Train.{QueuedPacket, TrainView, queued_packets, IsHeld}
 use Rattle.ledger.specs.Accounts.{weight_of}

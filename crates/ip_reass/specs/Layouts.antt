@@ -1,8 +1,8 @@
 -- The layout of what waits and of what is handed out: the mbufs that fragments have, where their bytes begin, and which clusters
 -- they refer to (`ip_reass` of TCP/IP Illustrated, volume 2, chapter 10, with `m_pullup`, `m_adj` and `m_cat` of chapter 2).
 use Rattle.std.specs.Prelude.{◌≡◌, ◌⊎◌, ℕ, Bool, true, ◌==◌, ◌&&◌, if◌then◌else◌, List, [], ◌∷◌, map, slice_index_or, slice_set, remove}
-use Rattle.flat_model.specs.Overlay.{is_covered}
-use Rattle.flat_model.specs.State.{Key}
+use Rattle.flat_model.specs.Fragments.Overlay.{is_covered}
+use Rattle.flat_model.specs.Machine.State.{Key}
 use Rattle.mbuf_chain.specs.Chain.{ChainView, PoolView, chain_of}
 use Rattle.ip_out.specs.declared.head.IpHead.{IpHead}
 use Rattle.ip_reass.specs.Arrivals.{carried_entries}

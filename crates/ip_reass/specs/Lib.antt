@@ -1,9 +1,6 @@
 pub mod Fragments
-pub mod Inside
-pub mod Known
-pub mod Weighs
 pub mod Table
 pub mod Same
 pub mod Arrivals
 pub mod Layouts
-pub mod Steps
+pub mod Inside

@@ -2,9 +2,9 @@
 -- (this project's own).
 use Rattle.std.proofs.Common.{◌≡◌, ℕ, List, [], ◌∷◌, ◌++◌, length, map, refl, sym, ap, ◌∙◌, subst, arith}
 use Rattle.std.proofs.lemmas.List.{length-map}
-use Rattle.flat_model.specs.Weight.{Weight, SameWeight, all_of, mbuf, ◌⊕◌}
-use Rattle.flat_model.specs.State.{Unfinished}
-use Rattle.flat_model.specs.Whole.{weight_of_pieces}
+use Rattle.flat_model.specs.Amounts.Weight.{Weight, SameWeight, all_of, mbuf, ◌⊕◌}
+use Rattle.flat_model.specs.Machine.State.{Unfinished}
+use Rattle.flat_model.specs.Fragments.Whole.{weight_of_pieces}
 use Rattle.mbuf_chain.specs.Chain.{PoolView}
 use Rattle.mbuf_chain.specs.Owners.{IsOwned}
 use Rattle.mbuf_chain.specs.Frames.{SameAt}
@@ -13,12 +13,12 @@ use Rattle.mbuf_chain.proofs.Laws.Owners.{times-append, times_same, chain_same, 
 use Rattle.mbuf_chain.specs.Kept.{numbers_same, queued_packets_same, held_same}
 use Rattle.ledger.specs.Accounts.{weight_of, weight_at, weight_owned}
 use Rattle.flat_model.proofs.Laws.{times-both, all_of-append}
-use Rattle.flat_model.specs.Overlay.{Fragment}
+use Rattle.flat_model.specs.Fragments.Overlay.{Fragment}
 use Rattle.ip_reass.specs.Fragments.{queued_of, fragment_in, fragments, map_of, Apart, AllEnd, IsQueue}
 use Rattle.ip_reass.specs.Layouts.{queues}
 use Rattle.ip_reass.specs.Table.{held, held_all, IsUnfinished, AllUnfinished, IsTable, TableView, IsReady, unfinished_of, unfinished}
 use Rattle.ip_reass.specs.declared.datagram.Datagram.{Datagram}
-use Rattle.ip_reass.specs.Weighs.{weight_is}
+use Rattle.ip_reass.specs.Inside.Weighs.{weight_is}
 
 pub none_held : (p : PoolView) (ds : List Datagram) → length ds ≡ 0 → held_all p ds ≡ []
 none_held p [] e = refl
@@ -99,10 +99,10 @@ table_weighs p (d ∷ ds) a =
       mbufs = omega (arith, ap (λ (w : Weight). w.mbufs) two, rest.mbufs, ap (λ (w : Weight). w.mbufs) one);
       bag = λ c. omega (
         arith,
-        ap (λ (w : Weight). Rattle.flat_model.specs.Weight.times c w.bag) two,
+        ap (λ (w : Weight). Rattle.flat_model.specs.Amounts.Weight.times c w.bag) two,
         rest.bag c,
         times-both c (weight_owned p (held p d)) (weight_owned p (held_all p ds)),
         times-both c (mbuf ⊕ weight_of_pieces (map_of (fragments p d.fragments))) us,
-        ap (λ (w : Weight). Rattle.flat_model.specs.Weight.times c w.bag) one,
+        ap (λ (w : Weight). Rattle.flat_model.specs.Amounts.Weight.times c w.bag) one,
       );
     }

@@ -2,8 +2,8 @@
 use Rattle.std.specs.Prelude.{◌≡◌, ℕ, ◌-◌, ◌≤◌, nat_lt, Bool, ◌==◌, ◌&&◌, if◌then◌else◌, List, [], ◌∷◌, ◌++◌, map, None}
 use Rattle.std.specs.List.{AllByRecursion}
 use Rattle.params.specs.declared.TheConstants.{FRAGMENT_TICKS}
-use Rattle.flat_model.specs.Weight.{mbuf}
-use Rattle.flat_model.specs.State.{Key, Unfinished}
+use Rattle.flat_model.specs.Amounts.Weight.{mbuf}
+use Rattle.flat_model.specs.Machine.State.{Key, Unfinished}
 use Rattle.mbuf_chain.specs.Chain.{PoolView}
 use Rattle.mbuf_chain.specs.Owners.{times, IsOwned}
 use Rattle.mbuf_chain.specs.Train.{numbers}

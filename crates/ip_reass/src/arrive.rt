@@ -1,9 +1,9 @@
 //! A fragment arrives: its header is pulled up, its key is looked for, and it joins the others of its datagram.
 ghost use Rattle.std.specs.Prelude.{◌≡◌, ℕ, ◌+◌, ◌<◌, ◌≤◌, ◌∷◌, ◌++◌, true, false, None, Some, IfSome, length, find, is_some, option_to_list};
-ghost use Rattle.flat_model.specs.State.{State, is_key};
-ghost use Rattle.flat_model.specs.Weight.{Weight, ◌⊕◌};
-ghost use Rattle.flat_model.specs.Ledger.{exact_ledger};
-ghost use Rattle.flat_model.specs.Arrival.{FragmentArrives, Joins, Origin, is_bad_fragment};
+ghost use Rattle.flat_model.specs.Machine.State.{State, is_key};
+ghost use Rattle.flat_model.specs.Amounts.Weight.{Weight, ◌⊕◌};
+ghost use Rattle.flat_model.specs.Machine.Ledger.{exact_ledger};
+ghost use Rattle.flat_model.specs.Machine.Arrival.{FragmentArrives, Joins, Origin, is_bad_fragment};
 ghost use Rattle.mbuf_chain.specs.Chain.{chain_of, entry_of, string};
 ghost use Rattle.mbuf_chain.specs.Owners.{IsOwned, Moves};
 ghost use Rattle.ledger.specs.Accounts.{IsAccounted, weight_at, weight_owned};
@@ -11,7 +11,7 @@ ghost use Rattle.ip_reass.specs.Arrivals.{AreDistinct, BeginsAt, CameBy, GoesOn,
 ghost use Rattle.ip_reass.specs.Fragments.{fragment_of};
 ghost use Rattle.ip_reass.specs.Layouts.{HasLayout, WaitOrNone, fragment_carried, queues};
 ghost use Rattle.ip_reass.specs.Table.{IsReady, has_key, held_all, unfinished};
-ghost use Rattle.ip_reass.specs.Inside.{arrived};
+ghost use Rattle.ip_reass.specs.Inside.Walks.{arrived};
 
 use crate::arrival::Arrival;
 use crate::lay::settle;

@@ -1,17 +1,17 @@
 //! A fragment laid among those of its datagram, and the datagram taken out where it is whole.
 ghost use Rattle.std.specs.Prelude.{◌≡◌, ℕ, ◌+◌, ◌<◌, ◌≤◌, ◌∷◌, ◌++◌, true, count_by, length, vec_capacity, vec_len};
-ghost use Rattle.flat_model.specs.State.{State, is_key};
-ghost use Rattle.flat_model.specs.Weight.{Weight};
-ghost use Rattle.flat_model.specs.Ledger.{exact_ledger};
-ghost use Rattle.flat_model.specs.Arrival.{Lays};
+ghost use Rattle.flat_model.specs.Machine.State.{State, is_key};
+ghost use Rattle.flat_model.specs.Amounts.Weight.{Weight};
+ghost use Rattle.flat_model.specs.Machine.Ledger.{exact_ledger};
+ghost use Rattle.flat_model.specs.Machine.Arrival.{Lays};
 ghost use Rattle.mbuf_chain.specs.Chain.{PoolView, IsLive, chain_of, string, alone};
 ghost use Rattle.mbuf_chain.specs.Owners.{IsOwned, Moves};
 ghost use Rattle.ip_reass.specs.Arrivals.{GoesOn, HasWhole, in_hand, key_in, machine};
 ghost use Rattle.ip_reass.specs.Fragments.{fragment_of, fragments, map_of};
 ghost use Rattle.ip_reass.specs.Layouts.{LeavesAt, queues};
 ghost use Rattle.ip_reass.specs.Table.{IsTable, held_all, unfinished, unfinished_of};
-ghost use Rattle.ip_reass.specs.Inside.{TellsWhole, arrived, is_left};
-ghost use Rattle.ip_reass.specs.Steps.{LaysIn, TakesOut, datagram_at};
+ghost use Rattle.ip_reass.specs.Inside.Walks.{TellsWhole, arrived, is_left};
+ghost use Rattle.ip_reass.specs.Inside.Steps.{LaysIn, TakesOut, datagram_at};
 
 use crate::arrival::Arrival;
 use crate::datagram::Datagram;

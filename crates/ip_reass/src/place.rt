@@ -4,7 +4,7 @@ ghost use Rattle.std.specs.Prelude.{◌≡◌, ◌+◌, ◌<◌, ◌∷◌, true
 ghost use Rattle.mbuf_chain.specs.Chain.{IsLive, chain_of, alone};
 ghost use Rattle.mbuf_chain.specs.Owners.{times, Moves};
 ghost use Rattle.mbuf_chain.specs.Train.{queued_packets, queued_packet_at, numbers, IsQueuedPlace, IsHeld};
-ghost use Rattle.ip_reass.specs.Inside.{IsFront, after};
+ghost use Rattle.ip_reass.specs.Inside.Walks.{IsFront, after};
 
 use mbuf_chain::{Chain, Pool, QueuedPlace, Train};
 

@@ -1,12 +1,12 @@
 //! The fragments of an unfinished datagram, in order of offset, as a train (TCP/IP Illustrated, volume 2, chapter 10).
 ghost use Rattle.std.specs.Bool.{OnTrue, OnFalse};
 ghost use Rattle.std.specs.Prelude.{◌≡◌, ℕ, ◌+◌, ◌-◌, ◌*◌, ◌/◌, ◌%◌, ◌==◌, ◌<◌, ◌≤◌, ◌++◌, ◌∷◌, [], true, length, not, take, drop, remove, slice_set};
-ghost use Rattle.flat_model.specs.Overlay.{overlay, is_covered};
+ghost use Rattle.flat_model.specs.Fragments.Overlay.{overlay, is_covered};
 ghost use Rattle.mbuf_chain.specs.Chain.{IsLive, chain_of, string, alone, flat_bytes};
 ghost use Rattle.mbuf_chain.specs.Owners.{times, Moves};
 ghost use Rattle.mbuf_chain.specs.Train.{numbers, IsQueuedPlace, IsHeld};
 ghost use Rattle.ip_reass.specs.Fragments.{AllEnd, IsQueue, cut, cut_to, fragment_of, fragments, joined, laid, map_of, queued, queued_end};
-ghost use Rattle.ip_reass.specs.Inside.{AllAbove, AllUpto, IsFront, TellsWhole, arrived, after, is_gapless, is_left, queued_at, reach};
+ghost use Rattle.ip_reass.specs.Inside.Walks.{AllAbove, AllUpto, IsFront, TellsWhole, arrived, after, is_gapless, is_left, queued_at, reach};
 
 use crate::place::{insert_after, next_after, take_after};
 use chain_ops::{cat_after, trim_front};

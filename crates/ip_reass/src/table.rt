@@ -1,8 +1,8 @@
 //! The table of unfinished datagrams.
 ghost use Rattle.std.specs.Prelude.{IfOk, ◌==◌, ◌≡◌, ℕ, ◌+◌, ◌-◌, ◌≤◌, ◌<◌, ◌*◌, List, length, take, remove, find, sum_by, slice_get, slice_index_or, MatchOption, None, ◌++◌, ◌∷◌, [], vec_len, vec_capacity};
-ghost use Rattle.flat_model.specs.Count.{counts_more};
-ghost use Rattle.flat_model.specs.State.{State};
-ghost use Rattle.flat_model.specs.Step.{ticked};
+ghost use Rattle.flat_model.specs.Machine.Count.{counts_more};
+ghost use Rattle.flat_model.specs.Machine.State.{State};
+ghost use Rattle.flat_model.specs.Machine.Step.{ticked};
 ghost use Rattle.flat_model.specs.declared.counter.Counter.TheVariants.{IpFragtimeout};
 ghost use Rattle.flat_model.specs.declared.counters.Counters.{Counters};
 ghost use Rattle.mbuf_chain.specs.Chain.{PoolView};

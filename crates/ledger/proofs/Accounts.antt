@@ -3,11 +3,11 @@ use Rattle.std.proofs.Common.{◌≡◌, ℕ, ◌+◌, ◌-◌, ◌<◌, ◌≤�
 use Rattle.std.specs.Prelude.{◌&&◌, nat_le}
 use Rattle.std.specs.List.{range_with_len}
 use Rattle.std.proofs.lemmas.Bool.{leb-true, and_parts}
-use Rattle.flat_model.specs.Weight.{Weight, ◌⊕◌, SameWeight}
-use Rattle.flat_model.specs.State.{State}
-use Rattle.flat_model.specs.Layout.{Need}
-use Rattle.flat_model.specs.Ledger as flat
-use Rattle.flat_model.specs.Ledger.{weight_of_state, has_enough}
+use Rattle.flat_model.specs.Amounts.Weight.{Weight, ◌⊕◌, SameWeight}
+use Rattle.flat_model.specs.Machine.State.{State}
+use Rattle.flat_model.specs.Amounts.Layout.{Need}
+use Rattle.flat_model.specs.Machine.Ledger as flat
+use Rattle.flat_model.specs.Machine.Ledger.{weight_of_state, has_enough}
 use Rattle.flat_model.specs.declared.config.Config.{Config}
 use Rattle.mbuf_chain.specs.Chain.{PoolView, held_mbufs, free_clusters}
 use Rattle.mbuf_chain.specs.Owners.{IsAll}

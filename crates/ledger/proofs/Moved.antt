@@ -3,8 +3,8 @@ use Rattle.std.proofs.Common.{◌≡◌, ◌≢◌, ℕ, zero, suc, ◌+◌, ◌
 use Rattle.std.specs.FinMap as finmap
 use Rattle.std.proofs.lemmas.Bool.{cases_eq}
 use Rattle.std.proofs.lemmas.List.Sums.{sum_by-cons}
-use Rattle.flat_model.specs.Weight.{Weight, times as bag_times}
-use Rattle.flat_model.specs.State.{State}
+use Rattle.flat_model.specs.Amounts.Weight.{Weight, times as bag_times}
+use Rattle.flat_model.specs.Machine.State.{State}
 use Rattle.flat_model.specs.declared.config.Config.{Config}
 use Rattle.mbuf_chain.specs.Chain.{ChainView, PoolView, IsLive, chain_of, without, mbufs_of, references_of, held_mbufs, references}
 use Rattle.mbuf_chain.specs.Owners.{times, live_at, IsOwned, Moves}

@@ -1,11 +1,11 @@
 -- A test of the pool is the machine's, for each state whose accounts the pool keeps.
 use Rattle.std.proofs.Common.{◌≡◌, ℕ, Bool, true, false, List, [], ◌∷◌, length, refl, sym, ◌∙◌, subst, arith, inl, inr}
-use Rattle.flat_model.specs.Count.{counts_more}
-use Rattle.flat_model.specs.Weight.{Weight, Item, mbuf, nothing, ◌⊕◌, all_of, SameWeight}
-use Rattle.flat_model.specs.Whole.{weight_of_pieces}
-use Rattle.flat_model.specs.State.{State, Socket, Datagram, Unfinished}
-use Rattle.flat_model.specs.Layout.{Need}
-use Rattle.flat_model.specs.Ledger.{weight_of_state, exact_ledger, HasBuffers, reclaimed}
+use Rattle.flat_model.specs.Machine.Count.{counts_more}
+use Rattle.flat_model.specs.Amounts.Weight.{Weight, Item, mbuf, nothing, ◌⊕◌, all_of, SameWeight}
+use Rattle.flat_model.specs.Fragments.Whole.{weight_of_pieces}
+use Rattle.flat_model.specs.Machine.State.{State, Socket, Datagram, Unfinished}
+use Rattle.flat_model.specs.Amounts.Layout.{Need}
+use Rattle.flat_model.specs.Machine.Ledger.{weight_of_state, exact_ledger, HasBuffers, reclaimed}
 use Rattle.flat_model.specs.declared.counter.Counter.TheVariants.{IpReclaimed}
 use Rattle.flat_model.specs.declared.counters.Counters.{Counters}
 use Rattle.mbuf_chain.specs.Chain.{PoolView}

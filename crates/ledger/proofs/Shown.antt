@@ -2,10 +2,10 @@
 use Rattle.std.proofs.Common.{◌≡◌, ℕ, ◌+◌, sym, arith}
 use Rattle.std.specs.Prelude.{map, sum, fold, max}
 use Rattle.std.specs.List.{range_with_len}
-use Rattle.flat_model.specs.Weight.{nothing}
-use Rattle.flat_model.specs.State.{State}
-use Rattle.flat_model.specs.Ledger as flat
-use Rattle.flat_model.specs.Ledger.{count_of, usage_of}
+use Rattle.flat_model.specs.Amounts.Weight.{nothing}
+use Rattle.flat_model.specs.Machine.State.{State}
+use Rattle.flat_model.specs.Machine.Ledger as flat
+use Rattle.flat_model.specs.Machine.Ledger.{count_of, usage_of}
 use Rattle.mbuf_chain.specs.Chain.{PoolView, held_mbufs, references, free_clusters}
 use Rattle.ledger.specs.Accounts.{IsAccounted}
 use Rattle.ledger.proofs.Accounts.{free_mbufs_are, free_clusters_are}

@@ -2,7 +2,7 @@
 use Rattle.std.proofs.Common.{◌≡◌, ℕ, cond, List, [], ◌∷◌, sum_by, count_by, filter_map, Option, None, Some, refl, arith}
 use Rattle.std.specs.Prelude.{◌==◌}
 use Rattle.std.proofs.lemmas.List.Sums.{sum_by-cons, sum_by-append}
-use Rattle.flat_model.specs.Weight.{times}
+use Rattle.flat_model.specs.Amounts.Weight.{times}
 use Rattle.mbuf_chain.specs.Chain.{Entry, PoolView, chain_of, mbufs_of, references_of, refers}
 use Rattle.ledger.specs.Accounts.{weight_of, weight_at, weight_owned}
 

@@ -1,8 +1,8 @@
 -- What chains weigh, and when a pool holds what a state of the flat machine weighs (this project's own).
 use Rattle.std.specs.Prelude.{◌≡◌, ℕ, ◌+◌, List, length, filter_map}
-use Rattle.flat_model.specs.Weight.{Weight, Item, ◌⊕◌, all_of, times}
-use Rattle.flat_model.specs.State.{State}
-use Rattle.flat_model.specs.Ledger.{weight_of_state, count_of}
+use Rattle.flat_model.specs.Amounts.Weight.{Weight, Item, ◌⊕◌, all_of, times}
+use Rattle.flat_model.specs.Machine.State.{State}
+use Rattle.flat_model.specs.Machine.Ledger.{weight_of_state, count_of}
 use Rattle.mbuf_chain.specs.Chain.{Entry, PoolView, chain_of, flat_bytes, held_mbufs, references}
 
 -- ---- what chains weigh

@@ -2,10 +2,10 @@
 -- of TCP/IP Illustrated, volume 2, chapter 10).
 use Rattle.std.specs.Prelude.{ℕ, ◌-◌, Bool, nat_le, ◌&&◌}
 use Rattle.mbuf_chain.specs.Chain.{PoolView, held_mbufs, free_clusters}
-use Rattle.flat_model.specs.Weight.{Weight}
-use Rattle.flat_model.specs.State.{State}
-use Rattle.flat_model.specs.Layout.{Need}
-use Rattle.flat_model.specs.Ledger.{exact_ledger, HasBuffers}
+use Rattle.flat_model.specs.Amounts.Weight.{Weight}
+use Rattle.flat_model.specs.Machine.State.{State}
+use Rattle.flat_model.specs.Amounts.Layout.{Need}
+use Rattle.flat_model.specs.Machine.Ledger.{exact_ledger, HasBuffers}
 use Rattle.ledger.specs.Accounts.{IsAccounted}
 
 -- so many mbufs and clusters are free

@@ -1,8 +1,8 @@
 //! The test of the pool, and what is given back where it fails.
 
 ghost use Rattle.std.specs.Prelude.{◌≡◌, true, false};
-ghost use Rattle.flat_model.specs.State.{State};
-ghost use Rattle.flat_model.specs.Weight.{Weight};
+ghost use Rattle.flat_model.specs.Machine.State.{State};
+ghost use Rattle.flat_model.specs.Amounts.Weight.{Weight};
 ghost use Rattle.mbuf_chain.specs.Owners.{Moves};
 ghost use Rattle.ledger.specs.Accounts.{IsAccounted};
 ghost use Rattle.ledger.specs.Reserve.{are_free, Reserves};

@@ -1,9 +1,9 @@
 //! What is in use of the pool.
 
 ghost use Rattle.std.specs.Prelude.{◌≡◌};
-ghost use Rattle.flat_model.specs.State.{State};
-ghost use Rattle.flat_model.specs.Weight.{nothing};
-ghost use Rattle.flat_model.specs.Ledger.{usage_of};
+ghost use Rattle.flat_model.specs.Machine.State.{State};
+ghost use Rattle.flat_model.specs.Amounts.Weight.{nothing};
+ghost use Rattle.flat_model.specs.Machine.Ledger.{usage_of};
 ghost use Rattle.ledger.specs.Accounts.{IsAccounted};
 
 use flat_model::Mbstat;

@@ -1,9 +1,9 @@
 //! Unfinished datagrams as the flat machine sees them.
 
 ghost use Rattle.std.specs.Prelude.{◌≡◌, ℕ, List, length};
-ghost use Rattle.flat_model.specs.State.{Unfinished};
-ghost use Rattle.flat_model.specs.Weight.{all_of, mbuf, ◌⊕◌, SameWeight};
-ghost use Rattle.flat_model.specs.Whole.{weight_of_pieces};
+ghost use Rattle.flat_model.specs.Machine.State.{Unfinished};
+ghost use Rattle.flat_model.specs.Amounts.Weight.{all_of, mbuf, ◌⊕◌, SameWeight};
+ghost use Rattle.flat_model.specs.Fragments.Whole.{weight_of_pieces};
 ghost use Rattle.mbuf_chain.specs.Chain.{PoolView};
 ghost use Rattle.mbuf_chain.specs.Frames.{SameAt};
 ghost use Rattle.ledger.specs.Accounts.{weight_owned};

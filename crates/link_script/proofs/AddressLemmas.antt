@@ -3,7 +3,7 @@ use Rattle.std.proofs.Common.{◌≡◌, ℕ, ◌+◌, ◌*◌, ◌<◌, ◌^◌
 use Rattle.std.specs.Int.{w32, from_be_bytes}
 use Rattle.std.specs.Net.Grammar.{IsDotted}
 use Rattle.std.specs.Net.Text.{dotted_text}
-use Rattle.flat_model.specs.Grammar.{address_text, IsAddress}
+use Rattle.flat_model.specs.Scripts.Grammar.{address_text, IsAddress}
 
 address-octets : (a b c d n : ℕ) → a < 256 → b < 256 → c < 256 → d < 256
     → n ≡ a * 16777216 + b * 65536 + c * 256 + d → (n < 2 ^ 32) × (dotted_text a b c d ≡ address_text n)

@@ -1,7 +1,7 @@
 -- A machine that isn't made serves nothing.
 use Rattle.std.proofs.Common.{ℕ, List, Option, Err, refl}
-use Rattle.flat_model.specs.Event.{Event, Reply}
-use Rattle.flat_model.specs.State.{State, boot}
+use Rattle.flat_model.specs.Machine.Event.{Event, Reply}
+use Rattle.flat_model.specs.Machine.State.{State, boot}
 use Rattle.flat_model.specs.declared.config.Config.{Config}
 use Rattle.script_loop.specs.Serves.{Serves}
 use Rattle.script_loop.specs.declared.fault.RunFault.{RunFault}

@@ -1,9 +1,9 @@
 -- The text of counters, one after another.
 use Rattle.std.proofs.Common.{◌≡◌, ℕ, ◌≤◌, List, [], ◌∷◌, ◌++◌, length, take, flat_map, map, codes, arith, Some, sym, ap, ◌∙◌, append_assoc, append-nil}
 use Rattle.std.proofs.lemmas.List.{take_all}
-use Rattle.flat_model.specs.Count.{all_counters, counter_name, value_of}
-use Rattle.flat_model.specs.Event.{Counted}
-use Rattle.flat_model.specs.Texts.{answer_text, count, count_text}
+use Rattle.flat_model.specs.Machine.Count.{all_counters, counter_name, value_of}
+use Rattle.flat_model.specs.Machine.Event.{Counted}
+use Rattle.flat_model.specs.Scripts.Texts.{answer_text, count, count_text}
 use Rattle.flat_model.specs.declared.counter.Counter.{Counter}
 use Rattle.flat_model.specs.declared.counters.Counters.{Counters}
 

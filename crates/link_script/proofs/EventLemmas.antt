@@ -10,8 +10,8 @@ use Rattle.hex.proofs.HexLemmas.{decode_of-ok, decode_of-same}
 use Rattle.flat_model.specs.declared.address.Addr.{Addr}
 use Rattle.flat_model.specs.declared.option.Opt.{Opt}
 use Rattle.flat_model.specs.declared.option.Opt.TheVariants.{Broadcast, ReusePort}
-use Rattle.flat_model.specs.Event.{Event, Open, Bind, Connect, Send, Receive, Close, Set_option, Comes, Transmit, Tick, Ask_counters, Ask_usage}
-use Rattle.flat_model.specs.Grammar.{keyword, HasArguments, IsLine, IsNumber, IsAddress, IsEnd, IsHex, option_name, switch_name}
+use Rattle.flat_model.specs.Machine.Event.{Event, Open, Bind, Connect, Send, Receive, Close, Set_option, Comes, Transmit, Tick, Ask_counters, Ask_usage}
+use Rattle.flat_model.specs.Scripts.Grammar.{keyword, HasArguments, IsLine, IsNumber, IsAddress, IsEnd, IsHex, option_name, switch_name}
 use Rattle.link_script.proofs.AddressLemmas.{IsAddress-dotted}
 use Rattle.link_script.proofs.KeywordLemmas.{place, index, place-keyword}
 

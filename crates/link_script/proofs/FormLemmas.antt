@@ -1,13 +1,13 @@
 -- From the words of a line to what it asks for.
 use Rattle.std.proofs.Common.{◌≡◌, ℕ, ◌≤◌, List, ◌∷◌, length, Option, Some, None, refl, sym, ap, ◌∙◌, arith, subst}
 use Rattle.std.specs.Prelude.{MatchOption}
-use Rattle.flat_model.specs.Event.{Event, Send, Receive, Comes}
-use Rattle.flat_model.specs.Grammar.{words, keyword, HasArguments}
-use Rattle.flat_model.specs.Script.{Asks, all_events}
+use Rattle.flat_model.specs.Machine.Event.{Event, Send, Receive, Comes}
+use Rattle.flat_model.specs.Scripts.Grammar.{words, keyword, HasArguments}
+use Rattle.flat_model.specs.Scripts.Script.{Asks, all_events}
 use Rattle.link_script.specs.declared.keyword.Keyword.{Keyword}
 use Rattle.link_script.specs.declared.keyword.Keyword.TheVariants as line
-use Rattle.link_script.specs.Parts.{IsForm, ReadsForm, word_of}
-use Rattle.link_script.specs.Requests.{event_of}
+use Rattle.link_script.specs.Inside.Parts.{IsForm, ReadsForm, word_of}
+use Rattle.link_script.specs.Inside.Requests.{event_of}
 use Rattle.link_script.specs.declared.request.Request.{Request}
 use Rattle.link_script.proofs.KeywordLemmas.{index-word}
 

@@ -1,11 +1,11 @@
 -- Which keyword an event has.
 use Rattle.std.proofs.Common.{◌≡◌, ℕ, ◌+◌, if◌then◌else◌, List, codes, bytes_eq, Option, Some, None, refl, sym, ap, ◌∙◌}
 use Rattle.flat_model.specs.declared.address.Addr.{Addr}
-use Rattle.flat_model.specs.Event.{Event, Open, Bind, Connect, Send, Receive, Close, Set_option, Comes, Transmit, Tick, Ask_counters, Ask_usage}
-use Rattle.flat_model.specs.Grammar.{keyword}
+use Rattle.flat_model.specs.Machine.Event.{Event, Open, Bind, Connect, Send, Receive, Close, Set_option, Comes, Transmit, Tick, Ask_counters, Ask_usage}
+use Rattle.flat_model.specs.Scripts.Grammar.{keyword}
 use Rattle.link_script.specs.declared.keyword.Keyword.{Keyword}
 use Rattle.link_script.specs.declared.keyword.Keyword.TheVariants as line
-use Rattle.link_script.specs.Parts.{word_of}
+use Rattle.link_script.specs.Inside.Parts.{word_of}
 
 -- a number for each keyword
 pub place : List ℕ → ℕ

@@ -1,13 +1,13 @@
 -- What a machine prints by its answers.
 use Rattle.std.proofs.Common.{ℕ, List, [], ◌∷◌, ◌++◌, ap, ◌∙◌}
-use Rattle.flat_model.specs.Event.{Event, Reply}
-use Rattle.flat_model.specs.State.{State, boot}
-use Rattle.flat_model.specs.Step.{Step}
-use Rattle.flat_model.specs.Ledger.{exact_ledger}
-use Rattle.flat_model.specs.Texts.{answer_text}
+use Rattle.flat_model.specs.Machine.Event.{Event, Reply}
+use Rattle.flat_model.specs.Machine.State.{State, boot}
+use Rattle.flat_model.specs.Machine.Step.{Step}
+use Rattle.flat_model.specs.Machine.Ledger.{exact_ledger}
+use Rattle.flat_model.specs.Scripts.Texts.{answer_text}
 use Rattle.flat_model.specs.declared.config.Config.{Config}
-use Rattle.flat_model.specs.Script as script
-use Rattle.flat_model.specs.Script.{PrintsRun, all_events}
+use Rattle.flat_model.specs.Scripts.Script as script
+use Rattle.flat_model.specs.Scripts.Script.{PrintsRun, all_events}
 use Rattle.flat_model.proofs.Laws.{print_of_run}
 use Rattle.script_loop.specs.Printed.{Prints}
 use Rattle.link_script.specs.Says.{Says}

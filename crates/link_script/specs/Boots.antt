@@ -1,7 +1,7 @@
 -- Which configurations a machine is booted with (this project's own).
 use Rattle.std.specs.Prelude.{Result, Ok, Err}
 use Rattle.flat_model.specs.declared.config.Config.{Config}
-use Rattle.flat_model.specs.State.{IsConfig, HasSizes}
+use Rattle.flat_model.specs.Machine.State.{IsConfig, HasSizes}
 use Rattle.net_stack.specs.declared.stack.BootFault.{BootFault}
 use Rattle.net_stack.specs.declared.stack.BootFault.TheVariants as boot
 use Rattle.script_loop.specs.declared.fault.RunFault.{RunFault}

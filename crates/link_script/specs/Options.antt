@@ -2,7 +2,7 @@
 -- the faults that it finds in words, and `subcommand_of` what the words after a subcommand give.
 use Rattle.std.specs.Prelude.{◌≡◌, ◌≢◌, ◌⊎◌, ℕ, ◌-◌, true, List, [], length, slice_get, codes, Option, Some, None, Result, Ok, Err}
 use Rattle.clap.specs.Words.{App, Rule, Row, new_app, new_rule, with_rule, with_subcommand, first_of, subcommand_of, fault_of}
-use Rattle.flat_model.specs.Grammar.{IsNumber, IsAddress}
+use Rattle.flat_model.specs.Scripts.Grammar.{IsNumber, IsAddress}
 use Rattle.flat_model.specs.declared.config.Config.{Config}
 use Rattle.mbuf_pool.specs.declared.sizes.Sizes.{Sizes}
 use Rattle.link_script.specs.declared.options.Task.{Task}

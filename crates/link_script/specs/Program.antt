@@ -1,7 +1,7 @@
 -- What the program does, by its status (this project's own).
 use Rattle.std.specs.Prelude.{◌≡◌, ◌⊎◌, ℕ, List, [], Option, Result, Ok, Err}
-use Rattle.flat_model.specs.State.{State, boot}
-use Rattle.flat_model.specs.Step.{Step}
+use Rattle.flat_model.specs.Machine.State.{State, boot}
+use Rattle.flat_model.specs.Machine.Step.{Step}
 use Rattle.flat_model.specs.declared.config.Config.{Config}
 use Rattle.script_loop.specs.Serves.{Serves, Moves}
 use Rattle.script_loop.specs.declared.fault.RunFault.{RunFault}

@@ -1,9 +1,9 @@
 -- What a machine may print for a line by its steps.
 use Rattle.std.specs.Prelude.{◌≡◌, ℕ, List, Option}
-use Rattle.flat_model.specs.Event.{Event, Reply}
-use Rattle.flat_model.specs.State.{State}
-use Rattle.flat_model.specs.Texts.{answer_text}
-use Rattle.flat_model.specs.Script.{Answers, all_events}
+use Rattle.flat_model.specs.Machine.Event.{Event, Reply}
+use Rattle.flat_model.specs.Machine.State.{State}
+use Rattle.flat_model.specs.Scripts.Texts.{answer_text}
+use Rattle.flat_model.specs.Scripts.Script.{Answers, all_events}
 
 -- the text of an answer that it may give; all lines are served
 abbrev pub Says : (State → Event → Reply → State → Type 0) → State → List ℕ → List ℕ → State → Type 0

@@ -1,6 +1,6 @@
 //! The words that write addresses.
 ghost use Rattle.std.specs.Prelude.{◌≡◌, ℕ, MatchOption};
-ghost use Rattle.flat_model.specs.Grammar.{IsAddress};
+ghost use Rattle.flat_model.specs.Scripts.Grammar.{IsAddress};
 
 use std::net::Ipv4Addr;
 

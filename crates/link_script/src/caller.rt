@@ -1,10 +1,10 @@
 //! A machine whose calls are made by lines.
 ghost use Rattle.std.specs.Prelude.{◌≡◌, ◌≤◌, ◌++◌, List, ℕ, length, Some, Option};
-ghost use Rattle.flat_model.specs.Event.{Reply, Receive, Transmit};
-ghost use Rattle.flat_model.specs.State.{State};
-ghost use Rattle.flat_model.specs.Texts.{answer_text};
+ghost use Rattle.flat_model.specs.Machine.Event.{Reply, Receive, Transmit};
+ghost use Rattle.flat_model.specs.Machine.State.{State};
+ghost use Rattle.flat_model.specs.Scripts.Texts.{answer_text};
 ghost use Rattle.link_script.specs.Says.{Says};
-ghost use Rattle.link_script.specs.Requests.{event_of, room_of};
+ghost use Rattle.link_script.specs.Inside.Requests.{event_of, room_of};
 
 use crate::machine::Machine;
 use crate::reply::{

@@ -1,8 +1,8 @@
 //! The words that lines begin with.
 ghost use Rattle.std.specs.Prelude.{◌≡◌, MatchOption};
-ghost use Rattle.flat_model.specs.Event.{Event};
-ghost use Rattle.flat_model.specs.Grammar as grammar;
-ghost use Rattle.link_script.specs.Parts.{word_of};
+ghost use Rattle.flat_model.specs.Machine.Event.{Event};
+ghost use Rattle.flat_model.specs.Scripts.Grammar as grammar;
+ghost use Rattle.link_script.specs.Inside.Parts.{word_of};
 
 /// The word that a line begins with.
 #[derive(Clone, Copy)]

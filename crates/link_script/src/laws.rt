@@ -1,11 +1,11 @@
 //! Laws of the lines. Each is a function that does nothing, and its contract is the law.
 ghost use Rattle.std.specs.Prelude.{◌≡◌, ℕ, List};
-ghost use Rattle.flat_model.specs.Event.{Event, IsEvent};
-ghost use Rattle.flat_model.specs.State.{State, boot};
-ghost use Rattle.flat_model.specs.Grammar.{IsLine};
-ghost use Rattle.flat_model.specs.Step.{Step};
-ghost use Rattle.flat_model.specs.Script as script;
-ghost use Rattle.flat_model.specs.Script.{PrintsRun, all_events};
+ghost use Rattle.flat_model.specs.Machine.Event.{Event, IsEvent};
+ghost use Rattle.flat_model.specs.Machine.State.{State, boot};
+ghost use Rattle.flat_model.specs.Scripts.Grammar.{IsLine};
+ghost use Rattle.flat_model.specs.Machine.Step.{Step};
+ghost use Rattle.flat_model.specs.Scripts.Script as script;
+ghost use Rattle.flat_model.specs.Scripts.Script.{PrintsRun, all_events};
 ghost use Rattle.flat_model.specs.declared.config.Config.{Config};
 ghost use Rattle.script_loop.specs.Printed.{Prints};
 ghost use Rattle.link_script.specs.Says.{Says};

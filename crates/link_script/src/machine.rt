@@ -1,8 +1,8 @@
 ghost use Rattle.std.specs.Prelude.{◌≡◌, ◌<◌, ◌≤◌, ◌^◌, length, IfOk, IfSome, MatchResult};
-ghost use Rattle.flat_model.specs.Event.{Event, Reply, Open, Bind, Connect, Send, Receive, Close, Set_option, Comes, Transmit, Tick, Ask_counters, Ask_usage, Done, Counted, Shown};
-ghost use Rattle.flat_model.specs.State.{State};
-ghost use Rattle.flat_model.specs.State as flat;
-ghost use Rattle.flat_model.specs.Replies.{opened_reply, done_reply, sent_reply, received_reply, given_reply, FitsRoom};
+ghost use Rattle.flat_model.specs.Machine.Event.{Event, Reply, Open, Bind, Connect, Send, Receive, Close, Set_option, Comes, Transmit, Tick, Ask_counters, Ask_usage, Done, Counted, Shown};
+ghost use Rattle.flat_model.specs.Machine.State.{State};
+ghost use Rattle.flat_model.specs.Machine.State as flat;
+ghost use Rattle.flat_model.specs.Machine.Replies.{opened_reply, done_reply, sent_reply, received_reply, given_reply, FitsRoom};
 ghost use Rattle.link_script.specs.Boots.{IsUnbooted};
 
 use flat_model::{Addr, Config, Counters, Errno, Mbstat, Opt};

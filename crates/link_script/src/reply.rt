@@ -1,10 +1,10 @@
 //! The lines that replies are printed as.
 ghost use Rattle.std.specs.Prelude.{◌≡◌, ◌+◌, ◌*◌, ◌≤◌, ◌++◌, length, Some, codes, decimal, Option, Result, IfSome};
-ghost use Rattle.flat_model.specs.Count.{counter_name};
-ghost use Rattle.flat_model.specs.Event.{Counted, Shown};
-ghost use Rattle.flat_model.specs.Grammar.{address_text};
-ghost use Rattle.flat_model.specs.Texts.{hex_text, refusal_text, lack_text, answer_text, count, count_text, share_text};
-ghost use Rattle.flat_model.specs.Replies.{opened_reply, done_reply, sent_reply, received_reply, given_reply, FitsRoom};
+ghost use Rattle.flat_model.specs.Machine.Count.{counter_name};
+ghost use Rattle.flat_model.specs.Machine.Event.{Counted, Shown};
+ghost use Rattle.flat_model.specs.Scripts.Grammar.{address_text};
+ghost use Rattle.flat_model.specs.Scripts.Texts.{hex_text, refusal_text, lack_text, answer_text, count, count_text, share_text};
+ghost use Rattle.flat_model.specs.Machine.Replies.{opened_reply, done_reply, sent_reply, received_reply, given_reply, FitsRoom};
 
 use flat_model::{Addr, Counter, Counters, Errno, Mbstat};
 use script_loop::{Buffer, HELD, put_hex, put_number};

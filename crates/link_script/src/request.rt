@@ -1,13 +1,13 @@
 //! What a line asks for.
 ghost use Rattle.std.specs.Prelude.{◌≡◌, ◌≤◌, ℕ, Bool, List, [], length, MatchOption, IfSome};
 ghost use Rattle.flat_model.specs.declared.address.Addr.{Addr};
-ghost use Rattle.flat_model.specs.Event.{Event};
-ghost use Rattle.flat_model.specs.Grammar.{IsEnd, option_name, switch_name};
-ghost use Rattle.flat_model.specs.Script.{Asks, all_events};
-ghost use Rattle.link_script.specs.Requests.{event_of, room_of};
+ghost use Rattle.flat_model.specs.Machine.Event.{Event};
+ghost use Rattle.flat_model.specs.Scripts.Grammar.{IsEnd, option_name, switch_name};
+ghost use Rattle.flat_model.specs.Scripts.Script.{Asks, all_events};
+ghost use Rattle.link_script.specs.Inside.Requests.{event_of, room_of};
 ghost use Rattle.link_script.specs.declared.keyword.Keyword.TheVariants as line;
 ghost use Rattle.script_loop.specs.Left.{left};
-ghost use Rattle.link_script.specs.Parts.{ReadsForm};
+ghost use Rattle.link_script.specs.Inside.Parts.{ReadsForm};
 
 use crate::address::address;
 use crate::keyword::{Keyword, keyword_of};

@@ -1,7 +1,7 @@
 //! The runs that callers ask for.
 ghost use Rattle.std.specs.Prelude.{◌≡◌};
-ghost use Rattle.flat_model.specs.State.{State, boot};
-ghost use Rattle.flat_model.specs.Step.{Step};
+ghost use Rattle.flat_model.specs.Machine.State.{State, boot};
+ghost use Rattle.flat_model.specs.Machine.Step.{Step};
 ghost use Rattle.script_loop.specs.Streams.{MoreBy, reader_failures, writer_failures};
 ghost use Rattle.link_script.specs.Says.{Says};
 ghost use Rattle.link_script.specs.Boots.{Boots};

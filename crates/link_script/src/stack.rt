@@ -1,6 +1,6 @@
 //! The stack as a machine whose calls are made by lines.
 ghost use Rattle.std.specs.Prelude.{◌≡◌, MatchResult};
-ghost use Rattle.flat_model.specs.Step.{Step};
+ghost use Rattle.flat_model.specs.Machine.Step.{Step};
 ghost use Rattle.net_stack.specs.Stack.{state_of};
 ghost use Rattle.link_script.specs.Boots.{refused_as};
 

@@ -4,7 +4,7 @@ use Rattle.std.specs.Option.{IfSome}
 use Rattle.mbuf_pool.specs.Store.{StoreView, head_of}
 use Rattle.mbuf_chain.specs.declared.place.Place.{Place}
 use Rattle.mbuf_chain.specs.Chain.{chain_of, IsLive, IsPlace}
-use Rattle.mbuf_chain.specs.Cells.{pool_of, IsPool}
+use Rattle.mbuf_chain.specs.Inside.Cells.{pool_of, IsPool}
 use Rattle.mbuf_chain.specs.Frames.{Fits, IsBounded}
 use Rattle.mbuf_chain.proofs.Lists.{few_out, out_below}
 use Rattle.mbuf_chain.proofs.Changes.{held_is}

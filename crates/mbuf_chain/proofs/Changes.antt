@@ -11,7 +11,7 @@ use Rattle.std.proofs.lemmas.List.Sums.{sum_by-cons}
 use Rattle.mbuf_pool.specs.Cells.{Head}
 use Rattle.mbuf_pool.specs.Store.{StoreView, MbufView, mbuf_of, head_of, cluster_of, is_out, mbufs_out, count_of, IsStore}
 use Rattle.mbuf_chain.specs.Chain.{ChainView, mbufs_of, references_of, refers}
-use Rattle.mbuf_chain.specs.Cells.{weigh, weigh_all, is_at, one, place_bytes, entry_from, entry_at, front_of, refers_at, first_of, read_chain, cells_from, is_pointed, chain_at, view_of, IsLinked, IsFollower, AllFollow, IsChain, IsTotal, IsSound, IsFit, len_at, out_at}
+use Rattle.mbuf_chain.specs.Inside.Cells.{weigh, weigh_all, is_at, one, place_bytes, entry_from, entry_at, front_of, refers_at, first_of, read_chain, cells_from, is_pointed, chain_at, view_of, IsLinked, IsFollower, AllFollow, IsChain, IsTotal, IsSound, IsFit, len_at, out_at}
 use Rattle.mbuf_chain.proofs.Maps.{same, get-tabulate, total_is, total-insert, total-empty}
 use Rattle.mbuf_chain.proofs.Lists.{chains_of, get-chains_of, chain_is, find_chain, Found, heads_at, heads-tails, split_first, is_at_same, not_first, small}
 

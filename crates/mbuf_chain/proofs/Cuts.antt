@@ -9,7 +9,7 @@ use Rattle.mbuf_pool.specs.Cells.{Head, PacketHeader}
 use Rattle.mbuf_pool.specs.Store.{StoreView, is_out, head_of, SetsHead, IsStore}
 use Rattle.mbuf_chain.specs.Chain.{ChainView, PoolView, alone, chain_of, IsLive, with_chain, Adds}
 use Rattle.mbuf_chain.specs.Steps.{first_part, second_part}
-use Rattle.mbuf_chain.specs.Cells.{weigh, weigh_all, is_at, one, len_at, entry_at, front_of, arrival_of, packet_len, total_of, refers_at, first_of, read_chain, cells_from, view_of, IsLinked, IsFollower, AllFollow, IsChain, IsOff, IsFit, pool_of, IsPool, last_of}
+use Rattle.mbuf_chain.specs.Inside.Cells.{weigh, weigh_all, is_at, one, len_at, entry_at, front_of, arrival_of, packet_len, total_of, refers_at, first_of, read_chain, cells_from, view_of, IsLinked, IsFollower, AllFollow, IsChain, IsOff, IsFit, pool_of, IsPool, last_of}
 use Rattle.mbuf_chain.proofs.Maps.{get_there, one_to_two}
 use Rattle.mbuf_chain.proofs.Lists.{is_at_same, chains_of, get-chains_of, heads_at, heads-tails, not_first, bytes_bound, few_out}
 use Rattle.mbuf_chain.proofs.Changes.{SameCell, step, view_is, links_kept}

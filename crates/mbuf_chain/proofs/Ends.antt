@@ -3,7 +3,7 @@ use Rattle.std.proofs.Common.{◌≡◌, ℕ, zero, suc, ◌+◌, ◌-◌, ◌<�
 use Rattle.std.specs.Option.{IsSome}
 use Rattle.mbuf_pool.specs.Cells.{Head}
 use Rattle.mbuf_pool.specs.Store.{StoreView, is_out, head_of, IsStore}
-use Rattle.mbuf_chain.specs.Cells.{weigh, one, len_at, cells_from, IsWhole, last_of}
+use Rattle.mbuf_chain.specs.Inside.Cells.{weigh, one, len_at, cells_from, IsWhole, last_of}
 use Rattle.mbuf_chain.proofs.Lists.{walk_on, walk_end, few_cells, bytes_bound}
 use Rattle.mbuf_chain.proofs.Joins.{weigh-append}
 

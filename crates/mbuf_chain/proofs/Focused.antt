@@ -6,7 +6,7 @@ use Rattle.std.proofs.lemmas.Option.{get_or_from_slice_get, same_Some}
 use Rattle.mbuf_pool.specs.Store.{StoreView, head_of, is_out}
 use Rattle.mbuf_chain.specs.declared.place.Place.{Place}
 use Rattle.mbuf_chain.specs.Chain.{ChainView, chain_of, IsLive, entry_of, no_entry, IsPlace}
-use Rattle.mbuf_chain.specs.Cells.{weigh, weigh_all, is_at, one, entry_at, refers_at, first_of, read_chain, cells_from, view_of, IsLinked, IsChain, IsTotal, IsTotalBy, IsOff, IsSound, IsFit, pool_of, IsPool, IsFreeable, IsWhole}
+use Rattle.mbuf_chain.specs.Inside.Cells.{weigh, weigh_all, is_at, one, entry_at, refers_at, first_of, read_chain, cells_from, view_of, IsLinked, IsChain, IsTotal, IsTotalBy, IsOff, IsSound, IsFit, pool_of, IsPool, IsFreeable, IsWhole}
 use Rattle.std.proofs.lemmas.Bool.{cases_eq, cases_lt}
 use Rattle.mbuf_chain.proofs.Lists.{chains_of, walk_is, is_at_same, is_at_other, small, bit, few_out}
 use Rattle.mbuf_chain.proofs.Changes.{Focus, focus, count_ones}

@@ -6,7 +6,7 @@ use Rattle.mbuf_pool.specs.Store.{StoreView, head_of, is_out}
 use Rattle.mbuf_chain.specs.declared.place.Place.{Place}
 use Rattle.mbuf_chain.specs.Chain.{Entry, chain_of, IsLive, IsPlace, with_chain, entry_of, room_start, room_end, leading_space, trailing_space}
 use Rattle.mbuf_chain.specs.Steps.{with_entry, with_front, with_back}
-use Rattle.mbuf_chain.specs.Cells.{weigh, one, entry_from, IsFollower, AllFollow, IsChain, pool_of, IsPool, room_low, room_high, with_segment, WritesPlace}
+use Rattle.mbuf_chain.specs.Inside.Cells.{weigh, one, entry_from, IsFollower, AllFollow, IsChain, pool_of, IsPool, room_low, room_high, with_segment, WritesPlace}
 use Rattle.mbuf_chain.proofs.Focused.{open_on, enter}
 use Rattle.mbuf_chain.proofs.Heads.{shown_at}
 use Rattle.mbuf_chain.proofs.Places.{header_is}

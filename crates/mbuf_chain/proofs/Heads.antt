@@ -9,7 +9,7 @@ use Rattle.mbuf_pool.specs.Store.{StoreView, MbufView, ClusterView, is_out, mbuf
 use Rattle.mbuf_chain.specs.declared.place.Place.{Place}
 use Rattle.mbuf_chain.specs.Chain.{Entry, Front, ChainView, PoolView, chain_of, IsLive, with_chain, entry_of, IsPlace}
 use Rattle.mbuf_chain.specs.Steps.{with_entry, narrowed}
-use Rattle.mbuf_chain.specs.Cells.{weigh, is_at, one, len_at, place_bytes, entry_from, entry_at, front_of, arrival_of, refers_at, IsLinked, IsFollower, IsTotal, IsOff, IsFit, pool_of, IsPool, room_low, room_high, with_segment}
+use Rattle.mbuf_chain.specs.Inside.Cells.{weigh, is_at, one, len_at, place_bytes, entry_from, entry_at, front_of, arrival_of, refers_at, IsLinked, IsFollower, IsTotal, IsOff, IsFit, pool_of, IsPool, room_low, room_high, with_segment}
 use Rattle.mbuf_chain.proofs.Maps.{get_here, insert_same}
 use Rattle.mbuf_chain.proofs.Lists.{bit, on, is_at_same, out_below, chains_of, high_small}
 use Rattle.mbuf_chain.proofs.Changes.{SameCell, same_cell}

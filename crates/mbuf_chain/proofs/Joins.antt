@@ -14,7 +14,7 @@ use Rattle.mbuf_pool.proofs.Laws.{sets_head, sets_twice}
 use Rattle.mbuf_chain.specs.declared.place.Place.{Place}
 use Rattle.mbuf_chain.specs.Chain.{Front, ChainView, chain_of, IsLive, IsPlace, with_chain, without, string, flat_bytes, alone}
 use Rattle.mbuf_chain.specs.Steps.{headless, joined}
-use Rattle.mbuf_chain.specs.Cells.{weigh, weigh_all, is_at, one, len_at, entry_at, front_of, refers_at, first_of, read_chain, cells_from, view_of, IsLinked, IsFollower, AllFollow, IsChain, IsTotal, IsOff, IsSound, IsFit, pool_of, IsPool, out_at, Freed, last_of}
+use Rattle.mbuf_chain.specs.Inside.Cells.{weigh, weigh_all, is_at, one, len_at, entry_at, front_of, refers_at, first_of, read_chain, cells_from, view_of, IsLinked, IsFollower, AllFollow, IsChain, IsTotal, IsOff, IsSound, IsFit, pool_of, IsPool, out_at, Freed, last_of}
 use Rattle.mbuf_chain.proofs.Maps.{get_there, remove-insert, two_to_one}
 use Rattle.mbuf_chain.proofs.Lists.{bit, on, off, small, is_at_same, is_at_other, chains_of, get-chains_of, heads_at, heads-tails, split_first, not_first, find_chain, bytes_bound, few_out}
 use Rattle.mbuf_chain.proofs.Changes.{SameCell, same_cell, step, view_is, links_kept, count_ones}

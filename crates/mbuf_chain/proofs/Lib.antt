@@ -1,27 +1,22 @@
-pub mod Maps
-pub mod Lists
-pub mod Changes
-pub mod Focused
-pub mod Rewrites
-pub mod Bytes
-pub mod Stores
-pub mod Heads
-pub mod Made
-pub mod Joins
-pub mod Places
-pub mod Opening
-pub mod Trained
-pub mod Writes
-pub mod Bounds
+mod Maps
+mod Lists
+mod Changes
+mod Focused
+mod Rewrites
+mod Bytes
+mod Stores
+mod Heads
+mod Made
+mod Joins
+mod Places
+mod Opening
+mod Trained
+mod Writes
+mod Bounds
 pub mod Laws
-pub mod Moves
-pub mod Ledger
-pub mod Runs
-pub mod Trains
-pub mod Grows
-pub mod Cuts
-pub mod Ends
-pub mod Reading
-pub mod Iterators
-pub mod Booted
-pub mod AfterStep
+mod Runs
+mod Trains
+mod Grows
+mod Cuts
+mod Ends
+mod Reading

@@ -12,7 +12,7 @@ use Rattle.std.proofs.lemmas.List.{get_or_past}
 use Rattle.mbuf_pool.specs.Cells.{Head}
 use Rattle.mbuf_pool.specs.Store.{StoreView, MbufView, head_of, is_out, mbufs_out}
 use Rattle.mbuf_chain.specs.Chain.{ChainView}
-use Rattle.mbuf_chain.specs.Cells.{weigh, weigh_all, is_at, one, first_of, read_chain, walk, cells_from, is_pointed, chain_at, IsLinked, IsChain, IsSound, IsFit, IsTotal, IsTotalBy, IsWhole, len_at}
+use Rattle.mbuf_chain.specs.Inside.Cells.{weigh, weigh_all, is_at, one, first_of, read_chain, walk, cells_from, is_pointed, chain_at, IsLinked, IsChain, IsSound, IsFit, IsTotal, IsTotalBy, IsWhole, len_at}
 use Rattle.mbuf_chain.proofs.Maps.{get_here, get_there}
 
 -- the chain that stands first under a number

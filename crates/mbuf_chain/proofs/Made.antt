@@ -16,7 +16,7 @@ use Rattle.mbuf_chain.specs.Chain.{Entry, Front, ChainView, alone, Adds, held_mb
 use Rattle.mbuf_chain.specs.declared.place.Place.{Place}
 use Rattle.mbuf_chain.specs.Chain.{IsLive, IsPlace}
 use Rattle.mbuf_chain.specs.Steps.{one_mbuf, empty_entry, narrowed}
-use Rattle.mbuf_chain.specs.Cells.{weigh, weigh_all, is_at, one, place_bytes, entry_from, entry_at, front_of, refers_at, read_chain, cells_from, is_pointed, view_of, IsSound, IsFit, pool_of, IsPool, out_at, Taken, head_for, start_of, room_low}
+use Rattle.mbuf_chain.specs.Inside.Cells.{weigh, weigh_all, is_at, one, place_bytes, entry_from, entry_at, front_of, refers_at, read_chain, cells_from, is_pointed, view_of, IsSound, IsFit, pool_of, IsPool, out_at, Taken, head_for, start_of, room_low}
 use Rattle.mbuf_chain.proofs.Lists.{is_at_same, is_at_other, on, off, bit, chains_of, out_below}
 use Rattle.mbuf_chain.proofs.Changes.{SameCell, same_cell, step, view_is, get-view_of, held_is, references_is}
 use Rattle.mbuf_chain.proofs.Focused.{weigh_all_has, open_on, enter}

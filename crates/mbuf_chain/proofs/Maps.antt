@@ -10,7 +10,7 @@ use Rattle.std.specs.FinMap.Entries.{by_order}
 use Rattle.std.proofs.lemmas.Bool.{cases_eq}
 use Rattle.std.proofs.lemmas.List.Sums.{sum_by-cons}
 use Rattle.std.proofs.lemmas.Option.{none-some}
-use Rattle.mbuf_chain.specs.Cells.{tabulate, add_option}
+use Rattle.mbuf_chain.specs.Inside.Cells.{tabulate, add_option}
 
 pub tied : (k : ℕ) → eq_by_cmp nat_cmp k k ≡ true
 tied k = ap is_eq (tied_itself nat_cmp_total k)

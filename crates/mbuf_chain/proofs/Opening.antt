@@ -6,7 +6,7 @@ use Rattle.std.specs.Ordering.{nat_cmp}
 use Rattle.std.proofs.lemmas.List.Sums.{sum_by-cons}
 use Rattle.mbuf_pool.specs.Store.{StoreView, MbufView, is_out, mbufs_out, count_of, IsStore}
 use Rattle.mbuf_chain.specs.Chain.{ChainView}
-use Rattle.mbuf_chain.specs.Cells.{IsSound, IsPool, pool_of}
+use Rattle.mbuf_chain.specs.Inside.Cells.{IsSound, IsPool, pool_of}
 use Rattle.mbuf_chain.proofs.Lists.{off}
 use Rattle.mbuf_chain.proofs.Changes.{view_is}
 

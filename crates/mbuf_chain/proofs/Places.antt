@@ -9,7 +9,7 @@ use Rattle.mbuf_chain.specs.declared.place.Place.{Place}
 use Rattle.mbuf_chain.specs.declared.place.Segment.{Segment}
 use Rattle.mbuf_chain.specs.Chain.{Entry, ChainView, PoolView, chain_of, no_chain, IsLive, IsPlace, with_chain, without, entry_of, alone}
 use Rattle.mbuf_chain.specs.Steps.{headless, joined}
-use Rattle.mbuf_chain.specs.Cells.{weigh, one, front_of, first_of, IsLinked, IsChain, pool_of, IsPool}
+use Rattle.mbuf_chain.specs.Inside.Cells.{weigh, one, front_of, first_of, IsLinked, IsChain, pool_of, IsPool}
 use Rattle.mbuf_chain.proofs.Maps.{get_here, get_there, remove-insert_any}
 use Rattle.mbuf_chain.proofs.Focused.{open_on, enter, count_cells}
 use Rattle.mbuf_chain.proofs.Heads.{Shown}

@@ -4,8 +4,9 @@ use Rattle.mbuf_pool.specs.Cells.{Head, head_size}
 use Rattle.mbuf_pool.specs.Store.{StoreView, is_out, mbuf_of, head_of, cluster_of, count_of, IsRoom, IsPart, bytes_in, read}
 use Rattle.mbuf_chain.specs.Chain.{Entry, ChainView, chain_of, entry_of, IsLive, IsPlace, layout_of}
 use Rattle.mbuf_chain.specs.declared.place.Place.{Place}
-use Rattle.mbuf_chain.specs.Cells.{weigh, entry_at, entry_from, place_bytes, refers_at, buffer_of, pool_of, IsPool, room_low, room_high}
-use Rattle.mbuf_chain.specs.Pieces.{pieces_of, entries_from, IsReadable, data_of}
+use Rattle.mbuf_chain.specs.Inside.Cells.{weigh, entry_at, entry_from, place_bytes, refers_at, buffer_of, pool_of, IsPool, room_low, room_high}
+use Rattle.mbuf_chain.specs.Pieces.{pieces_of}
+use Rattle.mbuf_chain.specs.Inside.Readable.{entries_from, IsReadable, data_of}
 use Rattle.mbuf_chain.proofs.Lists.{Walked, walk_on}
 use Rattle.mbuf_chain.proofs.Focused.{open_on, freeable, enter, weigh_has}
 use Rattle.mbuf_chain.proofs.Stores.{refers_to, cluster_below}

@@ -10,7 +10,7 @@ use Rattle.mbuf_pool.specs.Cells.{Head}
 use Rattle.mbuf_pool.specs.Store.{StoreView, head_of, is_out, mbufs_out, count_of, IsStore}
 use Rattle.mbuf_chain.specs.Chain.{Front, ChainView, chain_of, with_chain}
 use Rattle.mbuf_chain.specs.Steps.{with_entry}
-use Rattle.mbuf_chain.specs.Cells.{weigh, weigh_all, is_at, one, len_at, entry_at, front_of, refers_at, first_of, IsLinked, AllFollow, IsFollower, IsChain, IsTotal, IsSound, IsFit, pool_of, out_at, IsOff, IsTotalBy, off_at}
+use Rattle.mbuf_chain.specs.Inside.Cells.{weigh, weigh_all, is_at, one, len_at, entry_at, front_of, refers_at, first_of, IsLinked, AllFollow, IsFollower, IsChain, IsTotal, IsSound, IsFit, pool_of, out_at, IsOff, IsTotalBy, off_at}
 use Rattle.mbuf_chain.proofs.Maps.{insert-insert}
 use Rattle.mbuf_chain.proofs.Lists.{chains_of, heads_at, heads-tails, bit, is_at_same}
 use Rattle.mbuf_chain.proofs.Changes.{SameCell, step, view_is, links_kept, list_kept}

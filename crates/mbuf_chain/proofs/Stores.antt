@@ -7,7 +7,7 @@ use Rattle.std.proofs.lemmas.List.{get_or_past, length-set, get_or-set_same, get
 use Rattle.std.proofs.lemmas.List.Sums.{sum_by-set, sum_by-cons}
 use Rattle.mbuf_pool.specs.Cells.{Head}
 use Rattle.mbuf_pool.specs.Store.{StoreView, MbufView, ClusterView, no_mbuf, free_cluster, is_out, mbuf_of, head_of, cluster_of, count_of, mbufs_out, with_mbuf, with_cluster, released, TakesWith}
-use Rattle.mbuf_chain.specs.Cells.{weigh, is_at, one, refers_at, out_at, released_in, Taken, Freed, IsFreeable, IsWhole, cells_from}
+use Rattle.mbuf_chain.specs.Inside.Cells.{weigh, is_at, one, refers_at, out_at, released_in, Taken, Freed, IsFreeable, IsWhole, cells_from}
 use Rattle.mbuf_chain.proofs.Lists.{is_at_same, is_at_other, on, off, bit, out_below, walk_on}
 
 -- ---- one mbuf of the table

@@ -8,7 +8,7 @@ use Rattle.mbuf_pool.proofs.Laws.{sets_head, sets_twice}
 use Rattle.mbuf_pool.specs.Store.{StoreView, head_of, SetsHead, IsStore}
 use Rattle.mbuf_chain.specs.Chain.{chain_of, IsLive, with_chain}
 use Rattle.mbuf_chain.specs.Steps.{placed}
-use Rattle.mbuf_chain.specs.Cells.{entry_at, front_of, room_low, pool_of, IsPool}
+use Rattle.mbuf_chain.specs.Inside.Cells.{entry_at, front_of, room_low, pool_of, IsPool}
 use Rattle.mbuf_chain.proofs.Focused.{first_out, open_on}
 use Rattle.mbuf_chain.proofs.Heads.{rehead, enter_first, set_same}
 use Rattle.mbuf_chain.proofs.Places.{header_is}

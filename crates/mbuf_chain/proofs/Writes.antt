@@ -7,7 +7,7 @@ use Rattle.mbuf_pool.specs.Store.{StoreView, MbufView, ClusterView, no_mbuf, is_
 use Rattle.mbuf_chain.specs.declared.place.Place.{Place}
 use Rattle.mbuf_chain.specs.Chain.{Entry, PoolView, chain_of, IsLive, IsPlace, IsUnshared, with_chain, entry_of, room_end}
 use Rattle.mbuf_chain.specs.Steps.{with_entry, with_front, with_back, overwritten}
-use Rattle.mbuf_chain.specs.Cells.{weigh, weigh_all, is_at, one, len_at, buffer_of, place_bytes, entry_from, entry_at, entry_over, front_of, refers_at, first_of, IsFit, IsTotal, pool_of, IsPool, room_low, room_high, with_segment, WritesPlace}
+use Rattle.mbuf_chain.specs.Inside.Cells.{weigh, weigh_all, is_at, one, len_at, buffer_of, place_bytes, entry_from, entry_at, entry_over, front_of, refers_at, first_of, IsFit, IsTotal, pool_of, IsPool, room_low, room_high, with_segment, WritesPlace}
 use Rattle.mbuf_chain.proofs.Lists.{is_at_other, out_below}
 use Rattle.mbuf_chain.proofs.Changes.{SameCell, same_cell}
 use Rattle.mbuf_chain.proofs.Focused.{Focused, open_on, enter, weigh_has}
@@ -116,7 +116,7 @@ written s t c start ws at pool live place unshared w store =
       cluster = ap (λ (y : Head). y.cluster) (w.heads at.cell);
       out = w.outs.outs at.cell ∙ e.out;
       fit = subst IsFit (sym (w.heads at.cell)) e.fit;
-    }) (λ k ne out there. w.others k ne (λ d is same. sole s c at.cell d o.at e.inside (ref d is) is k ne there same)) (λ _ was. subst Rattle.mbuf_chain.specs.Cells.IsFollower (sym (w.heads at.cell)) was) in
+    }) (λ k ne out there. w.others k ne (λ d is same. sole s c at.cell d o.at e.inside (ref d is) is k ne there same)) (λ _ was. subst Rattle.mbuf_chain.specs.Inside.Cells.IsFollower (sym (w.heads at.cell)) was) in
     let entry : entry_at t at.cell ≡ entry_over s at.cell start ws =
     ap (entry_from t at.cell) (w.heads at.cell) ∙ (λ i. record { bytes = take (head_of s at.cell).len (drop (head_of s at.cell).start (w.bytes i)); start = (head_of s at.cell).start; cluster = (head_of s at.cell).cluster }) in
     record {

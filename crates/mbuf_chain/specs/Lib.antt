@@ -1,8 +1,8 @@
 pub mod Chain
 pub mod Steps
 pub mod Owners
-pub mod Cells
 pub mod Frames
 pub mod Train
 pub mod Kept
 pub mod Pieces
+pub mod Inside

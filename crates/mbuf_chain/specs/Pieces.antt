@@ -1,9 +1,6 @@
 -- What the iterators over a chain give (this project's own).
-use Rattle.std.specs.Prelude.{ℕ, ◌≤◌, List, map, Option}
-use Rattle.mbuf_pool.specs.Cells.{Head, Part}
-use Rattle.mbuf_pool.specs.Store.{StoreView, count_of, IsStore}
+use Rattle.std.specs.Prelude.{ℕ, List, map}
 use Rattle.mbuf_chain.specs.Chain.{Entry, ChainView}
-use Rattle.mbuf_chain.specs.Cells.{weigh, entry_at, refers_at, cells_from, buffer_of, IsWhole}
 
 -- the bytes of each entry
 abbrev pub pieces_of : List Entry → List (List ℕ)
@@ -12,18 +9,3 @@ pieces_of es = map (λ e. e.bytes) es
 -- the bytes of each entry of the chain, in order
 abbrev pub pieces : ChainView → List (List ℕ)
 pieces v = pieces_of v.entries
-
--- ---- how a walk along the links means that. No caller reads what follows
--- the entries from an mbuf on
-abbrev pub entries_from : StoreView → Option ℕ → List Entry
-entries_from s at = map (entry_at s) (cells_from s at)
-
--- the mbufs from one on can be read: their links lead to an end, and their clusters are in use
-pub record IsReadable (s : StoreView) (at : Option ℕ) : Type 0 where
-  pub whole : IsWhole s at
-  pub store : IsStore s
-  pub counted : (c : ℕ) → weigh (refers_at s c) (cells_from s at) ≤ count_of s c
-
--- the bytes that an mbuf shows under a head
-abbrev pub data_of : ℕ → Head → Part
-data_of i h = record { buffer = buffer_of i h.cluster; start = h.start; len = h.len }

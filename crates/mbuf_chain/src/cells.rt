@@ -1,7 +1,7 @@
 //! Walks along the links of a store.
 ghost use Rattle.std.specs.Prelude.{◌≡◌, ℕ, ◌<◌, ◌≤◌, true, Some, None, [], length};
 ghost use Rattle.mbuf_pool.specs.Store.{IsStore, is_out, head_of, count_of, cluster_of, with_mbuf};
-ghost use Rattle.mbuf_chain.specs.Cells.{IsWhole, cells_from, len_at, weigh, one, last_of, IsFreeable, Freed, released_in};
+ghost use Rattle.mbuf_chain.specs.Inside.Cells.{IsWhole, cells_from, len_at, weigh, one, last_of, IsFreeable, Freed, released_in};
 
 use mbuf_pool::Store;
 

@@ -5,7 +5,7 @@ ghost use Rattle.mbuf_pool.specs.Store.{IsStore, is_out, head_of, with_bytes, by
 ghost use Rattle.mbuf_pool.specs.Cells.{over};
 ghost use Rattle.mbuf_chain.specs.Chain.{IsLive, IsPlace, IsUnshared, chain_of, entry_of, with_chain, room_start, room_end, entry_in, HasLeadingSpace, HasTrailingSpace};
 ghost use Rattle.mbuf_chain.specs.Steps.{with_entry, with_front, with_back, overwritten, with_entry_in};
-ghost use Rattle.mbuf_chain.specs.Cells.{IsPool, pool_of, buffer_of, place_bytes, room_low, room_high, WritesPlace};
+ghost use Rattle.mbuf_chain.specs.Inside.Cells.{IsPool, pool_of, buffer_of, place_bytes, room_low, room_high, WritesPlace};
 
 use crate::edit::resize;
 use crate::place::Place;

@@ -3,7 +3,7 @@ ghost use Rattle.std.specs.Prelude.{◌≡◌, ◌≢◌, ℕ, ◌+◌, ◌<◌,
 ghost use Rattle.mbuf_pool.specs.Store.{IsStore, is_out, head_of};
 ghost use Rattle.mbuf_chain.specs.Chain.{IsLive, IsPlace, chain_of, entry_of, with_chain, entry_in};
 ghost use Rattle.mbuf_chain.specs.Steps.{with_entry, narrowed, placed, with_entry_in};
-ghost use Rattle.mbuf_chain.specs.Cells.{IsPool, IsOff, pool_of, room_low, room_high, with_segment, entry_from};
+ghost use Rattle.mbuf_chain.specs.Inside.Cells.{IsPool, IsOff, pool_of, room_low, room_high, with_segment, entry_from};
 
 use crate::place::Place;
 use mbuf_pool::Store;

@@ -3,7 +3,7 @@ ghost use Rattle.std.specs.Prelude.{◌≡◌, ◌≢◌, ℕ, ◌+◌, ◌<◌,
 ghost use Rattle.mbuf_pool.specs.Store.{IsStore, is_out, head_of};
 ghost use Rattle.mbuf_chain.specs.Chain.{IsLive, IsPlace, chain_of, with_chain, without, string, alone, entry_of, room_start, room_end, leading_space, trailing_space, Adds, entry_in, HasLeadingSpace, HasTrailingSpace};
 ghost use Rattle.mbuf_chain.specs.Steps.{headless, joined, first_part, second_part};
-ghost use Rattle.mbuf_chain.specs.Cells.{IsPool, IsWhole, pool_of, cells_from, weigh, one, len_at, last_of, packet_len};
+ghost use Rattle.mbuf_chain.specs.Inside.Cells.{IsPool, IsWhole, pool_of, cells_from, weigh, one, len_at, last_of, packet_len};
 
 use crate::cells::{bytes_from, count_from, free_from};
 use crate::edit::set_total;

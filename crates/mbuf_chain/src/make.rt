@@ -5,7 +5,7 @@ ghost use Rattle.mbuf_pool.specs.Store.{IsStore, mbufs_out};
 ghost use Rattle.mbuf_pool.specs.Cells.{IsHead};
 ghost use Rattle.mbuf_chain.specs.Chain.{IsLive, IsPlace, chain_of, entry_of, Adds, held_mbufs, references, free_clusters, entry_in};
 ghost use Rattle.mbuf_chain.specs.Steps.{one_mbuf, empty_entry, narrowed};
-ghost use Rattle.mbuf_chain.specs.Cells.{IsPool, pool_of, Taken, start_of, head_for};
+ghost use Rattle.mbuf_chain.specs.Inside.Cells.{IsPool, pool_of, Taken, start_of, head_for};
 
 use crate::place::Place;
 use mbuf_pool::{Head, NoBufs, PacketHeader, Store};

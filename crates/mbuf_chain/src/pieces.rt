@@ -2,8 +2,9 @@
 ghost use Rattle.std.specs.Prelude.{◌≡◌, length, Some};
 ghost use Rattle.std.specs.Iterator.{YieldsFirst, YieldsFirstRef, item_count};
 ghost use Rattle.mbuf_chain.specs.Chain.{IsLive, chain_of, layout};
-ghost use Rattle.mbuf_chain.specs.Cells.{IsPool, pool_of};
-ghost use Rattle.mbuf_chain.specs.Pieces.{pieces, data_of};
+ghost use Rattle.mbuf_chain.specs.Inside.Cells.{IsPool, pool_of};
+ghost use Rattle.mbuf_chain.specs.Pieces.{pieces};
+ghost use Rattle.mbuf_chain.specs.Inside.Readable.{data_of};
 
 use crate::data::buffer_of;
 use mbuf_pool::{Head, Part, Store};
@@ -20,7 +21,7 @@ pub struct Entries<'a> {
 impl<'a> Model for Entries<'a> {
     ghost use Rattle.std.specs.Prelude.{ℕ, List, Option};
     ghost use Rattle.mbuf_chain.specs.Chain.{layout_of};
-    ghost use Rattle.mbuf_chain.specs.Pieces.{entries_from, IsReadable};
+    ghost use Rattle.mbuf_chain.specs.Inside.Readable.{entries_from, IsReadable};
 
     ghost Value = { List (ℕ × Option ℕ) };
 
@@ -39,7 +40,8 @@ pub struct Pieces<'a> {
 
 impl<'a> Model for Pieces<'a> {
     ghost use Rattle.std.specs.Prelude.{ℕ, List};
-    ghost use Rattle.mbuf_chain.specs.Pieces.{entries_from, pieces_of, IsReadable};
+    ghost use Rattle.mbuf_chain.specs.Pieces.{pieces_of};
+    ghost use Rattle.mbuf_chain.specs.Inside.Readable.{entries_from, IsReadable};
 
     ghost Value = { List (List ℕ) };
 

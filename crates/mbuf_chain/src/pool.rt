@@ -28,7 +28,7 @@ pub struct Pool {
 
 impl Model for Pool {
     ghost use Rattle.mbuf_chain.specs.Chain.{PoolView, coded_pool};
-    ghost use Rattle.mbuf_chain.specs.Cells.{pool_of, IsPool};
+    ghost use Rattle.mbuf_chain.specs.Inside.Cells.{pool_of, IsPool};
 
     ghost Value = { PoolView };
 

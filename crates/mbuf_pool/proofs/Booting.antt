@@ -5,8 +5,8 @@ use Rattle.raw_cells.specs.Cells.{Cells, zero_cells, zero_head}
 use Rattle.raw_cells.proofs.Laws.{sized_zero}
 use Rattle.mbuf_pool.specs.declared.sizes.Sizes.{Sizes}
 use Rattle.mbuf_pool.specs.Store.{StoreView, is_out, cluster_of, count_of, free_cluster, free_store}
-use Rattle.mbuf_pool.specs.AllOut.{IsAllOut}
-use Rattle.mbuf_pool.specs.Inside.{shown, IsSound}
+use Rattle.mbuf_pool.specs.Inside.AllOut.{IsAllOut}
+use Rattle.mbuf_pool.specs.Inside.Fields.{shown, IsSound}
 use Rattle.mbuf_pool.proofs.Shown.{mbuf_out, count_at, mbufs_long, clusters_long}
 
 module _ (z : Sizes) (r : Cells) (counts : List ℕ) (some : 0 < z.mbufs) (most : z.mbufs ≤ 65535) (few : z.clusters ≤ 4096) (made : r ≡ zero_cells z.mbufs z.clusters) (ones : counts ≡ replicate z.clusters 1) where

@@ -8,8 +8,8 @@ use Rattle.raw_cells.specs.Cells as cells
 use Rattle.raw_cells.specs.Cells.{Cells, IsSized, with_head, head_size, zero_head, origin}
 use Rattle.raw_cells.specs.declared.head.Head.{Head}
 use Rattle.raw_cells.proofs.Laws.{length_over}
-use Rattle.mbuf_pool.specs.Link.{link_in}
-use Rattle.mbuf_pool.specs.Inside.{mbuf_bytes, cluster_bytes, next_cluster}
+use Rattle.mbuf_pool.specs.Inside.Link.{link_in}
+use Rattle.mbuf_pool.specs.Inside.Fields.{mbuf_bytes, cluster_bytes, next_cluster}
 use Rattle.mbuf_pool.proofs.Blocks.{block, block_apart, block_written}
 
 pub head_size_le : (h : Head) → head_size h ≤ 32

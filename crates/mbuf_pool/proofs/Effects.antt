@@ -11,10 +11,10 @@ use Rattle.raw_cells.specs.declared.part.Part.{Part}
 use Rattle.raw_cells.specs.declared.part.Buffer.{Buffer}
 use Rattle.raw_cells.specs.declared.part.Buffer.TheVariants.{Mbuf, Cluster}
 use Rattle.raw_cells.proofs.Laws.{length_over, over_all}
-use Rattle.mbuf_pool.specs.FreeList.{times, IsFreeList}
-use Rattle.mbuf_pool.specs.Link.{link_in, link_bytes, link_part}
+use Rattle.mbuf_pool.specs.Inside.FreeList.{times, IsFreeList}
+use Rattle.mbuf_pool.specs.Inside.Link.{link_in, link_bytes, link_part}
 use Rattle.mbuf_pool.specs.Store.{MbufView, ClusterView, StoreView, with_mbuf, with_cluster, with_bytes, bytes_in, is_out, mbuf_of, head_of, cluster_of, count_of, free_cluster, held, released, TakesWith, TakesCluster, IsRoom, IsPart, read, write, IsStore}
-use Rattle.mbuf_pool.specs.Inside.{mbuf_bytes, cluster_bytes, next_mbuf, next_cluster, mbuf_seen, shown, seen_in, seen, IsSound, IsInside}
+use Rattle.mbuf_pool.specs.Inside.Fields.{mbuf_bytes, cluster_bytes, next_mbuf, next_cluster, mbuf_seen, shown, seen_in, seen, IsSound, IsInside}
 use Rattle.mbuf_pool.specs.declared.store.Store.TheInside.{Inside}
 use Rattle.mbuf_pool.proofs.FreeList.{list_kept, list_put, list_taken, first_free, none_free, times-here, times-there}
 use Rattle.mbuf_pool.proofs.Blocks.{block, length_block, block_written}

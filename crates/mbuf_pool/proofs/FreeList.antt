@@ -4,7 +4,7 @@ use Rattle.std.specs.List.{range_with_len}
 use Rattle.std.proofs.lemmas.Bool.{cases_eq, eq-eqb, ne_eqb}
 use Rattle.std.proofs.lemmas.List.Sums.{sum_by-cons}
 use Rattle.std.proofs.lemmas.Option.{none-some, same_Some}
-use Rattle.mbuf_pool.specs.FreeList.{times, walk, IsLinked, IsFreeList}
+use Rattle.mbuf_pool.specs.Inside.FreeList.{times, walk, IsLinked, IsFreeList}
 
 -- ---- how often a place stands in a list
 pub times-here : (k : ℕ) (xs : List ℕ) → times k (k ∷ xs) ≡ suc (times k xs)

@@ -1,11 +1,11 @@
-pub mod FreeList
-pub mod Blocks
-pub mod Shown
-pub mod Reading
-pub mod Changes
-pub mod Steps
-pub mod Links
-pub mod Effects
-pub mod Booting
+mod FreeList
+mod Blocks
+mod Shown
+mod Reading
+mod Changes
+mod Steps
+mod Links
+mod Effects
+mod Booting
 pub mod Laws
-pub mod Sums
+mod Sums

@@ -4,7 +4,7 @@ use Rattle.std.proofs.lemmas.Bool.{ne_eqb}
 use Rattle.byteorder.specs.Endian.{little_number, little_bytes}
 use Rattle.byteorder.specs.Numbers.{little_number-reads_back, length-bytes_low_first}
 use Rattle.raw_cells.specs.Cells.{IsLink}
-use Rattle.mbuf_pool.specs.Link.{link_of, link_in, link_bytes}
+use Rattle.mbuf_pool.specs.Inside.Link.{link_of, link_in, link_bytes}
 
 pub length-link_bytes : (link : Option ℕ) → length (link_bytes link) ≡ 4
 length-link_bytes link = length-bytes_low_first 0 4 (unwrap_or link 0xffffffff)

@@ -8,9 +8,9 @@ use Rattle.raw_cells.specs.declared.head.Head.{Head}
 use Rattle.raw_cells.specs.declared.part.Buffer.{Buffer}
 use Rattle.raw_cells.specs.declared.part.Buffer.TheVariants.{Mbuf, Cluster}
 use Rattle.mbuf_pool.specs.Store.{MbufView, ClusterView, StoreView, is_out, mbuf_of, head_of, bytes_in, cluster_of, count_of, free_mbufs, mbufs_out, free_clusters, IsRoom, IsStore}
-use Rattle.mbuf_pool.specs.Inside.{mbuf_bytes, cluster_bytes, next_mbuf, next_cluster, shown, seen, IsInside}
+use Rattle.mbuf_pool.specs.Inside.Fields.{mbuf_bytes, cluster_bytes, next_mbuf, next_cluster, shown, seen, IsInside}
 use Rattle.mbuf_pool.specs.declared.store.Store.TheInside.{Inside}
-use Rattle.mbuf_pool.specs.FreeList.{IsFreeList}
+use Rattle.mbuf_pool.specs.Inside.FreeList.{IsFreeList}
 use Rattle.mbuf_pool.proofs.FreeList.{first_free, few_free}
 use Rattle.mbuf_pool.proofs.Blocks.{block_part}
 use Rattle.mbuf_pool.proofs.Shown.{seen_is, mbufs_long, clusters_long, is_store, mbufs_free, clusters_free, out_within, out_mbuf, counted_within, counted_cluster, count_at}

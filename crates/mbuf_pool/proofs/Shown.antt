@@ -6,9 +6,9 @@ use Rattle.std.proofs.lemmas.List.{get_or_past, get_or-set_same, get_or-set_othe
 use Rattle.std.proofs.lemmas.List.FromFn.{length-map-range_with_len, get_or-map-range_with_len, fill_by_all}
 use Rattle.raw_cells.specs.Cells as cells
 use Rattle.raw_cells.specs.Cells.{Cells, IsSized}
-use Rattle.mbuf_pool.specs.FreeList.{times}
+use Rattle.mbuf_pool.specs.Inside.FreeList.{times}
 use Rattle.mbuf_pool.specs.Store.{MbufView, ClusterView, is_out, mbuf_of, cluster_of, count_of, free_cluster, no_mbuf, free_mbufs, free_clusters, IsStore}
-use Rattle.mbuf_pool.specs.Inside.{mbuf_bytes, cluster_bytes, next_mbuf, next_cluster, mbuf_seen, cluster_seen, shown, seen_in, IsSound}
+use Rattle.mbuf_pool.specs.Inside.Fields.{mbuf_bytes, cluster_bytes, next_mbuf, next_cluster, mbuf_seen, cluster_seen, shown, seen_in, IsSound}
 use Rattle.mbuf_pool.proofs.FreeList.{walk_is, few_free, count_free}
 use Rattle.mbuf_pool.proofs.Blocks.{length_block}
 

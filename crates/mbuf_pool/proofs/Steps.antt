@@ -5,9 +5,9 @@ use Rattle.std.proofs.lemmas.Bool.{cases_eq}
 use Rattle.std.proofs.lemmas.List.{length-set, get_or-set_same, get_or-set_other}
 use Rattle.raw_cells.specs.Cells as cells
 use Rattle.raw_cells.specs.Cells.{Cells, IsSized}
-use Rattle.mbuf_pool.specs.FreeList.{times, IsFreeList}
+use Rattle.mbuf_pool.specs.Inside.FreeList.{times, IsFreeList}
 use Rattle.mbuf_pool.specs.Store.{StoreView, with_mbuf, with_cluster}
-use Rattle.mbuf_pool.specs.Inside.{next_mbuf, next_cluster, mbuf_seen, cluster_seen, shown, seen_in, IsSound, IsAccount}
+use Rattle.mbuf_pool.specs.Inside.Fields.{next_mbuf, next_cluster, mbuf_seen, cluster_seen, shown, seen_in, IsSound, IsAccount}
 use Rattle.mbuf_pool.proofs.FreeList.{list_kept}
 use Rattle.mbuf_pool.proofs.Shown.{places_set, places_same, seen_is}
 use Rattle.mbuf_pool.proofs.Changes.{SameButMbuf, SameButCluster}

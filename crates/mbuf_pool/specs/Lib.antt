@@ -1,7 +1,4 @@
-pub mod FreeList
 pub mod Store
-pub mod AllOut
-pub mod Link
-pub mod Inside
 pub mod Lending
 pub mod Cells
+pub mod Inside

@@ -1,7 +1,7 @@
 //! Links to free buffers: the first one of a list, and from one free cluster to the next.
 ghost use Rattle.std.specs.Prelude.{◌≡◌, ◌<◌, length};
 ghost use Rattle.raw_cells.specs.Cells.{IsLink, read, write};
-ghost use Rattle.mbuf_pool.specs.Link.{link_in, link_bytes, link_part};
+ghost use Rattle.mbuf_pool.specs.Inside.Link.{link_in, link_bytes, link_part};
 
 use byteorder::{ByteOrder, LittleEndian};
 use raw_cells::{Buffer, Part, Region};
@@ -19,7 +19,7 @@ pub(crate) struct First {
 
 impl Model for First {
     ghost use Rattle.std.specs.Prelude.{ℕ, Option};
-    ghost use Rattle.mbuf_pool.specs.Link.{link_of};
+    ghost use Rattle.mbuf_pool.specs.Inside.Link.{link_of};
 
     ghost Value = { Option ℕ };
 

@@ -3,7 +3,7 @@ ghost use Rattle.std.specs.Prelude.{◌≡◌, ◌+◌, ◌<◌, ◌≤◌, ◌�
 ghost use Rattle.std.specs.Borrow.{sem};
 ghost use Rattle.raw_cells.specs.Cells.{IsHead, IsLink, with_arrival, with_packet_len};
 ghost use Rattle.mbuf_pool.specs.Store.{is_out, head_of, count_of, counts_of, cluster_of, free_mbufs, mbufs_out, free_clusters, with_mbuf, with_cluster, held, released, free_store, TakesMbuf, TakesWith, TakesCluster, SetsHead, IsPart, read, write, IsStore, IsBad};
-ghost use Rattle.mbuf_pool.specs.AllOut.{IsAllOut};
+ghost use Rattle.mbuf_pool.specs.Inside.AllOut.{IsAllOut};
 
 use crate::counts::Counts;
 use crate::fault::{BootFault, NoBufs};
@@ -49,7 +49,7 @@ impl Model for Store {
 
     ghost Value = { StoreView };
 
-    ghost use Rattle.mbuf_pool.specs.Inside.{seen, IsInside};
+    ghost use Rattle.mbuf_pool.specs.Inside.Fields.{seen, IsInside};
 
     ghost view = { seen };
 

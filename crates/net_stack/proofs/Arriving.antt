@@ -5,14 +5,14 @@ use Rattle.std.specs.List.{cons_option, AllByRecursion as Each}
 use Rattle.std.proofs.lemmas.Bool.{true≢false, ltb-false, cases_lt}
 use Rattle.std.proofs.lemmas.Option.{none-some, same_Some}
 use Rattle.std.proofs.lemmas.List.{length-take}
-use Rattle.flat_model.specs.Choice.{Choice}
-use Rattle.flat_model.specs.Weight.{Weight, Item, ◌⊕◌}
-use Rattle.flat_model.specs.Checksum.{folded_sum}
-use Rattle.flat_model.specs.Header.{head_fault, head_of, total_of}
-use Rattle.flat_model.specs.Count.{counted, counts_more}
-use Rattle.flat_model.specs.State.{State, ends}
-use Rattle.flat_model.specs.Ledger.{exact_ledger}
-use Rattle.flat_model.specs.Arrival.{Origin, By_wire, Looped, Arrives, Passes, FragmentArrives, WholeArrives, counts_packet, carried, is_for_us, is_fragment}
+use Rattle.flat_model.specs.Amounts.Choice.{Choice}
+use Rattle.flat_model.specs.Amounts.Weight.{Weight, Item, ◌⊕◌}
+use Rattle.flat_model.specs.Packets.Checksum.{folded_sum}
+use Rattle.flat_model.specs.Packets.Header.{head_fault, head_of, total_of}
+use Rattle.flat_model.specs.Machine.Count.{counted, counts_more}
+use Rattle.flat_model.specs.Machine.State.{State, ends}
+use Rattle.flat_model.specs.Machine.Ledger.{exact_ledger}
+use Rattle.flat_model.specs.Machine.Arrival.{Origin, By_wire, Looped, Arrives, Passes, FragmentArrives, WholeArrives, counts_packet, carried, is_for_us, is_fragment}
 use Rattle.flat_model.specs.declared.counter.Counter.TheVariants.{IpTotal}
 use Rattle.flat_model.specs.declared.counters.Counters.{Counters}
 use Rattle.flat_model.specs.declared.counters.Why.{Why}
@@ -32,7 +32,7 @@ use Rattle.ip_reass.specs.Arrivals.{AreDistinct, CameBy, CameByWire, carried_at,
 use Rattle.ip_reass.specs.Arrivals as reass
 use Rattle.sock_calls.specs.Sockets.{SocksView, IsSocks, queued_chains, with_sockets, with_net}
 use Rattle.sock_calls.specs.Delivery.{NetView, seen, state_at, IsInput}
-use Rattle.net_stack.specs.Arrivals.{HaveApartKeys, is_ours_or_all, IsTaken, IsArrived}
+use Rattle.net_stack.specs.Inside.Arrivals.{HaveApartKeys, is_ours_or_all, IsTaken, IsArrived}
 use Rattle.net_stack.proofs.Cases.{none_passed}
 use Rattle.net_stack.proofs.Aside.{Aside, aside, BesideSocks, beside_socks, one_weighs}
 

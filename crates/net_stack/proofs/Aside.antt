@@ -1,8 +1,8 @@
 -- Sockets and unfinished datagrams beside a step of what is in hand.
 use Rattle.std.proofs.Common.{◌≡◌, ℕ, ◌+◌, List, [], ◌∷◌, ◌++◌, refl, sym, ap, subst, arith}
-use Rattle.flat_model.specs.Weight.{Weight, ◌⊕◌}
-use Rattle.flat_model.specs.State.{State}
-use Rattle.flat_model.specs.Ledger.{weight_of_state}
+use Rattle.flat_model.specs.Amounts.Weight.{Weight, ◌⊕◌}
+use Rattle.flat_model.specs.Machine.State.{State}
+use Rattle.flat_model.specs.Machine.Ledger.{weight_of_state}
 use Rattle.flat_model.specs.declared.counters.Counters.{Counters}
 use Rattle.flat_model.proofs.Laws.{times-both, both-nothing}
 use Rattle.mbuf_chain.specs.Chain.{PoolView}

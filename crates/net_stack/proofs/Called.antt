@@ -3,12 +3,12 @@ use Rattle.std.proofs.Common.{◌≡◌, ℕ, ◌≤◌, List, [], ◌∷◌, le
 use Rattle.std.proofs.Common.{refl, sym, ap, ◌∙◌, subst}
 use Rattle.std.specs.List.{AllByRecursion}
 use Rattle.params.specs.declared.TheConstants.{MAX_MTU}
-use Rattle.flat_model.specs.Weight.{Item}
-use Rattle.flat_model.specs.Count.{counts_more}
-use Rattle.flat_model.specs.Consistent.{IsOutput}
-use Rattle.flat_model.specs.State.{State}
-use Rattle.flat_model.specs.Event.{Event, Reply, IsEvent, Transmit, Tick, Done}
-use Rattle.flat_model.specs.Step.{Step, ticked}
+use Rattle.flat_model.specs.Amounts.Weight.{Item}
+use Rattle.flat_model.specs.Machine.Count.{counts_more}
+use Rattle.flat_model.specs.Runs.Consistent.{IsOutput}
+use Rattle.flat_model.specs.Machine.State.{State}
+use Rattle.flat_model.specs.Machine.Event.{Event, Reply, IsEvent, Transmit, Tick, Done}
+use Rattle.flat_model.specs.Machine.Step.{Step, ticked}
 use Rattle.flat_model.specs.declared.counter.Counter.TheVariants.{IpFragtimeout}
 use Rattle.flat_model.specs.declared.config.Config.{Config}
 use Rattle.flat_model.specs.declared.counters.Counters.{Counters}
@@ -21,8 +21,8 @@ use Rattle.ip_reass.specs.Arrivals.{machine}
 use Rattle.ip_reass.specs.Table.{TableView, IsReady, held_all}
 use Rattle.sock_calls.specs.Sockets.{SocksView, IsSocks, IsCalled, queued_chains, with_sockets}
 use Rattle.net_stack.specs.Stack.{StackView, state_of}
-use Rattle.net_stack.specs.Transmit.{AreWithin, IsGiven}
-use Rattle.net_stack.specs.Inside.{seen, IsInside}
+use Rattle.net_stack.specs.Inside.Transmit.{AreWithin, IsGiven}
+use Rattle.net_stack.specs.Inside.Fields.{seen, IsInside}
 use Rattle.net_stack.specs.declared.stack.Stack.TheInside.{Inside}
 use Rattle.net_stack.proofs.Lifted.{Stepped, socks_step, output_step, reass_step}
 

@@ -2,8 +2,8 @@
 use Rattle.std.proofs.Common.{◌≡◌, Bool, true, false, List, [], ◌∷◌, Option, Some, None, cond, refl, sym}
 use Rattle.std.specs.List.{AllByRecursion as Each}
 use Rattle.std.proofs.lemmas.Option.{none-some}
-use Rattle.flat_model.specs.Choice.{Choice, Case}
-use Rattle.flat_model.specs.Header.{first_fault}
+use Rattle.flat_model.specs.Amounts.Choice.{Choice, Case}
+use Rattle.flat_model.specs.Packets.Header.{first_fault}
 
 pub by_choice : {P Q R : Type 0} {b : Bool} → Choice b P Q → (b ≡ true → P → R) → (b ≡ false → Q → R) → R
 by_choice {R = R} {b = b} c f g = go b refl

@@ -5,13 +5,13 @@ use Rattle.std.specs.List.{AllByRecursion as Each}
 use Rattle.std.proofs.lemmas.Bool.{true≢false, cases_lt}
 use Rattle.std.proofs.lemmas.List.{length-take}
 use Rattle.std.proofs.lemmas.List.Elements.{All-from_recursion}
-use Rattle.flat_model.specs.Weight.{Weight, Item, nothing, ◌⊕◌, times as bag_times}
-use Rattle.flat_model.specs.Layout as flat
-use Rattle.flat_model.specs.Layout.{Need, Room, Plain, Cluster, filled, is_cluster, laid_on, need_of, next_room, or_empty, size_of, wire}
-use Rattle.flat_model.specs.Count.{counted}
-use Rattle.flat_model.specs.State.{State, ends}
-use Rattle.flat_model.specs.Ledger.{HasBuffers, IsFree, exact_ledger}
-use Rattle.flat_model.specs.Arrival.{Arrives, By_wire}
+use Rattle.flat_model.specs.Amounts.Weight.{Weight, Item, nothing, ◌⊕◌, times as bag_times}
+use Rattle.flat_model.specs.Amounts.Layout as flat
+use Rattle.flat_model.specs.Amounts.Layout.{Need, Room, Plain, Cluster, filled, is_cluster, laid_on, need_of, next_room, or_empty, size_of, wire}
+use Rattle.flat_model.specs.Machine.Count.{counted}
+use Rattle.flat_model.specs.Machine.State.{State, ends}
+use Rattle.flat_model.specs.Machine.Ledger.{HasBuffers, IsFree, exact_ledger}
+use Rattle.flat_model.specs.Machine.Arrival.{Arrives, By_wire}
 use Rattle.flat_model.specs.declared.counters.Counters.{Counters}
 use Rattle.flat_model.specs.declared.counters.Why.TheVariants.{NoBufs}
 use Rattle.flat_model.proofs.Laws.{count_cons}
@@ -29,7 +29,7 @@ use Rattle.ip_reass.specs.Arrivals.{CameByWire}
 use Rattle.ip_reass.specs.Table.{TableView, IsReady, held_all, unfinished}
 use Rattle.sock_calls.specs.Sockets.{SocksView, IsSocks, queued_chains, with_net}
 use Rattle.sock_calls.specs.Delivery.{NetView, seen, state_at}
-use Rattle.net_stack.specs.Arrivals.{HaveApartKeys, HasCome, IsArrived, IsLaidOut}
+use Rattle.net_stack.specs.Inside.Arrivals.{HaveApartKeys, HasCome, IsArrived, IsLaidOut}
 use Rattle.net_stack.proofs.Keys.{had_buffers}
 use Rattle.net_stack.proofs.Aside.{Aside, aside, BesideSocks, beside_socks}
 use Rattle.net_stack.proofs.Arriving.{from_one}

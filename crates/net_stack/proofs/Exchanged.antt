@@ -3,10 +3,10 @@ use Rattle.std.proofs.Common.{◌≡◌, ◌<◌, ℕ, suc, [], ◌∷◌, get_o
 use Rattle.std.specs.Prelude.{Result}
 use Rattle.std.specs.List.{AllByRecursion as Each}
 use Rattle.std.proofs.lemmas.List.Elements.{All-from_recursion}
-use Rattle.flat_model.specs.Step.{Step}
-use Rattle.flat_model.specs.State.{boot}
-use Rattle.flat_model.specs.Event.{Comes, Done, IsBytes, IsEvent, Send}
-use Rattle.flat_model.specs.Replies.{sent_reply}
+use Rattle.flat_model.specs.Machine.Step.{Step}
+use Rattle.flat_model.specs.Machine.State.{boot}
+use Rattle.flat_model.specs.Machine.Event.{Comes, Done, IsBytes, IsEvent, Send}
+use Rattle.flat_model.specs.Machine.Replies.{sent_reply}
 use Rattle.flat_model.specs.declared.address.Addr.{Addr}
 use Rattle.flat_model.specs.declared.config.Config.{Config}
 use Rattle.flat_model.specs.declared.counters.Counters.{Counters}
@@ -22,9 +22,9 @@ use Rattle.sock_calls.specs.Sockets.{SocksView, queued_chains}
 use Rattle.sock_calls.specs.Delivery.{seen}
 use Rattle.sock_calls.specs.Outgoing.{CanSend, sending}
 use Rattle.net_stack.specs.Stack.{StackView, IsStack, state_of, rest_of, chains_of}
-use Rattle.net_stack.specs.Arrivals.{HasCome}
-use Rattle.net_stack.specs.Sending.{HasSent, no_train, out_chains}
-use Rattle.net_stack.specs.Inside.{seen as seen_in, IsInside}
+use Rattle.net_stack.specs.Inside.Arrivals.{HasCome}
+use Rattle.net_stack.specs.Inside.Sending.{HasSent, no_train, out_chains}
+use Rattle.net_stack.specs.Inside.Fields.{seen as seen_in, IsInside}
 use Rattle.net_stack.specs.declared.stack.Stack.TheInside.{Inside}
 use Rattle.net_stack.proofs.Called.{Called}
 use Rattle.net_stack.proofs.Lifted.{Stepped, accounts, stepped, input_step}

@@ -2,9 +2,9 @@
 use Rattle.std.proofs.Common.{◌≡◌, ℕ, ◌≤◌, List, [], ◌∷◌, ◌++◌, length, take, drop, Some, None, refl, sym, ap, ◌∙◌, subst}
 use Rattle.std.proofs.Math.Seq.{take-append_seam, take-length}
 use Rattle.std.specs.List.{AllByRecursion}
-use Rattle.flat_model.specs.Weight.{Item}
-use Rattle.flat_model.specs.Event.{Given}
-use Rattle.flat_model.specs.Step.{Transmits}
+use Rattle.flat_model.specs.Amounts.Weight.{Item}
+use Rattle.flat_model.specs.Machine.Event.{Given}
+use Rattle.flat_model.specs.Machine.Step.{Transmits}
 use Rattle.mbuf_chain.specs.Chain.{PoolView, chain_of, string, without}
 use Rattle.mbuf_chain.specs.Owners.{times, Moves}
 use Rattle.mbuf_chain.specs.Frames.{SameAt}
@@ -13,7 +13,7 @@ use Rattle.mbuf_chain.proofs.Laws.Owners.{moves_none, same_without, then_without
 use Rattle.ledger.specs.Accounts.{item_at}
 use Rattle.ip_out.specs.Packets.{packets}
 use Rattle.ip_out.specs.Queues.{IsQueue}
-use Rattle.net_stack.specs.Transmit.{with_packets, AreWithin, IsGiven}
+use Rattle.net_stack.specs.Inside.Transmit.{with_packets, AreWithin, IsGiven}
 use Rattle.net_stack.proofs.Lifted.{OutputKept, output_kept}
 
 -- the bytes in front of a room, of which some were written

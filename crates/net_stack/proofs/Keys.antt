@@ -3,18 +3,18 @@ use Rattle.std.proofs.Common.{◌≡◌, ℕ, ◌+◌, ◌≤◌, Bool, true, fa
 use Rattle.std.specs.Prelude.{count_by, filter, find, not}
 use Rattle.std.proofs.lemmas.Bool.{and_parts, eqb-true}
 use Rattle.std.proofs.lemmas.Option.{none-some}
-use Rattle.flat_model.specs.Weight.{Weight, Item, ◌⊕◌}
-use Rattle.flat_model.specs.Layout.{Need}
-use Rattle.flat_model.specs.Header.{Head}
-use Rattle.flat_model.specs.Overlay.{Map, Fragment, overlay}
-use Rattle.flat_model.specs.Whole.{bytes_below}
-use Rattle.flat_model.specs.State.{State, Socket, Key, Unfinished, is_key, unfinished_at, begun, begin_unfinished, end_unfinished}
-use Rattle.flat_model.specs.Ledger.{HasBuffers, exact_ledger, need_mbufs, reclaimed}
-use Rattle.flat_model.specs.Arrival.{Origin, By_wire, Looped, Tests, Appends, Delivers, GoesTo, WholeArrives, Settles, Lays, Joins, FragmentArrives, Arrives, counts_packet, counts_fragment, counts_reassembled, carried}
+use Rattle.flat_model.specs.Amounts.Weight.{Weight, Item, ◌⊕◌}
+use Rattle.flat_model.specs.Amounts.Layout.{Need}
+use Rattle.flat_model.specs.Packets.Header.{Head}
+use Rattle.flat_model.specs.Fragments.Overlay.{Map, Fragment, overlay}
+use Rattle.flat_model.specs.Fragments.Whole.{bytes_below}
+use Rattle.flat_model.specs.Machine.State.{State, Socket, Key, Unfinished, is_key, unfinished_at, begun, begin_unfinished, end_unfinished}
+use Rattle.flat_model.specs.Machine.Ledger.{HasBuffers, exact_ledger, need_mbufs, reclaimed}
+use Rattle.flat_model.specs.Machine.Arrival.{Origin, By_wire, Looped, Tests, Appends, Delivers, GoesTo, WholeArrives, Settles, Lays, Joins, FragmentArrives, Arrives, counts_packet, counts_fragment, counts_reassembled, carried}
 use Rattle.flat_model.specs.declared.address.Addr.{Addr}
 use Rattle.flat_model.proofs.Laws.{count_cons, count-append}
 use Rattle.net_stack.proofs.Cases.{by_choice, by_case}
-use Rattle.net_stack.specs.Arrivals.{HaveApartKeys}
+use Rattle.net_stack.specs.Inside.Arrivals.{HaveApartKeys}
 
 -- ---- counting
 

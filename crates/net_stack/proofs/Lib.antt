@@ -5,7 +5,7 @@ mod Cases
 mod Coming
 mod Given
 mod Keys
-pub mod Lifted
+mod Lifted
 mod Looping
 mod Runs
 mod Wired

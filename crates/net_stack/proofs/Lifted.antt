@@ -1,10 +1,10 @@
 -- A step of some of the parts is a step of the stack.
 use Rattle.std.proofs.Common.{◌≡◌, ℕ, ◌+◌, List, [], ◌∷◌, ◌++◌, map, refl, sym, ap, ◌∙◌, subst, arith}
-use Rattle.flat_model.specs.Weight.{Weight, Item, SameWeight, nothing, all_of, mbuf, ◌⊕◌, times as bag_times}
-use Rattle.flat_model.specs.Whole.{weight_of_pieces}
-use Rattle.flat_model.specs.State.{State, Socket, Unfinished}
-use Rattle.flat_model.specs.Event.{Event, Reply, IsEvent}
-use Rattle.flat_model.specs.Step.{Step}
+use Rattle.flat_model.specs.Amounts.Weight.{Weight, Item, SameWeight, nothing, all_of, mbuf, ◌⊕◌, times as bag_times}
+use Rattle.flat_model.specs.Fragments.Whole.{weight_of_pieces}
+use Rattle.flat_model.specs.Machine.State.{State, Socket, Unfinished}
+use Rattle.flat_model.specs.Machine.Event.{Event, Reply, IsEvent}
+use Rattle.flat_model.specs.Machine.Step.{Step}
 use Rattle.flat_model.specs.declared.config.Config.{Config}
 use Rattle.flat_model.specs.declared.counters.Counters.{Counters}
 use Rattle.flat_model.proofs.Laws.{step_is_consistent, all_of-append, times-both}

@@ -2,10 +2,10 @@
 use Rattle.std.proofs.Common.{◌≡◌, ℕ, ◌<◌, List, [], ◌∷◌, ◌++◌, length, map, None, refl, sym, ap, ◌∙◌, subst, arith}
 use Rattle.std.specs.Prelude.{slice_index_or}
 use Rattle.std.specs.List.{remove}
-use Rattle.flat_model.specs.Weight.{Weight, Item, nothing, ◌⊕◌, all_of}
-use Rattle.flat_model.specs.State.{State}
-use Rattle.flat_model.specs.Ledger.{exact_ledger, weight_of_state}
-use Rattle.flat_model.specs.Arrival.{Looped, Arrives, AllArrive}
+use Rattle.flat_model.specs.Amounts.Weight.{Weight, Item, nothing, ◌⊕◌, all_of}
+use Rattle.flat_model.specs.Machine.State.{State}
+use Rattle.flat_model.specs.Machine.Ledger.{exact_ledger, weight_of_state}
+use Rattle.flat_model.specs.Machine.Arrival.{Looped, Arrives, AllArrive}
 use Rattle.flat_model.specs.declared.counters.Counters.{Counters}
 use Rattle.flat_model.proofs.Laws.{nothing-both, times-both}
 use Rattle.mbuf_chain.specs.Chain.{Entry, PoolView, chain_of, entry_of, no_entry}
@@ -21,7 +21,7 @@ use Rattle.ip_out.proofs.Laws.{none_wait}
 use Rattle.ip_reass.specs.Table.{TableView, IsReady, held_all, unfinished}
 use Rattle.sock_calls.specs.Sockets.{SocksView, IsSocks, queued_chains, with_net}
 use Rattle.sock_calls.specs.Delivery.{NetView, seen, state_at, chains_at}
-use Rattle.net_stack.specs.Arrivals.{HaveApartKeys, IsArrived, AreArriving, HaveArrived}
+use Rattle.net_stack.specs.Inside.Arrivals.{HaveApartKeys, IsArrived, AreArriving, HaveArrived}
 use Rattle.net_stack.proofs.Keys.{keys_arrive}
 use Rattle.net_stack.proofs.Lifted.{output_weighs}
 use Rattle.net_stack.proofs.Aside.{Aside, aside}

@@ -1,8 +1,8 @@
 -- Calls one after another are a run of the flat machine.
 use Rattle.std.proofs.Common.{◌≡◌, List, [], ◌∷◌, ap, subst}
-use Rattle.flat_model.specs.State.{State, boot}
-use Rattle.flat_model.specs.Run.{Turn, Leads, Run}
-use Rattle.flat_model.specs.Ledger.{exact_ledger}
+use Rattle.flat_model.specs.Machine.State.{State, boot}
+use Rattle.flat_model.specs.Runs.Run.{Turn, Leads, Run}
+use Rattle.flat_model.specs.Machine.Ledger.{exact_ledger}
 use Rattle.flat_model.specs.declared.config.Config.{Config}
 use Rattle.net_stack.specs.Stack.{StackView, state_of}
 use Rattle.net_stack.specs.Runs.{AreCalls}

@@ -1,9 +1,9 @@
 -- A send whose packets that come back arrive.
 use Rattle.std.proofs.Common.{◌≡◌, ℕ, ◌+◌, List, ◌++◌, Option, refl, sym, ap, subst, arith}
 use Rattle.std.specs.Prelude.{Result}
-use Rattle.flat_model.specs.State.{State}
-use Rattle.flat_model.specs.Ledger.{exact_ledger}
-use Rattle.flat_model.specs.Arrival.{AllArrive}
+use Rattle.flat_model.specs.Machine.State.{State}
+use Rattle.flat_model.specs.Machine.Ledger.{exact_ledger}
+use Rattle.flat_model.specs.Machine.Arrival.{AllArrive}
 use Rattle.flat_model.specs.declared.address.Addr.{Addr}
 use Rattle.flat_model.specs.declared.counters.Counters.{Counters}
 use Rattle.flat_model.specs.declared.errno.Errno.{Errno}
@@ -18,8 +18,8 @@ use Rattle.ip_reass.specs.Table.{TableView, IsReady, held_all, unfinished}
 use Rattle.sock_calls.specs.Sockets.{SocksView, queues_of, queued_chains}
 use Rattle.sock_calls.specs.Delivery.{seen}
 use Rattle.sock_calls.specs.Outgoing.{SendView, sending}
-use Rattle.net_stack.specs.Arrivals.{HaveArrived}
-use Rattle.net_stack.specs.Sending.{all_in, no_train, out_chains, AreParts, IsTried, HasSent}
+use Rattle.net_stack.specs.Inside.Arrivals.{HaveArrived}
+use Rattle.net_stack.specs.Inside.Sending.{all_in, no_train, out_chains, AreParts, IsTried, HasSent}
 use Rattle.net_stack.proofs.Lifted.{OutputKept, output_kept}
 
 -- the chains that an arrival may touch

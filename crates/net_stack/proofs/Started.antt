@@ -5,9 +5,9 @@ use Rattle.std.proofs.Common.{◌≡◌, ℕ, ◌≤◌, List, [], ◌++◌, len
 use Rattle.std.specs.FinMap as finmap
 use Rattle.std.specs.FinMap.{get-empty}
 use Rattle.std.specs.Ordering.{nat_cmp}
-use Rattle.flat_model.specs.State.{IsConfig, boot}
-use Rattle.flat_model.specs.Count.{no_counts}
-use Rattle.flat_model.specs.Consistent.{IsConsistent}
+use Rattle.flat_model.specs.Machine.State.{IsConfig, boot}
+use Rattle.flat_model.specs.Machine.Count.{no_counts}
+use Rattle.flat_model.specs.Runs.Consistent.{IsConsistent}
 use Rattle.flat_model.specs.declared.config.Config.{Config}
 use Rattle.flat_model.proofs.Laws.{boot_is_consistent}
 use Rattle.mbuf_chain.specs.Chain.{PoolView}
@@ -24,7 +24,7 @@ use Rattle.ip_reass.specs.declared.datagram.Datagram.{Datagram}
 use Rattle.sock_calls.specs.Sockets.{IsSocks, queues_of, queued_chains}
 use Rattle.net_stack.specs.Boots.{free_pool}
 use Rattle.net_stack.specs.Stack.{IsStack, state_of, chains_of}
-use Rattle.net_stack.specs.Inside.{seen, IsInside}
+use Rattle.net_stack.specs.Inside.Fields.{seen, IsInside}
 use Rattle.net_stack.specs.declared.stack.Stack.TheInside.{Inside}
 use Rattle.net_stack.proofs.Lifted.{ReassKept, reass_kept, OutputKept, output_kept, split}
 

@@ -2,13 +2,13 @@
 use Rattle.std.proofs.Common.{◌≡◌, ℕ, ◌+◌, Bool, true, false, List, [], ◌∷◌, ◌++◌, length, Option, refl, sym, ap, ◌∙◌, subst, arith, inl, inr}
 use Rattle.std.specs.Prelude.{◌⊎◌, count_by, Result, Ok, Err}
 use Rattle.std.proofs.lemmas.Bool.{true≢false}
-use Rattle.flat_model.specs.Weight.{Weight, Item, SameWeight, nothing, all_of, mbuf, ◌⊕◌}
-use Rattle.flat_model.specs.Whole.{weight_of_pieces}
-use Rattle.flat_model.specs.Count.{counts_more}
-use Rattle.flat_model.specs.State.{State, Socket, Unfinished, is_key}
-use Rattle.flat_model.specs.Ledger.{exact_ledger, reclaimed}
-use Rattle.flat_model.specs.Event.{Reply, Refused, Done, Opened, Sent, Received, Given, Counted, Shown}
-use Rattle.flat_model.specs.Replies.{sent_reply}
+use Rattle.flat_model.specs.Amounts.Weight.{Weight, Item, SameWeight, nothing, all_of, mbuf, ◌⊕◌}
+use Rattle.flat_model.specs.Fragments.Whole.{weight_of_pieces}
+use Rattle.flat_model.specs.Machine.Count.{counts_more}
+use Rattle.flat_model.specs.Machine.State.{State, Socket, Unfinished, is_key}
+use Rattle.flat_model.specs.Machine.Ledger.{exact_ledger, reclaimed}
+use Rattle.flat_model.specs.Machine.Event.{Reply, Refused, Done, Opened, Sent, Received, Given, Counted, Shown}
+use Rattle.flat_model.specs.Machine.Replies.{sent_reply}
 use Rattle.flat_model.specs.declared.address.Addr.{Addr}
 use Rattle.flat_model.specs.declared.counter.Counter.TheVariants.{IpReclaimed}
 use Rattle.flat_model.specs.declared.counters.Counters.{Counters}
@@ -32,8 +32,8 @@ use Rattle.sock_calls.specs.Sockets.{queues_of, queued_chains}
 use Rattle.sock_calls.specs.Sends.{SendsOnce}
 use Rattle.sock_calls.specs.Outgoing.{SendView, CanSend, IsSent, sending, state_in}
 use Rattle.sock_calls.proofs.Laws.{Kept, kept, sends_at_once, sends_again}
-use Rattle.net_stack.specs.Arrivals.{HaveApartKeys}
-use Rattle.net_stack.specs.Sending.{is_pool_lack, lacks_pool, all_in, out_chains, AreParts, IsTried}
+use Rattle.net_stack.specs.Inside.Arrivals.{HaveApartKeys}
+use Rattle.net_stack.specs.Inside.Sending.{is_pool_lack, lacks_pool, all_in, out_chains, AreParts, IsTried}
 use Rattle.net_stack.proofs.Lifted.{ReassKept, reass_kept, OutputKept, output_kept, output_weighs}
 
 -- ---- one test

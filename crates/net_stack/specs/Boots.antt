@@ -1,7 +1,7 @@
 -- How a stack starts and ends (this project's own).
 use Rattle.std.specs.FinMap as finmap
 use Rattle.flat_model.specs.declared.config.Config.{Config}
-use Rattle.flat_model.specs.State.{IsConfig, HasSizes}
+use Rattle.flat_model.specs.Machine.State.{IsConfig, HasSizes}
 use Rattle.mbuf_chain.specs.Chain.{PoolView}
 use Rattle.net_stack.specs.declared.stack.BootFault.{BootFault}
 use Rattle.net_stack.specs.declared.stack.BootFault.TheVariants.{Memory, BadSizes, BadConfig}

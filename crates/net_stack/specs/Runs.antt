@@ -1,8 +1,8 @@
 -- Calls of a stack, one after another (this project's own).
 use Rattle.std.specs.Prelude.{◌≡◌, List, [], ◌∷◌}
-use Rattle.flat_model.specs.Event.{IsEvent}
-use Rattle.flat_model.specs.Run.{Turn}
-use Rattle.flat_model.specs.Step.{Step}
+use Rattle.flat_model.specs.Machine.Event.{IsEvent}
+use Rattle.flat_model.specs.Runs.Run.{Turn}
+use Rattle.flat_model.specs.Machine.Step.{Step}
 use Rattle.net_stack.specs.Stack.{StackView, state_of}
 
 -- what each call says of the stack before it and after it, where it stands for the turn's event and answers its reply

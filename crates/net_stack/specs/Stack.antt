@@ -1,7 +1,7 @@
 -- What a stack shows, the state of the flat machine that it means, and when its parts fit together (this project's own).
 use Rattle.std.specs.Prelude.{◌≡◌, ℕ, List, ◌++◌}
-use Rattle.flat_model.specs.State.{State, boot}
-use Rattle.flat_model.specs.Consistent.{IsConsistent}
+use Rattle.flat_model.specs.Machine.State.{State, boot}
+use Rattle.flat_model.specs.Runs.Consistent.{IsConsistent}
 use Rattle.flat_model.specs.declared.config.Config.{Config}
 use Rattle.flat_model.specs.declared.counters.Counters.{Counters}
 use Rattle.mbuf_chain.specs.Chain.{PoolView}

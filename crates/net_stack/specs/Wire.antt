@@ -1,10 +1,10 @@
 -- Two stacks on one wire that loses, repeats and reorders packets, and on which others send too (this project's own).
 use Rattle.std.specs.Prelude.{◌≡◌, ◌≢◌, ◌<◌, ◌^◌, List, filter_map, All, Contains}
-use Rattle.flat_model.specs.Count.{value_of}
+use Rattle.flat_model.specs.Machine.Count.{value_of}
 use Rattle.flat_model.specs.declared.counter.Counter.TheVariants.{IpLocalout}
-use Rattle.flat_model.specs.Run.{Turn}
-use Rattle.flat_model.specs.State.{IsConfig, boot}
-use Rattle.flat_model.specs.Wire.{ComesFrom, packet_in, packet_out}
+use Rattle.flat_model.specs.Runs.Run.{Turn}
+use Rattle.flat_model.specs.Machine.State.{IsConfig, boot}
+use Rattle.flat_model.specs.Runs.Wire.{ComesFrom, packet_in, packet_out}
 use Rattle.flat_model.specs.declared.config.Config.{Config}
 use Rattle.net_stack.specs.Stack.{StackView, state_of}
 use Rattle.net_stack.specs.Runs.{AreCalls}

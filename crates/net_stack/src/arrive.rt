@@ -1,6 +1,6 @@
 //! A packet arrives.
 ghost use Rattle.std.specs.Prelude.{◌≡◌, ◌≤◌, ◌∷◌, ◌++◌, true, length};
-ghost use Rattle.flat_model.specs.Arrival as flat;
+ghost use Rattle.flat_model.specs.Machine.Arrival as flat;
 ghost use Rattle.mbuf_chain.specs.Chain.{IsLive, chain_of, string, with_chain};
 ghost use Rattle.mbuf_chain.specs.Owners.{IsOwned};
 ghost use Rattle.mbuf_chain.specs.Train.{IsHeld, numbers};
@@ -9,7 +9,7 @@ ghost use Rattle.ip_reass.specs.Table.{IsReady, held_all, unfinished};
 ghost use Rattle.ip_reass.specs.Arrivals.{flat_head};
 ghost use Rattle.sock_calls.specs.Sockets.{IsSocks, queued_chains};
 ghost use Rattle.sock_calls.specs.Delivery.{seen};
-ghost use Rattle.net_stack.specs.Arrivals.{HaveArrived, IsArrived, IsTaken, is_ours_or_all};
+ghost use Rattle.net_stack.specs.Inside.Arrivals.{HaveArrived, IsArrived, IsTaken, is_ours_or_all};
 
 use chain_ops::{trim_back, trim_front};
 use flat_model::{Counter, Counters, Why};

@@ -1,8 +1,8 @@
 //! The calls that change one part of the stack alone.
 ghost use Rattle.std.specs.Prelude.{◌≡◌, ◌≤◌, [], length, IfSome};
-ghost use Rattle.flat_model.specs.Event.{Open, Bind, Connect, Receive, Close, Set_option, Transmit, Tick, Ask_counters, Ask_usage, Done, Counted, Shown};
-ghost use Rattle.flat_model.specs.Replies.{opened_reply, done_reply, received_reply, given_reply, FitsRoom};
-ghost use Rattle.flat_model.specs.Step.{Step};
+ghost use Rattle.flat_model.specs.Machine.Event.{Open, Bind, Connect, Receive, Close, Set_option, Transmit, Tick, Ask_counters, Ask_usage, Done, Counted, Shown};
+ghost use Rattle.flat_model.specs.Machine.Replies.{opened_reply, done_reply, received_reply, given_reply, FitsRoom};
+ghost use Rattle.flat_model.specs.Machine.Step.{Step};
 ghost use Rattle.net_stack.specs.Stack.{state_of};
 
 use crate::stack::Stack;

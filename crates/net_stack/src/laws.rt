@@ -1,10 +1,10 @@
 //! The laws over whole runs. Each is a function that does nothing, and its contract is the law.
 ghost use Rattle.std.specs.Prelude.{◌≡◌, ◌++◌, ◌⊎◌, ◌∷◌, Contains, List, Some, ℕ};
-ghost use Rattle.flat_model.specs.Run.{Turn, Run};
-ghost use Rattle.flat_model.specs.Event.{Receive, Received};
-ghost use Rattle.flat_model.specs.Ledger.{exact_ledger};
-ghost use Rattle.flat_model.specs.State.{Datagram, Socket, boot as flat_boot};
-ghost use Rattle.flat_model.specs.Wire.{IsAnswered, WasSent};
+ghost use Rattle.flat_model.specs.Runs.Run.{Turn, Run};
+ghost use Rattle.flat_model.specs.Machine.Event.{Receive, Received};
+ghost use Rattle.flat_model.specs.Machine.Ledger.{exact_ledger};
+ghost use Rattle.flat_model.specs.Machine.State.{Datagram, Socket, boot as flat_boot};
+ghost use Rattle.flat_model.specs.Runs.Wire.{IsAnswered, WasSent};
 ghost use Rattle.flat_model.specs.declared.address.Addr.{Addr};
 ghost use Rattle.flat_model.specs.declared.config.Config.{Config};
 ghost use Rattle.net_stack.specs.Stack.{StackView, state_of};

@@ -1,12 +1,12 @@
 //! A packet from the wire.
 ghost use Rattle.std.specs.Prelude.{◌≡◌, ◌<◌, ◌≤◌, ◌++◌, length, max, if◌then◌else◌};
-ghost use Rattle.flat_model.specs.Layout.{is_cluster, need_of, next_room, size_of, wire};
+ghost use Rattle.flat_model.specs.Amounts.Layout.{is_cluster, need_of, next_room, size_of, wire};
 ghost use Rattle.mbuf_chain.specs.Owners.{IsOwned};
 ghost use Rattle.chain_ops.specs.Stored.{Has};
 ghost use Rattle.ip_reass.specs.Table.{IsReady, held_all, unfinished};
 ghost use Rattle.sock_calls.specs.Sockets.{IsSocks, queued_chains};
 ghost use Rattle.sock_calls.specs.Delivery.{seen};
-ghost use Rattle.net_stack.specs.Arrivals.{HasCome, IsLaidOut};
+ghost use Rattle.net_stack.specs.Inside.Arrivals.{HasCome, IsLaidOut};
 
 use crate::arrive::arrive;
 use chain_ops::from_wire;

@@ -3,7 +3,7 @@ ghost use Rattle.std.specs.Prelude.{◌≡◌, ◌++◌};
 ghost use Rattle.mbuf_chain.specs.Owners.{IsOwned};
 ghost use Rattle.ip_reass.specs.Table.{IsReady, held_all};
 ghost use Rattle.sock_calls.specs.Outgoing.{CanSend, sending};
-ghost use Rattle.net_stack.specs.Sending.{HasSent, IsTried, lacks_pool, out_chains};
+ghost use Rattle.net_stack.specs.Inside.Sending.{HasSent, IsTried, lacks_pool, out_chains};
 
 use crate::arrive::arrive_all;
 use flat_model::{Addr, Counter, Errno, Lack};

@@ -1,7 +1,7 @@
 //! The stack: what it consists of, how it starts and how it ends.
 ghost use Rattle.std.specs.Prelude.{◌≡◌, ◌↔◌, Err, MatchResult};
-ghost use Rattle.flat_model.specs.State.{HasSizes, IsConfig};
-ghost use Rattle.flat_model.specs.State.{boot as flat_boot};
+ghost use Rattle.flat_model.specs.Machine.State.{HasSizes, IsConfig};
+ghost use Rattle.flat_model.specs.Machine.State.{boot as flat_boot};
 ghost use Rattle.net_stack.specs.Boots.{IsUnbooted, free_pool};
 ghost use Rattle.net_stack.specs.Stack.{IsStack, state_of};
 
@@ -45,7 +45,7 @@ impl Model for Stack {
     ghost use Rattle.std.specs.Coded.{codes};
     ghost use Rattle.mbuf_chain.specs.Chain.{coded_pool};
     ghost use Rattle.net_stack.specs.Stack.{StackView};
-    ghost use Rattle.net_stack.specs.Inside.{seen, IsInside};
+    ghost use Rattle.net_stack.specs.Inside.Fields.{seen, IsInside};
 
     ghost Value = { StackView };
 

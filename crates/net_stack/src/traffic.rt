@@ -1,8 +1,8 @@
 //! The calls that change all parts of the stack: a packet from the wire, and a send.
 ghost use Rattle.std.specs.Prelude.{◌≡◌, ◌<◌, ◌^◌, length, IfSome};
-ghost use Rattle.flat_model.specs.Event.{Comes, Done, IsAddr, Send};
-ghost use Rattle.flat_model.specs.Replies.{sent_reply};
-ghost use Rattle.flat_model.specs.Step.{Step};
+ghost use Rattle.flat_model.specs.Machine.Event.{Comes, Done, IsAddr, Send};
+ghost use Rattle.flat_model.specs.Machine.Replies.{sent_reply};
+ghost use Rattle.flat_model.specs.Machine.Step.{Step};
 ghost use Rattle.net_stack.specs.Stack.{state_of};
 
 use crate::receive::come_in;

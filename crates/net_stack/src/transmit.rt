@@ -1,8 +1,8 @@
 //! The packet that has waited longest, copied out.
 ghost use Rattle.std.specs.Prelude.{◌≡◌, ◌≤◌, length, IfSome};
-ghost use Rattle.flat_model.specs.Replies.{given_reply};
+ghost use Rattle.flat_model.specs.Machine.Replies.{given_reply};
 ghost use Rattle.ip_out.specs.Queues.{IsQueue};
-ghost use Rattle.net_stack.specs.Transmit.{AreWithin, IsGiven};
+ghost use Rattle.net_stack.specs.Inside.Transmit.{AreWithin, IsGiven};
 
 use chain_ops::m_copydata;
 use ip_out::Queue;

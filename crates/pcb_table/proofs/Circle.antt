@@ -1,11 +1,11 @@
 -- There are more ports and descriptors than blocks.
 use Rattle.std.proofs.Common.{◌≡◌, ℕ, ◌+◌, ◌-◌, ◌<◌, ◌≤◌, ◌%◌, Bool, true, ◌&&◌, ◌==◌, List, length, Option, Some, None, is_some, find, sym, ap, ◌∙◌, arith}
 use Rattle.std.proofs.lemmas.Bool.{and_parts, eqb-true, false≢true}
-use Rattle.flat_model.specs.Lookup.{are_same, agree, is_addr}
-use Rattle.flat_model.specs.Calls.{port_after}
+use Rattle.flat_model.specs.Sockets.Lookup.{are_same, agree, is_addr}
+use Rattle.flat_model.specs.Machine.Calls.{port_after}
 use Rattle.pcb_table.specs.declared.block.Block.{Block}
-use Rattle.pcb_table.specs.Search.{does_match, is_used, key_port}
-use Rattle.pcb_table.specs.Sound.{has_fd}
+use Rattle.pcb_table.specs.Inside.Search.{is_used, key_port}
+use Rattle.pcb_table.specs.Apart.{does_match, has_fd}
 use Rattle.pcb_table.proofs.Searching.{best_counts, found_counts}
 use Rattle.pcb_table.proofs.Pigeons.{pigeons}
 

@@ -4,10 +4,10 @@ use Rattle.std.specs.Prelude.{sum_by}
 use Rattle.std.specs.List.{range_with_len}
 use Rattle.std.proofs.lemmas.Bool.{eqb-true, eqb-false, eq-eqb, ne_eqb}
 use Rattle.std.proofs.lemmas.List.Sums.{sum_by-cons}
-use Rattle.flat_model.specs.Weight.{times}
-use Rattle.flat_model.specs.Lookup.{up_to_first}
+use Rattle.flat_model.specs.Amounts.Weight.{times}
+use Rattle.flat_model.specs.Sockets.Lookup.{up_to_first}
 use Rattle.pcb_table.specs.declared.block.Block.{Block}
-use Rattle.pcb_table.specs.Sound.{has_fd}
+use Rattle.pcb_table.specs.Apart.{has_fd}
 use Rattle.pcb_table.proofs.Searching.{counted-cons}
 
 abbrev pub fds_of : List Block → List ℕ

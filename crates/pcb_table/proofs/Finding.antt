@@ -6,12 +6,12 @@ use Rattle.std.proofs.lemmas.List.{length-map}
 use Rattle.std.proofs.lemmas.List.Elements.{All-map}
 use Rattle.std.proofs.lemmas.Option.{same_Some}
 use Rattle.flat_model.specs.declared.lookup_key.LookupKey.{LookupKey}
-use Rattle.flat_model.specs.Header.{first_fault}
-use Rattle.flat_model.specs.Event.{Opened}
-use Rattle.flat_model.specs.Lookup.{best, exact, receivers, is_addr}
-use Rattle.flat_model.specs.State.{State}
-use Rattle.flat_model.specs.Calls.{Opens, read_addr, source_for}
-use Rattle.flat_model.specs.Send.{address_faults}
+use Rattle.flat_model.specs.Packets.Header.{first_fault}
+use Rattle.flat_model.specs.Machine.Event.{Opened}
+use Rattle.flat_model.specs.Sockets.Lookup.{best, exact, receivers, is_addr}
+use Rattle.flat_model.specs.Machine.State.{State}
+use Rattle.flat_model.specs.Machine.Calls.{Opens, read_addr, source_for}
+use Rattle.flat_model.specs.Machine.Send.{address_faults}
 use Rattle.flat_model.specs.declared.address.Addr.{Addr}
 use Rattle.flat_model.specs.declared.errno.Errno.{Errno}
 use Rattle.flat_model.specs.declared.errno.Errno.TheVariants.{IsConnected}
@@ -20,9 +20,10 @@ use Rattle.pcb_table.specs.declared.block.Connection.{Connection}
 use Rattle.pcb_table.specs.declared.interface.Interface.{Interface}
 use Rattle.pcb_table.specs.Table.{Queues, IsDescriptor, block_at, machine, packet_key, socket_with}
 use Rattle.pcb_table.specs.Found.{ChecksDestination, Finds, FindsAll, SendsFrom}
-use Rattle.pcb_table.specs.Search.{does_match, plain, best_block, youngest_block, hearing_blocks, block_connect_faults, config_of}
-use Rattle.pcb_table.specs.Sound.{AreApart, IsCached, IsLocated, IsLowestFree, has_fd}
-use Rattle.pcb_table.specs.Changed.{unbound_block}
+use Rattle.pcb_table.specs.Inside.Search.{best_block, youngest_block, hearing_blocks, block_connect_faults, config_of}
+use Rattle.pcb_table.specs.Apart.{does_match, plain, AreApart, has_fd}
+use Rattle.pcb_table.specs.Inside.Fields.{IsCached, IsLocated, IsLowestFree}
+use Rattle.pcb_table.specs.Inside.Changed.{unbound_block}
 use Rattle.pcb_table.proofs.Descriptors.{named_times, up_to_few, filter_few}
 use Rattle.pcb_table.proofs.Keeping.{addr_same, cached_is_best}
 use Rattle.pcb_table.proofs.Lifted.{best-sockets, youngest-sockets, receivers-sockets, sockets-find}

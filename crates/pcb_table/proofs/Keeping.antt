@@ -5,18 +5,19 @@ use Rattle.std.proofs.lemmas.Bool.{false≢true, true≢false, eq-eqb, eqb-true,
 use Rattle.std.specs.Option.{option_or}
 use Rattle.std.proofs.lemmas.Option.{none-some, same_Some}
 use Rattle.flat_model.specs.declared.lookup_key.LookupKey.{LookupKey}
-use Rattle.flat_model.specs.Header.{first_fault}
+use Rattle.flat_model.specs.Packets.Header.{first_fault}
 use Rattle.flat_model.specs.declared.config.Config.{Config}
 use Rattle.flat_model.specs.declared.option.Opt.{Opt}
 use Rattle.flat_model.specs.declared.option.Opt.TheVariants.{Broadcast, ReusePort}
-use Rattle.flat_model.specs.Calls.{is_reached, source_for}
-use Rattle.flat_model.specs.Lookup.{are_same, agree, is_addr, one_sided, wildcards}
+use Rattle.flat_model.specs.Machine.Calls.{is_reached, source_for}
+use Rattle.flat_model.specs.Sockets.Lookup.{are_same, agree, is_addr, one_sided, wildcards}
 use Rattle.flat_model.specs.declared.address.Addr.{Addr}
 use Rattle.pcb_table.specs.declared.block.Block.{Block}
 use Rattle.pcb_table.specs.declared.block.Connection.{Connection}
-use Rattle.pcb_table.specs.Search.{does_match, has_score, plain, youngest_block, best_block, key_port, GivesPort, block_bind_faults, block_connect_faults}
-use Rattle.pcb_table.specs.Sound.{has_fd, four, has_four, is_connected_as, lacks_port, AreApart, IsLocated, IsCached, IsLowestFree}
-use Rattle.pcb_table.specs.Changed.{unbound_block, block_with_option, bound_block, connected_block, disconnected_block, forgotten, connection_by, connection_of}
+use Rattle.pcb_table.specs.Inside.Search.{youngest_block, best_block, key_port, GivesPort, block_bind_faults, block_connect_faults}
+use Rattle.pcb_table.specs.Apart.{does_match, has_score, plain, has_fd, four, has_four, lacks_port, AreApart}
+use Rattle.pcb_table.specs.Inside.Fields.{is_connected_as, IsLocated, IsCached, IsLowestFree}
+use Rattle.pcb_table.specs.Inside.Changed.{unbound_block, block_with_option, bound_block, connected_block, disconnected_block, forgotten, connection_by, connection_of}
 use Rattle.pcb_table.proofs.Searching.{counted-cons, one_sided-most}
 use Rattle.pcb_table.proofs.Places.{one_if, one_if-most, counted-set, counted-remove, counts_at, none_counted, find_gives, find_only, best_found_as}
 

@@ -1,21 +1,21 @@
 -- For the layers above, which have the receive queues: what a table tells of the machines that have its blocks.
-use Rattle.std.proofs.Common.{◌≡◌, ◌≢◌, ℕ, ◌+◌, Bool, true, false, ◌==◌, not, nat_lt, cond, List, [], ◌∷◌, ◌++◌, map, filter, find, Option, Some, None, option_map, is_some, refl, sym, ap, ◌∙◌, subst, arith}
+use Rattle.std.proofs.Common.{◌≡◌, ◌≢◌, ℕ, Bool, true, false, ◌==◌, not, nat_lt, cond, List, [], ◌∷◌, ◌++◌, map, filter, find, Option, Some, None, option_map, is_some, refl, sym, ap, ◌∙◌, subst, arith}
 use Rattle.std.specs.Prelude.{IsNone, sum_by, if◌then◌else◌}
 use Rattle.std.specs.List.{range_with_len}
 use Rattle.std.proofs.lemmas.Bool.{eq-eqb, eqb-true, eqb-false, ne_eqb, lt-ltb, true≢false}
 use Rattle.std.proofs.lemmas.List.Sums.{sum_by-cons, sum_by-append}
 use Rattle.std.proofs.lemmas.Option.{none-some, same_Some}
-use Rattle.flat_model.specs.Weight.{Weight, times, all_of}
-use Rattle.flat_model.specs.State.{State, Socket, Datagram, socket_at, change_socket}
-use Rattle.flat_model.specs.Event.{Reply, Refused}
-use Rattle.flat_model.specs.Calls.{OnSocket, GetsPort}
-use Rattle.flat_model.specs.Cuts.{Part}
-use Rattle.flat_model.specs.Send.{counts_send, spent}
+use Rattle.flat_model.specs.Amounts.Weight.{Weight, times, all_of}
+use Rattle.flat_model.specs.Machine.State.{State, Socket, Datagram, socket_at, change_socket}
+use Rattle.flat_model.specs.Machine.Event.{Reply, Refused}
+use Rattle.flat_model.specs.Machine.Calls.{OnSocket, GetsPort}
+use Rattle.flat_model.specs.Fragments.Cuts.{Part}
+use Rattle.flat_model.specs.Machine.Send.{counts_send, spent}
 use Rattle.flat_model.specs.declared.errno.Errno.TheVariants.{BadDescriptor}
 use Rattle.pcb_table.specs.declared.block.Block.{Block}
 use Rattle.pcb_table.specs.Table.{Table, Queues, KeepsOpen, OpensOnly, ClosesOnly, IsOpen, block_at, descriptors, machine, socket_with, sockets_with}
 use Rattle.pcb_table.specs.Found.{EnsuresPort}
-use Rattle.pcb_table.specs.Sound.{AreApart, has_fd}
+use Rattle.pcb_table.specs.Apart.{AreApart, has_fd}
 use Rattle.pcb_table.proofs.Searching.{counted-cons}
 use Rattle.pcb_table.proofs.Descriptors.{named_times, sum_in_range}
 use Rattle.pcb_table.proofs.Lifted.{sockets-find}

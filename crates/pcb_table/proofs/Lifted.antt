@@ -2,11 +2,12 @@
 use Rattle.std.proofs.Common.{◌≡◌, ℕ, Bool, true, false, ◌&&◌, ◌==◌, not, cond, List, [], ◌∷◌, map, filter, find, Option, Some, None, option_map, refl, ap, ◌∙◌}
 use Rattle.std.specs.Option.{option_or}
 use Rattle.flat_model.specs.declared.lookup_key.LookupKey.{LookupKey}
-use Rattle.flat_model.specs.State.{Socket}
-use Rattle.flat_model.specs.Lookup.{matches, wildcards, youngest, best, receivers, up_to_first}
+use Rattle.flat_model.specs.Machine.State.{Socket}
+use Rattle.flat_model.specs.Sockets.Lookup.{matches, wildcards, youngest, best, receivers, up_to_first}
 use Rattle.pcb_table.specs.declared.block.Block.{Block}
 use Rattle.pcb_table.specs.Table.{Queues, socket_with}
-use Rattle.pcb_table.specs.Search.{does_match, youngest_block, best_block, hearing_blocks}
+use Rattle.pcb_table.specs.Inside.Search.{youngest_block, best_block, hearing_blocks}
+use Rattle.pcb_table.specs.Apart.{does_match}
 
 -- ---- lists
 

@@ -5,8 +5,9 @@ use Rattle.std.proofs.lemmas.Bool.{lt-ltb}
 use Rattle.pcb_table.specs.declared.block.Block.{Block}
 use Rattle.pcb_table.specs.declared.interface.Interface.{Interface}
 use Rattle.pcb_table.specs.Table.{KeepsOpen, OpensOnly, ClosesOnly}
-use Rattle.pcb_table.specs.Sound.{AreApart, IsLocated, IsLowestFree}
-use Rattle.pcb_table.specs.Changed.{unbound_block}
+use Rattle.pcb_table.specs.Apart.{AreApart}
+use Rattle.pcb_table.specs.Inside.Fields.{IsLocated, IsLowestFree}
+use Rattle.pcb_table.specs.Inside.Changed.{unbound_block}
 use Rattle.pcb_table.proofs.Searching.{counted-cons}
 use Rattle.pcb_table.proofs.Descriptors.{fds_of}
 use Rattle.pcb_table.proofs.Lifted.{filter-map}

@@ -9,10 +9,11 @@ use Rattle.std.proofs.lemmas.List.Quantifiers.{position-Some}
 use Rattle.std.proofs.lemmas.Option.{none-some, same_Some}
 use Rattle.pcb_table.specs.declared.block.Block.{Block}
 use Rattle.flat_model.specs.declared.lookup_key.LookupKey.{LookupKey}
-use Rattle.flat_model.specs.Lookup.{up_to_first}
+use Rattle.flat_model.specs.Sockets.Lookup.{up_to_first}
 use Rattle.pcb_table.specs.Table.{IsDescriptor}
-use Rattle.pcb_table.specs.Search.{does_match, has_score, youngest_block, best_block, hearing_blocks}
-use Rattle.pcb_table.specs.Sound.{has_fd, AreApart, IsLocated}
+use Rattle.pcb_table.specs.Inside.Search.{youngest_block, best_block, hearing_blocks}
+use Rattle.pcb_table.specs.Apart.{does_match, has_score, has_fd, AreApart}
+use Rattle.pcb_table.specs.Inside.Fields.{IsLocated}
 use Rattle.pcb_table.proofs.Searching.{counted-cons}
 
 -- ---- counts

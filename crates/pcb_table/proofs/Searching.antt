@@ -5,9 +5,10 @@ use Rattle.std.proofs.lemmas.List.Folds.{find-append}
 use Rattle.std.proofs.lemmas.List.Sums.{sum_by-cons}
 use Rattle.std.proofs.lemmas.Bool.{and_parts, false≢true}
 use Rattle.flat_model.specs.declared.lookup_key.LookupKey.{LookupKey}
-use Rattle.flat_model.specs.Lookup.{agree, are_same, is_addr, wildcards, one_sided}
+use Rattle.flat_model.specs.Sockets.Lookup.{agree, are_same, is_addr, wildcards, one_sided}
 use Rattle.pcb_table.specs.declared.block.Block.{Block}
-use Rattle.pcb_table.specs.Search.{plain, does_agree, does_match, from_port, has_port, has_score, youngest_block, best_block}
+use Rattle.pcb_table.specs.Inside.Search.{does_agree, from_port, has_port, youngest_block, best_block}
+use Rattle.pcb_table.specs.Apart.{plain, does_match, has_score}
 
 -- ---- one block further on
 

@@ -2,11 +2,11 @@
 use Rattle.std.proofs.Common.{◌≡◌, ℕ, Bool, true, false, ◌&&◌, ◌||◌, ◌==◌, not, cond, List, [], ◌∷◌, map, find, set, Option, Some, None, option_map, is_some, refl, sym, ap, ◌∙◌, subst}
 use Rattle.std.proofs.lemmas.Option.{none-some, same_Some}
 use Rattle.flat_model.specs.declared.lookup_key.LookupKey.{LookupKey}
-use Rattle.flat_model.specs.Header.{first_fault}
-use Rattle.flat_model.specs.Event.{Reply, Done, Refused, Bind, Close, Connect, Set_option}
-use Rattle.flat_model.specs.Lookup.{exact}
-use Rattle.flat_model.specs.State.{State, Socket, socket_at, change_socket}
-use Rattle.flat_model.specs.Calls.{Unless, OnSocket, GetsPort, IsNextPort, port_after, is_in_use, is_taken, lacks_reuse_port, bind_faults, connect_faults, disconnected, read_addr, source_for, set_option, unless_zero, is_reached, Connects, ConnectsTo}
+use Rattle.flat_model.specs.Packets.Header.{first_fault}
+use Rattle.flat_model.specs.Machine.Event.{Reply, Done, Refused, Bind, Close, Connect, Set_option}
+use Rattle.flat_model.specs.Sockets.Lookup.{exact}
+use Rattle.flat_model.specs.Machine.State.{State, Socket, socket_at, change_socket}
+use Rattle.flat_model.specs.Machine.Calls.{Unless, OnSocket, GetsPort, IsNextPort, port_after, is_in_use, is_taken, lacks_reuse_port, bind_faults, connect_faults, disconnected, read_addr, source_for, set_option, unless_zero, is_reached, Connects, ConnectsTo}
 use Rattle.flat_model.specs.declared.address.Addr.{Addr}
 use Rattle.flat_model.specs.declared.errno.Errno.{Errno}
 use Rattle.flat_model.specs.declared.errno.Errno.TheVariants.{BadDescriptor, Invalid, AddressInUse, AddressNotAvailable, HostUnreachable}
@@ -15,11 +15,12 @@ use Rattle.flat_model.specs.declared.option.Opt.TheVariants.{Broadcast, ReusePor
 use Rattle.pcb_table.specs.declared.block.Block.{Block}
 use Rattle.pcb_table.specs.declared.interface.Interface.{Interface}
 use Rattle.pcb_table.specs.Table.{Table, Queues, IsCall, block_at, machine, socket_with}
-use Rattle.pcb_table.specs.Search.{plain, youngest_block, best_block, key_port, is_used, is_in_way, lacks_option, IsFreePort, GivesPort, config_of, block_bind_faults, block_connect_faults}
-use Rattle.pcb_table.specs.Sound.{has_fd, AreApart, IsLocated}
+use Rattle.pcb_table.specs.Inside.Search.{youngest_block, best_block, key_port, is_used, is_in_way, lacks_option, IsFreePort, GivesPort, config_of, block_bind_faults, block_connect_faults}
+use Rattle.pcb_table.specs.Apart.{plain, has_fd, AreApart}
+use Rattle.pcb_table.specs.Inside.Fields.{IsLocated}
 use Rattle.pcb_table.specs.Found.{Changes, EnsuresPort}
 use Rattle.std.specs.Prelude.{remove}
-use Rattle.pcb_table.specs.Changed.{block_with_option, bound_block, connected_block, disconnected_block}
+use Rattle.pcb_table.specs.Inside.Changed.{block_with_option, bound_block, connected_block, disconnected_block}
 use Rattle.pcb_table.proofs.Places.{located_found, located_set, located_remove}
 use Rattle.pcb_table.proofs.Lifted.{youngest-sockets, best-sockets, sockets-find, sockets_changed, filter-map}
 

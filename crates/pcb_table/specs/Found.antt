@@ -1,10 +1,10 @@
 -- What look-ups answer, and calls on an open descriptor, as facts on each machine that has the blocks (own).
 use Rattle.std.specs.Prelude.{◌≡◌, ℕ, ◌≤◌, List, map, All, Option, Some, None, Result, MatchResult}
-use Rattle.flat_model.specs.Weight.{times}
-use Rattle.flat_model.specs.State.{State, Socket, change_socket}
-use Rattle.flat_model.specs.Header.{first_fault}
-use Rattle.flat_model.specs.Calls.{GetsPort, IsNextPort, read_addr, source_for}
-use Rattle.flat_model.specs.Send.{address_faults}
+use Rattle.flat_model.specs.Amounts.Weight.{times}
+use Rattle.flat_model.specs.Machine.State.{State, Socket, change_socket}
+use Rattle.flat_model.specs.Packets.Header.{first_fault}
+use Rattle.flat_model.specs.Machine.Calls.{GetsPort, IsNextPort, read_addr, source_for}
+use Rattle.flat_model.specs.Machine.Send.{address_faults}
 use Rattle.flat_model.specs.declared.address.Addr.{Addr}
 use Rattle.flat_model.specs.declared.errno.Errno.{Errno}
 use Rattle.pcb_table.specs.declared.block.Block.{Block}

@@ -1,5 +1,4 @@
 pub mod Table
 pub mod Found
-pub mod Search
-pub mod Sound
-pub mod Changed
+pub mod Apart
+pub mod Inside

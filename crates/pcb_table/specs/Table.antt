@@ -1,9 +1,9 @@
 -- The control blocks of a machine (volume 2 chapter 22), and the machines that have them (this project's own).
 use Rattle.std.specs.Prelude.{◌≡◌, ℕ, ◌==◌, not, List, ◌∷◌, map, filter, find, Option, Some, IsSome, IsNone, unwrap_or, ◌≤◌}
 use Rattle.flat_model.specs.declared.lookup_key.LookupKey.{LookupKey}
-use Rattle.flat_model.specs.State.{State, Socket, Datagram}
-use Rattle.flat_model.specs.Event.{Event, Reply}
-use Rattle.flat_model.specs.Step.{Step}
+use Rattle.flat_model.specs.Machine.State.{State, Socket, Datagram}
+use Rattle.flat_model.specs.Machine.Event.{Event, Reply}
+use Rattle.flat_model.specs.Machine.Step.{Step}
 use Rattle.flat_model.specs.declared.address.Addr.{Addr}
 use Rattle.pcb_table.specs.declared.block.Block.{Block}
 

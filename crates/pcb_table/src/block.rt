@@ -1,9 +1,10 @@
 ghost use Rattle.std.specs.Prelude.{◌≡◌, ◌==◌, ◌&&◌, ℕ};
-ghost use Rattle.flat_model.specs.Lookup as flat;
-ghost use Rattle.flat_model.specs.Lookup.{agree, is_addr, one_sided, wildcards};
+ghost use Rattle.flat_model.specs.Sockets.Lookup as flat;
+ghost use Rattle.flat_model.specs.Sockets.Lookup.{agree, is_addr, one_sided, wildcards};
 ghost use Rattle.pcb_table.specs.Table.{packet_key};
-ghost use Rattle.pcb_table.specs.Changed.{block_with_option, bound_block, connected_block, connection_of, disconnected_block, unbound_block};
-ghost use Rattle.pcb_table.specs.Search.{does_agree, does_match, has_port, has_score, plain};
+ghost use Rattle.pcb_table.specs.Inside.Changed.{block_with_option, bound_block, connected_block, connection_of, disconnected_block, unbound_block};
+ghost use Rattle.pcb_table.specs.Inside.Search.{does_agree, has_port};
+ghost use Rattle.pcb_table.specs.Apart.{does_match, has_score, plain};
 
 use flat_model::{Addr, LookupKey, Opt};
 

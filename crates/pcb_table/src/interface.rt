@@ -1,6 +1,7 @@
 ghost use Rattle.std.specs.Prelude.{◌≡◌, ℕ};
-ghost use Rattle.flat_model.specs.Calls as flat;
-ghost use Rattle.pcb_table.specs.Search.{config_of, plain};
+ghost use Rattle.flat_model.specs.Machine.Calls as flat;
+ghost use Rattle.pcb_table.specs.Inside.Search.{config_of};
+ghost use Rattle.pcb_table.specs.Apart.{plain};
 
 use crate::block::Block;
 use flat_model::Addr;

@@ -1,7 +1,8 @@
 ghost use Rattle.std.specs.Prelude.{◌≡◌, ℕ, ◌+◌, ◌<◌, ◌≤◌, length, IsNone, IsSome, find, count_by};
-ghost use Rattle.flat_model.specs.Calls as flat;
-ghost use Rattle.pcb_table.specs.Search.{GivesPort, IsFreePort, is_used};
-ghost use Rattle.pcb_table.specs.Sound.{AreApart, IsInCircle, IsLowestFree};
+ghost use Rattle.flat_model.specs.Machine.Calls as flat;
+ghost use Rattle.pcb_table.specs.Inside.Search.{GivesPort, IsFreePort, is_used};
+ghost use Rattle.pcb_table.specs.Apart.{AreApart};
+ghost use Rattle.pcb_table.specs.Inside.Fields.{IsInCircle, IsLowestFree};
 
 use crate::block::Block;
 use crate::search::{best, block_of};

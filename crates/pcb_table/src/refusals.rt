@@ -1,7 +1,7 @@
 ghost use Rattle.std.specs.Prelude.{◌≡◌, ℕ};
-ghost use Rattle.flat_model.specs.Header.{first_fault};
-ghost use Rattle.flat_model.specs.Calls as flat;
-ghost use Rattle.pcb_table.specs.Search.{block_bind_faults, block_connect_faults, config_of, is_in_way};
+ghost use Rattle.flat_model.specs.Packets.Header.{first_fault};
+ghost use Rattle.flat_model.specs.Machine.Calls as flat;
+ghost use Rattle.pcb_table.specs.Inside.Search.{block_bind_faults, block_connect_faults, config_of, is_in_way};
 
 use crate::block::Block;
 use crate::interface::{Interface, is_reached};

@@ -1,7 +1,8 @@
 ghost use Rattle.std.specs.Prelude.{◌≡◌, ℕ, ◌==◌, ◌+◌, ◌<◌, ◌≤◌, length, map, find, option_copied, position, IsSome, slice_set};
 ghost use Rattle.arrayvec.specs.ArrayVec.{array_vec_len};
-ghost use Rattle.pcb_table.specs.Search.{best_block, from_port, hearing_blocks, youngest_block};
-ghost use Rattle.pcb_table.specs.Sound.{IsLocated, Locates, has_fd};
+ghost use Rattle.pcb_table.specs.Inside.Search.{best_block, from_port, hearing_blocks, youngest_block};
+ghost use Rattle.pcb_table.specs.Apart.{has_fd};
+ghost use Rattle.pcb_table.specs.Inside.Fields.{IsLocated, Locates};
 
 use crate::block::Block;
 use crate::table::SOCKETS;

@@ -1,13 +1,13 @@
 ghost use Rattle.std.specs.Prelude.{◌≡◌, ℕ, ◌<◌, ◌≤◌, [], ◌∷◌, All, None, IfOk, IfSome, OnErr, OnOk, OnSome, length, option_map};
-ghost use Rattle.flat_model.specs.Event.{Bind, Close, Connect, Open, Set_option};
-ghost use Rattle.flat_model.specs.State.{State};
-ghost use Rattle.flat_model.specs.Step.{Step};
-ghost use Rattle.flat_model.specs.Calls.{disconnected};
-ghost use Rattle.flat_model.specs.Lookup as flat;
+ghost use Rattle.flat_model.specs.Machine.Event.{Bind, Close, Connect, Open, Set_option};
+ghost use Rattle.flat_model.specs.Machine.State.{State};
+ghost use Rattle.flat_model.specs.Machine.Step.{Step};
+ghost use Rattle.flat_model.specs.Machine.Calls.{disconnected};
+ghost use Rattle.flat_model.specs.Sockets.Lookup as flat;
 ghost use Rattle.pcb_table.specs.Table.{ClosesOnly, IsCall, IsDescriptor, IsOpen, KeepsOpen, OpensOnly, Queues, block_at, local_of, machine, packet_key, peer_of};
-ghost use Rattle.flat_model.specs.Replies.{done_reply, opened_reply};
-ghost use Rattle.pcb_table.specs.Changed.{forgotten};
-ghost use Rattle.pcb_table.specs.Sound.{AreApart};
+ghost use Rattle.flat_model.specs.Machine.Replies.{done_reply, opened_reply};
+ghost use Rattle.pcb_table.specs.Inside.Changed.{forgotten};
+ghost use Rattle.pcb_table.specs.Apart.{AreApart};
 ghost use Rattle.pcb_table.specs.Found.{Changes, ChecksDestination, ChoosesNext, EnsuresPort, Finds, FindsAll, SendsFrom};
 
 use crate::block::{Block, Connection, key_of_packet};
@@ -40,7 +40,8 @@ impl Model for Pcbs {
 
     ghost Value = { Table };
 
-    ghost use Rattle.pcb_table.specs.Sound.{AreApart, IsCached, IsInCircle};
+    ghost use Rattle.pcb_table.specs.Apart.{AreApart};
+    ghost use Rattle.pcb_table.specs.Inside.Fields.{IsCached, IsInCircle};
 
     ghost view = { λ p. record { addr = p.interface.addr; bcast = p.interface.bcast; blocks = p.blocks.items; last_port = p.last_port } };
 

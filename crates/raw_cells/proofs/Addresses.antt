@@ -17,7 +17,7 @@ use denote.Struct.Owning as Owning
 use denote.Struct.Struct.{Struct, within}
 use denote.Struct.Tuple.{Tuple, tuple_type}
 use Rattle.std.specs.declared.alloc.Allocator.{Ghosts}
-use Rattle.raw_cells.specs.Memory.{block_type}
+use Rattle.raw_cells.specs.Inside.Memory.{block_type}
 use Rattle.raw_cells.proofs.Lying.{Lie}
 use Rattle.raw_cells.specs.contracts.memory.Address as A
 use Rattle.raw_cells.specs.contracts.memory.Bytes as B

@@ -6,7 +6,7 @@ use Rattle.std.proofs.lemmas.List.{length-replicate, get_or-replicate, get_or-ta
 use Rattle.std.proofs.lemmas.List.FromFn.{length-map-range_with_len, get_or-map-range_with_len, fill_by_all}
 use Rattle.raw_cells.specs.Over.{over}
 use Rattle.raw_cells.specs.Cells.{zero_head, head_size}
-use Rattle.raw_cells.specs.Layout.{u16_at, u32_at, link_of, packet_in, cluster_in, head_by, head_in, heads_in}
+use Rattle.raw_cells.specs.Inside.Layout.{u16_at, u32_at, link_of, packet_in, cluster_in, head_by, head_in, heads_in}
 use Rattle.raw_cells.specs.declared.head.Head.{Head}
 use Rattle.raw_cells.specs.declared.head.PacketHeader.{PacketHeader}
 use Rattle.raw_cells.proofs.Over.{over_below, over_above, over_in}

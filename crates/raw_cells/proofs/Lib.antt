@@ -1,8 +1,8 @@
-pub mod Over
-pub mod Heads
-pub mod Parts
-pub mod Patches
-pub mod Encoded
-pub mod Lying
-pub mod Addresses
+mod Over
+mod Heads
+mod Parts
+mod Patches
+mod Encoded
+mod Lying
+mod Addresses
 pub mod Laws

@@ -15,7 +15,7 @@ use denote.Memory.{mem, part_at, shared_of}
 use denote.Slice.{elements_shared}
 use denote.Plain.{uint_out}
 use denote.Steps.{nothing}
-use Rattle.raw_cells.specs.Memory.{block_type}
+use Rattle.raw_cells.specs.Inside.Memory.{block_type}
 
 -- the bytes xs from the place o of the block b on
 abbrev pub Lie : List ℕ → ℕ → ℕ → Fml

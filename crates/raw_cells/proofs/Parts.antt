@@ -2,7 +2,7 @@
 use Rattle.std.proofs.Common.{◌≡◌, ℕ, ◌+◌, ◌*◌, ◌≤◌, ◌<◌, ◌⊎◌, inl, List, length, take, subst, arith, length-take}
 use Rattle.raw_cells.specs.Over.{over}
 use Rattle.raw_cells.specs.Cells.{zero_head, head_size, origin, place, IsRoom, IsPart, IsSized, write}
-use Rattle.raw_cells.specs.Layout.{head_in, seen, IsRegion}
+use Rattle.raw_cells.specs.Inside.Layout.{head_in, seen, IsRegion}
 use Rattle.raw_cells.specs.declared.part.Part.{Part}
 use Rattle.raw_cells.specs.declared.part.Buffer.{Buffer}
 use Rattle.raw_cells.specs.declared.part.Buffer.TheVariants.{Mbuf, Cluster}

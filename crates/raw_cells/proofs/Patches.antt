@@ -5,7 +5,7 @@ use Rattle.std.proofs.lemmas.List.{get_or-take}
 use Rattle.std.proofs.lemmas.Bool.{eq-eqb, false≢true}
 use Rattle.raw_cells.specs.Over.{over}
 use Rattle.raw_cells.specs.Cells.{Cells, SetsHead, IsSized, zero_head, head_of, head_size, with_arrival, with_head, with_packet_len}
-use Rattle.raw_cells.specs.Layout.{u16_at, u32_at, link_of, head_by, head_in, seen, IsRegion}
+use Rattle.raw_cells.specs.Inside.Layout.{u16_at, u32_at, link_of, head_by, head_in, seen, IsRegion}
 use Rattle.raw_cells.specs.declared.head.Head.{Head}
 use Rattle.raw_cells.specs.declared.head.PacketHeader.{PacketHeader}
 use Rattle.raw_cells.specs.declared.region.Region.TheInside.{Inside}

@@ -20,7 +20,7 @@ impl Model for Block {
 
     ghost Value = { List ℕ };
 
-    ghost use Rattle.raw_cells.specs.Block.{IsBlock};
+    ghost use Rattle.raw_cells.specs.Inside.Block.{IsBlock};
 
     ghost view = { λ b. b.bytes.written };
 
@@ -40,7 +40,7 @@ fn fill(bytes: &mut Bytes, address: Address, len: usize)
 }
 
 impl Block {
-    ghost use Rattle.raw_cells.specs.BlockLends.{LendsBytes};
+    ghost use Rattle.raw_cells.specs.Inside.BlockLends.{LendsBytes};
 
     /// A block of `len` zeros, or `AllocError` where the memory was refused.
     pub(crate) fn new(alloc: Global, len: usize) -> Result<Block, AllocError>

@@ -1,7 +1,7 @@
 //! Heads as bytes.
 ghost use Rattle.std.specs.Prelude.{◌≡◌, ◌+◌, ◌/◌, ◌%◌, ◌≤◌, length};
 ghost use Rattle.raw_cells.specs.Cells.{head_size, IsHead, IsLink};
-ghost use Rattle.raw_cells.specs.Layout.{head_in, link_of, packet_in, cluster_in, flags_of, u16_at, u32_at};
+ghost use Rattle.raw_cells.specs.Inside.Layout.{head_in, link_of, packet_in, cluster_in, flags_of, u16_at, u32_at};
 
 use crate::head::{Head, PacketHeader};
 use byteorder::{ByteOrder, LittleEndian};

@@ -6,7 +6,7 @@
 ghost use Rattle.std.specs.Prelude.{◌≡◌, ℕ, ◌+◌, ◌^◌, ◌<◌, ◌≤◌, List, [], ◌∷◌, ◌++◌, length, take, drop, IfOk};
 ghost use Rattle.std.specs.Borrow.{sem};
 ghost use denote.RawPtr.{Ptr};
-ghost use Rattle.raw_cells.specs.Memory.{bytes_owned, bytes_lent, block_type};
+ghost use Rattle.raw_cells.specs.Inside.Memory.{bytes_owned, bytes_lent, block_type};
 
 use std::alloc::{AllocError, Allocator};
 use std::marker::{Model, PhantomData};
@@ -76,7 +76,7 @@ pub(crate) fn deallocate<A: Allocator>(
 }
 
 impl Bytes {
-    ghost use Rattle.raw_cells.specs.MemoryLends.{LendsRun};
+    ghost use Rattle.raw_cells.specs.Inside.MemoryLends.{LendsRun};
 
     /// Writes the first of the bytes that weren't written yet, at the index `index`.
     pub(crate) fn push(&mut self, address: Address, index: usize, byte: u8)

@@ -33,7 +33,7 @@ impl Model for Region {
 
     ghost Value = { Cells };
 
-    ghost use Rattle.raw_cells.specs.Layout.{seen, IsRegion};
+    ghost use Rattle.raw_cells.specs.Inside.Layout.{seen, IsRegion};
 
     ghost view = { seen };
 

@@ -1,6 +1,6 @@
 -- What stands in hand after one more byte.
 use Rattle.std.proofs.Common.{◌≡◌, ◌≢◌, ℕ, zero, suc, ◌+◌, ◌<◌, ◌≤◌, ◌==◌, true, List, [], ◌∷◌, ◌++◌, length, take, drop, get_or, inl, inr, Option, refl, sym, ap, ◌∙◌, arith, append_assoc, append-nil, length-append, subst}
-use Rattle.flat_model.specs.Lines.{whole_lines, begun_line}
+use Rattle.flat_model.specs.Scripts.Lines.{whole_lines, begun_line}
 use Rattle.std.proofs.Common.{Ok, Err, Some, None}
 use Rattle.std.proofs.KnownBytes.{Appends-nil, Appends-trans}
 use Rattle.std.proofs.lemmas.Bool.{cases_lt, cases_eq}
@@ -10,7 +10,7 @@ use Rattle.script_loop.specs.Streams.{Sends}
 use Rattle.script_loop.specs.Serves.{GoesTooFar, StaysWithin}
 use Rattle.script_loop.specs.declared.fault.RunFault.{RunFault}
 use Rattle.script_loop.specs.declared.fault.RunFault.TheVariants.{Read, Write, Memory, TooManyLines, BadSizes, BadConfig}
-use Rattle.script_loop.specs.Chunks.{Answered, EndsNoLine, HasRoom, BreaksLimit, TakesPiece, TakesChunk, Flushes}
+use Rattle.script_loop.specs.Inside.{Answered, EndsNoLine, HasRoom, BreaksLimit, TakesPiece, TakesChunk, Flushes}
 use Rattle.script_loop.proofs.LineLemmas.{whole_lines-end, whole_lines-more, begun_line-end, begun_line-more}
 use Rattle.script_loop.proofs.PrintLemmas.{Prints-push, Prints-same}
 

@@ -1,6 +1,6 @@
 -- One more byte after an input.
 use Rattle.std.proofs.Common.{◌≡◌, ◌≢◌, ℕ, ◌==◌, true, false, cond, List, [], ◌∷◌, ◌++◌, refl, ap, ◌∙◌, arith, append-nil}
-use Rattle.flat_model.specs.Lines.{whole_lines_after, begun_after, whole_lines, begun_line}
+use Rattle.flat_model.specs.Scripts.Lines.{whole_lines_after, begun_after, whole_lines, begun_line}
 
 pub whole_lines_after-append : (begun xs ys : List ℕ)
     → whole_lines_after begun (xs ++ ys) ≡ whole_lines_after begun xs ++ whole_lines_after (begun_after begun xs) ys

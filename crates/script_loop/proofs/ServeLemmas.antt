@@ -2,10 +2,10 @@
 use Rattle.std.proofs.Common.{◌≡◌, ℕ, List, [], ◌∷◌, ◌++◌, Option, Result, Ok, Err, inl, inr, refl, sym, ap, ◌∙◌, append_assoc, append-nil, arith, subst}
 use Rattle.std.specs.Io.KnownBytes.{Appends, Consumes, IsAtEnd}
 use Rattle.std.proofs.KnownBytes.{Appends-trans, Consumes-trans}
-use Rattle.flat_model.specs.Lines.{whole_lines, begun_line, last_line, lines}
+use Rattle.flat_model.specs.Scripts.Lines.{whole_lines, begun_line, last_line, lines}
 use Rattle.script_loop.specs.Streams.{Sends, reader_failures}
 use Rattle.script_loop.specs.Serves.{Serves, Moves, IsServed}
-use Rattle.script_loop.specs.Chunks.{Answered, TakesChunk}
+use Rattle.script_loop.specs.Inside.{Answered, TakesChunk}
 use Rattle.script_loop.specs.declared.fault.RunFault.{RunFault}
 use Rattle.script_loop.specs.declared.fault.RunFault.TheVariants.{Read, Write, Memory, TooManyLines, BadSizes, BadConfig}
 use Rattle.script_loop.proofs.PrintLemmas.{Prints-push, Prints-same}

@@ -4,7 +4,7 @@ use Rattle.std.specs.List.{slice_split, onto_first, position, position_or_len}
 use Rattle.std.proofs.lemmas.List.Splits.{slice_split_first, length-slice_split}
 use Rattle.std.proofs.lemmas.Option.{cond_some}
 use borrow.Author.Tests.{ltb-true, ltb-false}
-use Rattle.flat_model.specs.Grammar.{words}
+use Rattle.flat_model.specs.Scripts.Grammar.{words}
 
 slice_split-none : (p : ℕ → Bool) (xs : List ℕ) → length xs ≤ position_or_len p xs → slice_split p xs ≡ xs ∷ []
 slice_split-none p [] h = refl

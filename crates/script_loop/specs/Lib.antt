@@ -2,4 +2,4 @@ pub mod Left
 pub mod Printed
 pub mod Streams
 pub mod Serves
-pub mod Chunks
+pub mod Inside

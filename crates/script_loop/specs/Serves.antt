@@ -1,7 +1,7 @@
 -- What serving a script did, by its outcome.
 use Rattle.std.specs.Prelude.{◌≡◌, ◌≢◌, ℕ, ◌<◌, ◌⊎◌, List, [], ◌∷◌, ◌++◌, length, take, slice_index, Option, Result, Ok, Err}
 use Rattle.std.specs.Io.KnownBytes.{Consumes, Appends, IsAtEnd}
-use Rattle.flat_model.specs.Lines.{whole_lines, begun_line, lines}
+use Rattle.flat_model.specs.Scripts.Lines.{whole_lines, begun_line, lines}
 use Rattle.script_loop.specs.Printed.{Prints}
 use Rattle.script_loop.specs.declared.fault.RunFault.{RunFault}
 use Rattle.script_loop.specs.declared.fault.RunFault.TheVariants.{Read, Write, Memory, TooManyLines, BadSizes, BadConfig}

@@ -2,7 +2,7 @@
 ghost use Rattle.std.specs.Prelude.{◌≡◌, ◌↔◌, ◌≤◌, ◌<◌, ◌+◌, ◌∷◌, [], ℕ, List, length, IsTrue, IfOk, IfSome, ◌++◌};
 ghost use Rattle.script_loop.specs.Streams.{MoreBy, Sends, reader_failures, writer_failures};
 ghost use Rattle.script_loop.specs.Serves.{Serves, IsServed};
-ghost use Rattle.script_loop.specs.Chunks.{Answered, EndsNoLine, HasRoom, TakesPiece, TakesChunk, Flushes, budget};
+ghost use Rattle.script_loop.specs.Inside.{Answered, EndsNoLine, HasRoom, TakesPiece, TakesChunk, Flushes, budget};
 
 use crate::answers::Answers;
 use crate::buffer::Buffer;

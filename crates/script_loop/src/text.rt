@@ -1,6 +1,6 @@
 //! Numbers and bytes as replies write them.
 ghost use Rattle.std.specs.Prelude.{◌≡◌, ◌+◌, ◌*◌, ◌≤◌, ◌++◌, length, decimal};
-ghost use Rattle.flat_model.specs.Texts.{hex_text};
+ghost use Rattle.flat_model.specs.Scripts.Texts.{hex_text};
 
 use crate::buffer::Buffer;
 

@@ -1,6 +1,6 @@
 //! The words of a line, and the numbers and bytes that they write.
 ghost use Rattle.std.specs.Prelude.{◌≡◌, ◌≤◌, ◌↔◌, ℕ, List, [], ◌∷◌, position, ◌==◌, length, take, IsTrue, MatchOption, IfSome};
-ghost use Rattle.flat_model.specs.Grammar.{words, IsNumber, IsHex};
+ghost use Rattle.flat_model.specs.Scripts.Grammar.{words, IsNumber, IsHex};
 ghost use Rattle.script_loop.specs.Left.{left};
 
 use std::str;

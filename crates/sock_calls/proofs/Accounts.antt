@@ -1,8 +1,8 @@
 -- A step of the sockets in the pool's accounts: no proof sums over queues again.
 use Rattle.std.proofs.Common.{◌≡◌, ℕ, ◌+◌, List, ◌++◌, ap, sym, ◌∙◌, arith}
-use Rattle.flat_model.specs.Weight.{Weight, Item, all_of, mbuf, ◌⊕◌, times as bag_times}
-use Rattle.flat_model.specs.State.{State, Socket, Unfinished}
-use Rattle.flat_model.specs.Whole.{weight_of_pieces}
+use Rattle.flat_model.specs.Amounts.Weight.{Weight, Item, all_of, mbuf, ◌⊕◌, times as bag_times}
+use Rattle.flat_model.specs.Machine.State.{State, Socket, Unfinished}
+use Rattle.flat_model.specs.Fragments.Whole.{weight_of_pieces}
 use Rattle.flat_model.proofs.Laws.{all_of-append, times-both}
 use Rattle.mbuf_chain.specs.Chain.{PoolView}
 use Rattle.mbuf_chain.specs.Owners.{IsOwned, Moves}

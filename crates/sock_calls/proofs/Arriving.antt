@@ -3,15 +3,15 @@ use Rattle.std.proofs.Common.{◌≡◌, ℕ, suc, List, [], ◌∷◌, ◌++◌
 use Rattle.std.specs.List.{AllByRecursion as Each}
 use Rattle.std.proofs.lemmas.List.Elements.{recursion_from_All, All-from_recursion}
 use Rattle.flat_model.specs.declared.lookup_key.LookupKey.{LookupKey}
-use Rattle.flat_model.specs.Weight.{Weight, Item, nothing, ◌⊕◌, times as bag_times}
-use Rattle.flat_model.specs.Layout as flat
-use Rattle.flat_model.specs.Header.{udp_bytes}
-use Rattle.flat_model.specs.Ledger.{weight_of_state}
+use Rattle.flat_model.specs.Amounts.Weight.{Weight, Item, nothing, ◌⊕◌, times as bag_times}
+use Rattle.flat_model.specs.Amounts.Layout as flat
+use Rattle.flat_model.specs.Packets.Header.{udp_bytes}
+use Rattle.flat_model.specs.Machine.Ledger.{weight_of_state}
 use Rattle.flat_model.proofs.Laws.{times-both}
-use Rattle.flat_model.specs.State.{State, Socket, Unfinished, ends}
-use Rattle.flat_model.specs.Count.{counted}
-use Rattle.flat_model.specs.Ledger.{exact_ledger}
-use Rattle.flat_model.specs.Arrival.{Delivers, WholeArrives}
+use Rattle.flat_model.specs.Machine.State.{State, Socket, Unfinished, ends}
+use Rattle.flat_model.specs.Machine.Count.{counted}
+use Rattle.flat_model.specs.Machine.Ledger.{exact_ledger}
+use Rattle.flat_model.specs.Machine.Arrival.{Delivers, WholeArrives}
 use Rattle.flat_model.specs.declared.address.Addr.{Addr}
 use Rattle.flat_model.specs.declared.counters.Counters.{Counters}
 use Rattle.flat_model.specs.declared.counters.Why.{Why}

@@ -1,13 +1,13 @@
 -- A delivery to one receiver: its three ends, and the accounts after each.
 use Rattle.std.proofs.Common.{◌≡◌, ℕ, ◌+◌, Bool, true, false, List, [], ◌∷◌, ◌++◌, length, Some, is_some, refl, sym, ap, ◌∙◌, subst, arith}
 use Rattle.std.proofs.lemmas.Bool.{false≢true}
-use Rattle.flat_model.specs.Weight.{Weight, Item, mbuf, nothing, ◌⊕◌, all_of, times as bag_times}
-use Rattle.flat_model.specs.Whole.{weight_of_pieces}
-use Rattle.flat_model.specs.State.{State, Socket, Unfinished, ends, change_socket}
-use Rattle.flat_model.specs.Count.{counted}
-use Rattle.flat_model.specs.Ledger.{weight_of_state, exact_ledger, HasBuffers, need_mbufs}
-use Rattle.flat_model.specs.Arrival.{Appends, queued}
-use Rattle.flat_model.specs.Fits.{fits}
+use Rattle.flat_model.specs.Amounts.Weight.{Weight, Item, mbuf, nothing, ◌⊕◌, all_of, times as bag_times}
+use Rattle.flat_model.specs.Fragments.Whole.{weight_of_pieces}
+use Rattle.flat_model.specs.Machine.State.{State, Socket, Unfinished, ends, change_socket}
+use Rattle.flat_model.specs.Machine.Count.{counted}
+use Rattle.flat_model.specs.Machine.Ledger.{weight_of_state, exact_ledger, HasBuffers, need_mbufs}
+use Rattle.flat_model.specs.Machine.Arrival.{Appends, queued}
+use Rattle.flat_model.specs.Sockets.Fits.{fits}
 use Rattle.flat_model.specs.declared.address.Addr.{Addr}
 use Rattle.flat_model.specs.declared.counters.Counters.{Counters}
 use Rattle.flat_model.specs.declared.counters.Why.{Why}

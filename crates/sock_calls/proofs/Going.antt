@@ -5,17 +5,17 @@ use Rattle.std.specs.List.{AllByRecursion as Each}
 use Rattle.std.proofs.lemmas.Bool.{true≢false}
 use Rattle.std.proofs.lemmas.Option.{none-some, same_Some}
 use Rattle.std.proofs.lemmas.List.Elements.{All-from_recursion}
-use Rattle.flat_model.specs.Weight.{Weight, Item, mbuf, nothing, ◌⊕◌, all_of, times as bag_times}
-use Rattle.flat_model.specs.Whole.{weight_of_pieces}
-use Rattle.flat_model.specs.State.{State, Socket, Unfinished, socket_at, change_socket}
-use Rattle.flat_model.specs.Event.{Reply, Sent, Refused}
-use Rattle.flat_model.specs.Ledger.{exact_ledger, has_enough, IsFree}
-use Rattle.flat_model.specs.Layout.{Need}
-use Rattle.flat_model.specs.Puts.{Puts}
-use Rattle.flat_model.specs.Replies.{sent_reply}
-use Rattle.flat_model.specs.Send.{need_to, to_link, to_self}
-use Rattle.flat_model.specs.Sending as flat
-use Rattle.flat_model.specs.Calls.{source_for}
+use Rattle.flat_model.specs.Amounts.Weight.{Weight, Item, mbuf, nothing, ◌⊕◌, all_of, times as bag_times}
+use Rattle.flat_model.specs.Fragments.Whole.{weight_of_pieces}
+use Rattle.flat_model.specs.Machine.State.{State, Socket, Unfinished, socket_at, change_socket}
+use Rattle.flat_model.specs.Machine.Event.{Reply, Sent, Refused}
+use Rattle.flat_model.specs.Machine.Ledger.{exact_ledger, has_enough, IsFree}
+use Rattle.flat_model.specs.Amounts.Layout.{Need}
+use Rattle.flat_model.specs.Scripts.Puts.{Puts}
+use Rattle.flat_model.specs.Machine.Replies.{sent_reply}
+use Rattle.flat_model.specs.Machine.Send.{need_to, to_link, to_self}
+use Rattle.flat_model.specs.Machine.Sending as flat
+use Rattle.flat_model.specs.Machine.Calls.{source_for}
 use Rattle.flat_model.specs.declared.address.Addr.{Addr}
 use Rattle.flat_model.specs.declared.config.Config.{Config}
 use Rattle.flat_model.specs.declared.errno.Errno.{Errno}
@@ -30,7 +30,7 @@ use Rattle.mbuf_chain.proofs.Laws.Owners.{times-append, live_at_most, moves_besi
 use Rattle.ip_out.specs.Packets.{packets, AreBegunPlain}
 use Rattle.pcb_table.specs.declared.block.Block.{Block}
 use Rattle.pcb_table.specs.Table.{Table, Queues, block_at, machine, socket_with}
-use Rattle.pcb_table.specs.Sound.{AreApart}
+use Rattle.pcb_table.specs.Apart.{AreApart}
 use Rattle.pcb_table.proofs.Laws.{same_machine, socket_found}
 use Rattle.ledger.specs.Accounts.{item_of, weight_at, weight_owned, IsAccounted}
 use Rattle.ledger.specs.Reserve.{are_free}
@@ -40,8 +40,8 @@ use Rattle.sock_calls.specs.declared.net.Net.{Net}
 use Rattle.sock_calls.specs.Sockets.{SocksView, queues_of, queued_chains}
 use Rattle.sock_calls.specs.Sends.{SendsBy, SendsOnce}
 use Rattle.sock_calls.specs.Outgoing.{SendView, sending, state_in, with_output, weight_of_all, CanSend, IsSent}
-use Rattle.sock_calls.specs.Putting.{config_of, sent_as, counts_sent, IsPut}
-use Rattle.sock_calls.specs.Destination.{ChecksSend}
+use Rattle.sock_calls.specs.Inside.Putting.{config_of, sent_as, counts_sent, IsPut}
+use Rattle.sock_calls.specs.Inside.Destination.{ChecksSend}
 use Rattle.sock_calls.proofs.Frames.{Kept, kept}
 use Rattle.sock_calls.proofs.Keeping.{keeps_open}
 use Rattle.sock_calls.proofs.Weights.{queue_weight}

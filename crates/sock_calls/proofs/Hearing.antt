@@ -7,11 +7,11 @@ use Rattle.std.proofs.lemmas.Bool.{eqb-true, false≢true}
 use Rattle.std.proofs.lemmas.List.Sums.{sum_by-cons}
 use Rattle.std.proofs.lemmas.Option.{none-some}
 use Rattle.params.specs.declared.TheConstants.{MBUF_HEADER}
-use Rattle.flat_model.specs.Weight.{Weight, Item, nothing, ◌⊕◌, times as bag_times}
-use Rattle.flat_model.specs.State.{State, Socket, Unfinished, ends}
-use Rattle.flat_model.specs.Count.{counted}
-use Rattle.flat_model.specs.Ledger.{weight_of_state, exact_ledger, HasBuffers, need_mbufs}
-use Rattle.flat_model.specs.Arrival.{Appends, Delivers}
+use Rattle.flat_model.specs.Amounts.Weight.{Weight, Item, nothing, ◌⊕◌, times as bag_times}
+use Rattle.flat_model.specs.Machine.State.{State, Socket, Unfinished, ends}
+use Rattle.flat_model.specs.Machine.Count.{counted}
+use Rattle.flat_model.specs.Machine.Ledger.{weight_of_state, exact_ledger, HasBuffers, need_mbufs}
+use Rattle.flat_model.specs.Machine.Arrival.{Appends, Delivers}
 use Rattle.flat_model.specs.declared.address.Addr.{Addr}
 use Rattle.flat_model.specs.declared.counters.Counters.{Counters}
 use Rattle.flat_model.specs.declared.counters.Why.TheVariants.{NoBufs}
@@ -22,7 +22,7 @@ use Rattle.mbuf_chain.specs.Frames.{SameAt}
 use Rattle.mbuf_chain.proofs.Laws.Owners.{times_same, times-append, live_at_most, moves_trans, moves_beside, owned_after, same_beside, chain_same}
 use Rattle.chain_ops.specs.Copies.{copied_all}
 use Rattle.pcb_table.specs.declared.block.Block.{Block}
-use Rattle.pcb_table.specs.Sound.{has_fd}
+use Rattle.pcb_table.specs.Apart.{has_fd}
 use Rattle.pcb_table.specs.Table.{Table, Queues, block_at, socket_with}
 use Rattle.ledger.specs.Accounts.{item_of, item_at, weight_of, weight_at, IsAccounted}
 use Rattle.ledger.proofs.Laws.{accounted_after}

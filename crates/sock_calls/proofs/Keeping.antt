@@ -4,9 +4,9 @@ use Rattle.std.specs.Prelude.{IsNone, Result, Ok, Err, IfOk, OnErr}
 use Rattle.std.proofs.lemmas.Bool.{cases_eq, true≢false}
 use Rattle.mbuf_chain.specs.Chain.{PoolView}
 use Rattle.flat_model.specs.declared.errno.Errno.{Errno}
-use Rattle.flat_model.specs.State.{State}
+use Rattle.flat_model.specs.Machine.State.{State}
 use Rattle.pcb_table.specs.Table.{Table, Queues, KeepsOpen, OpensOnly, ClosesOnly, block_at, machine}
-use Rattle.pcb_table.specs.Sound.{AreApart}
+use Rattle.pcb_table.specs.Apart.{AreApart}
 use Rattle.pcb_table.proofs.Laws.{same_open, opened, opened_others, closed, closed_others, same_machine}
 use Rattle.mbuf_chain.specs.Owners.{times, IsOwned}
 use Rattle.sockbuf.specs.SockBuf.{SockBufView, IsSockBuf, no_datagrams, datagrams, chains_of}

@@ -2,11 +2,11 @@
 use Rattle.std.proofs.Common.{◌≡◌, ℕ, ◌+◌, ◌-◌, ◌≤◌, Bool, true, false, cond, List, [], ◌∷◌, ◌++◌, length, refl, sym, ap, ◌∙◌, arith}
 use Rattle.std.specs.Prelude.{◌==◌, ◌||◌, nat_lt}
 use Rattle.std.proofs.lemmas.List.{length-drop}
-use Rattle.flat_model.specs.Weight.{Item}
-use Rattle.flat_model.specs.Cuts.{cuts}
-use Rattle.flat_model.specs.Send.{to_link, to_self}
-use Rattle.flat_model.specs.Sending as sending
-use Rattle.flat_model.specs.Sending.{is_looped, mtu_to}
+use Rattle.flat_model.specs.Amounts.Weight.{Item}
+use Rattle.flat_model.specs.Fragments.Cuts.{cuts}
+use Rattle.flat_model.specs.Machine.Send.{to_link, to_self}
+use Rattle.flat_model.specs.Machine.Sending as sending
+use Rattle.flat_model.specs.Machine.Sending.{is_looped, mtu_to}
 use Rattle.flat_model.specs.declared.config.Config.{Config}
 use Rattle.mbuf_chain.specs.Chain.{PoolView, ChainView, chain_of, string}
 use Rattle.mbuf_chain.specs.Owners.{Moves}
@@ -21,7 +21,7 @@ use Rattle.ip_out.specs.Packets.{packets, packets_of, parts_of, BeginPlain}
 use Rattle.ip_out.specs.Ways as ways
 use Rattle.ip_out.specs.Ways.{way_need}
 use Rattle.ip_out.proofs.Laws.{packets_sent, sending_head}
-use Rattle.sock_calls.specs.Putting.{IsRouted, IsFreeFor, IsBuilt, AreMade, way_of}
+use Rattle.sock_calls.specs.Inside.Putting.{IsRouted, IsFreeFor, IsBuilt, AreMade, way_of}
 use Rattle.sock_calls.proofs.SentRooms.{has_mbufs, need_clusters, need_is_way}
 
 -- the buffers that were free are enough for them

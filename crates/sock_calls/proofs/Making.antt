@@ -4,10 +4,10 @@ use Rattle.std.specs.Prelude.{nat_le, slice_index_or, sum_by}
 use Rattle.std.proofs.lemmas.List.{length-map, length-append, length-drop, length-take}
 use Rattle.std.proofs.lemmas.List.Sums.{sum_by-cons}
 use Rattle.std.proofs.Math.Seq.{drop-append_seam}
-use Rattle.flat_model.specs.Layout as flat
-use Rattle.flat_model.specs.Layout.{is_cluster, user, sent, laid_on}
-use Rattle.flat_model.specs.Header.{udp}
-use Rattle.flat_model.specs.Sending as sending
+use Rattle.flat_model.specs.Amounts.Layout as flat
+use Rattle.flat_model.specs.Amounts.Layout.{is_cluster, user, sent, laid_on}
+use Rattle.flat_model.specs.Packets.Header.{udp}
+use Rattle.flat_model.specs.Machine.Sending as sending
 use Rattle.mbuf_chain.specs.Chain.{Entry, ChainView, PoolView, alone, chain_of, entry_of, no_entry, flat_bytes, string, with_chain, without}
 use Rattle.mbuf_chain.proofs.Laws.Owners.{shown_with}
 use Rattle.mbuf_chain.proofs.Laws.Steps.{adds_undone}
@@ -20,7 +20,7 @@ use Rattle.ip_out.specs.Packets.{IsDatagram}
 use Rattle.ip_out.proofs.Laws.{datagram_sent}
 use Rattle.udp.specs.Datagrams.{built}
 use Rattle.udp.proofs.Laws.{built_laid}
-use Rattle.sock_calls.specs.Putting.{IsLaidOut, IsStored, IsBuilt}
+use Rattle.sock_calls.specs.Inside.Putting.{IsLaidOut, IsStored, IsBuilt}
 use Rattle.sock_calls.proofs.SentRooms.{beside, laid_count}
 
 -- ---- the bytes in buffers of their own

@@ -1,10 +1,10 @@
 -- The packets of a send beside the output queue, and those that come back beside it.
 use Rattle.std.proofs.Common.{◌≡◌, ℕ, ◌+◌, ◌%◌, Bool, List, [], ◌++◌, length, map, take, refl, sym, ap, ◌∙◌, subst, arith}
 use Rattle.std.specs.Prelude.{nat_lt}
-use Rattle.flat_model.specs.Weight.{Item}
-use Rattle.flat_model.specs.State.{boot}
-use Rattle.flat_model.specs.Send.{need_to, to_link, to_self}
-use Rattle.flat_model.specs.Sending as flat
+use Rattle.flat_model.specs.Amounts.Weight.{Item}
+use Rattle.flat_model.specs.Machine.State.{boot}
+use Rattle.flat_model.specs.Machine.Send.{need_to, to_link, to_self}
+use Rattle.flat_model.specs.Machine.Sending as flat
 use Rattle.flat_model.specs.declared.address.Addr.{Addr}
 use Rattle.flat_model.specs.declared.config.Config.{Config}
 use Rattle.flat_model.specs.declared.counters.Counters.{Counters}
@@ -21,7 +21,7 @@ use Rattle.ip_out.specs.Queues.{IsQueue}
 use Rattle.ip_out.specs.declared.ways.Packets.{Packets}
 use Rattle.sock_calls.specs.declared.net.Net.{Net}
 use Rattle.sock_calls.specs.declared.packets.Heading.{Heading}
-use Rattle.sock_calls.specs.Putting.{config_of, sent_as, counts_sent, AreMade, IsPut}
+use Rattle.sock_calls.specs.Inside.Putting.{config_of, sent_as, counts_sent, AreMade, IsPut}
 
 -- a port that was chosen leaves the machine's addresses
 pub same_config : (t u : Table) (fd port mtu : ℕ) → EnsuresPort t fd port u → config_of u mtu ≡ config_of t mtu

@@ -3,11 +3,11 @@ use Rattle.std.proofs.Common.{◌≡◌, ℕ, true, false, List, [], ◌∷◌, 
 use Rattle.std.specs.Prelude.{MatchOption}
 use Rattle.std.specs.Option.{IfSome, ok_or}
 use Rattle.std.proofs.lemmas.Bool.{cases_eq, true≢false}
-use Rattle.flat_model.specs.State.{State, Socket, Datagram}
-use Rattle.flat_model.specs.Event.{Received, Refused, Receive}
-use Rattle.flat_model.specs.Calls.{Receives}
-use Rattle.flat_model.specs.Replies.{received_reply}
-use Rattle.flat_model.specs.Step.{Step}
+use Rattle.flat_model.specs.Machine.State.{State, Socket, Datagram}
+use Rattle.flat_model.specs.Machine.Event.{Received, Refused, Receive}
+use Rattle.flat_model.specs.Machine.Calls.{Receives}
+use Rattle.flat_model.specs.Machine.Replies.{received_reply}
+use Rattle.flat_model.specs.Machine.Step.{Step}
 use Rattle.flat_model.specs.declared.address.Addr.{Addr}
 use Rattle.flat_model.specs.declared.errno.Errno.TheVariants.{BadDescriptor, WouldBlock}
 use Rattle.pcb_table.specs.declared.block.Block.{Block}

@@ -4,11 +4,11 @@ use Rattle.std.specs.Prelude.{◌⊎◌, ◌==◌, ◌||◌, nat_lt, nat_le, sum
 use Rattle.std.proofs.lemmas.Bool.{cases_lt, le-leb, lt-leb, cond-true, cond-false, eqb-true, ne_eqb, true≢false}
 use Rattle.std.proofs.lemmas.List.{length-map}
 use Rattle.std.proofs.lemmas.List.Sums.{sum_by-cons}
-use Rattle.flat_model.specs.Cuts.{Part, cuts}
-use Rattle.flat_model.specs.Layout as flat
-use Rattle.flat_model.specs.Layout.{Room, Plain, Cluster, size_of, is_cluster, filled, next_room, or_empty, user, sent, laid_on, meets_from, meets, entries_met, need_of_part, need, need_bcast}
-use Rattle.flat_model.specs.Send.{need_to}
-use Rattle.flat_model.specs.Sending.{is_looped, mtu_to}
+use Rattle.flat_model.specs.Fragments.Cuts.{Part, cuts}
+use Rattle.flat_model.specs.Amounts.Layout as flat
+use Rattle.flat_model.specs.Amounts.Layout.{Room, Plain, Cluster, size_of, is_cluster, filled, next_room, or_empty, user, sent, laid_on, meets_from, meets, entries_met, need_of_part, need, need_bcast}
+use Rattle.flat_model.specs.Machine.Send.{need_to}
+use Rattle.flat_model.specs.Machine.Sending.{is_looped, mtu_to}
 use Rattle.flat_model.specs.declared.config.Config.{Config}
 use Rattle.mbuf_chain.specs.Chain.{ChainView, PoolView, held_mbufs, string}
 use Rattle.chain_ops.specs.Weights.{laid}
@@ -19,7 +19,7 @@ use Rattle.ip_out.specs.Packets.{part_need, later_need}
 use Rattle.ip_out.specs.Ways.{way_need}
 use Rattle.ledger.specs.Reserve.{are_free}
 use Rattle.ledger.proofs.Laws.{enough_mbufs, enough_clusters}
-use Rattle.sock_calls.specs.Putting.{IsRouted, way_of}
+use Rattle.sock_calls.specs.Inside.Putting.{IsRouted, way_of}
 
 -- ---- rooms and the mbufs laid out so
 pub laid_count : (cs : List ℕ) (rooms : List Room) → length (laid_on cs rooms) ≡ length rooms

@@ -4,18 +4,18 @@ use Rattle.std.specs.Prelude.{if◌then◌else◌}
 use Rattle.std.specs.List.{AllByRecursion as Each}
 use Rattle.std.proofs.lemmas.Bool.{true≢false}
 use Rattle.std.proofs.lemmas.Option.{none-some, same_Some}
-use Rattle.flat_model.specs.Weight.{Item, nothing}
-use Rattle.flat_model.specs.Header.{first_fault}
-use Rattle.flat_model.specs.Event.{Reply, Done, Opened, Sent, Received, Given, Counted, Shown, Refused, Send}
-use Rattle.flat_model.specs.State.{State, Socket}
-use Rattle.flat_model.specs.Step.{Step}
-use Rattle.flat_model.specs.Ledger.{exact_ledger, has_enough, HasBuffers, reclaimed}
-use Rattle.flat_model.specs.Arrival.{AllArrive}
-use Rattle.flat_model.specs.Choice.{Choice}
-use Rattle.flat_model.specs.Layout.{Need}
-use Rattle.flat_model.specs.Calls.{Refuses}
-use Rattle.flat_model.specs.Send.{Sends, Goes, send_faults, target, need_to}
-use Rattle.flat_model.specs.Puts.{Puts}
+use Rattle.flat_model.specs.Amounts.Weight.{Item, nothing}
+use Rattle.flat_model.specs.Packets.Header.{first_fault}
+use Rattle.flat_model.specs.Machine.Event.{Reply, Done, Opened, Sent, Received, Given, Counted, Shown, Refused, Send}
+use Rattle.flat_model.specs.Machine.State.{State, Socket}
+use Rattle.flat_model.specs.Machine.Step.{Step}
+use Rattle.flat_model.specs.Machine.Ledger.{exact_ledger, has_enough, HasBuffers, reclaimed}
+use Rattle.flat_model.specs.Machine.Arrival.{AllArrive}
+use Rattle.flat_model.specs.Amounts.Choice.{Choice}
+use Rattle.flat_model.specs.Amounts.Layout.{Need}
+use Rattle.flat_model.specs.Machine.Calls.{Refuses}
+use Rattle.flat_model.specs.Machine.Send.{Sends, Goes, send_faults, target, need_to}
+use Rattle.flat_model.specs.Scripts.Puts.{Puts}
 use Rattle.flat_model.specs.declared.address.Addr.{Addr}
 use Rattle.flat_model.specs.declared.errno.Errno.{Errno}
 use Rattle.flat_model.specs.declared.errno.Errno.TheVariants.{NoBufs, Access, DestinationRequired, MessageSize, IsConnected, AddressNotAvailable, HostUnreachable, AddressInUse, BadDescriptor, Invalid, TooManyFiles, WouldBlock}

@@ -2,14 +2,14 @@
 use Rattle.std.proofs.Common.{◌≡◌, ℕ, zero, suc, ◌+◌, ◌<◌, Bool, true, false, cond, find, count_by, List, [], ◌∷◌, length, map, sum_by, Option, None, Some, refl, sym, ap, ◌∙◌, subst, arith}
 use Rattle.std.specs.List.{range_with_len, AllByRecursion as Each}
 use Rattle.std.proofs.lemmas.List.Sums.{sum_by-cons}
-use Rattle.flat_model.specs.Weight.{Weight, SameWeight, all_of, ◌⊕◌, times as bag_times}
-use Rattle.flat_model.specs.State.{Socket, Datagram}
+use Rattle.flat_model.specs.Amounts.Weight.{Weight, SameWeight, all_of, ◌⊕◌, times as bag_times}
+use Rattle.flat_model.specs.Machine.State.{Socket, Datagram}
 use Rattle.flat_model.proofs.Laws.{all_of-append, times-both, count_cons}
 use Rattle.mbuf_chain.specs.Chain.{Entry, PoolView, chain_of}
 use Rattle.mbuf_chain.specs.Train.{QueuedPacket, queued_packet_of}
 use Rattle.pcb_table.specs.declared.block.Block.{Block}
 use Rattle.pcb_table.specs.Table.{Table, block_at, sockets_with}
-use Rattle.pcb_table.specs.Sound.{AreApart, has_fd}
+use Rattle.pcb_table.specs.Apart.{AreApart, has_fd}
 use Rattle.pcb_table.proofs.Laws.{queued_mbufs, queued_times, by_descriptor}
 use Rattle.ledger.specs.Accounts.{weight_of, weight_at, weight_owned}
 use Rattle.sockbuf.specs.SockBuf.{SockBufView, IsSockBuf, IsDatagram, datagram_of, datagrams, datagrams_of, chains_of}

@@ -1,10 +1,10 @@
 -- Delivery of a datagram to those who hear it, for every rest of the machine (`udp_input` and `sbappendaddr` of volume
 -- 2, chapters 23 and 16; to say it by what a pool shows is this project's own).
 use Rattle.std.specs.Prelude.{◌≡◌, ℕ, ◌<◌, List, ◌∷◌, ◌++◌, drop, map, Some, None, unwrap_or, false}
-use Rattle.flat_model.specs.Weight.{Weight, Item, ◌⊕◌}
-use Rattle.flat_model.specs.State.{State, Socket, Unfinished}
-use Rattle.flat_model.specs.Ledger.{exact_ledger}
-use Rattle.flat_model.specs.Arrival.{Tests, Appends, Delivers, WholeArrives}
+use Rattle.flat_model.specs.Amounts.Weight.{Weight, Item, ◌⊕◌}
+use Rattle.flat_model.specs.Machine.State.{State, Socket, Unfinished}
+use Rattle.flat_model.specs.Machine.Ledger.{exact_ledger}
+use Rattle.flat_model.specs.Machine.Arrival.{Tests, Appends, Delivers, WholeArrives}
 use Rattle.flat_model.specs.declared.counters.Counters.{Counters}
 use Rattle.flat_model.specs.declared.address.Addr.{Addr}
 use Rattle.mbuf_chain.specs.Chain.{PoolView, chain_of}

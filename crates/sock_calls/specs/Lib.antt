@@ -1,6 +1,5 @@
 pub mod Sockets
-pub mod Destination
 pub mod Sends
 pub mod Outgoing
-pub mod Putting
 pub mod Delivery
+pub mod Inside

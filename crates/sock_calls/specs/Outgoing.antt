@@ -2,10 +2,10 @@
 -- chapters 16, 23 and 8; to say it by what a pool shows is this project's own).
 use Rattle.std.specs.Prelude.{◌≡◌, ◌≢◌, ◌⊎◌, ℕ, ◌≤◌, List, ◌++◌, Option, Result, IfErr}
 use Rattle.params.specs.declared.TheConstants.{MIN_MTU, LOOPBACK}
-use Rattle.flat_model.specs.Weight.{Weight, Item, nothing, all_of}
-use Rattle.flat_model.specs.State.{State}
-use Rattle.flat_model.specs.Ledger.{exact_ledger}
-use Rattle.flat_model.specs.Replies.{sent_reply}
+use Rattle.flat_model.specs.Amounts.Weight.{Weight, Item, nothing, all_of}
+use Rattle.flat_model.specs.Machine.State.{State}
+use Rattle.flat_model.specs.Machine.Ledger.{exact_ledger}
+use Rattle.flat_model.specs.Machine.Replies.{sent_reply}
 use Rattle.flat_model.specs.declared.address.Addr.{Addr}
 use Rattle.flat_model.specs.declared.errno.Errno.{Errno}
 use Rattle.flat_model.specs.declared.errno.Errno.TheVariants.{NoBufs}

@@ -2,15 +2,15 @@
 -- the machine that holds unfinished datagrams then gives them back and sends once more: both are its one `Sends`, by
 -- `sends_at_once` and `sends_again` of proofs/Laws.
 use Rattle.std.specs.Prelude.{◌≡◌, ℕ, Bool, List, [], length, Option}
-use Rattle.flat_model.specs.Choice.{Choice, Case}
-use Rattle.flat_model.specs.Weight.{Item, nothing}
-use Rattle.flat_model.specs.Header.{first_fault}
-use Rattle.flat_model.specs.Event.{Reply}
-use Rattle.flat_model.specs.State.{State, Socket, socket_at}
-use Rattle.flat_model.specs.Ledger.{Ledger}
-use Rattle.flat_model.specs.Calls.{Refuses}
-use Rattle.flat_model.specs.Send.{send_faults, target, need_to}
-use Rattle.flat_model.specs.Puts.{Puts}
+use Rattle.flat_model.specs.Amounts.Choice.{Choice, Case}
+use Rattle.flat_model.specs.Amounts.Weight.{Item, nothing}
+use Rattle.flat_model.specs.Packets.Header.{first_fault}
+use Rattle.flat_model.specs.Machine.Event.{Reply}
+use Rattle.flat_model.specs.Machine.State.{State, Socket, socket_at}
+use Rattle.flat_model.specs.Machine.Ledger.{Ledger}
+use Rattle.flat_model.specs.Machine.Calls.{Refuses}
+use Rattle.flat_model.specs.Machine.Send.{send_faults, target, need_to}
+use Rattle.flat_model.specs.Scripts.Puts.{Puts}
 use Rattle.flat_model.specs.declared.address.Addr.{Addr}
 use Rattle.flat_model.specs.declared.errno.Errno.{Errno}
 use Rattle.flat_model.specs.declared.errno.Errno.TheVariants.{BadDescriptor, NoBufs}

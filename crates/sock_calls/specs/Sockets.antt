@@ -1,14 +1,14 @@
 -- Sockets: control blocks, and a receive queue for each descriptor (volume 2, chapters 15, 16 and 22).
 use Rattle.std.specs.Prelude.{◌≡◌, ℕ, List, [], ◌∷◌, ◌++◌, length, slice_index_or, None}
 use Rattle.std.specs.List.{AllByRecursion}
-use Rattle.flat_model.specs.State.{State, Unfinished}
-use Rattle.flat_model.specs.Event.{Event, Reply}
-use Rattle.flat_model.specs.Step.{Step}
+use Rattle.flat_model.specs.Machine.State.{State, Unfinished}
+use Rattle.flat_model.specs.Machine.Event.{Event, Reply}
+use Rattle.flat_model.specs.Machine.Step.{Step}
 use Rattle.flat_model.specs.declared.counters.Counters.{Counters}
 use Rattle.mbuf_chain.specs.Chain.{PoolView}
 use Rattle.mbuf_chain.specs.Owners.{IsOwned, Moves}
 use Rattle.pcb_table.specs.Table.{Table, Queues, block_at, machine}
-use Rattle.pcb_table.specs.Sound.{AreApart}
+use Rattle.pcb_table.specs.Apart.{AreApart}
 use Rattle.sockbuf.specs.SockBuf.{SockBufView, IsSockBuf, datagrams, chains_of, no_datagrams}
 
 -- what a contract sees of sockets; the queue of descriptor fd stands at fd

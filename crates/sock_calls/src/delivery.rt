@@ -1,9 +1,9 @@
 //! Delivery of a datagram into the queues of those who hear it.
 ghost use Rattle.std.specs.Prelude.{◌≡◌, ◌<◌, ◌≤◌, ◌∷◌, [], ◌++◌, true, length, All, ℕ};
-ghost use Rattle.flat_model.specs.Fits as flat;
+ghost use Rattle.flat_model.specs.Sockets.Fits as flat;
 ghost use Rattle.mbuf_chain.specs.Chain.{IsLive, chain_of, held_mbufs, string};
 ghost use Rattle.mbuf_chain.specs.Owners.{IsOwned, Moves};
-ghost use Rattle.flat_model.specs.Weight.{times};
+ghost use Rattle.flat_model.specs.Amounts.Weight.{times};
 ghost use Rattle.chain_ops.specs.Makes.{HasMbufs};
 ghost use Rattle.pcb_table.specs.Table.{IsDescriptor, IsOpen};
 ghost use Rattle.ledger.specs.Accounts.{item_at};

@@ -1,8 +1,8 @@
 //! Where a send goes, and what it is refused for before its buffers are looked at.
 ghost use Rattle.std.specs.Prelude.{◌≡◌, ◌+◌, ◌≤◌, Some, IfNone, IfOk, OnOk, true};
-ghost use Rattle.flat_model.specs.Header.{first_fault};
+ghost use Rattle.flat_model.specs.Packets.Header.{first_fault};
 ghost use Rattle.pcb_table.specs.Table.{IsOpen, block_at};
-ghost use Rattle.sock_calls.specs.Destination.{early_faults, broadcast_faults, FindsTarget, ChecksSend};
+ghost use Rattle.sock_calls.specs.Inside.Destination.{early_faults, broadcast_faults, FindsTarget, ChecksSend};
 
 use flat_model::{Addr, Errno};
 use params::{IP_UDP_HEADERS, UDP_SEND_SPACE};

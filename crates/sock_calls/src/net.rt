@@ -1,6 +1,6 @@
 //! What the sockets of a machine have below them.
 ghost use Rattle.std.specs.Prelude.{◌≡◌, [], None};
-ghost use Rattle.flat_model.specs.Count.{no_counts};
+ghost use Rattle.flat_model.specs.Machine.Count.{no_counts};
 ghost use Rattle.mbuf_chain.specs.Chain.{PoolView};
 ghost use Rattle.mbuf_chain.specs.Owners.{Moves};
 ghost use Rattle.mbuf_chain.specs.Train.{numbers};

@@ -1,10 +1,10 @@
 //! The packets of a send that has its buffers.
 ghost use Rattle.std.specs.Prelude.{◌≡◌, ◌+◌, ◌≤◌, length};
-ghost use Rattle.flat_model.specs.Layout.{sent};
-ghost use Rattle.flat_model.specs.Send.{need_to};
-ghost use Rattle.flat_model.specs.Sending.{is_looped, mtu_to};
+ghost use Rattle.flat_model.specs.Amounts.Layout.{sent};
+ghost use Rattle.flat_model.specs.Machine.Send.{need_to};
+ghost use Rattle.flat_model.specs.Machine.Sending.{is_looped, mtu_to};
 ghost use Rattle.chain_ops.specs.Stored.{Has};
-ghost use Rattle.sock_calls.specs.Putting.{config_of, head_as, sent_as, AreMade, IsBuilt, IsFreeFor, IsRouted, IsStored, way_of};
+ghost use Rattle.sock_calls.specs.Inside.Putting.{config_of, head_as, sent_as, AreMade, IsBuilt, IsFreeFor, IsRouted, IsStored, way_of};
 
 use chain_ops::theorems::sent_layout;
 use chain_ops::{from_user, m_prepend};

@@ -1,6 +1,6 @@
 //! The oldest datagram of a receive queue, copied out.
 ghost use Rattle.std.specs.Prelude.{◌≡◌, ◌<◌, ◌≤◌, ◌∷◌, [], length, take, MatchOption, ℕ};
-ghost use Rattle.flat_model.specs.State.{Datagram};
+ghost use Rattle.flat_model.specs.Machine.State.{Datagram};
 ghost use Rattle.mbuf_chain.specs.Owners.{IsOwned, Moves};
 ghost use Rattle.sockbuf.specs.SockBuf.{IsSockBuf, chains_of, datagrams};
 ghost use Rattle.sock_calls.specs.Sockets.{TakesAt, queue_at, queues_of, queued_chains};

@@ -4,7 +4,7 @@ ghost use Rattle.ledger.specs.Reserve.{are_free};
 ghost use Rattle.pcb_table.specs.Table.{IsOpen};
 ghost use Rattle.ip_out.specs.Queues.{IsQueue};
 ghost use Rattle.sock_calls.specs.Outgoing.{sending, CanSend, IsSent};
-ghost use Rattle.sock_calls.specs.Putting.{config_of, counts_sent, IsFreeFor, IsPut, IsRouted};
+ghost use Rattle.sock_calls.specs.Inside.Putting.{config_of, counts_sent, IsFreeFor, IsPut, IsRouted};
 ghost use Rattle.sock_calls.specs.Sockets.{from_three};
 
 use crate::destination::send_target;

@@ -1,9 +1,9 @@
 //! Sockets: control blocks and receive queues.
 ghost use Rattle.std.specs.Prelude.{◌≡◌, ◌<◌, ◌≤◌, ◌+◌, ◌∷◌, ◌++◌, ℕ, [], None, length};
-ghost use Rattle.flat_model.specs.Event.{Open, Bind, Close, Connect, Receive, Set_option};
-ghost use Rattle.flat_model.specs.State.{State};
-ghost use Rattle.flat_model.specs.Step.{Step};
-ghost use Rattle.flat_model.specs.Replies.{opened_reply, done_reply, received_reply, FitsRoom};
+ghost use Rattle.flat_model.specs.Machine.Event.{Open, Bind, Close, Connect, Receive, Set_option};
+ghost use Rattle.flat_model.specs.Machine.State.{State};
+ghost use Rattle.flat_model.specs.Machine.Step.{Step};
+ghost use Rattle.flat_model.specs.Machine.Replies.{opened_reply, done_reply, received_reply, FitsRoom};
 ghost use Rattle.mbuf_chain.specs.Chain.{PoolView, chain_of, string};
 ghost use Rattle.mbuf_chain.specs.Owners.{IsOwned, Moves};
 ghost use Rattle.pcb_table.specs.Table.{IsDescriptor};

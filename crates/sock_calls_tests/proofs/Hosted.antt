@@ -1,7 +1,7 @@
 -- Sockets and an output queue beside chains in hand, for the tests.
 use Rattle.std.proofs.Common.{◌≡◌, ◌≢◌, ℕ, ◌+◌, ◌≤◌, List, [], ◌++◌, Option, None, sym, ap, subst, arith}
 use Rattle.std.specs.Prelude.{Result}
-use Rattle.flat_model.specs.Event.{Event, Reply}
+use Rattle.flat_model.specs.Machine.Event.{Event, Reply}
 use Rattle.flat_model.specs.declared.address.Addr.{Addr}
 use Rattle.flat_model.specs.declared.errno.Errno.{Errno}
 use Rattle.mbuf_chain.specs.Chain.{PoolView}

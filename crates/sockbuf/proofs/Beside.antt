@@ -1,9 +1,9 @@
 -- A queue under steps of others, and what its chains weigh.
 use Rattle.std.proofs.Common.{◌≡◌, Err, ℕ, suc, ◌+◌, List, [], ◌∷◌, length, map, refl, sym, ap, ◌∙◌, subst, arith}
 use Rattle.std.specs.List.{AllByRecursion as Each}
-use Rattle.flat_model.specs.Weight.{all_of, ◌⊕◌}
-use Rattle.flat_model.specs.State.{Datagram}
-use Rattle.flat_model.specs.Fits.{bytes_queued, memory_queued}
+use Rattle.flat_model.specs.Amounts.Weight.{all_of, ◌⊕◌}
+use Rattle.flat_model.specs.Machine.State.{Datagram}
+use Rattle.flat_model.specs.Sockets.Fits.{bytes_queued, memory_queued}
 use Rattle.mbuf_chain.specs.Chain.{Entry, PoolView, chain_of, without}
 use Rattle.mbuf_chain.specs.Frames.{SameAt}
 use Rattle.mbuf_chain.specs.Owners.{times, IsOwned, Moves}

@@ -5,9 +5,9 @@ use Rattle.std.specs.List.{insert, remove, AllByRecursion as Each}
 use Rattle.std.proofs.lemmas.Bool.{cases_eq}
 use Rattle.std.proofs.lemmas.List.{map-append}
 use Rattle.std.proofs.lemmas.List.Sums.{sum_by-cons, sum_by-append}
-use Rattle.flat_model.specs.Weight.{mbuf, ◌⊕◌}
-use Rattle.flat_model.specs.State.{Datagram}
-use Rattle.flat_model.specs.Fits.{bytes_queued, memory_queued}
+use Rattle.flat_model.specs.Amounts.Weight.{mbuf, ◌⊕◌}
+use Rattle.flat_model.specs.Machine.State.{Datagram}
+use Rattle.flat_model.specs.Sockets.Fits.{bytes_queued, memory_queued}
 use Rattle.flat_model.specs.declared.address.Addr.{Addr}
 use Rattle.mbuf_chain.specs.Chain.{Entry, PoolView, IsLive, chain_of, flat_bytes}
 use Rattle.mbuf_chain.specs.Owners.{times, IsOwned, Moves}

@@ -2,10 +2,10 @@
 -- volume 2, chapter 16).
 use Rattle.std.specs.Prelude.{◌≡◌, ℕ, ◌+◌, ◌*◌, ◌<◌, true, false, List, [], ◌∷◌, ◌++◌, length, map, None, Result, Ok, Err}
 use Rattle.std.specs.List.{AllByRecursion as Each}
-use Rattle.flat_model.specs.Weight.{Weight, nothing, mbuf, ◌⊕◌}
-use Rattle.flat_model.specs.Header.{u16_at, u32_at, two_bytes, four_bytes}
-use Rattle.flat_model.specs.State.{Datagram}
-use Rattle.flat_model.specs.Fits.{bytes_queued, memory_queued, fits}
+use Rattle.flat_model.specs.Amounts.Weight.{Weight, nothing, mbuf, ◌⊕◌}
+use Rattle.flat_model.specs.Packets.Header.{u16_at, u32_at, two_bytes, four_bytes}
+use Rattle.flat_model.specs.Machine.State.{Datagram}
+use Rattle.flat_model.specs.Sockets.Fits.{bytes_queued, memory_queued, fits}
 use Rattle.flat_model.specs.declared.address.Addr.{Addr}
 use Rattle.mbuf_chain.specs.Chain.{Entry, PoolView, chain_of, flat_bytes, held_mbufs, string}
 use Rattle.mbuf_chain.specs.Owners.{Moves}

@@ -1,7 +1,7 @@
 //! The queue and its calls.
 
 ghost use Rattle.std.specs.Prelude.{◌≡◌, ◌==◌, [], length, MatchOption, ℕ};
-ghost use Rattle.flat_model.specs.Fits as flat;
+ghost use Rattle.flat_model.specs.Sockets.Fits as flat;
 ghost use Rattle.mbuf_chain.specs.Chain.{IsLive, PoolView};
 ghost use Rattle.mbuf_chain.specs.Owners.{times, Moves};
 ghost use Rattle.sockbuf.specs.SockBuf.{AppendsAddr, IsEmpty, IsSockBuf, TakesOldest, chains_of, datagrams, no_datagrams};

@@ -1,8 +1,8 @@
 -- The 8 bytes that are written.
 use Rattle.std.proofs.Common.{◌≡◌, ℕ, ◌+◌, ◌≤◌, List, [], ◌∷◌, ◌++◌, length, take, drop, refl, sym, ap, ◌∙◌, arith}
 use Rattle.std.proofs.lemmas.List.{append_assoc, length-append, take-append-le, drop-append-le}
-use Rattle.flat_model.specs.Checksum.{checksum}
-use Rattle.flat_model.specs.Header.{not_zero, pseudo_header, udp}
+use Rattle.flat_model.specs.Packets.Checksum.{checksum}
+use Rattle.flat_model.specs.Packets.Header.{not_zero, pseudo_header, udp}
 use Rattle.mbuf_chain.specs.Chain.{ChainView, Entry, entry_of, flat_bytes, no_entry, string}
 use Rattle.mbuf_chain.specs.Steps.{overwritten}
 use Rattle.std.specs.Prelude.{slice_index_or, slice_set}

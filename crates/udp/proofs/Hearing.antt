@@ -2,8 +2,8 @@
 use Rattle.std.proofs.Common.{◌≡◌, ℕ, zero, suc, ◌<◌, ◌≤◌, Bool, true, false, cond, List, [], ◌∷◌, get_or, Some, None, ◌==◌, sym, ap, ◌∙◌, arith}
 use Rattle.std.specs.Prelude.{option_to_list}
 use Rattle.flat_model.specs.declared.lookup_key.LookupKey.{LookupKey}
-use Rattle.flat_model.specs.Weight.{times}
-use Rattle.flat_model.specs.Lookup.{best, receivers}
+use Rattle.flat_model.specs.Amounts.Weight.{times}
+use Rattle.flat_model.specs.Sockets.Lookup.{best, receivers}
 use Rattle.flat_model.proofs.Laws.{count_cons}
 use Rattle.pcb_table.specs.declared.block.Block.{Block}
 use Rattle.pcb_table.specs.Found.{Finds}

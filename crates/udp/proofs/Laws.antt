@@ -4,12 +4,12 @@ use Rattle.std.proofs.Common.{◌≡◌, ℕ, ◌+◌, ◌-◌, ◌<◌, ◌≤�
 use Rattle.std.specs.Prelude.{◌⊎◌}
 use Rattle.std.proofs.lemmas.List.{length-append, length-drop, length-map, length-take}
 use Rattle.std.proofs.lemmas.Option.{none-some, same_Some}
-use Rattle.flat_model.specs.Weight.{Item, Weight}
-use Rattle.flat_model.specs.Layout as flat
-use Rattle.flat_model.specs.Header.{udp, udp_bytes, udp_fault}
-use Rattle.flat_model.specs.Ledger.{Ledger}
-use Rattle.flat_model.specs.State.{State, Socket, ends}
-use Rattle.flat_model.specs.Arrival.{Delivers, GoesTo, WholeArrives}
+use Rattle.flat_model.specs.Amounts.Weight.{Item, Weight}
+use Rattle.flat_model.specs.Amounts.Layout as flat
+use Rattle.flat_model.specs.Packets.Header.{udp, udp_bytes, udp_fault}
+use Rattle.flat_model.specs.Machine.Ledger.{Ledger}
+use Rattle.flat_model.specs.Machine.State.{State, Socket, ends}
+use Rattle.flat_model.specs.Machine.Arrival.{Delivers, GoesTo, WholeArrives}
 use Rattle.flat_model.specs.declared.address.Addr.{Addr}
 use Rattle.flat_model.specs.declared.counters.Why.{Why}
 use Rattle.flat_model.specs.declared.counters.Why.TheVariants.{NoProtocol}

@@ -2,8 +2,8 @@
 use Rattle.std.proofs.Common.{◌≡◌, ℕ, zero, suc, ◌-◌, ◌≤◌, Bool, true, false, ◌==◌, ◌++◌, List, take, refl, sym, ap, ◌∙◌, arith}
 use Rattle.std.specs.Prelude.{◌||◌}
 use Rattle.std.proofs.lemmas.Bool.{eq-eqb, ne_eqb, eqb-true, eqb-false}
-use Rattle.flat_model.specs.Checksum.{checksum, fold16, folded_sum, word_sum}
-use Rattle.flat_model.specs.Header.{pseudo_header, u16_at}
+use Rattle.flat_model.specs.Packets.Checksum.{checksum, fold16, folded_sum, word_sum}
+use Rattle.flat_model.specs.Packets.Header.{pseudo_header, u16_at}
 use Rattle.udp.specs.declared.header.Header.{Header}
 use Rattle.udp.specs.Inside.{has_right_sum, header_in}
 

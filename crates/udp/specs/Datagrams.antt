@@ -3,10 +3,10 @@
 use Rattle.std.specs.Prelude.{◌≡◌, ◌⊎◌, ℕ, ◌<◌, ◌≤◌, ◌==◌, if◌then◌else◌, List, [], ◌∷◌, length, take, drop, map, All, Option, Some, None}
 use Rattle.params.specs.declared.TheConstants.{IP_HEADER, IP_UDP_HEADERS, PROTOCOL_UDP, UDP_HEADER}
 use Rattle.flat_model.specs.declared.lookup_key.LookupKey.{LookupKey}
-use Rattle.flat_model.specs.Weight.{times}
-use Rattle.flat_model.specs.State.{State}
-use Rattle.flat_model.specs.Header.{udp, udp_fault, udp_bytes, u16_at}
-use Rattle.flat_model.specs.Arrival.{hearers, no_port}
+use Rattle.flat_model.specs.Amounts.Weight.{times}
+use Rattle.flat_model.specs.Machine.State.{State}
+use Rattle.flat_model.specs.Packets.Header.{udp, udp_fault, udp_bytes, u16_at}
+use Rattle.flat_model.specs.Machine.Arrival.{hearers, no_port}
 use Rattle.flat_model.specs.declared.address.Addr.{Addr}
 use Rattle.flat_model.specs.declared.counters.Why.{Why}
 use Rattle.flat_model.specs.declared.counters.Why.TheVariants.{NoProtocol}

@@ -1,8 +1,8 @@
 -- What the crate's own functions say of a header and of the blocks.
 use Rattle.std.specs.Prelude.{ℕ, ◌==◌, ◌||◌, Bool, ◌++◌, if◌then◌else◌, List, take}
 use Rattle.params.specs.declared.TheConstants.{LIMITED_BROADCAST}
-use Rattle.flat_model.specs.Checksum.{folded_sum}
-use Rattle.flat_model.specs.Header.{pseudo_header, two_bytes, u16_at}
+use Rattle.flat_model.specs.Packets.Checksum.{folded_sum}
+use Rattle.flat_model.specs.Packets.Header.{pseudo_header, two_bytes, u16_at}
 use Rattle.flat_model.specs.declared.counters.Why.{Why}
 use Rattle.flat_model.specs.declared.counters.Why.TheVariants.{UdpNoPort, UdpNoPortBroadcast}
 use Rattle.mbuf_chain.specs.Chain.{ChainView}

@@ -1,7 +1,7 @@
 //! A datagram that came.
 ghost use Rattle.std.specs.Prelude.{◌≡◌, ◌≤◌, ◌∷◌, [], IfErr, IfOk, All, None, Some, length};
-ghost use Rattle.flat_model.specs.Header.{udp_fault};
-ghost use Rattle.flat_model.specs.Arrival as flat;
+ghost use Rattle.flat_model.specs.Packets.Header.{udp_fault};
+ghost use Rattle.flat_model.specs.Machine.Arrival as flat;
 ghost use Rattle.mbuf_chain.specs.Chain.{IsLive, chain_of, string, with_chain, without};
 ghost use Rattle.mbuf_chain.specs.Owners.{Moves};
 ghost use Rattle.pcb_table.specs.Table.{IsDescriptor, packet_key};

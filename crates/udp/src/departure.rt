@@ -1,6 +1,6 @@
 //! A datagram that is sent.
 ghost use Rattle.std.specs.Prelude.{◌≡◌, ◌≤◌, ◌++◌, None, length, take, drop};
-ghost use Rattle.flat_model.specs.Header.{udp};
+ghost use Rattle.flat_model.specs.Packets.Header.{udp};
 ghost use Rattle.mbuf_chain.specs.Chain.{IsLive, chain_of, entry_of, string, with_chain};
 ghost use Rattle.udp.specs.Datagrams.{built};
 

@@ -1,6 +1,6 @@
 //! The 8 bytes in front of a datagram.
 ghost use Rattle.std.specs.Prelude.{◌≡◌, ◌+◌, ◌≤◌, ◌++◌, length, drop};
-ghost use Rattle.flat_model.specs.Header.{address_bytes, pseudo_header, two_bytes, u16_at};
+ghost use Rattle.flat_model.specs.Packets.Header.{address_bytes, pseudo_header, two_bytes, u16_at};
 ghost use Rattle.mbuf_chain.specs.Chain.{IsLive, chain_of, string};
 ghost use Rattle.udp.specs.Inside.{header_bytes, header_in};
 

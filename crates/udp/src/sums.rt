@@ -1,6 +1,6 @@
 //! The checksum of a datagram (RFC 768; RFC 1071).
 ghost use Rattle.std.specs.Prelude.{◌≡◌, ◌≤◌, if◌then◌else◌, None, Some, length};
-ghost use Rattle.flat_model.specs.Header.{pseudo_header, u16_at, udp_fault};
+ghost use Rattle.flat_model.specs.Packets.Header.{pseudo_header, u16_at, udp_fault};
 ghost use Rattle.flat_model.specs.declared.counters.Why.TheVariants.{UdpBadSum};
 ghost use Rattle.mbuf_chain.specs.Chain.{IsLive, chain_of, string};
 ghost use Rattle.in_cksum.specs.Partial.{sum_of};

@@ -7,9 +7,9 @@ use Rattle.std.proofs.lemmas.List.{length-append, length-map}
 use Rattle.std.proofs.lemmas.List.Sums.{sum_by-cons}
 use Rattle.mbuf_chain.specs.Chain.{Entry, flat_bytes, trailing_space, room_end}
 use Rattle.mbuf_chain.specs.Steps.{with_back}
-use Rattle.flat_model.specs.Weight.{Covers, times}
-use Rattle.flat_model.specs.Layout as flat
-use Rattle.flat_model.specs.Layout.{weight_of}
+use Rattle.flat_model.specs.Amounts.Weight.{Covers, times}
+use Rattle.flat_model.specs.Amounts.Layout as flat
+use Rattle.flat_model.specs.Amounts.Layout.{weight_of}
 use Rattle.chain_ops.specs.Joins.{filled_up, cat}
 use Rattle.chain_ops.specs.Weights.{laid, IsFit, AreFit}
 use Rattle.chain_ops.proofs.Joins.{plain_with_room, fill-goes, fill-stops}

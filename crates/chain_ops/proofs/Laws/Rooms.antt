@@ -1,7 +1,7 @@
 -- How the rooms for bytes follow one another.
 use Rattle.std.proofs.Common.{◌≡◌, ℕ, zero, suc, ◌-◌, ◌<◌, ◌≤◌, min, cond, Bool, true, false, List, [], ◌∷◌, refl, ap, arith}
 use Rattle.std.specs.Prelude.{nat_le}
-use Rattle.flat_model.specs.Layout.{Room, Plain, Cluster, filled, next_room, size_of}
+use Rattle.flat_model.specs.Amounts.Layout.{Room, Plain, Cluster, filled, next_room, size_of}
 
 pub next_some : (large small left : ℕ) → 0 < large → 0 < small → 0 < left → 0 < size_of (next_room large small left)
 next_some large small left l s m = go (nat_le 208 left)

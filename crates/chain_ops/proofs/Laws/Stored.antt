@@ -1,7 +1,7 @@
 -- What stored bytes and bytes written over others are, whatever the layout.
 use Rattle.std.proofs.Common.{◌≡◌, ℕ, true, false, List, length, count_by, arith}
 use Rattle.params.specs.declared.TheConstants.{CLUSTER_LEADING_SPACE}
-use Rattle.flat_model.specs.Layout.{user, wire, is_cluster}
+use Rattle.flat_model.specs.Amounts.Layout.{user, wire, is_cluster}
 use Rattle.mbuf_chain.specs.Chain.{flat_bytes}
 use Rattle.chain_ops.specs.Stored.{stored_first}
 use Rattle.chain_ops.proofs.Stored.{first_bytes, rooms_sum}

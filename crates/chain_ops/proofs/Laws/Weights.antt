@@ -5,8 +5,8 @@ use Rattle.std.specs.List.{AllByRecursion, cons_option}
 use Rattle.std.proofs.lemmas.Bool.{cases_lt, lt-ltb, le-ltb, cond-true, cond-false, ne_eqb}
 use Rattle.std.proofs.lemmas.List.{length-map, take_all}
 use Rattle.mbuf_chain.specs.Chain.{Entry}
-use Rattle.flat_model.specs.Layout as flat
-use Rattle.flat_model.specs.Layout.{weight_of, entries_met, meets_from}
+use Rattle.flat_model.specs.Amounts.Layout as flat
+use Rattle.flat_model.specs.Amounts.Layout.{weight_of, entries_met, meets_from}
 use Rattle.chain_ops.specs.Rooms.{room_low}
 use Rattle.chain_ops.specs.Copies.{Position, position_of, copied_from, copied, copied_all}
 use Rattle.chain_ops.specs.Weights.{laid}

@@ -1,6 +1,6 @@
 use Rattle.std.proofs.Common.{length, ◌≡◌, ◌+◌}
-use Rattle.flat_model.specs.Checksum.{fold16}
-use Rattle.in_cksum.specs.Swapped.{swapped_sum}
+use Rattle.flat_model.specs.Packets.Checksum.{fold16}
+use Rattle.in_cksum.specs.Inside.{swapped_sum}
 use Rattle.in_cksum.proofs.sum_slice.Given as goal
 
 abbrev pub invariant-loop-rest : goal.invariant-loop-rest

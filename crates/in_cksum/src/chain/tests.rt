@@ -15,7 +15,7 @@ const EXAMPLE: [u8; 8] = [0x00, 0x01, 0xf2, 0x03, 0xf4, 0xf5, 0xf6, 0xf7];
 const EXAMPLE_SUM: u16 = 0x220d;
 
 /// A plain mbuf with these bytes.
-#[tactic(auto, using(mbuf_chain::proofs::Maps::map_steps))]
+#[tactic(auto, using(mbuf_chain::proofs::Laws::Maps::map_steps))]
 fn filled(rt: &impl Abort, pool: &mut Pool, header: bool, bytes: &[u8]) -> Chain
     ensures { (e : Entry) × Adds pool.old pool.new result (one_mbuf header e result) }
 {
@@ -27,7 +27,7 @@ fn filled(rt: &impl Abort, pool: &mut Pool, header: bool, bytes: &[u8]) -> Chain
 }
 
 /// A chain of an empty mbuf, and after it one for each piece.
-#[tactic(auto, using(mbuf_chain::proofs::Maps::map_steps))]
+#[tactic(auto, using(mbuf_chain::proofs::Laws::Maps::map_steps))]
 fn chain_of(rt: &impl Abort, pool: &mut Pool, pieces: &[&[u8]]) -> Chain
     ensures { IsLive pool.new result }
 {

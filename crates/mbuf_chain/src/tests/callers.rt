@@ -18,7 +18,7 @@ pub(super) fn sum_of_lengths(pool: &Pool, chain: &Chain) -> u32
 }
 
 /// Copies all bytes of a chain.
-#[tactic(auto, using(crate::proofs::Iterators::concat_pieces))]
+#[tactic(auto, using(crate::proofs::Laws::Iterators::concat_pieces))]
 pub(super) fn copy_out(pool: &Pool, chain: &Chain, to: &mut [u8])
     requires live { IsLive pool.now chain.now }
     requires len { length to.old ≡ length (string (chain_of pool.now chain.now)) }

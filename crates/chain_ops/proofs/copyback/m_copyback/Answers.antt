@@ -1,4 +1,4 @@
-use Rattle.std.proofs.Common.{◌≡◌, ℕ, ◌+◌, ◌-◌, ◌≤◌, ◌++◌, true, List, length, drop, replicate, arith, ap, sym, ◌∙◌, append-nil}
+use Rattle.std.proofs.Common.{◌≡◌, ℕ, ◌+◌, ◌-◌, ◌≤◌, ◌++◌, List, length, drop, replicate, arith, ap, sym, ◌∙◌, append-nil}
 use Rattle.std.proofs.lemmas.List.{length-append, length-drop, length-replicate}
 use Rattle.mbuf_chain.specs.Chain.{Entry, ChainView, PoolView, chain_of, flat_bytes}
 use Rattle.mbuf_chain.proofs.Laws.Owners.{shown_with, kept_with}

@@ -1,4 +1,4 @@
-use Rattle.std.proofs.Common.{◌≡◌, ℕ, ◌+◌, ◌++◌, false, None, List, length, take, replicate, arith, ap, sym, ◌∙◌, subst}
+use Rattle.std.proofs.Common.{◌≡◌, ℕ, ◌++◌, false, None, List, length, take, replicate, arith, ap, sym, ◌∙◌, subst}
 use Rattle.std.proofs.lemmas.List.{length-take, length-replicate}
 use Rattle.mbuf_chain.specs.Chain.{Entry, PoolView, HasTrailingSpace, chain_of, entry_in, with_chain, entry_of, Adds}
 use Rattle.mbuf_chain.specs.Steps.{one_mbuf, with_back, with_entry, empty_entry}

@@ -1,4 +1,4 @@
-use Rattle.std.proofs.Common.{ℕ, ◌-◌, ap, sym, ◌∙◌, arith}
+use Rattle.std.proofs.Common.{ℕ, ap, sym, ◌∙◌, arith}
 use Rattle.mbuf_chain.specs.declared.place.Segment.{Segment}
 use Rattle.mbuf_chain.specs.Chain.{Entry, PoolView, chain_of, entry_of, with_chain}
 use Rattle.mbuf_chain.specs.Steps.{with_entry}

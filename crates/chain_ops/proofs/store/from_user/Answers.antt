@@ -1,7 +1,7 @@
 use Rattle.std.proofs.Common.{true, length, arith, ap, ◌∙◌}
 use Rattle.std.proofs.lemmas.Result.{IfOk-weaker}
 use Rattle.mbuf_chain.specs.Chain.{flat_bytes}
-use Rattle.flat_model.specs.Layout.{user}
+use Rattle.flat_model.specs.Amounts.Layout.{user}
 use Rattle.chain_ops.proofs.Stored.{first_bytes, rooms_sum}
 use Rattle.chain_ops.proofs.store.from_user.Goals as goal
 

@@ -8,7 +8,7 @@ use Rattle.mbuf_chain.specs.Owners.{times}
 use Rattle.mbuf_chain.proofs.Laws.Owners.{live_adds, shown_adds, shown_with, times-append}
 use Rattle.mbuf_chain.proofs.Laws.Steps.{live_beside, live_shown, place_beside, linked_new}
 use Rattle.mbuf_chain.proofs.Laws.Accounts.{references-adds}
-use Rattle.flat_model.specs.Layout.{is_cluster, Room}
+use Rattle.flat_model.specs.Amounts.Layout.{is_cluster, Room}
 use Rattle.chain_ops.specs.Stored.{Lacks, rooms_for, stored, stored_first}
 use Rattle.chain_ops.proofs.Laws.Makes.{makes_new, makes_then, makes_undone, makes_held, makes_mbufs}
 use Rattle.chain_ops.proofs.Laws.Steps.{kept_adds, string_one}

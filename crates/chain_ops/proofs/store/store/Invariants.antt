@@ -1,7 +1,7 @@
 use Rattle.std.proofs.Common.{◌≡◌, ℕ, ◌+◌, ◌++◌, true, List, length, count_by}
 use Rattle.mbuf_chain.specs.Chain.{IsPlace, chain_of, alone, references_of, free_clusters}
 use Rattle.mbuf_chain.specs.Owners.{times}
-use Rattle.flat_model.specs.Layout.{is_cluster}
+use Rattle.flat_model.specs.Amounts.Layout.{is_cluster}
 use Rattle.chain_ops.specs.Makes.{Makes}
 use Rattle.chain_ops.specs.Stored.{AreFree, stored, stored_first, rooms_for}
 use Rattle.chain_ops.proofs.Laws.Rooms.{rest_rooms}

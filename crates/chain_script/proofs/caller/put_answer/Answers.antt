@@ -1,5 +1,5 @@
 use Rattle.std.proofs.Common.{◌≡◌, length, Some, None, refl, arith}
-use Rattle.chain_script.specs.Calls.{request_of}
+use Rattle.chain_script.specs.Inside.Calls.{request_of}
 use Rattle.chain_script.specs.Steps.{answer_text}
 use Rattle.chain_script.proofs.SlotLemmas.{take-written}
 use Rattle.chain_script.proofs.caller.put_answer.Goals as goal

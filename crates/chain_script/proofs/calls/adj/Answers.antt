@@ -3,7 +3,7 @@ use mir.Syntax.{w32}
 use Rattle.std.proofs.lemmas.Int.{to_z-of_z}
 use Rattle.chain_script.specs.Lines.{Adjust}
 use Rattle.chain_script.specs.Steps.{Ready, Step}
-use Rattle.chain_script.specs.Inside.{machine_of}
+use Rattle.chain_script.specs.Inside.Slots.{machine_of}
 use Rattle.chain_script.proofs.Stores.{adjust_done}
 use Rattle.chain_script.proofs.SlotLemmas.{slot_is, live_slot}
 use Rattle.chain_script.proofs.calls.adj.Goals as goal

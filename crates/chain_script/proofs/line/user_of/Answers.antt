@@ -1,5 +1,5 @@
 use Rattle.std.proofs.Common.{◌≡◌, List, ℕ, sym, ◌∙◌, subst}
-use Rattle.flat_model.specs.Grammar.{IsHex}
+use Rattle.flat_model.specs.Scripts.Grammar.{IsHex}
 use Rattle.chain_script.proofs.Forms.{User-only}
 use Rattle.chain_script.proofs.line.user_of.Goals as goal
 

@@ -2,7 +2,7 @@ use Rattle.std.proofs.Common.{◌++◌, Some, refl, ap, ◌∙◌}
 use Rattle.flat_model.specs.declared.usage.Mbstat.{Mbstat}
 use Rattle.chain_script.specs.Machines.{usage_of}
 use Rattle.chain_script.specs.Steps.{Shown, answer_text}
-use Rattle.chain_script.specs.Inside.{machine_of}
+use Rattle.chain_script.specs.Inside.Slots.{machine_of}
 use Rattle.chain_script.proofs.Shown.{usage_is}
 use Rattle.chain_script.proofs.show.usage.Goals as goal
 

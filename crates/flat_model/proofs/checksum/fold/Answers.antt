@@ -1,6 +1,6 @@
 use Rattle.std.proofs.Common.{◌≡◌, ℕ, ◌+◌, ◌-◌, ◌*◌, ◌≤◌, length, List, [], ◌∷◌, slice_index_or, take, drop, take_all, ap, refl, ◌∙◌, arith}
-use Rattle.flat_model.specs.Checksum.{fold16, word_sum}
-use Rattle.flat_model.proofs.Folds.{fold16-add_first}
+use Rattle.flat_model.specs.Packets.Checksum.{fold16, word_sum}
+use Rattle.flat_model.proofs.Packets.Folds.{fold16-add_first}
 use Rattle.flat_model.proofs.checksum.fold.Goals as goal
 
 -- one word more

@@ -1,5 +1,5 @@
 use Rattle.std.proofs.Common.{◌≡◌, ◌+◌, ◌<◌, length}
-use Rattle.flat_model.specs.Checksum.{fold16, folded_sum, word_sum}
+use Rattle.flat_model.specs.Packets.Checksum.{fold16, folded_sum, word_sum}
 use Rattle.flat_model.proofs.checksum.fold.Given as goal
 
 abbrev pub invariant-loop-rest : goal.invariant-loop-rest

@@ -1,4 +1,4 @@
-use Rattle.flat_model.proofs.Folds.{fold16-halves, fold16-small}
+use Rattle.flat_model.proofs.Packets.Folds.{fold16-halves, fold16-small}
 use Rattle.flat_model.proofs.checksum.fold_law.Goals as goal
 
 pub returns : goal.returns

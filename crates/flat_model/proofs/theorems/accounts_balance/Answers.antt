@@ -1,5 +1,5 @@
 -- What is free is what isn't held.
-use Rattle.flat_model.proofs.Balance.{free_and_held, references_are, none_held}
+use Rattle.flat_model.proofs.Machine.Balance.{free_and_held, references_are, none_held}
 use Rattle.flat_model.proofs.theorems.accounts_balance.Goals as goal
 
 pub returns-clause-mbufs : goal.returns-clause-mbufs

@@ -1,6 +1,6 @@
 -- The law holds whatever answers for the buffers.
-use Rattle.flat_model.specs.Ledger.{exact_ledger, loose_ledger}
-use Rattle.flat_model.proofs.Runs.{one_more_turn}
+use Rattle.flat_model.specs.Machine.Ledger.{exact_ledger, loose_ledger}
+use Rattle.flat_model.proofs.Runs.Runs.{one_more_turn}
 use Rattle.flat_model.proofs.theorems.leads_on.Goals as goal
 
 pub returns-clause-exact : goal.returns-clause-exact

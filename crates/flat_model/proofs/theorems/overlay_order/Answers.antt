@@ -1,5 +1,5 @@
 -- The law is proved on a grid.
-use Rattle.flat_model.proofs.Order.{overlay_order_lem}
+use Rattle.flat_model.proofs.Fragments.Order.{overlay_order_lem}
 use Rattle.flat_model.proofs.theorems.overlay_order.Goals as goal
 
 pub returns : goal.returns

@@ -1,8 +1,8 @@
 -- The law holds whatever answers for the buffers.
-use Rattle.flat_model.specs.Ledger.{exact_ledger, loose_ledger}
-use Rattle.flat_model.specs.State.{boot}
-use Rattle.flat_model.specs.Script.{all_events}
-use Rattle.flat_model.proofs.Runs.{print_of_run}
+use Rattle.flat_model.specs.Machine.Ledger.{exact_ledger, loose_ledger}
+use Rattle.flat_model.specs.Machine.State.{boot}
+use Rattle.flat_model.specs.Scripts.Script.{all_events}
+use Rattle.flat_model.proofs.Runs.Runs.{print_of_run}
 use Rattle.flat_model.proofs.theorems.printed_is_run.Goals as goal
 
 pub returns-clause-exact : goal.returns-clause-exact

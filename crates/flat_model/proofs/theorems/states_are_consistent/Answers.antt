@@ -1,6 +1,6 @@
 -- It holds at the start, and every step keeps it.
-use Rattle.flat_model.specs.State.{boot}
-use Rattle.flat_model.proofs.KeptSteps.{boot_is_consistent, step_is_consistent, run_is_consistent}
+use Rattle.flat_model.specs.Machine.State.{boot}
+use Rattle.flat_model.proofs.Machine.KeptSteps.{boot_is_consistent, step_is_consistent, run_is_consistent}
 use Rattle.flat_model.proofs.theorems.states_are_consistent.Goals as goal
 
 pub returns-clause-start : goal.returns-clause-start

@@ -1,6 +1,6 @@
 use Rattle.std.proofs.Common.{ap, ◌∙◌}
-use Rattle.flat_model.specs.Header.{not_zero}
-use Rattle.flat_model.specs.Checksum.{checksum}
+use Rattle.flat_model.specs.Packets.Header.{not_zero}
+use Rattle.flat_model.specs.Packets.Checksum.{checksum}
 use Rattle.flat_plain.proofs.Heading.{udp_is}
 use Rattle.flat_plain.proofs.headers.udp.Goals as goal
 

@@ -1,7 +1,7 @@
 use Rattle.std.proofs.Common.{ap, sym, refl, ◌∙◌, take, true, false, eq-eqb}
 use Rattle.std.specs.Prelude.{◌==◌}
 use Rattle.std.proofs.lemmas.Bool.{le-ltb, ne_eqb}
-use Rattle.flat_model.specs.Checksum.{folded_sum}
+use Rattle.flat_model.specs.Packets.Checksum.{folded_sum}
 use Rattle.flat_plain.proofs.Heading.{fault_is}
 use Rattle.flat_plain.proofs.headers.udp_fault.Goals as goal
 

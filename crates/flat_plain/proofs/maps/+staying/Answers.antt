@@ -1,5 +1,5 @@
 use Rattle.std.proofs.Common.{arith, sym, true}
-use Rattle.flat_model.specs.Overlay.{stays}
+use Rattle.flat_model.specs.Fragments.Overlay.{stays}
 use Rattle.flat_plain.specs.Tables.{map_of}
 use Rattle.flat_plain.proofs.Placing.{count_next}
 use Rattle.flat_plain.proofs.maps.+staying.Goals as goal

@@ -1,7 +1,7 @@
 use Rattle.std.proofs.Common.{arith, ℕ, ◌<◌, ◌≤◌, length, ap, sym, ◌∙◌, ◌⊎◌, inl, inr, None, ◌≡◌, Option, List}
 use Rattle.std.proofs.lemmas.Bool.{cases_lt}
 use Rattle.std.proofs.lemmas.List.{get_or_past}
-use Rattle.flat_model.specs.Overlay as Overlay
+use Rattle.flat_model.specs.Fragments.Overlay as Overlay
 use Rattle.flat_plain.specs.declared.maps.Cell.{Cell}
 use Rattle.flat_plain.specs.Tables.{map_of, held_of}
 use Rattle.flat_plain.proofs.Placing.{place_next}

@@ -1,6 +1,6 @@
 use Rattle.std.proofs.Common.{◌≡◌, ℕ, ◌<◌, ◌≤◌, List, Option, None}
 use Rattle.std.specs.Prelude.{slice_index_or}
-use Rattle.flat_model.specs.Overlay as Overlay
+use Rattle.flat_model.specs.Fragments.Overlay as Overlay
 use Rattle.flat_plain.specs.declared.maps.Cell.{Cell}
 use Rattle.flat_plain.specs.Tables.{map_of, fragment_of}
 use Rattle.flat_plain.proofs.maps.overlay.Given as goal

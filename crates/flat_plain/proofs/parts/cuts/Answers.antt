@@ -1,6 +1,6 @@
 use Rattle.std.proofs.Common.{arith, sym, ◌∙◌, ap, ◌+◌, map, ◌-◌, ◌*◌, ◌/◌}
 use Rattle.std.specs.List.{range_with_len}
-use Rattle.flat_model.specs.Cuts as Cuts
+use Rattle.flat_model.specs.Fragments.Cuts as Cuts
 use Rattle.flat_plain.specs.Parts.{part_of}
 use Rattle.flat_plain.proofs.Cutting.{cut_short, cut_long, cut_step}
 use Rattle.flat_plain.proofs.parts.cuts.Goals as goal

@@ -1,6 +1,6 @@
 use Rattle.std.proofs.Common.{◌≡◌, map, vec_len}
 use Rattle.std.specs.List.{range_with_len}
-use Rattle.flat_model.specs.Cuts as Cuts
+use Rattle.flat_model.specs.Fragments.Cuts as Cuts
 use Rattle.flat_plain.specs.Parts.{part_of}
 use Rattle.flat_plain.proofs.parts.cuts.Given as goal
 

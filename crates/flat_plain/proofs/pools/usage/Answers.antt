@@ -1,7 +1,7 @@
 use Rattle.std.proofs.Common.{◌≡◌, ℕ, ◌+◌, ◌≤◌, List, max, cond, sym, ◌∙◌, ap, subst, arith, eq-eqb}
 use Rattle.std.specs.Prelude.{◌==◌}
 use Rattle.std.proofs.lemmas.Bool.{ne_eqb}
-use Rattle.flat_model.specs.Weight.{times}
+use Rattle.flat_model.specs.Amounts.Weight.{times}
 use Rattle.flat_plain.specs.Weights.{weight_of}
 use Rattle.flat_plain.proofs.Weighing.{AreCounted, one_counted, usage_is}
 use Rattle.flat_plain.proofs.pools.usage.Goals as goal

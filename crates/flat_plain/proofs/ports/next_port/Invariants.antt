@@ -1,5 +1,5 @@
 use Rattle.std.proofs.Common.{◌≡◌, ℕ, ◌<◌, true}
-use Rattle.flat_model.specs.Calls as Calls
+use Rattle.flat_model.specs.Machine.Calls as Calls
 use Rattle.flat_plain.specs.Ports.{state_of}
 use Rattle.flat_plain.proofs.ports.next_port.Given as goal
 

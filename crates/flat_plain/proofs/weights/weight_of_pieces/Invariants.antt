@@ -1,6 +1,6 @@
 use Rattle.std.proofs.Common.{◌≡◌, ℕ, ◌*◌, ◌^◌, ◌≤◌}
-use Rattle.flat_model.specs.Weight as flat
-use Rattle.flat_model.specs.Whole.{pieces_below}
+use Rattle.flat_model.specs.Amounts.Weight as flat
+use Rattle.flat_model.specs.Fragments.Whole.{pieces_below}
 use Rattle.flat_plain.specs.Tables.{map_of}
 use Rattle.flat_plain.specs.Weights.{weight_of}
 use Rattle.flat_plain.proofs.weights.weight_of_pieces.Given as goal

@@ -1,7 +1,7 @@
 use Rattle.std.proofs.Common.{◌≡◌, ℕ, ◌+◌, ◌-◌, ◌++◌, List, [], take, drop, ap, sym, ◌∙◌, arith, append_assoc, append-nil}
 use Rattle.std.specs.List.{concat}
 use Rattle.mbuf_chain.specs.Chain.{chain_of}
-use Rattle.mbuf_chain.proofs.Iterators.{concat_pieces}
+use Rattle.mbuf_chain.proofs.Laws.Iterators.{concat_pieces}
 use Rattle.in_cksum.specs.Partial.{sum_of}
 use Rattle.in_cksum.proofs.Ranges.{drop_over, piece_taken}
 use Rattle.in_cksum.proofs.chain.cksum_chain.Goals as goal

@@ -1,7 +1,7 @@
 use Rattle.std.proofs.Common.{arith, w32}
 use Rattle.std.proofs.lemmas.Simd.{sum_fits, fold-sum}
 use lib.Lanes.{zip2}
-use Rattle.in_cksum.specs.Swapped.{low_of}
+use Rattle.in_cksum.specs.Inside.{low_of}
 use Rattle.in_cksum.proofs.Wrapped.{lows_left}
 use Rattle.in_cksum.proofs.lanes.sum_lanes.Goals as goal
 

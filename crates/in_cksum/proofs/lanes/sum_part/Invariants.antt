@@ -1,5 +1,5 @@
 use Rattle.std.proofs.Common.{length, ◌≡◌, ◌+◌}
-use Rattle.in_cksum.specs.Swapped.{swapped_sum, lanes_total}
+use Rattle.in_cksum.specs.Inside.{swapped_sum, lanes_total}
 use Rattle.in_cksum.proofs.lanes.sum_part.Given as goal
 
 abbrev pub invariant-loop-rest : goal.invariant-loop-rest

@@ -1,5 +1,5 @@
-use Rattle.std.proofs.Common.{◌≡◌, ℕ, ◌+◌, ◌≤◌, ◌<◌, List, length, arith, ap, sym, ◌∙◌, subst}
-use Rattle.mbuf_chain.specs.Chain.{Entry, ChainView, PoolView, IsLive, chain_of, string, without}
+use Rattle.std.proofs.Common.{List, length, arith, ap, sym, ◌∙◌, subst}
+use Rattle.mbuf_chain.specs.Chain.{Entry, ChainView, PoolView, IsLive, string, without}
 use Rattle.mbuf_chain.proofs.Laws.Owners.{live_adds}
 use Rattle.mbuf_chain.proofs.Laws.Steps.{live_beside}
 use Rattle.chain_ops.specs.Cursors.{IsCursor}

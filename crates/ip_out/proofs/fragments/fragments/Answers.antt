@@ -1,6 +1,5 @@
-use Rattle.std.proofs.Common.{◌≡◌, ℕ, ◌+◌, ◌≤◌, List, [], ◌∷◌, length, arith, ap, sym, refl, ◌∙◌, subst, true}
-use Rattle.mbuf_chain.specs.Chain.{Entry, ChainView, PoolView, chain_of, entry_in, IsUnshared}
-use Rattle.mbuf_chain.specs.Owners.{Moves}
+use Rattle.std.proofs.Common.{◌≡◌, ℕ, ◌+◌, List, length, arith, ap, ◌∙◌}
+use Rattle.mbuf_chain.specs.Chain.{Entry, ChainView, chain_of, entry_in}
 use Rattle.mbuf_chain.proofs.Laws.Owners.{moves_trans}
 use Rattle.mbuf_chain.proofs.Laws.Steps.{live_shown}
 use Rattle.chain_ops.proofs.Laws.Steps.{plain_unshared}

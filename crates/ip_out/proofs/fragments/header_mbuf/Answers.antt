@@ -1,4 +1,4 @@
-use Rattle.std.proofs.Common.{◌≡◌, ℕ, List, length, arith, ap, sym, ◌∙◌, subst}
+use Rattle.std.proofs.Common.{ℕ, List, length, arith, ap, sym, ◌∙◌, subst}
 use Rattle.mbuf_chain.specs.Chain.{Entry, HasTrailingSpace, entry_in}
 use Rattle.mbuf_chain.proofs.Laws.Owners.{live_adds}
 use Rattle.mbuf_chain.proofs.Laws.Steps.{new_entry}

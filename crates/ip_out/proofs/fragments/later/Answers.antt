@@ -1,7 +1,7 @@
-use Rattle.std.proofs.Common.{◌≡◌, ℕ, ◌+◌, ◌-◌, ◌*◌, ◌%◌, ◌≤◌, ◌<◌, List, length, arith, ap, sym, refl, ◌∙◌, false, subst, [], ◌∷◌}
+use Rattle.std.proofs.Common.{◌≡◌, ℕ, ◌+◌, ◌%◌, length, arith, ap, sym, refl, ◌∙◌, false, subst, [], ◌∷◌}
 use Rattle.std.specs.Prelude.{sum_by}
-use Rattle.flat_model.specs.Cuts.{part, Part}
-use Rattle.mbuf_chain.specs.Chain.{Entry, ChainView, PoolView, chain_of}
+use Rattle.flat_model.specs.Fragments.Cuts.{part, Part}
+use Rattle.mbuf_chain.specs.Chain.{ChainView, PoolView, chain_of}
 use Rattle.mbuf_chain.proofs.Laws.Owners.{moves_trans, moves_nothing}
 use Rattle.mbuf_chain.proofs.Laws.Trains.{beside_adds, apart_adds}
 use Rattle.mbuf_chain.specs.Owners.{Moves}

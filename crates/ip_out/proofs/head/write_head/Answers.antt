@@ -1,6 +1,6 @@
 use Rattle.std.proofs.Common.{ℕ, ◌-◌, List, ap, ◌∙◌}
-use Rattle.flat_model.specs.Checksum.{folded_sum}
-use Rattle.flat_model.specs.Header.{two_bytes}
+use Rattle.flat_model.specs.Packets.Checksum.{folded_sum}
+use Rattle.flat_model.specs.Packets.Header.{two_bytes}
 use Rattle.ip_out.specs.Headings.{written, blank_bytes, head_bytes}
 use Rattle.ip_out.proofs.head.write_head.Goals as goal
 

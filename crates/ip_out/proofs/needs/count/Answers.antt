@@ -1,6 +1,6 @@
 use Rattle.std.proofs.Common.{◌≡◌, ℕ, ◌+◌, ◌-◌, length, arith, ap, sym, ◌∙◌, inl, inr}
-use Rattle.flat_model.specs.Layout as Layout
-use Rattle.flat_model.specs.Layout.{Room, filled, is_cluster}
+use Rattle.flat_model.specs.Amounts.Layout as Layout
+use Rattle.flat_model.specs.Amounts.Layout.{Room, filled, is_cluster}
 use Rattle.std.specs.Prelude.{count_by, List, []}
 use Rattle.ip_out.specs.Inside.{later_parts}
 use Rattle.ip_out.proofs.Counting.{over, over_none, Kind, next_is, filled_none, short_is, long_is, short_clusters, long_clusters}

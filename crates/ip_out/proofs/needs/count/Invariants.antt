@@ -1,7 +1,7 @@
 use Rattle.std.proofs.Common.{◌≡◌, ◌+◌, ◌-◌, ◌*◌, ◌<◌, ◌≤◌, length}
 use Rattle.std.specs.Prelude.{count_by}
-use Rattle.flat_model.specs.Layout as Layout
-use Rattle.flat_model.specs.Layout.{filled, is_cluster}
+use Rattle.flat_model.specs.Amounts.Layout as Layout
+use Rattle.flat_model.specs.Amounts.Layout.{filled, is_cluster}
 use Rattle.ip_out.specs.Inside.{later_parts}
 use Rattle.ip_out.proofs.Counting.{over}
 use Rattle.ip_out.proofs.needs.count.Given as goal

@@ -1,6 +1,6 @@
 use Rattle.std.proofs.Common.{◌≡◌, ◌*◌, arith, ap}
 use Rattle.flat_model.specs.declared.need.Need.{Need}
-use Rattle.flat_model.specs.Layout.{need_bcast}
+use Rattle.flat_model.specs.Amounts.Layout.{need_bcast}
 use Rattle.ip_out.proofs.Counting.{need_whole}
 use Rattle.ip_out.proofs.needs.need_bcast.Goals as goal
 

@@ -1,4 +1,4 @@
-use Rattle.std.proofs.Common.{◌≡◌, ℕ, ◌+◌, ◌<◌, ◌≤◌, length, arith, ap, sym, ◌∙◌, subst}
+use Rattle.std.proofs.Common.{arith, ap, sym, ◌∙◌, subst}
 use Rattle.std.specs.Prelude.{nat_lt}
 use Rattle.mbuf_chain.specs.Chain.{ChainView, PoolView, chain_of, without}
 use Rattle.mbuf_chain.proofs.Laws.Owners.{moves_trans}

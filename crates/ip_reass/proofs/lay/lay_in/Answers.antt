@@ -1,8 +1,8 @@
 use Rattle.std.proofs.Common.{◌≡◌, get_or, set, sym, subst}
 use Rattle.mbuf_chain.specs.Train.{TrainView}
 use Rattle.ip_reass.specs.Fragments.{fragments, map_of}
-use Rattle.ip_reass.specs.Inside.{TellsWhole, arrived, is_left}
-use Rattle.ip_reass.specs.Steps.{datagram_at}
+use Rattle.ip_reass.specs.Inside.Walks.{TellsWhole, arrived, is_left}
+use Rattle.ip_reass.specs.Inside.Steps.{datagram_at}
 use Rattle.ip_reass.proofs.Entered.{laid_in_table, train_put, apart_at}
 use Rattle.ip_reass.proofs.lay.lay_in.Goals as goal
 

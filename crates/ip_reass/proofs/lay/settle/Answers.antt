@@ -1,5 +1,5 @@
 use Rattle.std.proofs.Common.{◌++◌, ◌+◌, ◌≤◌, List, length, take, drop, false, refl, ap, arith}
-use Rattle.ip_reass.specs.Inside.{arrived, is_left}
+use Rattle.ip_reass.specs.Inside.Walks.{arrived, is_left}
 use Rattle.ip_reass.specs.Arrivals.{key_in}
 use Rattle.ip_reass.specs.declared.datagram.Datagram.{Datagram}
 use Rattle.ip_reass.proofs.Settled.{Lent, lent_table, lent_kept, lent_whole, lent_len, lent_moves, lent_leaves, whole_short}

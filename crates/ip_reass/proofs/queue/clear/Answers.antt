@@ -1,7 +1,7 @@
 use Rattle.std.proofs.Common.{ℕ, subst, sym, ap, arith}
 use Rattle.mbuf_chain.proofs.Laws.Owners.{moves_trans}
 use Rattle.ip_reass.specs.Fragments.{fragments, queued, queued_end, AllEnd}
-use Rattle.ip_reass.specs.Inside.{after, queued_at}
+use Rattle.ip_reass.specs.Inside.Walks.{after, queued_at}
 use Rattle.ip_reass.proofs.Walks.{AllEnd-remove}
 use Rattle.ip_reass.proofs.Steps.{length-queued, fragments_freed, clearing_more, cleared_all, cleared_whole, cleared_cut}
 use Rattle.ip_reass.proofs.queue.clear.Goals as goal

@@ -2,7 +2,7 @@ use Rattle.std.proofs.Common.{◌≤◌}
 use Rattle.mbuf_chain.specs.Owners.{Moves}
 use Rattle.mbuf_chain.specs.Train.{IsHeld, numbers}
 use Rattle.ip_reass.specs.Fragments.{fragments, queued, AllEnd}
-use Rattle.ip_reass.specs.Inside.{IsFront, after}
+use Rattle.ip_reass.specs.Inside.Walks.{IsFront, after}
 use Rattle.ip_reass.proofs.Steps.{Clearing}
 use Rattle.ip_reass.proofs.queue.clear.Given as goal
 

@@ -1,7 +1,7 @@
 use Rattle.std.proofs.Common.{◌+◌, ◌≡◌, length, ap, arith}
 use Rattle.mbuf_chain.specs.Chain.{flat_bytes}
 use Rattle.ip_reass.specs.Fragments.{QueuedFragment, queued, queued_end}
-use Rattle.ip_reass.specs.Inside.{queued_at}
+use Rattle.ip_reass.specs.Inside.Walks.{queued_at}
 use Rattle.ip_reass.proofs.Steps.{queued_is, length-queued, end_at, within_of}
 use Rattle.ip_reass.proofs.queue.ends.Goals as goal
 

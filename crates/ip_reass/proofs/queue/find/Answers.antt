@@ -1,7 +1,7 @@
 use Rattle.std.proofs.Common.{◌≡◌, ◌+◌, ◌/◌, ℕ, Bool, ◌&&◌, eqb, drop, refl, sym, ap, ◌∙◌, subst, arith}
 use Rattle.std.proofs.lemmas.Bool.{and_left}
 use Rattle.ip_reass.specs.Fragments.{fragments}
-use Rattle.ip_reass.specs.Inside.{AllAbove}
+use Rattle.ip_reass.specs.Inside.Walks.{AllAbove}
 use Rattle.ip_reass.proofs.Walks.{Found, found_none, found_more, length-fragments, starts_at, ends_at, end_at, above_from}
 use Rattle.ip_reass.proofs.queue.find.Goals as goal
 

@@ -1,6 +1,6 @@
 use Rattle.std.proofs.Common.{◌-◌}
 use Rattle.ip_reass.specs.Fragments.{fragments}
-use Rattle.ip_reass.specs.Inside.{IsFront, after}
+use Rattle.ip_reass.specs.Inside.Walks.{IsFront, after}
 use Rattle.ip_reass.proofs.Walks.{Found}
 use Rattle.ip_reass.proofs.queue.find.Given as goal
 

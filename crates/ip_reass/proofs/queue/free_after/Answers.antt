@@ -1,5 +1,5 @@
 use Rattle.mbuf_chain.proofs.Laws.Trains.{FreedPacket, freed_packet}
-use Rattle.ip_reass.specs.Inside.{after}
+use Rattle.ip_reass.specs.Inside.Walks.{after}
 use Rattle.ip_reass.proofs.Fronts.{front_beside}
 use Rattle.ip_reass.proofs.Steps.{queue_freed}
 use Rattle.ip_reass.proofs.queue.free_after.Goals as goal

@@ -1,7 +1,7 @@
 use Rattle.std.proofs.Common.{not, sym, ap, ◌∙◌, arith}
 use Rattle.std.proofs.lemmas.Bool.{OnTrue_from, OnFalse_from, false≢true}
 use Rattle.ip_reass.specs.Fragments.{fragment_of}
-use Rattle.ip_reass.specs.Inside.{arrived, after}
+use Rattle.ip_reass.specs.Inside.Walks.{arrived, after}
 use Rattle.ip_reass.proofs.Fronts.{front_within}
 use Rattle.ip_reass.proofs.Lays.{Covered, covered_in, Settled, Laid, laid_in, Ahead, ahead_of}
 use Rattle.ip_reass.proofs.Walks.{length-fragments}

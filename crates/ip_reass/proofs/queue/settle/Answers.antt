@@ -2,7 +2,7 @@ use Rattle.std.proofs.Common.{◌+◌, ℕ, map, subst, ap, ◌∙◌, sym}
 use Rattle.mbuf_chain.specs.Chain.{ChainView, chain_of}
 use Rattle.chain_ops.specs.Trims.{without_first}
 use Rattle.ip_reass.specs.Fragments.{AllEnd, fragment_in}
-use Rattle.ip_reass.specs.Inside.{arrived, after}
+use Rattle.ip_reass.specs.Inside.Walks.{arrived, after}
 use Rattle.ip_reass.proofs.Fronts.{front_beside, front_within}
 use Rattle.ip_reass.proofs.Steps.{Changed, changed}
 use Rattle.ip_reass.proofs.Lays.{Waits, waits, Settled, settled}

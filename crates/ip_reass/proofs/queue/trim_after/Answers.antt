@@ -5,7 +5,7 @@ use Rattle.mbuf_chain.specs.Train.{numbers}
 use Rattle.mbuf_chain.proofs.Laws.Owners.{owned_after, live_first, apart_first}
 use Rattle.chain_ops.specs.Trims.{without_first}
 use Rattle.ip_reass.specs.Fragments.{QueuedFragment, queued, queued_of}
-use Rattle.ip_reass.specs.Inside.{after}
+use Rattle.ip_reass.specs.Inside.Walks.{after}
 use Rattle.ip_reass.proofs.Fronts.{front_beside}
 use Rattle.ip_reass.proofs.Steps.{Changed, changed, Trimmed, trimmed_at, end_at, queued_is, length-queued, within_of}
 use Rattle.ip_reass.proofs.queue.trim_after.Goals as goal

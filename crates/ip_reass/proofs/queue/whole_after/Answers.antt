@@ -1,7 +1,7 @@
 use Rattle.std.proofs.Common.{◌≡◌, ℕ, ◌+◌, ◌%◌, ◌∙◌, sym, subst, arith}
 use Rattle.std.proofs.lemmas.Bool.{eq-eqb, ne_eqb, not-true, not-false}
 use Rattle.ip_reass.specs.Fragments.{fragments, end_of}
-use Rattle.ip_reass.specs.Inside.{after, fragment_at}
+use Rattle.ip_reass.specs.Inside.Walks.{after, fragment_at}
 use Rattle.ip_reass.proofs.Walks.{length-fragments, starts_at, ends_at, end_at, more_at}
 use Rattle.ip_reass.proofs.Whole.{Row, row_at, row_more, gap_stops, row_stops, row_open, row_whole}
 use Rattle.ip_reass.proofs.queue.whole_after.Goals as goal

@@ -1,6 +1,6 @@
 use Rattle.std.proofs.Common.{◌≡◌, Bool, true, false, ◌&&◌, eqb, get_or, refl, ◌∙◌, sym}
 use Rattle.ip_reass.specs.declared.datagram.Datagram.{Datagram}
-use Rattle.flat_model.specs.State.{Key}
+use Rattle.flat_model.specs.Machine.State.{Key}
 use Rattle.ip_reass.specs.Table.{has_key}
 use Rattle.ip_reass.proofs.Tables.{find_at, find_past, find_none_more}
 use Rattle.ip_reass.proofs.table.find.Goals as goal

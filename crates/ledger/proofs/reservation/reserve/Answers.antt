@@ -1,5 +1,5 @@
 use Rattle.std.proofs.Common.{◌≡◌, ◌∙◌, ℕ, length, sym, ap, arith}
-use Rattle.flat_model.specs.Count.{counts_more}
+use Rattle.flat_model.specs.Machine.Count.{counts_more}
 use Rattle.flat_model.specs.declared.counter.Counter.TheVariants.{IpReclaimed}
 use Rattle.ledger.proofs.PoolTests.{reserves_at_once, reserves_again}
 use Rattle.ledger.proofs.reservation.reserve.Goals as goal

@@ -1,4 +1,4 @@
-use Rattle.flat_model.specs.Event.{Done, Counted, Shown}
+use Rattle.flat_model.specs.Machine.Event.{Done, Counted, Shown}
 use Rattle.link_script.proofs.caller.call.Goals as goal
 
 pub returns-in-Packet : goal.returns-in-Packet

@@ -1,6 +1,6 @@
 use Rattle.std.proofs.Common.{◌≡◌, length, Some, None, refl, arith}
-use Rattle.link_script.specs.Requests.{event_of}
-use Rattle.flat_model.specs.Texts.{answer_text}
+use Rattle.link_script.specs.Inside.Requests.{event_of}
+use Rattle.flat_model.specs.Scripts.Texts.{answer_text}
 use Rattle.link_script.proofs.RoomLemmas.{take-written}
 use Rattle.link_script.proofs.caller.put_answer.Goals as goal
 

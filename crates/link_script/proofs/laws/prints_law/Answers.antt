@@ -1,4 +1,4 @@
-use Rattle.flat_model.specs.Step.{Step}
+use Rattle.flat_model.specs.Machine.Step.{Step}
 use Rattle.link_script.proofs.RunLemmas.{Prints-answers, Prints-run}
 use Rattle.link_script.proofs.laws.prints_law.Goals as goal
 

@@ -1,5 +1,5 @@
 use Rattle.std.proofs.Common.{◌≡◌, List, ℕ, sym, ◌∙◌, subst}
-use Rattle.flat_model.specs.Grammar.{IsHex}
+use Rattle.flat_model.specs.Scripts.Grammar.{IsHex}
 use Rattle.link_script.proofs.FormLemmas.{Comes-only}
 use Rattle.link_script.proofs.request.packet_of.Goals as goal
 

@@ -1,5 +1,5 @@
 use Rattle.std.proofs.Common.{◌≡◌, List, ℕ, sym, ◌∙◌, subst}
-use Rattle.flat_model.specs.Grammar.{IsHex}
+use Rattle.flat_model.specs.Scripts.Grammar.{IsHex}
 use Rattle.link_script.proofs.FormLemmas.{Send-only}
 use Rattle.link_script.proofs.request.send_of.Goals as goal
 

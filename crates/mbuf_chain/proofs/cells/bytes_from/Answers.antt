@@ -1,6 +1,6 @@
 use Rattle.std.proofs.Common.{Some, arith, ap}
 use Rattle.mbuf_pool.specs.Cells.{Head}
-use Rattle.mbuf_chain.specs.Cells.{cells_from, len_at}
+use Rattle.mbuf_chain.specs.Inside.Cells.{cells_from, len_at}
 use Rattle.mbuf_chain.proofs.Lists.{goes, few_cells, bytes_bound}
 use Rattle.mbuf_chain.proofs.cells.bytes_from.Goals as goal
 

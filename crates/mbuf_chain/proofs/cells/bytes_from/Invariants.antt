@@ -1,5 +1,5 @@
 use Rattle.std.proofs.Common.{◌≡◌, ◌+◌, Some}
-use Rattle.mbuf_chain.specs.Cells.{IsWhole, cells_from, len_at, weigh, one}
+use Rattle.mbuf_chain.specs.Inside.Cells.{IsWhole, cells_from, len_at, weigh, one}
 use Rattle.mbuf_chain.proofs.cells.bytes_from.Given as goal
 
 abbrev pub invariant-mbufs : goal.invariant-mbufs

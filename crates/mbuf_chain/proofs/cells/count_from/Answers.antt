@@ -1,5 +1,5 @@
 use Rattle.std.proofs.Common.{Some, arith}
-use Rattle.mbuf_chain.specs.Cells.{one}
+use Rattle.mbuf_chain.specs.Inside.Cells.{one}
 use Rattle.mbuf_chain.proofs.Lists.{goes, few_cells}
 use Rattle.mbuf_chain.proofs.cells.count_from.Goals as goal
 

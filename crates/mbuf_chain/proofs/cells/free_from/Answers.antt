@@ -1,6 +1,6 @@
 use Rattle.std.proofs.Common.{ℕ, ◌<◌, Option, Some, sym, subst}
 use Rattle.mbuf_pool.specs.Store.{StoreView, head_of}
-use Rattle.mbuf_chain.specs.Cells.{IsWhole, cells_from, weigh, one, Freed}
+use Rattle.mbuf_chain.specs.Inside.Cells.{IsWhole, cells_from, weigh, one, Freed}
 use Rattle.mbuf_chain.proofs.Stores.{ready}
 use Rattle.mbuf_chain.proofs.cells.free_from.Goals as goal
 

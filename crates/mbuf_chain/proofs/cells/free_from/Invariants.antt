@@ -1,6 +1,6 @@
 use Rattle.std.proofs.Common.{Some}
 use Rattle.mbuf_pool.specs.Store.{IsStore}
-use Rattle.mbuf_chain.specs.Cells.{IsWhole, cells_from, weigh, one, Freed}
+use Rattle.mbuf_chain.specs.Inside.Cells.{IsWhole, cells_from, weigh, one, Freed}
 use Rattle.mbuf_chain.proofs.cells.free_from.Given as goal
 
 abbrev pub invariant-mbufs : goal.invariant-mbufs

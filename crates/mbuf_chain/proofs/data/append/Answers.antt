@@ -1,7 +1,7 @@
 use Rattle.std.proofs.Common.{arith, sym}
 use Rattle.std.proofs.Common.{take, drop}
 use Rattle.mbuf_chain.specs.Chain.{chain_of, entry_of}
-use Rattle.mbuf_chain.specs.Cells.{pool_of}
+use Rattle.mbuf_chain.specs.Inside.Cells.{pool_of}
 use Rattle.mbuf_chain.proofs.Bytes.{run_length}
 use Rattle.mbuf_chain.proofs.Grows.{fits_after, ready_after}
 use Rattle.mbuf_chain.proofs.Heads.{shown_at}

@@ -2,7 +2,7 @@ use Rattle.std.proofs.Common.{arith, ap, ◌∙◌}
 use Rattle.mbuf_pool.specs.Cells.{Head}
 use Rattle.mbuf_chain.specs.Chain.{Entry, with_chain, chain_of}
 use Rattle.mbuf_chain.specs.Steps.{with_entry}
-use Rattle.mbuf_chain.specs.Cells.{pool_of, entry_over}
+use Rattle.mbuf_chain.specs.Inside.Cells.{pool_of, entry_over}
 use Rattle.mbuf_chain.proofs.Writes.{overwritten_is}
 use Rattle.std.proofs.Common.{◌+◌}
 use Rattle.mbuf_chain.proofs.Heads.{shown_at}

@@ -1,7 +1,7 @@
 use Rattle.std.proofs.Common.{length, sym, ap, subst, ◌∙◌}
 use Rattle.mbuf_pool.specs.Cells.{Head, Buffer, over}
 use Rattle.mbuf_pool.specs.Store.{with_bytes, bytes_in, IsRoom}
-use Rattle.mbuf_chain.specs.Cells.{buffer_of}
+use Rattle.mbuf_chain.specs.Inside.Cells.{buffer_of}
 use Rattle.mbuf_chain.proofs.Heads.{shown_at}
 use Rattle.mbuf_chain.proofs.Made.{counted_at}
 use Rattle.mbuf_chain.proofs.Writes.{room_of, place_written, written}

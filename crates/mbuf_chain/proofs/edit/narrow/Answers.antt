@@ -2,7 +2,7 @@ use Rattle.std.proofs.Common.{◌+◌, arith, ap, ◌∙◌}
 use Rattle.mbuf_pool.specs.Cells.{Head}
 use Rattle.mbuf_chain.specs.Chain.{Entry, with_chain, chain_of}
 use Rattle.mbuf_chain.specs.Steps.{with_entry}
-use Rattle.mbuf_chain.specs.Cells.{pool_of, entry_from, with_segment}
+use Rattle.mbuf_chain.specs.Inside.Cells.{pool_of, entry_from, with_segment}
 use Rattle.mbuf_chain.proofs.Heads.{shown_at, narrowed_is}
 use Rattle.mbuf_chain.proofs.edit.narrow.Goals as goal
 

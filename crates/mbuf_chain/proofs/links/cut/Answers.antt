@@ -2,7 +2,7 @@ use Rattle.std.proofs.Common.{arith, sym, ap, subst, ◌∙◌}
 use Rattle.mbuf_pool.specs.Cells.{Head}
 use Rattle.mbuf_chain.specs.Chain.{PoolView, Adds, with_chain, chain_of}
 use Rattle.mbuf_chain.specs.Steps.{first_part, second_part}
-use Rattle.mbuf_chain.specs.Cells.{pool_of, weigh, one}
+use Rattle.mbuf_chain.specs.Inside.Cells.{pool_of, weigh, one}
 use Rattle.mbuf_chain.proofs.Focused.{open_on, first_out, whole_of, count_cells}
 use Rattle.mbuf_chain.proofs.Cuts.{cut_made, cut_place}
 use Rattle.mbuf_chain.proofs.links.cut.Goals as goal

@@ -1,6 +1,6 @@
 use Rattle.std.proofs.Common.{◌≡◌, ◌+◌, ◌-◌, ℕ, Some, arith, sym, ap, ◌∙◌, take, drop, suc}
 use Rattle.mbuf_pool.specs.Cells.{Head}
-use Rattle.mbuf_chain.specs.Cells.{cells_from, len_at, weigh, last_of}
+use Rattle.mbuf_chain.specs.Inside.Cells.{cells_from, len_at, weigh, last_of}
 use Rattle.mbuf_chain.proofs.Ends.{on_way, has_next, next_on, all_bytes, last_take, weigh_cut}
 use Rattle.mbuf_chain.proofs.links.end_of.Goals as goal
 

@@ -1,6 +1,6 @@
 use Rattle.std.proofs.Common.{◌≡◌, ◌+◌, ◌-◌, ◌≤◌, Some, drop}
 use Rattle.mbuf_pool.specs.Store.{head_of}
-use Rattle.mbuf_chain.specs.Cells.{IsWhole, cells_from, len_at, weigh}
+use Rattle.mbuf_chain.specs.Inside.Cells.{IsWhole, cells_from, len_at, weigh}
 use Rattle.mbuf_chain.proofs.links.end_of.Given as goal
 
 abbrev pub invariant-mbufs : goal.invariant-mbufs

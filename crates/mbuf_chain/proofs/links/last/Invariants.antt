@@ -1,7 +1,7 @@
 use Rattle.std.proofs.Common.{◌≡◌, ◌+◌, ◌-◌, length}
 use Rattle.std.specs.Option.{MatchOption}
 use Rattle.mbuf_chain.specs.Chain.{IsPlace, chain_of}
-use Rattle.mbuf_chain.specs.Cells.{pool_of}
+use Rattle.mbuf_chain.specs.Inside.Cells.{pool_of}
 use Rattle.mbuf_chain.proofs.links.last.Given as goal
 
 abbrev pub invariant-mbufs : goal.invariant-mbufs

@@ -1,5 +1,5 @@
 use Rattle.std.proofs.Common.{sym, ap, ◌∙◌}
-use Rattle.mbuf_chain.specs.Cells.{weigh, one}
+use Rattle.mbuf_chain.specs.Inside.Cells.{weigh, one}
 use Rattle.mbuf_chain.proofs.Focused.{open_on, whole_of, count_cells}
 use Rattle.mbuf_chain.proofs.links.mbufs_of.Goals as goal
 

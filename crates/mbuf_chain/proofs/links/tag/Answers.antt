@@ -1,7 +1,7 @@
 use Rattle.std.proofs.Common.{sym, ap, ◌∙◌}
 use Rattle.mbuf_pool.specs.Cells.{Head}
 use Rattle.mbuf_chain.specs.Chain.{Front}
-use Rattle.mbuf_chain.specs.Cells.{arrival_of}
+use Rattle.mbuf_chain.specs.Inside.Cells.{arrival_of}
 use Rattle.mbuf_chain.proofs.Focused.{open_on, first_out}
 use Rattle.mbuf_chain.proofs.Places.{front_is}
 use Rattle.mbuf_chain.proofs.links.tag.Goals as goal

@@ -2,7 +2,7 @@ use Rattle.std.proofs.Common.{inl, inr, sym, ap, subst, ◌∙◌, length}
 use Rattle.mbuf_pool.specs.Cells.{Head}
 use Rattle.std.proofs.lemmas.Option.{slice_get_within}
 use Rattle.mbuf_pool.specs.Store.{StoreView, mbufs_out}
-use Rattle.mbuf_chain.specs.Cells.{Taken, IsPool}
+use Rattle.mbuf_chain.specs.Inside.Cells.{Taken, IsPool}
 use Rattle.mbuf_chain.proofs.Made.{clustered_made, none_free, one_free_beside, given_back, cluster_free, free_are, was_unreferenced}
 use Rattle.mbuf_chain.proofs.make.clustered.Goals as goal
 

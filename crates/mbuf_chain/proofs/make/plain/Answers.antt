@@ -1,6 +1,6 @@
 use Rattle.std.proofs.Common.{subst}
 use Rattle.mbuf_pool.specs.Cells.{Head}
-use Rattle.mbuf_chain.specs.Cells.{Taken}
+use Rattle.mbuf_chain.specs.Inside.Cells.{Taken}
 use Rattle.mbuf_chain.proofs.Made.{plain_made, none_free, one_free}
 use Rattle.mbuf_chain.proofs.make.plain.Goals as goal
 

@@ -2,7 +2,7 @@ use Rattle.std.proofs.Common.{ℕ, ◌+◌, Option, arith, sym, ap, subst, ◌�
 use Rattle.mbuf_pool.specs.Cells.{Head}
 use Rattle.std.specs.Option.{IsSome}
 use Rattle.mbuf_chain.specs.Chain.{Entry}
-use Rattle.mbuf_chain.specs.Cells.{Taken}
+use Rattle.mbuf_chain.specs.Inside.Cells.{Taken}
 use Rattle.mbuf_chain.proofs.Heads.{shown_at}
 use Rattle.mbuf_chain.proofs.Made.{shared_made, none_free, one_free, can_hold, counted_at}
 use Rattle.mbuf_chain.proofs.make.shared.Goals as goal

@@ -8,7 +8,7 @@ use Rattle.ledger.specs.Accounts.{weight_at}
 use Rattle.ip_out.specs.declared.head.IpHead.{IpHead}
 use Rattle.ip_reass.specs.Table.{unfinished}
 use Rattle.sock_calls.specs.Sockets.{with_net}
-use Rattle.net_stack.specs.Arrivals.{is_ours_or_all}
+use Rattle.net_stack.specs.Inside.Arrivals.{is_ours_or_all}
 use Rattle.net_stack.proofs.Arriving.{changed, freed, ends_here, refused, forwarded, for_us, cut_length, fragment_arrives, whole_arrives}
 use Rattle.net_stack.proofs.arrive.arrive.Goals as goal
 

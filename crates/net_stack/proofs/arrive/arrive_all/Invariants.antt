@@ -5,7 +5,7 @@ use Rattle.ip_out.specs.Packets.{BeginPlain}
 use Rattle.ip_reass.specs.Table.{IsReady, held_all, unfinished}
 use Rattle.sock_calls.specs.Sockets.{queued_chains}
 use Rattle.sock_calls.specs.Delivery.{seen}
-use Rattle.net_stack.specs.Arrivals.{AreArriving}
+use Rattle.net_stack.specs.Inside.Arrivals.{AreArriving}
 use Rattle.net_stack.proofs.arrive.arrive_all.Given as goal
 
 abbrev pub invariant-packets : goal.invariant-packets

@@ -1,6 +1,6 @@
 use Rattle.std.proofs.Common.{◌≡◌, ℕ, max, List, [], length, sym, ap, ◌∙◌, arith}
 use Rattle.std.specs.Prelude.{count_by}
-use Rattle.flat_model.specs.Layout.{Room, filled, is_cluster}
+use Rattle.flat_model.specs.Amounts.Layout.{Room, filled, is_cluster}
 use Rattle.net_stack.proofs.Coming.{none_left, need_is, next_is}
 use Rattle.net_stack.proofs.receive.wire_need.Goals as goal
 

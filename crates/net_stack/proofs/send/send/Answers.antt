@@ -5,8 +5,8 @@ use Rattle.ip_out.specs.Packets.{BeginPlain}
 use Rattle.ip_reass.specs.Table.{held_all, unfinished}
 use Rattle.sock_calls.specs.Outgoing.{SendView, sending}
 use Rattle.sock_calls.specs.Delivery.{seen}
-use Rattle.net_stack.specs.Arrivals.{HaveArrived}
-use Rattle.net_stack.specs.Sending.{HasSent}
+use Rattle.net_stack.specs.Inside.Arrivals.{HaveArrived}
+use Rattle.net_stack.specs.Inside.Sending.{HasSent}
 use Rattle.net_stack.proofs.Sent.{net_chains, looped_owned, has_sent}
 use Rattle.net_stack.proofs.send.send.Goals as goal
 

@@ -2,7 +2,7 @@ use Rattle.std.proofs.Common.{◌++◌, refl, sym, subst, ◌∙◌}
 use Rattle.mbuf_chain.specs.Owners.{IsOwned}
 use Rattle.ip_reass.specs.Table.{IsReady, held_all}
 use Rattle.sock_calls.specs.Outgoing.{SendView, CanSend, sending}
-use Rattle.net_stack.specs.Sending.{IsTried, out_chains}
+use Rattle.net_stack.specs.Inside.Sending.{IsTried, out_chains}
 use Rattle.net_stack.proofs.Tried.{IsOnce, WasLack, IsReclaimed, once, was_lack, gives_back, tried_at_once, tried_again}
 use Rattle.net_stack.proofs.send.try_send.Goals as goal
 

@@ -1,6 +1,6 @@
 use Rattle.std.proofs.Common.{◌≡◌, ℕ, ◌<◌, true}
-use Rattle.flat_model.specs.Calls.{port_after}
-use Rattle.pcb_table.specs.Search.{is_used}
+use Rattle.flat_model.specs.Machine.Calls.{port_after}
+use Rattle.pcb_table.specs.Inside.Search.{is_used}
 use Rattle.pcb_table.proofs.ports.next_free.Given as goal
 
 abbrev pub invariant-loop-turns : goal.invariant-loop-turns

@@ -1,5 +1,5 @@
 use Rattle.std.proofs.Common.{◌≡◌, length}
-use Rattle.pcb_table.specs.Search.{from_port}
+use Rattle.pcb_table.specs.Inside.Search.{from_port}
 use Rattle.pcb_table.proofs.search.from_port.Given as goal
 
 abbrev pub invariant-loop-rest : goal.invariant-loop-rest

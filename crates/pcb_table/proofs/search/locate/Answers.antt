@@ -1,5 +1,5 @@
 use Rattle.std.proofs.Common.{sym, ◌∙◌}
-use Rattle.pcb_table.specs.Sound.{has_fd}
+use Rattle.pcb_table.specs.Apart.{has_fd}
 use Rattle.pcb_table.proofs.Places.{no_place, placed}
 use Rattle.pcb_table.proofs.search.locate.Goals as goal
 

@@ -1,5 +1,5 @@
 use Rattle.std.proofs.Common.{◌≡◌, ◌≤◌, ◌++◌, drop, map, length}
-use Rattle.pcb_table.specs.Search.{hearing_blocks}
+use Rattle.pcb_table.specs.Inside.Search.{hearing_blocks}
 use Rattle.pcb_table.proofs.search.receivers.Given as goal
 
 abbrev pub invariant-loop-block : goal.invariant-loop-block

@@ -1,5 +1,5 @@
 use Rattle.std.proofs.Common.{◌∙◌, ap, ◌%◌, ◌/◌, is_some}
-use Rattle.raw_cells.specs.Layout.{head_by}
+use Rattle.raw_cells.specs.Inside.Layout.{head_by}
 use Rattle.raw_cells.specs.declared.head.PacketHeader.{PacketHeader}
 use Rattle.raw_cells.proofs.Encoded.{low_bit, high_bit, packet_back, cluster_back}
 use Rattle.raw_cells.proofs.layout.encode.Goals as goal

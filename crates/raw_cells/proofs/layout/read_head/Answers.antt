@@ -1,5 +1,5 @@
 use Rattle.std.proofs.Common.{◌≡◌, ◌∙◌, ap, ◌+◌, arith}
-use Rattle.raw_cells.specs.Layout.{link_of, u32_at, head_by}
+use Rattle.raw_cells.specs.Inside.Layout.{link_of, u32_at, head_by}
 use Rattle.raw_cells.proofs.layout.read_head.Goals as goal
 
 pub returns-clause-head : goal.returns-clause-head

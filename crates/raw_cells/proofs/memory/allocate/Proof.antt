@@ -34,7 +34,7 @@ use Rattle.std.proofs.alloc.Shapes.{after, head, arm_body}
 use Rattle.std.proofs.raw_atomic.Walks.{proved_at}
 use Rattle.std.proofs.ResultValues.{ok_of, err_of}
 use Rattle.std.specs.contracts.alloc.AllocError as AE
-use Rattle.raw_cells.specs.Memory.{block_type}
+use Rattle.raw_cells.specs.Inside.Memory.{block_type}
 use Rattle.raw_cells.proofs.Addresses.{Parts, parts_val, new_parts, parts_made}
 use Rattle.raw_cells.specs.contracts.memory.allocate.{ended, clauses}
 use Rattle.raw_cells.specs.contracts.memory.allocate.Key.{name as #self}

@@ -29,7 +29,7 @@ use denote.Triple.Walked.{Stays, stay_dropped, walk_of, ends_at, Goes-dropped}
 use Rattle.std.proofs.alloc.Calls.{Al, Goes-blank, Gives, at_gives, Gives-goes, Gives-Gives}
 use Rattle.std.proofs.alloc.Shapes.{after}
 use Rattle.std.proofs.raw_atomic.Walks.{proved_at}
-use Rattle.raw_cells.specs.Memory.{bytes_owned, block_type}
+use Rattle.raw_cells.specs.Inside.Memory.{bytes_owned, block_type}
 use Rattle.raw_cells.proofs.Addresses.{address_val, bytes_val, deed_val, told_address, told_bytes, told_deed}
 use Rattle.raw_cells.proofs.Lying.{as_room}
 use Rattle.raw_cells.specs.contracts.memory.Address as A

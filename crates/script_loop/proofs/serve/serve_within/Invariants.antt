@@ -1,5 +1,5 @@
 use Rattle.std.proofs.Common.{◌≡◌, ℕ, ◌≤◌, List, [], length}
-use Rattle.script_loop.specs.Chunks.{Answered, budget}
+use Rattle.script_loop.specs.Inside.{Answered, budget}
 use Rattle.script_loop.specs.Serves.{Moves}
 use Rattle.script_loop.specs.Streams.{MoreBy}
 use Rattle.script_loop.proofs.serve.serve_within.Given as goal

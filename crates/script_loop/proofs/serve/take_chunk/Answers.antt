@@ -2,7 +2,7 @@ use Rattle.std.proofs.Common.{◌≡◌, ℕ, suc, ◌+◌, List, [], ◌∷◌,
 use Rattle.std.proofs.lemmas.Bool.{false≢true}
 use Rattle.std.proofs.lemmas.Result.{err_from_is_err_and}
 use Rattle.std.proofs.KnownBytes.{Appends-nil}
-use Rattle.script_loop.specs.Chunks.{Answered, BreaksLimit}
+use Rattle.script_loop.specs.Inside.{Answered, BreaksLimit}
 use Rattle.script_loop.proofs.StreamLemmas.{MoreBy-none, MoreBy-then}
 use Rattle.script_loop.proofs.ChunkLemmas.{no_end-take, no_end-all, first-none, cut-at, cut-length, Answered-part, Breaks-part, Takes-on, Takes-stop, Takes-sent, Takes-unsent, Takes-longer, Takes-broken}
 use Rattle.script_loop.proofs.serve.take_chunk.Goals as goal

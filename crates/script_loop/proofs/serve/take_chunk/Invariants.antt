@@ -1,7 +1,7 @@
 use Rattle.std.proofs.Common.{◌≡◌, ℕ, ◌≤◌, ◌+◌, List, ◌++◌, length}
 use Rattle.std.specs.Io.KnownBytes.{Appends}
 use Rattle.script_loop.specs.Streams.{MoreBy}
-use Rattle.script_loop.specs.Chunks.{Answered, budget}
+use Rattle.script_loop.specs.Inside.{Answered, budget}
 use Rattle.script_loop.proofs.serve.take_chunk.Given as goal
 
 abbrev pub invariant-loop-at : goal.invariant-loop-at

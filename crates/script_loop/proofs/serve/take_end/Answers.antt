@@ -1,6 +1,6 @@
 use Rattle.std.proofs.Common.{◌≡◌, ◌≢◌, ℕ, ◌+◌, List, [], ◌∷◌, ◌++◌, refl, arith, subst, append_assoc}
 use Rattle.std.proofs.lemmas.Bool.{false≢true}
-use Rattle.script_loop.specs.Chunks.{Answered}
+use Rattle.script_loop.specs.Inside.{Answered}
 use Rattle.script_loop.proofs.ChunkLemmas.{Answered-end, Answered-part, Breaks-last, Breaks-part}
 use Rattle.script_loop.proofs.serve.take_end.Goals as goal
 

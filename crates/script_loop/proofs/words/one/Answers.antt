@@ -1,5 +1,5 @@
 use Rattle.std.proofs.Common.{◌≡◌, [], ◌∷◌, sym, ap, ◌∙◌}
-use Rattle.flat_model.specs.Grammar.{words}
+use Rattle.flat_model.specs.Scripts.Grammar.{words}
 use Rattle.script_loop.specs.Left.{left}
 use Rattle.script_loop.proofs.WordLemmas.{words-some}
 use Rattle.script_loop.proofs.words.one.Goals as goal

@@ -1,6 +1,6 @@
 use Rattle.std.proofs.Common.{◌<◌, ◌∷◌, [], ◌++◌, suc, length, ap, ◌∙◌, refl, arith}
 use Rattle.std.specs.Prelude.{slice_index_or, slice_set}
-use Rattle.flat_model.specs.Fits.{fits}
+use Rattle.flat_model.specs.Sockets.Fits.{fits}
 use Rattle.mbuf_chain.specs.Chain.{chain_of, string}
 use Rattle.mbuf_chain.specs.Owners.{times}
 use Rattle.sockbuf.specs.SockBuf.{SockBufView, chains_of, datagrams, datagram_from}

@@ -3,7 +3,7 @@ use Rattle.mbuf_chain.proofs.Laws.Owners.{moves_adds}
 use Rattle.chain_ops.specs.Rooms.{room_low}
 use Rattle.mbuf_chain.specs.Chain.{chain_of}
 use Rattle.ledger.specs.Accounts.{item_of}
-use Rattle.flat_model.specs.Weight.{Item}
+use Rattle.flat_model.specs.Amounts.Weight.{Item}
 use Rattle.sock_calls.proofs.Hearing.{copied_item}
 use Rattle.sock_calls.proofs.delivery.copy_whole.Goals as goal
 

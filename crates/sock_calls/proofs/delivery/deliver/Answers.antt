@@ -1,5 +1,5 @@
 use Rattle.std.proofs.Common.{◌++◌, length, ap, sym, ◌∙◌, refl, arith}
-use Rattle.flat_model.specs.Fits.{fits}
+use Rattle.flat_model.specs.Sockets.Fits.{fits}
 use Rattle.mbuf_chain.specs.Chain.{string}
 use Rattle.mbuf_chain.proofs.Laws.Owners.{times-append, live_first}
 use Rattle.ledger.proofs.Laws.{enough_mbufs}

@@ -1,5 +1,5 @@
 use Rattle.std.proofs.Common.{ap, sym, subst, ◌∙◌, arith}
-use Rattle.flat_model.specs.Fits.{fits}
+use Rattle.flat_model.specs.Sockets.Fits.{fits}
 use Rattle.sockbuf.specs.SockBuf.{SockBufView, IsSockBuf, datagrams}
 use Rattle.sock_calls.proofs.Places.{here_is}
 use Rattle.sock_calls.proofs.delivery.fits_at.Goals as goal

@@ -1,5 +1,5 @@
 use Rattle.std.proofs.Common.{◌≤◌, ◌∷◌, ◌++◌, ℕ, List, All, sym, subst}
-use Rattle.flat_model.specs.Weight.{times}
+use Rattle.flat_model.specs.Amounts.Weight.{times}
 use Rattle.mbuf_chain.specs.Owners.{IsOwned}
 use Rattle.pcb_table.specs.Table.{Table, IsOpen}
 use Rattle.sock_calls.specs.Sockets.{from_three, IsSocks, queued_chains}

@@ -1,4 +1,4 @@
-use Rattle.sock_calls.specs.Putting.{sent_as}
+use Rattle.sock_calls.specs.Inside.Putting.{sent_as}
 use Rattle.sock_calls.proofs.Making.{ready, has_headers, built_is}
 use Rattle.sock_calls.proofs.packets.datagram.Goals as goal
 

@@ -1,4 +1,4 @@
-use Rattle.sock_calls.specs.Putting.{config_of, sent_as}
+use Rattle.sock_calls.specs.Inside.Putting.{config_of, sent_as}
 use Rattle.sock_calls.proofs.Making.{ready}
 use Rattle.sock_calls.proofs.Made.{packets_fit, packets_made}
 use Rattle.sock_calls.proofs.packets.packets.Goals as goal

@@ -1,7 +1,7 @@
 use Rattle.std.proofs.Common.{◌≡◌, ◌∷◌, ℕ, List, length, refl, sym, ap, ◌∙◌, subst, arith}
 use Rattle.std.specs.Prelude.{min}
 use Rattle.std.proofs.lemmas.List.{length-take}
-use Rattle.flat_model.specs.State.{Datagram}
+use Rattle.flat_model.specs.Machine.State.{Datagram}
 use Rattle.mbuf_chain.specs.Chain.{PoolView, chain_of, string, without}
 use Rattle.mbuf_chain.specs.Owners.{IsOwned, Moves}
 use Rattle.mbuf_chain.specs.Frames.{SameAt}

@@ -1,6 +1,6 @@
 use Rattle.std.proofs.Common.{length, refl, sym, ap, ◌∙◌, subst}
 use Rattle.flat_model.specs.declared.config.Config.{Config}
-use Rattle.sock_calls.specs.Putting.{IsRouted, IsFreeFor}
+use Rattle.sock_calls.specs.Inside.Putting.{IsRouted, IsFreeFor}
 use Rattle.sock_calls.proofs.Queueing.{same_config, came, queue_beside, put_is}
 use Rattle.sock_calls.proofs.send.put.Goals as goal
 

@@ -1,6 +1,6 @@
 use Rattle.std.proofs.Common.{length, refl, sym, ap, ◌∙◌, inl, Bool}
 use Rattle.std.specs.Prelude.{Ok, Err}
-use Rattle.flat_model.specs.Layout.{Need}
+use Rattle.flat_model.specs.Amounts.Layout.{Need}
 use Rattle.flat_model.specs.declared.errno.Errno.TheVariants.{NoBufs}
 use Rattle.flat_model.specs.declared.errno.Lack.TheVariants.{Queue}
 use Rattle.ledger.specs.Reserve.{are_free}

@@ -1,8 +1,8 @@
 use Rattle.std.proofs.Common.{◌≡◌, ℕ, ◌-◌, ◌≤◌, ◌++◌, List, length, take, drop, ap, ◌∙◌, arith}
 use Rattle.std.proofs.lemmas.Grind.{common_steps}
 use Rattle.std.proofs.lemmas.List.{take_all, length-drop}
-use Rattle.flat_model.specs.Checksum.{checksum}
-use Rattle.flat_model.specs.Header.{not_zero, pseudo_header, udp}
+use Rattle.flat_model.specs.Packets.Checksum.{checksum}
+use Rattle.flat_model.specs.Packets.Header.{not_zero, pseudo_header, udp}
 use Rattle.mbuf_chain.specs.Chain.{ChainView, chain_of, entry_of, string, with_chain}
 use Rattle.mbuf_chain.specs.Steps.{overwritten, with_entry}
 use Rattle.mbuf_chain.proofs.Laws.Owners.{shown_with}

@@ -1,5 +1,5 @@
 use Rattle.std.proofs.lemmas.Bool.{ne_eqb}
-use Rattle.flat_model.specs.Header.{pseudo_header}
+use Rattle.flat_model.specs.Packets.Header.{pseudo_header}
 use Rattle.udp.proofs.Summing.{right_sum}
 use Rattle.udp.proofs.sums.is_right.Goals as goal
 

@@ -1,5 +1,5 @@
 use Rattle.std.proofs.Common.{vec_len}
-use Rattle.chain_script.specs.Inside.{Fits}
+use Rattle.chain_script.specs.Inside.Slots.{Fits}
 use Rattle.chain_script.proofs.caller.Caller.end.Given as goal
 
 abbrev pub invariant-slots : goal.invariant-slots

@@ -1,5 +1,5 @@
 use Rattle.std.proofs.Common.{◌≡◌, length, take}
-use Rattle.flat_model.specs.Count.{all_counters}
+use Rattle.flat_model.specs.Machine.Count.{all_counters}
 use Rattle.flat_model.proofs.counter.Counter.all.Given as goal
 
 -- the first are set

@@ -1,5 +1,5 @@
 use Rattle.std.proofs.Common.{rules, ◌≡◌, length}
-use Rattle.flat_model.proofs.Counting.{counts_is}
+use Rattle.flat_model.proofs.Machine.Counting.{counts_is}
 use Rattle.flat_model.proofs.counters.Counters.count_more.Goals as goal
 
 pub returns : goal.returns

@@ -1,5 +1,5 @@
 use Rattle.std.proofs.Common.{arith}
-use Rattle.mbuf_chain.proofs.AfterStep.{live_shown, apart, count_joined}
+use Rattle.mbuf_chain.proofs.Laws.Steps.{live_shown, apart, count_joined}
 use Rattle.in_cksum.proofs.chain.tests.chain_of.Goals as goal
 
 pub pieces-preserved : goal.pieces-preserved

@@ -1,8 +1,8 @@
 use Rattle.std.proofs.Common.{◌≡◌, ℕ, Bool, ap, ◌∙◌}
 use Rattle.mbuf_chain.specs.Chain.{Entry, ChainView, PoolView, chain_of, with_chain, Adds}
 use Rattle.mbuf_chain.specs.Steps.{one_mbuf, with_entry}
-use Rattle.mbuf_chain.proofs.Maps.{insert-insert}
-use Rattle.mbuf_chain.proofs.Moves.{shown_with}
+use Rattle.mbuf_chain.proofs.Laws.Maps.{insert-insert}
+use Rattle.mbuf_chain.proofs.Laws.Owners.{shown_with}
 use Rattle.in_cksum.proofs.chain.tests.filled.Goals as goal
 
 -- a new chain of one mbuf, filled, is a new chain of one mbuf

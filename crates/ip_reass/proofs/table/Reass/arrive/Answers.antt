@@ -1,8 +1,8 @@
 use Rattle.std.proofs.Common.{◌≡◌, ◌⊎◌, ◌+◌, ◌-◌, ◌∷◌, ◌++◌, [], ℕ, Bool, true, false, Option, is_some, length, refl, sym, ap, ◌∙◌, subst, arith, inl, inr}
 use Rattle.std.specs.Prelude.{option_to_list}
 use Rattle.std.proofs.lemmas.Option.{none-some}
-use Rattle.flat_model.specs.Weight.{nothing, ◌⊕◌}
-use Rattle.flat_model.specs.Arrival.{is_bad_fragment}
+use Rattle.flat_model.specs.Amounts.Weight.{nothing, ◌⊕◌}
+use Rattle.flat_model.specs.Machine.Arrival.{is_bad_fragment}
 use Rattle.mbuf_chain.specs.Chain.{ChainView, PoolView, chain_of, entry_of, string}
 use Rattle.mbuf_chain.specs.Owners.{Moves}
 use Rattle.mbuf_chain.proofs.Laws.Owners.{moves_none, moves_trans, owned_after}

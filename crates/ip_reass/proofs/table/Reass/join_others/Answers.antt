@@ -1,7 +1,7 @@
 use Rattle.std.proofs.Common.{◌∙◌, ap, arith}
 use Rattle.ip_reass.specs.Arrivals.{key_in}
 use Rattle.ip_reass.specs.Fragments.{fragment_of}
-use Rattle.ip_reass.specs.Inside.{arrived}
+use Rattle.ip_reass.specs.Inside.Walks.{arrived}
 use Rattle.ip_reass.specs.Table.{TableView}
 use Rattle.ip_reass.proofs.Queues.{found_layout}
 use Rattle.ip_reass.proofs.Arriving.{joins_found, joins_none, none_found_in}

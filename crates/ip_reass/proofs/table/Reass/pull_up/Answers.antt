@@ -1,6 +1,6 @@
 use Rattle.std.proofs.Common.{refl, ap, arith}
 use Rattle.mbuf_chain.specs.Chain.{PoolView}
-use Rattle.flat_model.specs.Weight.{◌⊕◌}
+use Rattle.flat_model.specs.Amounts.Weight.{◌⊕◌}
 use Rattle.ledger.specs.Accounts.{weight_at}
 use Rattle.ip_reass.specs.Arrivals.{machine}
 use Rattle.ip_reass.proofs.Queues.{wait_then, wait_reserved}

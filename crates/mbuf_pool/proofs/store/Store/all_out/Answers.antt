@@ -1,6 +1,6 @@
 use Rattle.std.proofs.Common.{ℕ, Option, None, sym, subst, []}
-use Rattle.mbuf_pool.specs.AllOut.{IsAllOut}
-use Rattle.mbuf_pool.specs.Inside.{seen_in, IsAccount}
+use Rattle.mbuf_pool.specs.Inside.AllOut.{IsAllOut}
+use Rattle.mbuf_pool.specs.Inside.Fields.{seen_in, IsAccount}
 use Rattle.mbuf_pool.proofs.Booting.{out_sound, all_out, heads_are}
 use Rattle.mbuf_pool.proofs.store.Store.all_out.Goals as goal
 

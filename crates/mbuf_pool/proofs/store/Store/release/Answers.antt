@@ -1,6 +1,6 @@
 use Rattle.std.proofs.Common.{ℕ, ◌-◌, Option, ◌∙◌, ap, sym, arith, length}
 use Rattle.raw_cells.specs.Cells.{Cells, write}
-use Rattle.mbuf_pool.specs.Link.{link_part, link_bytes}
+use Rattle.mbuf_pool.specs.Inside.Link.{link_part, link_bytes}
 use Rattle.mbuf_pool.proofs.Reading.{counted_index, count_read, cluster_index_is, few_clusters}
 use Rattle.mbuf_pool.proofs.Effects.{first_cluster_is, hold_less, give_back_as, leaves_store}
 use Rattle.mbuf_pool.proofs.store.Store.release.Goals as goal

@@ -1,6 +1,6 @@
 use Rattle.std.proofs.Common.{arith}
-use Rattle.flat_model.specs.Event.{Bind}
-use Rattle.flat_model.specs.Replies.{done_reply}
+use Rattle.flat_model.specs.Machine.Event.{Bind}
+use Rattle.flat_model.specs.Machine.Replies.{done_reply}
 use Rattle.net_stack.proofs.Called.{Called, blocks_called}
 use Rattle.net_stack.proofs.stack.Stack.bind.Goals as goal
 

@@ -1,5 +1,5 @@
-use Rattle.flat_model.specs.Event.{Close}
-use Rattle.flat_model.specs.Replies.{done_reply}
+use Rattle.flat_model.specs.Machine.Event.{Close}
+use Rattle.flat_model.specs.Machine.Replies.{done_reply}
 use Rattle.net_stack.proofs.Called.{Called, socks_called}
 use Rattle.net_stack.proofs.stack.Stack.close.Goals as goal
 

@@ -1,6 +1,6 @@
 use Rattle.std.proofs.Common.{arith}
-use Rattle.flat_model.specs.Event.{Connect}
-use Rattle.flat_model.specs.Replies.{done_reply}
+use Rattle.flat_model.specs.Machine.Event.{Connect}
+use Rattle.flat_model.specs.Machine.Replies.{done_reply}
 use Rattle.net_stack.proofs.Called.{Called, blocks_called}
 use Rattle.net_stack.proofs.stack.Stack.connect.Goals as goal
 

@@ -1,7 +1,7 @@
 use Rattle.std.proofs.Common.{◌≡◌, refl, ap, ◌∙◌}
-use Rattle.flat_model.specs.Ledger.{usage_of}
+use Rattle.flat_model.specs.Machine.Ledger.{usage_of}
 use Rattle.flat_model.proofs.Laws.{none_held}
-use Rattle.net_stack.specs.Inside.{seen}
+use Rattle.net_stack.specs.Inside.Fields.{seen}
 use Rattle.net_stack.specs.Stack.{StackView, state_of}
 use Rattle.net_stack.proofs.Lifted.{accounts}
 use Rattle.net_stack.proofs.stack.Stack.mbstat.Goals as goal

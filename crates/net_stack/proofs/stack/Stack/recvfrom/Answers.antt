@@ -1,6 +1,6 @@
 use Rattle.std.proofs.Common.{length}
-use Rattle.flat_model.specs.Event.{Receive}
-use Rattle.flat_model.specs.Replies.{received_reply}
+use Rattle.flat_model.specs.Machine.Event.{Receive}
+use Rattle.flat_model.specs.Machine.Replies.{received_reply}
 use Rattle.net_stack.proofs.Called.{Called, socks_called}
 use Rattle.net_stack.proofs.stack.Stack.recvfrom.Goals as goal
 

@@ -1,6 +1,6 @@
 use Rattle.std.proofs.Common.{refl}
-use Rattle.flat_model.specs.Event.{Comes, Done}
-use Rattle.net_stack.specs.Inside.{seen}
+use Rattle.flat_model.specs.Machine.Event.{Comes, Done}
+use Rattle.net_stack.specs.Inside.Fields.{seen}
 use Rattle.net_stack.proofs.Called.{Called, called}
 use Rattle.net_stack.proofs.Exchanged.{are_bytes, come_owned, rx_step}
 use Rattle.net_stack.proofs.stack.Stack.rx.Goals as goal

@@ -1,7 +1,7 @@
 use Rattle.std.proofs.Common.{Option, subst}
-use Rattle.flat_model.specs.Event.{Send}
+use Rattle.flat_model.specs.Machine.Event.{Send}
 use Rattle.flat_model.specs.declared.address.Addr.{Addr}
-use Rattle.flat_model.specs.Replies.{sent_reply}
+use Rattle.flat_model.specs.Machine.Replies.{sent_reply}
 use Rattle.net_stack.proofs.Called.{Called}
 use Rattle.net_stack.proofs.Exchanged.{are_bytes, can_send, send_owned, sent_called}
 use Rattle.net_stack.proofs.stack.Stack.sendto.Goals as goal

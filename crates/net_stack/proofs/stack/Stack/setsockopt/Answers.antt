@@ -1,5 +1,5 @@
-use Rattle.flat_model.specs.Event.{Set_option}
-use Rattle.flat_model.specs.Replies.{done_reply}
+use Rattle.flat_model.specs.Machine.Event.{Set_option}
+use Rattle.flat_model.specs.Machine.Replies.{done_reply}
 use Rattle.net_stack.proofs.Called.{Called, blocks_called}
 use Rattle.net_stack.proofs.stack.Stack.setsockopt.Goals as goal
 

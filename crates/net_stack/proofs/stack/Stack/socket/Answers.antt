@@ -1,5 +1,5 @@
-use Rattle.flat_model.specs.Event.{Open}
-use Rattle.flat_model.specs.Replies.{opened_reply}
+use Rattle.flat_model.specs.Machine.Event.{Open}
+use Rattle.flat_model.specs.Machine.Replies.{opened_reply}
 use Rattle.net_stack.proofs.Called.{Called, blocks_called}
 use Rattle.net_stack.proofs.stack.Stack.socket.Goals as goal
 

@@ -1,6 +1,6 @@
 use Rattle.std.proofs.Common.{ℕ, ap, ◌∙◌}
-use Rattle.flat_model.specs.Event.{Tick, Done}
-use Rattle.flat_model.specs.Count.{counts_more}
+use Rattle.flat_model.specs.Machine.Event.{Tick, Done}
+use Rattle.flat_model.specs.Machine.Count.{counts_more}
 use Rattle.flat_model.specs.declared.counter.Counter.TheVariants.{IpFragtimeout}
 use Rattle.net_stack.proofs.Called.{Called, reass_called}
 use Rattle.net_stack.proofs.stack.Stack.tick.Goals as goal

@@ -1,5 +1,5 @@
-use Rattle.flat_model.specs.Event.{Transmit}
-use Rattle.flat_model.specs.Replies.{given_reply}
+use Rattle.flat_model.specs.Machine.Event.{Transmit}
+use Rattle.flat_model.specs.Machine.Replies.{given_reply}
 use Rattle.std.proofs.Common.{length}
 use Rattle.net_stack.proofs.Called.{Called, are_within, output_called}
 use Rattle.net_stack.proofs.stack.Stack.tx.Goals as goal

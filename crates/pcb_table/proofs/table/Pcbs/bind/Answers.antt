@@ -1,17 +1,16 @@
-use Rattle.std.proofs.Common.{◌≡◌, ℕ, List, Option, Some, None, set, ap, sym, subst, ◌∙◌}
-use Rattle.flat_model.specs.Event.{Done, Bind, Refused}
-use Rattle.flat_model.specs.Header.{first_fault}
+use Rattle.std.proofs.Common.{◌≡◌, ℕ, List, Option, Some, None, set, ap, sym, subst, ◌∙◌, refl}
+use Rattle.flat_model.specs.Machine.Event.{Done, Bind, Refused}
+use Rattle.flat_model.specs.Packets.Header.{first_fault}
 use Rattle.pcb_table.specs.declared.block.Block.{Block}
-use Rattle.pcb_table.specs.Table.{Table, IsCall}
-use Rattle.pcb_table.specs.Search.{GivesPort, block_bind_faults, config_of}
-use Rattle.pcb_table.specs.Sound.{AreApart, IsCached, IsInCircle, IsLocated}
-use Rattle.pcb_table.specs.Changed.{bound_block}
-use Rattle.flat_model.specs.Calls.{unless_zero}
+use Rattle.pcb_table.specs.Table.{Table, IsCall, KeepsOpen}
+use Rattle.pcb_table.specs.Inside.Search.{GivesPort, block_bind_faults, config_of}
+use Rattle.pcb_table.specs.Apart.{AreApart}
+use Rattle.pcb_table.specs.Inside.Fields.{IsCached, IsInCircle, IsLocated}
+use Rattle.pcb_table.specs.Inside.Changed.{bound_block}
+use Rattle.flat_model.specs.Machine.Calls.{unless_zero}
 use Rattle.pcb_table.proofs.Keeping.{bound_keeps, unbound_port}
 use Rattle.pcb_table.proofs.Steps.{closed, located_in, bind_refused, bind_step, table_of}
-use Rattle.pcb_table.specs.Table.{KeepsOpen}
 use Rattle.pcb_table.proofs.Opened.{set_keeps_open}
-use Rattle.std.proofs.Common.{refl}
 use Rattle.pcb_table.proofs.table.Pcbs.bind.Goals as goal
 
 pub returns-in_default-clause-step : goal.returns-in_default-clause-step

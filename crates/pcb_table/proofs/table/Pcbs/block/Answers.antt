@@ -1,5 +1,5 @@
 use Rattle.std.proofs.Common.{find, ap, ◌∙◌}
-use Rattle.pcb_table.specs.Sound.{has_fd}
+use Rattle.pcb_table.specs.Apart.{has_fd}
 use Rattle.pcb_table.proofs.Places.{found_in_range, named_as_key}
 use Rattle.pcb_table.proofs.table.Pcbs.block.Goals as goal
 

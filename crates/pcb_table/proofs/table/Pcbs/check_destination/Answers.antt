@@ -1,9 +1,9 @@
 use Rattle.std.proofs.Common.{◌≡◌, Some, None, Ok, Err, sym, subst, ◌∙◌}
-use Rattle.flat_model.specs.Header.{first_fault}
+use Rattle.flat_model.specs.Packets.Header.{first_fault}
 use Rattle.pcb_table.specs.Table.{Table}
-use Rattle.pcb_table.specs.Search.{block_connect_faults, config_of}
-use Rattle.pcb_table.specs.Sound.{IsLocated}
-use Rattle.flat_model.specs.Calls.{read_addr}
+use Rattle.pcb_table.specs.Inside.Search.{block_connect_faults, config_of}
+use Rattle.pcb_table.specs.Inside.Fields.{IsLocated}
+use Rattle.flat_model.specs.Machine.Calls.{read_addr}
 use Rattle.flat_model.specs.declared.errno.Errno.TheVariants.{IsConnected}
 use Rattle.pcb_table.specs.Found.{ChecksDestination}
 use Rattle.pcb_table.proofs.Finding.{checks_connected, checks_passed, checks_refused}

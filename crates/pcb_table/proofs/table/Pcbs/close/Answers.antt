@@ -1,13 +1,13 @@
 use Rattle.std.proofs.Common.{List, Option, ap, sym, subst, ◌∙◌}
 use Rattle.std.specs.Prelude.{remove}
-use Rattle.flat_model.specs.Event.{Done, Close}
+use Rattle.flat_model.specs.Machine.Event.{Done, Close}
 use Rattle.pcb_table.specs.declared.block.Block.{Block}
 use Rattle.pcb_table.specs.declared.block.Connection.{Connection}
-use Rattle.pcb_table.specs.Table.{Table, IsCall}
-use Rattle.pcb_table.specs.Sound.{AreApart, IsCached, IsInCircle, IsLocated}
+use Rattle.pcb_table.specs.Table.{Table, IsCall, ClosesOnly}
+use Rattle.pcb_table.specs.Apart.{AreApart}
+use Rattle.pcb_table.specs.Inside.Fields.{IsCached, IsInCircle, IsLocated}
 use Rattle.pcb_table.proofs.Keeping.{apart_remove, cached_remove}
 use Rattle.pcb_table.proofs.Steps.{closed, located_in, close_step, table_of}
-use Rattle.pcb_table.specs.Table.{ClosesOnly}
 use Rattle.pcb_table.proofs.Opened.{remove_closes}
 use Rattle.pcb_table.proofs.table.Pcbs.close.Goals as goal
 

@@ -1,20 +1,18 @@
-use Rattle.std.proofs.Common.{◌≡◌, ℕ, List, Option, Some, None, set, ap, sym, subst, ◌∙◌, is_some, false}
-use Rattle.flat_model.specs.Event.{Done, Connect, Refused}
-use Rattle.flat_model.specs.Header.{first_fault}
+use Rattle.std.proofs.Common.{◌≡◌, ℕ, List, Option, Some, None, set, ap, sym, subst, ◌∙◌, is_some, false, refl}
+use Rattle.flat_model.specs.Machine.Event.{Done, Connect, Refused}
+use Rattle.flat_model.specs.Packets.Header.{first_fault}
 use Rattle.pcb_table.specs.declared.block.Block.{Block}
 use Rattle.pcb_table.specs.declared.block.Connection.{Connection}
-use Rattle.pcb_table.specs.Table.{Table, IsCall}
-use Rattle.pcb_table.specs.Search.{GivesPort, block_connect_faults, config_of}
-use Rattle.pcb_table.specs.Sound.{AreApart, IsCached, IsInCircle, IsLocated}
-use Rattle.pcb_table.specs.Changed.{connected_block, disconnected_block, forgotten}
-use Rattle.flat_model.specs.Calls.{read_addr, source_for}
+use Rattle.pcb_table.specs.Table.{Table, IsCall, KeepsOpen}
+use Rattle.pcb_table.specs.Inside.Search.{GivesPort, block_connect_faults, config_of, youngest_block}
+use Rattle.pcb_table.specs.Apart.{AreApart, plain}
+use Rattle.pcb_table.specs.Inside.Fields.{IsCached, IsInCircle, IsLocated}
+use Rattle.pcb_table.specs.Inside.Changed.{connected_block, disconnected_block, forgotten}
+use Rattle.flat_model.specs.Machine.Calls.{read_addr, source_for}
 use Rattle.flat_model.specs.declared.address.Addr.{Addr}
-use Rattle.pcb_table.specs.Search.{plain, youngest_block}
 use Rattle.pcb_table.proofs.Keeping.{connected_keeps, disconnected_fd, disconnected_keeps, disconnected_peer, located_after, no_four, unmet_four}
 use Rattle.pcb_table.proofs.Steps.{closed, located_in, connect_refused, connect_step, table_of}
-use Rattle.pcb_table.specs.Table.{KeepsOpen}
 use Rattle.pcb_table.proofs.Opened.{set_keeps_open}
-use Rattle.std.proofs.Common.{refl}
 use Rattle.pcb_table.proofs.table.Pcbs.connect.Goals as goal
 
 pub returns-in_default-clause-step : goal.returns-in_default-clause-step

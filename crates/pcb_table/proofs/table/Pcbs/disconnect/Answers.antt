@@ -1,16 +1,15 @@
 use Rattle.std.proofs.Common.{◌≡◌, List, Option, set, ap, sym, subst, ◌∙◌}
 use Rattle.pcb_table.specs.declared.block.Block.{Block}
 use Rattle.pcb_table.specs.declared.block.Connection.{Connection}
-use Rattle.pcb_table.specs.Table.{Table}
-use Rattle.pcb_table.specs.Sound.{AreApart, IsCached, IsInCircle, IsLocated}
-use Rattle.pcb_table.specs.Changed.{disconnected_block}
-use Rattle.flat_model.specs.Calls.{disconnected}
+use Rattle.pcb_table.specs.Table.{Table, KeepsOpen}
+use Rattle.pcb_table.specs.Apart.{AreApart}
+use Rattle.pcb_table.specs.Inside.Fields.{IsCached, IsInCircle, IsLocated}
+use Rattle.pcb_table.specs.Inside.Changed.{disconnected_block}
+use Rattle.flat_model.specs.Machine.Calls.{disconnected}
 use Rattle.pcb_table.specs.Found.{Changes}
-use Rattle.pcb_table.proofs.Keeping.{disconnected_keeps}
+use Rattle.pcb_table.proofs.Keeping.{disconnected_keeps, disconnected_fd}
 use Rattle.pcb_table.proofs.Steps.{located_in, disconnect_step, table_of}
-use Rattle.pcb_table.specs.Table.{KeepsOpen}
 use Rattle.pcb_table.proofs.Opened.{set_keeps_open}
-use Rattle.pcb_table.proofs.Keeping.{disconnected_fd}
 use Rattle.pcb_table.proofs.table.Pcbs.disconnect.Goals as goal
 
 pub invariant_of-self : goal.invariant_of-self

@@ -1,7 +1,7 @@
 use Rattle.std.proofs.Common.{◌≡◌, Some, ap, sym, subst, ◌∙◌, option_map}
 use Rattle.flat_model.specs.declared.address.Addr.{Addr}
 use Rattle.pcb_table.specs.Table.{Table, block_at, local_of, peer_of}
-use Rattle.pcb_table.specs.Sound.{IsLocated}
+use Rattle.pcb_table.specs.Inside.Fields.{IsLocated}
 use Rattle.pcb_table.proofs.Places.{located_found}
 use Rattle.pcb_table.proofs.Steps.{located_in}
 use Rattle.pcb_table.proofs.table.Pcbs.ends.Goals as goal

@@ -1,14 +1,13 @@
-use Rattle.std.proofs.Common.{◌≡◌, List, set, ap, sym, subst, ◌∙◌}
+use Rattle.std.proofs.Common.{◌≡◌, List, set, ap, sym, subst, ◌∙◌, refl}
 use Rattle.pcb_table.specs.declared.block.Block.{Block}
-use Rattle.pcb_table.specs.Table.{Table}
-use Rattle.pcb_table.specs.Search.{GivesPort}
-use Rattle.pcb_table.specs.Sound.{AreApart, IsCached, IsInCircle, IsLocated}
+use Rattle.pcb_table.specs.Table.{Table, KeepsOpen}
+use Rattle.pcb_table.specs.Inside.Search.{GivesPort}
+use Rattle.pcb_table.specs.Apart.{AreApart}
+use Rattle.pcb_table.specs.Inside.Fields.{IsCached, IsInCircle, IsLocated}
 use Rattle.pcb_table.specs.Found.{EnsuresPort}
 use Rattle.pcb_table.proofs.Keeping.{ensured_keeps}
 use Rattle.pcb_table.proofs.Steps.{located_in, ensure_port_step, table_of}
-use Rattle.pcb_table.specs.Table.{KeepsOpen}
 use Rattle.pcb_table.proofs.Opened.{set_keeps_open}
-use Rattle.std.proofs.Common.{refl}
 use Rattle.pcb_table.proofs.table.Pcbs.ensure_port.Goals as goal
 
 pub invariant_of-self : goal.invariant_of-self

@@ -1,8 +1,8 @@
 use Rattle.std.proofs.Common.{Some, None, ap, sym, subst, ◌∙◌}
 use Rattle.std.specs.Prelude.{option_copied}
 use Rattle.pcb_table.specs.Table.{Table}
-use Rattle.pcb_table.specs.Search.{youngest_block}
-use Rattle.flat_model.specs.Lookup as flat
+use Rattle.pcb_table.specs.Inside.Search.{youngest_block}
+use Rattle.flat_model.specs.Sockets.Lookup as flat
 use Rattle.pcb_table.specs.Found.{Finds}
 use Rattle.pcb_table.proofs.Finding.{exact_none, exact_some}
 use Rattle.pcb_table.proofs.Places.{found_range}

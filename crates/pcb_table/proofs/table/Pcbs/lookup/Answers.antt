@@ -1,9 +1,9 @@
 use Rattle.std.proofs.Common.{ℕ, Some, None, ap, sym, subst, ◌∙◌}
 use Rattle.std.specs.Prelude.{option_copied}
 use Rattle.pcb_table.specs.Table.{Table, IsDescriptor, packet_key}
-use Rattle.pcb_table.specs.Search.{best_block}
-use Rattle.pcb_table.specs.Sound.{IsCached}
-use Rattle.flat_model.specs.Lookup as flat
+use Rattle.pcb_table.specs.Inside.Search.{best_block}
+use Rattle.pcb_table.specs.Inside.Fields.{IsCached}
+use Rattle.flat_model.specs.Sockets.Lookup as flat
 use Rattle.pcb_table.specs.Found.{Finds}
 use Rattle.pcb_table.proofs.Steps.{table_of}
 use Rattle.pcb_table.proofs.Finding.{best_none, best_some, cached_best}

@@ -1,7 +1,7 @@
 use Rattle.std.proofs.Common.{List, None, subst}
 use Rattle.pcb_table.specs.declared.block.Block.{Block}
 use Rattle.pcb_table.specs.Table.{Table}
-use Rattle.pcb_table.specs.Search.{IsFreePort}
+use Rattle.pcb_table.specs.Inside.Search.{IsFreePort}
 use Rattle.pcb_table.specs.Found.{ChoosesNext}
 use Rattle.pcb_table.proofs.Steps.{next_port, table_of}
 use Rattle.pcb_table.proofs.table.Pcbs.next_port.Goals as goal

@@ -1,15 +1,15 @@
 use Rattle.std.proofs.Common.{◌≡◌, List, [], ◌∷◌, ap, sym, subst, ◌∙◌}
-use Rattle.flat_model.specs.Event.{Opened}
+use Rattle.flat_model.specs.Machine.Event.{Opened}
 use Rattle.pcb_table.specs.declared.block.Block.{Block}
-use Rattle.pcb_table.specs.Table.{Table, machine, Queues}
-use Rattle.pcb_table.specs.Sound.{AreApart, IsCached, IsInCircle, IsLowestFree}
-use Rattle.pcb_table.specs.Changed.{unbound_block}
-use Rattle.flat_model.specs.Calls.{Opens}
-use Rattle.flat_model.specs.State.{State}
+use Rattle.pcb_table.specs.Table.{Table, machine, Queues, OpensOnly}
+use Rattle.pcb_table.specs.Apart.{AreApart}
+use Rattle.pcb_table.specs.Inside.Fields.{IsCached, IsInCircle, IsLowestFree}
+use Rattle.pcb_table.specs.Inside.Changed.{unbound_block}
+use Rattle.flat_model.specs.Machine.Calls.{Opens}
+use Rattle.flat_model.specs.Machine.State.{State}
 use Rattle.pcb_table.proofs.Finding.{has_room, opens}
 use Rattle.pcb_table.proofs.Keeping.{apart_open, cached_open}
 use Rattle.pcb_table.proofs.Steps.{table_of}
-use Rattle.pcb_table.specs.Table.{OpensOnly}
 use Rattle.pcb_table.proofs.Opened.{unbound_opens}
 use Rattle.pcb_table.proofs.table.Pcbs.open.Goals as goal
 

@@ -1,7 +1,7 @@
 use Rattle.std.proofs.Common.{◌≡◌, ℕ, List, All, map, sym, subst, ◌∙◌}
 use Rattle.pcb_table.specs.Table.{Table, IsDescriptor, packet_key}
-use Rattle.pcb_table.specs.Search.{hearing_blocks}
-use Rattle.flat_model.specs.Lookup as flat
+use Rattle.pcb_table.specs.Inside.Search.{hearing_blocks}
+use Rattle.flat_model.specs.Sockets.Lookup as flat
 use Rattle.pcb_table.specs.Found.{FindsAll}
 use Rattle.pcb_table.proofs.Steps.{table_of}
 use Rattle.pcb_table.proofs.Finding.{receivers_all, receivers_range}

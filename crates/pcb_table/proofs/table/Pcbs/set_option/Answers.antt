@@ -1,13 +1,12 @@
 use Rattle.std.proofs.Common.{◌≡◌, List, set, ap, sym, subst, ◌∙◌}
-use Rattle.flat_model.specs.Event.{Done, Set_option}
+use Rattle.flat_model.specs.Machine.Event.{Done, Set_option}
 use Rattle.pcb_table.specs.declared.block.Block.{Block}
-use Rattle.pcb_table.specs.Table.{Table, IsCall}
-use Rattle.pcb_table.specs.Sound.{AreApart, IsCached, IsInCircle, IsLocated}
-use Rattle.pcb_table.proofs.Keeping.{option_keeps}
+use Rattle.pcb_table.specs.Table.{Table, IsCall, KeepsOpen}
+use Rattle.pcb_table.specs.Apart.{AreApart}
+use Rattle.pcb_table.specs.Inside.Fields.{IsCached, IsInCircle, IsLocated}
+use Rattle.pcb_table.proofs.Keeping.{option_keeps, option_fd}
 use Rattle.pcb_table.proofs.Steps.{closed, located_in, set_option_step, table_of}
-use Rattle.pcb_table.specs.Table.{KeepsOpen}
 use Rattle.pcb_table.proofs.Opened.{set_keeps_open}
-use Rattle.pcb_table.proofs.Keeping.{option_fd}
 use Rattle.pcb_table.proofs.table.Pcbs.set_option.Goals as goal
 
 pub returns-in_default-clause-step : goal.returns-in_default-clause-step

@@ -1,6 +1,6 @@
 use Rattle.std.proofs.Common.{subst}
 use Rattle.pcb_table.specs.Table.{Table}
-use Rattle.pcb_table.specs.Sound.{IsLocated}
+use Rattle.pcb_table.specs.Inside.Fields.{IsLocated}
 use Rattle.pcb_table.specs.Found.{SendsFrom}
 use Rattle.pcb_table.proofs.Finding.{sends_from}
 use Rattle.pcb_table.proofs.Steps.{located_in}

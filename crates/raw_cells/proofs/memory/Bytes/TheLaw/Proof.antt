@@ -17,7 +17,7 @@ use denote.SharingLaws.{beside_shr_laws, said_shr_laws}
 use denote.Slice.{elements_shared, elements_shr_laws}
 use denote.Struct.Lending.{Lends, Lends-both, Lends-first, Lends-said, Lends-false, of_Lends}
 use Rattle.std.proofs.Common.{w8}
-use Rattle.raw_cells.specs.Memory.{bytes_owned, bytes_lent, block_type}
+use Rattle.raw_cells.specs.Inside.Memory.{bytes_owned, bytes_lent, block_type}
 use Rattle.raw_cells.specs.contracts.memory.Bytes as C
 use Rattle.raw_cells.proofs.memory.Bytes.TheLaw.Statement.{statement}
 

@@ -24,7 +24,7 @@ use denote.Triple.Entry.{alive}
 use denote.Triple.Walked.{Stays, stay_dropped, stay_ref, walk_of, ends_at, says, Goes-dropped, Goes-ref}
 use Rattle.std.proofs.raw_atomic.Walks.{proved_at}
 use Rattle.raw_cells.proofs.Addresses.{address_val, address_typed, told_address}
-use Rattle.raw_cells.specs.Memory.{bytes_owned, block_type}
+use Rattle.raw_cells.specs.Inside.Memory.{bytes_owned, block_type}
 use Rattle.raw_cells.proofs.Lying.{Lie, put_next}
 use Rattle.raw_cells.specs.contracts.memory.Address.{the_row as Addr}
 use Rattle.raw_cells.specs.contracts.memory.Bytes.{the_row as Row}

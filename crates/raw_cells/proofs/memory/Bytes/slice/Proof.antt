@@ -24,7 +24,7 @@ use denote.Steps.{nothing, heard}
 use denote.Triple.Entry.{alive}
 use denote.Triple.Walked.{Stays, stay_dropped, walk_of, ends_at, says, Goes-dropped}
 use Rattle.std.proofs.raw_atomic.Walks.{proved_at}
-use Rattle.raw_cells.specs.Memory.{bytes_lent}
+use Rattle.raw_cells.specs.Inside.Memory.{bytes_lent}
 use Rattle.raw_cells.proofs.Addresses.{address_val, address_typed, told_address}
 use Rattle.raw_cells.proofs.Lying.{run_seen}
 use Rattle.raw_cells.specs.contracts.memory.Address.{the_row as Addr}

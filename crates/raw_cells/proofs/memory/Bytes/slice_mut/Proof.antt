@@ -31,8 +31,8 @@ use denote.Struct.Struct.{Struct}
 use denote.Triple.Entry.{alive}
 use denote.Triple.Walked.{Stays, stay_dropped, walk_of, ends_at, says, Goes-dropped, Goes-spent_ref}
 use Rattle.std.proofs.raw_atomic.Walks.{proved_at}
-use Rattle.raw_cells.specs.Memory.{bytes_owned, block_type}
-use Rattle.raw_cells.specs.MemoryLends.{with_written}
+use Rattle.raw_cells.specs.Inside.Memory.{bytes_owned, block_type}
+use Rattle.raw_cells.specs.Inside.MemoryLends.{with_written}
 use Rattle.raw_cells.specs.Over.{over}
 use Rattle.raw_cells.proofs.Over.{over_is, length_over}
 use Rattle.raw_cells.proofs.Addresses.{address_val, address_typed, told_address}

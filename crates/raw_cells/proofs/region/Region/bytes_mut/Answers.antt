@@ -1,7 +1,7 @@
 use Rattle.std.proofs.Common.{refl, sym, subst, ap, ◌∙◌, take, drop}
 use Rattle.raw_cells.specs.Over.{over}
 use Rattle.raw_cells.specs.Cells.{Cells, IsPart, write, read, IsSized}
-use Rattle.raw_cells.specs.Layout.{seen}
+use Rattle.raw_cells.specs.Inside.Layout.{seen}
 use Rattle.raw_cells.proofs.Parts.{part_written, region_sized}
 use Rattle.raw_cells.proofs.region.Region.bytes_mut.Goals as goal
 

@@ -2,7 +2,7 @@ use Rattle.std.proofs.Common.{ℕ, List, sym, subst, ap, ◌∙◌, ◌≡◌, �
 use Rattle.std.specs.List.{copy_within}
 use Rattle.raw_cells.specs.Over.{over}
 use Rattle.raw_cells.specs.Cells.{Cells, IsPart, IsSized, write, place, read}
-use Rattle.raw_cells.specs.Layout.{seen}
+use Rattle.raw_cells.specs.Inside.Layout.{seen}
 use Rattle.raw_cells.proofs.Over.{over_is, length_over, over_all}
 use Rattle.raw_cells.proofs.Parts.{part_written, part_within, region_sized}
 use Rattle.raw_cells.proofs.Laws.{sized_written}

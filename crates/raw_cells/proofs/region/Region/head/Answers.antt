@@ -1,6 +1,6 @@
 use Rattle.std.proofs.Common.{◌≡◌, ◌<◌, ◌*◌, ◌∙◌, ap, sym, subst, arith, length, take_all}
 use Rattle.raw_cells.specs.Cells.{Cells, zero_head, head_of, IsSized}
-use Rattle.raw_cells.specs.Layout.{head_in}
+use Rattle.raw_cells.specs.Inside.Layout.{head_in}
 use Rattle.raw_cells.proofs.Heads.{length-heads, head_at}
 use Rattle.raw_cells.proofs.Parts.{region_sized}
 use Rattle.raw_cells.proofs.region.Region.head.Goals as goal

@@ -1,6 +1,6 @@
 use Rattle.std.proofs.Common.{ℕ, List, ◌∙◌, ap, replicate}
 use Rattle.raw_cells.specs.Cells.{region_size}
-use Rattle.raw_cells.specs.Layout.{heads_in}
+use Rattle.raw_cells.specs.Inside.Layout.{heads_in}
 use Rattle.raw_cells.proofs.Heads.{heads_new}
 use Rattle.raw_cells.proofs.region.Region.new.Goals as goal
 

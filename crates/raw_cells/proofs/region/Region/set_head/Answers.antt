@@ -2,7 +2,7 @@ use Rattle.std.proofs.Common.{◌≡◌, ◌<◌, ◌≤◌, ◌∙◌, ap, sym,
 use Rattle.std.proofs.lemmas.List.{take-take}
 use Rattle.raw_cells.specs.Over.{over}
 use Rattle.raw_cells.specs.Cells.{Cells, IsSized, head_size, with_head}
-use Rattle.raw_cells.specs.Layout.{seen}
+use Rattle.raw_cells.specs.Inside.Layout.{seen}
 use Rattle.raw_cells.proofs.Heads.{length-heads, head_size_le, head_written}
 use Rattle.raw_cells.proofs.Parts.{region_sized}
 use Rattle.raw_cells.proofs.Laws.{sized_after_head}

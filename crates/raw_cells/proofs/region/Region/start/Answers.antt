@@ -1,6 +1,6 @@
 use Rattle.std.proofs.Common.{◌≤◌, ◌+◌, ◌*◌, ◌∙◌, ap, sym, subst, length}
 use Rattle.raw_cells.specs.Cells.{Cells, IsPart, origin, place}
-use Rattle.raw_cells.specs.Layout.{seen}
+use Rattle.raw_cells.specs.Inside.Layout.{seen}
 use Rattle.raw_cells.specs.declared.part.Buffer.{Buffer}
 use Rattle.raw_cells.proofs.Heads.{length-heads}
 use Rattle.raw_cells.proofs.Parts.{part_within}

@@ -1,7 +1,7 @@
 use Rattle.std.proofs.Common.{sym, subst, ap, ◌∙◌}
-use Rattle.flat_model.specs.State.{State}
-use Rattle.flat_model.specs.Event.{Close, Done, Refused}
-use Rattle.flat_model.specs.Step.{Step}
+use Rattle.flat_model.specs.Machine.State.{State}
+use Rattle.flat_model.specs.Machine.Event.{Close, Done, Refused}
+use Rattle.flat_model.specs.Machine.Step.{Step}
 use Rattle.pcb_table.specs.Table.{machine}
 use Rattle.sock_calls.specs.Sockets.{SocksView, IsSocks, from_three, queues_of, with_sockets}
 use Rattle.sock_calls.proofs.Keeping.{keeps_closed, closed_machine}

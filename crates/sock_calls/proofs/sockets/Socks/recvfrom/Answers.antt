@@ -1,8 +1,8 @@
 use Rattle.std.proofs.Common.{ℕ, length, sym, subst, ap}
 use Rattle.std.specs.Prelude.{Result}
-use Rattle.flat_model.specs.Event.{Receive, Refused}
-use Rattle.flat_model.specs.Replies.{received_reply}
-use Rattle.flat_model.specs.Step.{Step}
+use Rattle.flat_model.specs.Machine.Event.{Receive, Refused}
+use Rattle.flat_model.specs.Machine.Replies.{received_reply}
+use Rattle.flat_model.specs.Machine.Step.{Step}
 use Rattle.flat_model.specs.declared.address.Addr.{Addr}
 use Rattle.flat_model.specs.declared.errno.Errno.{Errno}
 use Rattle.flat_model.specs.declared.errno.Errno.TheVariants.{BadDescriptor}

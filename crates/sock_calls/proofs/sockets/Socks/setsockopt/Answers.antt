@@ -1,6 +1,6 @@
 use Rattle.std.proofs.Common.{refl, sym, subst}
-use Rattle.flat_model.specs.Event.{Set_option}
-use Rattle.flat_model.specs.Replies.{done_reply}
+use Rattle.flat_model.specs.Machine.Event.{Set_option}
+use Rattle.flat_model.specs.Machine.Replies.{done_reply}
 use Rattle.sock_calls.specs.Sockets.{SocksView, IsSocks, IsCalled, from_three, queues_of}
 use Rattle.sock_calls.proofs.Keeping.{keeps_open}
 use Rattle.sock_calls.proofs.sockets.Socks.setsockopt.Goals as goal

@@ -1,6 +1,6 @@
 use Rattle.std.proofs.Common.{refl, sym, subst}
-use Rattle.flat_model.specs.Event.{Open}
-use Rattle.flat_model.specs.Replies.{opened_reply}
+use Rattle.flat_model.specs.Machine.Event.{Open}
+use Rattle.flat_model.specs.Machine.Replies.{opened_reply}
 use Rattle.sock_calls.specs.Sockets.{SocksView, IsSocks, IsCalled, from_three, queues_of}
 use Rattle.sock_calls.proofs.Keeping.{keeps_opened, none_waits_there}
 use Rattle.sock_calls.proofs.sockets.Socks.socket.Goals as goal

@@ -1,6 +1,6 @@
 use Rattle.std.proofs.Common.{◌≡◌, ◌+◌, true, ℕ, List, ap, sym, subst, ◌∙◌, arith, length}
 use Rattle.std.specs.List.{insert}
-use Rattle.flat_model.specs.Fits.{fits}
+use Rattle.flat_model.specs.Sockets.Fits.{fits}
 use Rattle.mbuf_chain.specs.Owners.{times}
 use Rattle.mbuf_chain.specs.Chain.{chain_of, string}
 use Rattle.mbuf_chain.specs.Train.{QueuedPacket, queued_packets}

@@ -1,0 +1,2 @@
+-- Weights.
+pub mod Weights

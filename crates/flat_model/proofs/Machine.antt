@@ -1,0 +1,12 @@
+-- The machine: what each step keeps.
+pub mod Sockets
+pub mod Counting
+pub mod Values
+pub mod Putting
+pub mod Laid
+pub mod Output
+pub mod Kept
+pub mod KeptCalls
+pub mod KeptSteps
+pub mod Balance
+pub mod Weaker

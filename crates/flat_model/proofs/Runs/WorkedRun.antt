@@ -1,0 +1,97 @@
+-- A whole run of the exact machine, worked out: a socket is opened and bound, a packet comes, and its bytes are taken.
+-- So the definitions ask for nothing that can't be met.
+use Rattle.std.specs.Prelude.{◌≡◌, refl, ℕ, ◌<◌, Bool, true, false, List, [], ◌∷◌, Some, None}
+use Rattle.std.proofs.Common.{arith, inl, sym, ◌∙◌, subst}
+use Rattle.std.proofs.lemmas.Option.{none-some, same_Some}
+use Rattle.std.proofs.lemmas.List.Elements.{All-from_recursion}
+use Rattle.flat_model.specs.Amounts.Choice.{Choice, Case}
+use Rattle.flat_model.specs.Runs.Run.{Run, Turn}
+use Rattle.flat_model.specs.Amounts.Layout.{filled, laid_on}
+use Rattle.flat_model.specs.Machine.Count.{counted, counts_more}
+use Rattle.flat_model.specs.declared.counter.Counter.TheVariants.{IpTotal}
+use Rattle.flat_model.specs.Machine.Event.{Event, Reply, Open, Bind, Receive, Comes, Done, Opened, Received, IsBytes}
+use Rattle.flat_model.specs.Machine.State.{State, boot}
+use Rattle.flat_model.specs.declared.config.Config.{Config}
+use Rattle.flat_model.specs.Machine.Calls.{fresh}
+use Rattle.flat_model.specs.Machine.Step.{Step}
+
+abbrev plain : Config
+plain = record { addr = 167772161; bcast = 167772415; mtu = 1500; mbufs = 512; clusters = 64; first_id = 1 }
+
+-- from 10.0.0.2 port 5000 to 10.0.0.1 port 7, with the bytes 104 and 105
+abbrev w : List ℕ
+w = 69 ∷ 0 ∷ 0 ∷ 30 ∷ 0 ∷ 1 ∷ 0 ∷ 0 ∷ 64 ∷ 17 ∷ 102 ∷ 204 ∷ 10 ∷ 0 ∷ 0 ∷ 2 ∷ 10 ∷ 0 ∷ 0 ∷ 1 ∷ 19 ∷ 136 ∷ 0 ∷ 7 ∷ 0 ∷ 10 ∷ 111 ∷ 223 ∷ 104 ∷ 105 ∷ []
+
+abbrev s1 : State
+s1 = record (boot plain) { sockets = fresh 3 ∷ [] }
+
+abbrev s2 : State
+s2 = record (boot plain) { sockets = record (fresh 3) { port = Some 7 } ∷ [] }
+
+abbrev turn : Event → Reply → Turn
+turn event reply = record { event = event; reply = reply }
+
+fails : {A : Type 0} → true ≡ false → A
+fails e = absurd (never e)
+  where
+    never : true ≡ false → ⊥
+    never e = cc
+
+fails' : {A : Type 0} → false ≡ true → A
+fails' e = absurd (never e)
+  where
+    never : false ≡ true → ⊥
+    never e = cc
+
+when : {b : Bool} {P Q : Type 0} → b ≡ true → P → Choice b P Q
+when {b = b} e p = record { yes = λ _. p; no = λ f. fails (sym e ∙ f) }
+
+unless : {b : Bool} {P Q : Type 0} → b ≡ false → Q → Choice b P Q
+unless {b = b} e q = record { yes = λ t. fails' (sym e ∙ t); no = λ _. q }
+
+at_none : {T : Type 0} {P : Type 0} {Q : T → Type 0} → P → Case None P Q
+at_none p = record { none = λ _. p; some = λ x e. absurd (none-some x e) }
+
+at_some : {T : Type 0} {P : Type 0} {Q : T → Type 0} (x : T) → Q x → Case (Some x) P Q
+at_some {Q = Q} x q = record { none = λ e. absurd (none-some x (sym e)); some = λ y e. subst Q (same_Some x y e) q }
+
+opens : Step (boot plain) Open (Opened 3) s1
+opens = when refl (3, record { least = omega arith; free = refl; passed = λ k low high. absurd (omega arith) }, refl, refl)
+
+binds : Step s1 (Bind 3 (record { ip = 0; port = 7 })) Done s2
+binds = at_some _ (at_none (7, s1, (refl, refl), refl, refl))
+
+s3 : State
+s3 = record s2 {
+  sockets = record (fresh 3) { port = Some 7; queue = record { sender = record { ip = 167772162; port = 5000 }; item = record { bytes = 104 ∷ 105 ∷ []; weight = record { mbufs = 2; bag = [] } } } ∷ [] } ∷ [];
+  counters = counts_more IpTotal 1 s2.counters;
+}
+
+-- the packet comes into the socket's queue
+comes : Step s2 (Comes w) Done s3
+unfolding filled laid_on counted s3
+comes = (
+  refl,
+  (
+    true,
+    s2,
+    inl (refl, refl),
+    when refl (
+      [],
+      record { number = refl; distinct = λ c. omega arith; free = λ k d h. absurd (omega arith) },
+      at_none (when refl (unless refl (when refl (at_none (when refl (record { answer = true; mid = _; has_buffers = inl (refl, refl); goes_on = when refl refl })))))),
+    ),
+  ),
+)
+
+receives : Step s3 (Receive 3 100) (Received (record { ip = 167772162; port = 5000 }) (104 ∷ 105 ∷ [])) (record s2 { counters = counts_more IpTotal 1 s2.counters })
+unfolding s3
+receives = at_some _ (refl, refl)
+
+-- the four turns are a run
+a_run : Run plain (turn Open (Opened 3) ∷ turn (Bind 3 (record { ip = 0; port = 7 })) Done ∷ turn (Comes w) Done ∷ turn (Receive 3 100) (Received (record { ip = 167772162; port = 5000 }) (104 ∷ 105 ∷ [])) ∷ [])
+    (record s2 { counters = counts_more IpTotal 1 s2.counters })
+a_run = (tt, s1, opens, (record { ip = omega arith; port = omega arith }, s2, binds, ((small, omega arith), s3, comes, (tt, _, receives, refl))))
+  where
+    small : IsBytes w
+    small = All-from_recursion (λ byte. byte < 256) w (search arith)

@@ -1,0 +1,11 @@
+-- The machine: its state, and each step.
+pub mod Count
+pub mod Event
+pub mod State
+pub mod Ledger
+pub mod Calls
+pub mod Sending
+pub mod Send
+pub mod Arrival
+pub mod Step
+pub mod Replies

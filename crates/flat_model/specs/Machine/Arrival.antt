@@ -1,0 +1,203 @@
+-- What becomes of a packet that arrives, from the wire or by loopback: `ipintr` (volume 2, chapter 8), `ip_reass`
+-- (chapter 10), and `udp_input` (chapter 23).
+-- Every test of the ledger counts the state and what the step holds beside it: the item in hand, and `held`.
+use Rattle.std.specs.Prelude.{◌≡◌, ◌⊎◌, ℕ, ◌+◌, ◌≤◌, ◌%◌, Bool, ◌==◌, nat_lt, nat_le, ◌&&◌, ◌||◌, not, if◌then◌else◌, List, [], ◌∷◌, ◌++◌, take, drop, length, Some, option_to_list}
+use Rattle.params.specs.declared.TheConstants.{IP_HEADER, IP_MAX_DATA, PROTOCOL_UDP, FRAGMENT_UNIT, MINCLSIZE, MAX_PROTOCOL_HEADER}
+use Rattle.flat_model.specs.declared.lookup_key.LookupKey.{LookupKey}
+use Rattle.flat_model.specs.Amounts.Choice.{Choice, Case}
+use Rattle.flat_model.specs.Amounts.Weight.{Weight, Item, Covers, IsSubBag, mbuf, ◌⊕◌, all_of}
+use Rattle.flat_model.specs.Packets.Header.{Head, head_of, head_fault, total_of, udp_fault, udp_bytes, u16_at}
+use Rattle.flat_model.specs.Fragments.Overlay.{Map, Fragment, overlay, is_covered}
+use Rattle.flat_model.specs.Fragments.Whole.{IsWhole, bytes_below, weight_of_pieces}
+use Rattle.flat_model.specs.Sockets.Lookup.{best, receivers}
+use Rattle.flat_model.specs.Sockets.Fits.{fits}
+use Rattle.flat_model.specs.Machine.Count.{counts_more}
+use Rattle.flat_model.specs.Machine.State.{State, Socket, Datagram, Key, Unfinished, limited_broadcast, change_socket, unfinished_at, begun, begin_unfinished, set_bytes, end_unfinished, ends}
+use Rattle.flat_model.specs.declared.config.Config.{Config}
+use Rattle.flat_model.specs.Machine.Calls.{is_ours}
+use Rattle.flat_model.specs.Machine.Ledger.{Ledger, HasBuffers, need_mbufs}
+use Rattle.flat_model.specs.declared.address.Addr.{Addr}
+use Rattle.flat_model.specs.declared.counter.Counter.TheVariants.{IpTotal, IpFragments, IpReassembled}
+use Rattle.flat_model.specs.declared.counters.Why.{Why}
+use Rattle.flat_model.specs.declared.counters.Why.TheVariants.{CantForward, BadFragment, FragmentDropped, NoProtocol, UdpNoPort, UdpNoPortBroadcast, UdpFullSocket, NoBufs}
+
+-- where a packet comes from; of one from the wire how many bytes were received, also where it is cut afterwards
+pub data Origin : Type 0 where
+  By_wire : (received : ℕ) → Origin
+  Looped : Origin
+
+-- one of the two broadcast addresses
+abbrev pub is_broadcast : Config → ℕ → Bool
+is_broadcast c ip = (ip == c.bcast) || (ip == limited_broadcast)
+
+-- ---- what a delivery adds
+
+-- a socket with one more datagram in its queue
+abbrev pub queued : Datagram → Socket → Socket
+queued d socket = record socket { queue = socket.queue ++ d ∷ [] }
+
+-- who hears a datagram: many for a broadcast, else one
+abbrev pub hearers : State → ℕ → LookupKey → List Socket
+hearers s destination q =
+    if is_broadcast s.config destination then receivers q s.sockets else option_to_list (best q s.sockets)
+
+-- how one is counted that nobody hears
+abbrev pub no_port : State → ℕ → Why
+no_port s destination = if is_broadcast s.config destination then UdpNoPortBroadcast else UdpNoPort
+
+-- ---- what a fragment says, and what comes of it
+
+-- the key that a fragment goes by
+abbrev pub key_of : Head → Key
+key_of h = record { source = h.source; destination = h.destination; id = h.id; protocol = h.protocol }
+
+-- A fragment of n bytes that none can be: without a byte, one with others after it that is no multiple of 8, or one
+-- that reaches past the longest datagram.
+abbrev pub is_bad_fragment : Head → ℕ → Bool
+is_bad_fragment h n = (n == 0) || (h.more && not (n % FRAGMENT_UNIT == 0)) || nat_lt IP_MAX_DATA (h.offset + n)
+
+-- one more fragment passed these tests
+abbrev pub counts_fragment : State → State
+counts_fragment s = record s { counters = counts_more IpFragments 1 s.counters }
+
+-- The weight once the header stands in one plain mbuf (`m_pullup` of volume 2, chapter 2, which moves 40 bytes): a
+-- packet of at most 40 bytes leaves its cluster, a longer one has one mbuf more.
+abbrev pub pulled_up : ℕ → Weight → Weight
+pulled_up total w = if nat_lt MAX_PROTOCOL_HEADER total then record w { mbufs = w.mbufs + 1 } else record w { bag = drop 1 w.bag }
+
+-- How far a join may shrink the weight of the pieces (`m_cat` of volume 2, chapter 2, moves what fits): they take no
+-- more than before, refer to no other cluster, and have room for all n bytes.
+pub record IsJoin (pieces joined : Weight) (n : ℕ) : Type 0 where
+  pub mbufs : joined.mbufs ≤ pieces.mbufs
+  pub bag : IsSubBag joined.bag pieces.bag
+  pub covers : Covers joined n
+
+-- one more datagram was made whole
+abbrev pub counts_reassembled : State → State
+counts_reassembled s = record s { counters = counts_more IpReassembled 1 s.counters }
+
+-- ---- what a packet says
+
+-- one more packet reached the input
+abbrev pub counts_packet : State → State
+counts_packet s = record s { counters = counts_more IpTotal 1 s.counters }
+
+-- an address that this machine hears
+abbrev pub is_for_us : Config → ℕ → Bool
+is_for_us c ip = is_ours c ip || (ip == limited_broadcast)
+
+-- more come after it, or some in front
+abbrev pub is_fragment : Head → Bool
+is_fragment h = h.more || nat_lt 0 h.offset
+
+-- what a packet carries after its header, cut to its total length; the cut leaves its weight
+abbrev pub carried : Item → Item
+carried item = record item { bytes = drop IP_HEADER (take (total_of item.bytes) item.bytes) }
+
+-- ---- the steps of an arrival, whatever answers for the buffers
+
+module _ (L : Ledger) where
+  -- A test of n mbufs. Where it passes, Then goes on from the state that it leaves; else what is in hand ends there
+  -- for want of buffers.
+  pub record Tests (old : State) (held : Weight) (n : ℕ) (new : State) (Then : State → Type 0) : Type 0 where
+    pub answer : Bool
+    pub mid : State
+    pub has_buffers : HasBuffers L old held (need_mbufs n) answer mid
+    pub goes_on : Choice answer (Then mid) (new ≡ ends NoBufs mid)
+
+  -- ---- delivery
+
+  -- the datagram comes into a socket's queue, with an mbuf for the sender's address, where both fit
+  abbrev pub Appends : Weight → Addr → Item → Socket → State → State → Type 0
+  Appends held sender item to old new =
+      Choice (fits to.queue (length item.bytes))
+      (Tests old (held ⊕ item.weight) 1 new (λ mid.
+      new ≡ change_socket to.fd (queued (record { sender = sender; item = record item { weight = mbuf ⊕ item.weight } })) mid))
+      (new ≡ ends UdpFullSocket old)
+
+  -- Each receiver but the last gets a copy, of the same weight. One that lacks something ends its own part alone.
+  abbrev pub Delivers : Weight → Addr → Item → List Socket → State → State → Type 0
+  Delivers held sender item [] old new = ⊥
+  Delivers held sender item (last ∷ []) old new = Appends held sender item last old new
+  Delivers held sender item (to ∷ next ∷ more) old new =
+      (after : State)
+      × Tests old (held ⊕ item.weight) item.weight.mbufs after (λ mid. Appends (held ⊕ item.weight) sender item to mid after)
+      × Delivers held sender item (next ∷ more) after new
+
+  -- a datagram goes to those who hear it
+  abbrev pub GoesTo : Weight → Addr → Item → ℕ → List Socket → State → State → Type 0
+  GoesTo held sender item destination [] old new = new ≡ ends (no_port old destination) old
+  GoesTo held sender item destination (to ∷ more) old new = Delivers held sender item (to ∷ more) old new
+
+  -- A whole datagram, without its IP header, of this source, destination and protocol.
+  abbrev pub WholeArrives : Weight → ℕ → ℕ → ℕ → Item → State → State → Type 0
+  WholeArrives held source destination protocol item old new =
+      Choice (protocol == PROTOCOL_UDP)
+      (Case (udp_fault source destination item.bytes)
+      (let sender : Addr = record { ip = source; port = u16_at 0 item.bytes } in
+      let q : LookupKey = record { local = Some destination; port = Some (u16_at 2 item.bytes); peer = Some sender } in
+      GoesTo held sender (record item { bytes = udp_bytes item.bytes }) destination (hearers old destination q) old new)
+      (λ why. new ≡ ends why old))
+      (new ≡ ends NoProtocol old)
+
+  -- ---- fragments
+
+  -- These bytes are held under a key now. Where they are whole, the datagram goes on, as one item of less weight, and
+  -- its key is held no more; else they wait.
+  abbrev pub Settles : Weight → Key → Map → State → State → Type 0
+  Settles held k bytes old new =
+      ((n : ℕ) × IsWhole bytes n × (joined : Weight) × IsJoin (weight_of_pieces bytes) joined n
+      × WholeArrives held k.source k.destination k.protocol (record { bytes = bytes_below bytes n; weight = joined })
+      (counts_reassembled (end_unfinished k old)) new)
+      ⊎ (((n : ℕ) → ¬ IsWhole bytes n) × (new ≡ set_bytes k bytes old))
+
+  -- the fragment is laid over what is held under its key, or ends where pieces that begin no later hold all its bytes
+  abbrev pub Lays : Weight → Key → Fragment → Unfinished → State → State → Type 0
+  Lays held k f u old new =
+      Choice (is_covered u.bytes f)
+      (new ≡ ends FragmentDropped old)
+      (Settles held k (overlay u.bytes f) old new)
+
+  -- the fragment joins the others with its key; a key that isn't held yet takes an mbuf
+  abbrev pub Joins : Weight → Key → Fragment → State → State → Type 0
+  Joins held k f old new = Case (unfinished_at k old)
+      (Tests old (held ⊕ f.weight) 1 new (λ mid. Lays held k f (begun k) (begin_unfinished k mid) new))
+      (λ u. Lays held k f u old new)
+
+  -- A fragment that came from the wire into a cluster is pulled up, which takes an mbuf. This comes before its key is
+  -- looked for.
+  abbrev pub PullsUp : Origin → Weight → Weight → ℕ → State → State → (Weight → State → Type 0) → Type 0
+  PullsUp Looped held w total old new Then = Then w old
+  PullsUp (By_wire received) held w total old new Then =
+      Choice (nat_le MINCLSIZE received) (Tests old (held ⊕ w) 1 new (λ mid. Then (pulled_up total w) mid)) (Then w old)
+
+  -- a fragment, without its IP header
+  abbrev pub FragmentArrives : Origin → Weight → Head → Item → State → State → Type 0
+  FragmentArrives origin held h item old new =
+      Choice (is_bad_fragment h (length item.bytes))
+      (new ≡ ends BadFragment old)
+      (PullsUp origin held item.weight (IP_HEADER + length item.bytes) (counts_fragment old) new (λ w mid.
+      Joins held (key_of h) (record { offset = h.offset; bytes = item.bytes; more = h.more; weight = w }) mid new))
+
+  -- ---- packets
+
+  -- a packet whose header has no fault
+  abbrev pub Passes : Origin → Weight → Item → State → State → Type 0
+  Passes origin held item old new =
+      let h : Head = head_of item.bytes in
+      Choice (is_for_us old.config h.destination)
+      (Choice (is_fragment h)
+      (FragmentArrives origin held h (carried item) old new)
+      (WholeArrives held h.source h.destination h.protocol (carried item) old new))
+      (new ≡ ends CantForward old)
+
+  -- a packet arrives, while the step holds `held` beside it
+  abbrev pub Arrives : Origin → Weight → Item → State → State → Type 0
+  Arrives origin held item old new =
+      Case (head_fault item.bytes) (Passes origin held item (counts_packet old) new) (λ why. new ≡ ends why (counts_packet old))
+
+  -- the packets that came back arrive in order, and those still to come are held
+  abbrev pub AllArrive : List Item → State → State → Type 0
+  AllArrive [] old new = new ≡ old
+  AllArrive (item ∷ items) old new =
+      (mid : State) × Arrives Looped (all_of (λ later. later.weight) items) item old mid × AllArrive items mid new

@@ -1,0 +1,3 @@
+-- Packets as bytes.
+pub mod Checksum
+pub mod Header

@@ -1,0 +1,7 @@
+-- The script: lines, what they ask for, and what is printed.
+pub mod Errnos
+pub mod Lines
+pub mod Grammar
+pub mod Texts
+pub mod Script
+pub mod Puts

@@ -1,0 +1,3 @@
+-- Which socket hears a packet, and what fits into its queue.
+pub mod Lookup
+pub mod Fits

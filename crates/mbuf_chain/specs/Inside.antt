@@ -1,0 +1,3 @@
+-- What only this crate reads.
+pub mod Cells
+pub mod Readable

@@ -1,0 +1,20 @@
+-- How a walk along the links means the entries of a chain.
+use Rattle.std.specs.Prelude.{ℕ, ◌≤◌, List, map, Option}
+use Rattle.mbuf_pool.specs.Cells.{Head, Part}
+use Rattle.mbuf_pool.specs.Store.{StoreView, count_of, IsStore}
+use Rattle.mbuf_chain.specs.Chain.{Entry}
+use Rattle.mbuf_chain.specs.Inside.Cells.{weigh, entry_at, refers_at, cells_from, buffer_of, IsWhole}
+
+-- the entries from an mbuf on
+abbrev pub entries_from : StoreView → Option ℕ → List Entry
+entries_from s at = map (entry_at s) (cells_from s at)
+
+-- the mbufs from one on can be read: their links lead to an end, and their clusters are in use
+pub record IsReadable (s : StoreView) (at : Option ℕ) : Type 0 where
+  pub whole : IsWhole s at
+  pub store : IsStore s
+  pub counted : (c : ℕ) → weigh (refers_at s c) (cells_from s at) ≤ count_of s c
+
+-- the bytes that an mbuf shows under a head
+abbrev pub data_of : ℕ → Head → Part
+data_of i h = record { buffer = buffer_of i h.cluster; start = h.start; len = h.len }

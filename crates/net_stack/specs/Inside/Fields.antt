@@ -1,0 +1,21 @@
+-- How the fields of a stack mean what it shows, and when they do.
+use Rattle.std.specs.Prelude.{◌≡◌, None}
+use Rattle.net_stack.specs.Stack.{StackView, IsStack}
+use Rattle.net_stack.specs.declared.stack.Stack.TheInside.{Inside}
+
+abbrev pub seen : Inside → StackView
+seen s = record {
+  config = s.config;
+  pool = s.pool;
+  socks = s.socks;
+  reass = s.reass;
+  output = s.net.out;
+  next_id = s.net.next_id;
+  counters = s.net.counters;
+}
+
+-- what is shown fits together, the link is the configuration's, and no packet is left that was to come back
+pub record IsInside (s : Inside) : Type 0 where
+  pub stack : IsStack (seen s)
+  pub mtu : s.net.mtu ≡ s.config.mtu
+  pub looped : s.net.looped ≡ record { first = None; last = None; len = 0 }

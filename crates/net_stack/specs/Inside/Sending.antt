@@ -1,0 +1,82 @@
+-- A send with all that it may change, for every rest of the machine (`sosend` and `ip_output` of volume 2, chapters 16 and
+-- 8; to say it by what a pool shows is this project's own).
+use Rattle.std.specs.Prelude.{◌≡◌, ℕ, Bool, true, false, List, ◌++◌, Option, None, Result, Ok, Err}
+use Rattle.flat_model.specs.Amounts.Weight.{nothing}
+use Rattle.flat_model.specs.Machine.State.{State, Unfinished}
+use Rattle.flat_model.specs.Machine.Ledger.{exact_ledger}
+use Rattle.flat_model.specs.Machine.Event.{Send}
+use Rattle.flat_model.specs.Machine.Replies.{sent_reply}
+use Rattle.flat_model.specs.Machine.Step.{Step}
+use Rattle.flat_model.specs.Machine.Arrival.{AllArrive}
+use Rattle.flat_model.specs.declared.address.Addr.{Addr}
+use Rattle.flat_model.specs.declared.errno.Errno.{Errno}
+use Rattle.flat_model.specs.declared.errno.Errno.TheVariants.{NoBufs}
+use Rattle.flat_model.specs.declared.errno.Lack.{Lack}
+use Rattle.flat_model.specs.declared.errno.Lack.TheVariants.{Pool, Queue}
+use Rattle.mbuf_chain.specs.Owners.{Moves}
+use Rattle.mbuf_chain.specs.Train.{TrainView, IsHeld, numbers}
+use Rattle.ledger.specs.Accounts.{weight_owned, IsAccounted}
+use Rattle.ip_out.specs.Packets.{packets, BeginPlain}
+use Rattle.ip_out.specs.Queues.{IsQueue}
+use Rattle.ip_reass.specs.Table.{TableView, IsReady, held_all, unfinished}
+use Rattle.sock_calls.specs.Sockets.{IsSocks, queued_chains}
+use Rattle.sock_calls.specs.Outgoing.{SendView, state_in}
+use Rattle.net_stack.specs.Inside.Arrivals.{HaveApartKeys}
+
+-- the pool has too few buffers
+abbrev pub is_pool : Lack → Bool
+is_pool Pool = true
+is_pool Queue = false
+
+abbrev pub is_pool_lack : Errno → Bool
+is_pool_lack (NoBufs lack) = is_pool lack
+is_pool_lack _ = false
+
+abbrev pub lacks_pool : Result ℕ Errno → Bool
+lacks_pool (Ok n) = false
+lacks_pool (Err errno) = is_pool_lack errno
+
+-- no packet is to come back
+abbrev pub no_train : TrainView
+no_train = record { first = None; last = None; len = 0 }
+
+-- the machine that has what a send sees, and these unfinished datagrams, in all else `rest`
+abbrev pub whole_in : SendView → List Unfinished → State → State
+whole_in v us rest = state_in v (record rest { unfinished = us })
+
+-- the machine that has the unfinished datagrams of a table too
+abbrev pub all_in : SendView → TableView → State → State
+all_in v r rest = whole_in v (unfinished v.pool r.datagrams) rest
+
+-- the chains of the output queue and of the sockets
+abbrev pub out_chains : SendView → List ℕ
+out_chains v = numbers v.pool v.net.out ++ queued_chains v.pool v.socks.queues
+
+-- The parts after a send fit the pool; packets that come back wait in `looped`.
+pub record AreParts (v : SendView) (r : TableView) (u : SendView) (t : TableView) : Type 0 where
+  pub socks : IsSocks u.pool u.socks
+  pub out : IsQueue u.pool u.net.out
+  pub looped : IsHeld u.pool u.net.looped
+  pub plain : BeginPlain u.pool u.net.looped
+  pub reass : IsReady u.pool t
+  pub mtu : u.net.mtu ≡ v.net.mtu
+  pub moves : Moves v.pool (held_all v.pool r.datagrams ++ out_chains v) u.pool (numbers u.pool u.net.looped ++ (held_all u.pool t.datagrams ++ out_chains u))
+
+-- A send was tried, and once more without the unfinished datagrams where the pool had too few buffers: whatever becomes of
+-- the packets that come back, it's one step of the machine.
+pub record IsTried (fd : ℕ) (to : Option Addr) (bytes : List ℕ) (v : SendView) (r : TableView) (result : Result ℕ Errno) (u : SendView) (t : TableView) : Type 0 where
+  pub goes : (rest new : State) → rest.config.mtu ≡ v.net.mtu → IsAccounted v.pool (all_in v r rest) nothing → AllArrive exact_ledger (packets u.pool u.net.looped) (all_in u t rest) new
+      → Step (all_in v r rest) (Send fd to bytes) (sent_reply result) new
+  pub accounts : (rest : State) → IsAccounted v.pool (all_in v r rest) nothing → IsAccounted u.pool (all_in u t rest) (weight_owned u.pool (numbers u.pool u.net.looped))
+  pub keys : HaveApartKeys (unfinished v.pool r.datagrams) → HaveApartKeys (unfinished u.pool t.datagrams)
+  pub parts : AreParts v r u t
+
+-- A send was made, and the packets that came back have arrived.
+pub record HasSent (fd : ℕ) (to : Option Addr) (bytes : List ℕ) (v : SendView) (r : TableView) (result : Result ℕ Errno) (u : SendView) (t : TableView) : Type 0 where
+  pub step : (rest : State) → rest.config.mtu ≡ v.net.mtu → HaveApartKeys (unfinished v.pool r.datagrams) → IsAccounted v.pool (all_in v r rest) nothing → Step (all_in v r rest) (Send fd to bytes) (sent_reply result) (all_in u t rest)
+  pub socks : IsSocks u.pool u.socks
+  pub out : IsQueue u.pool u.net.out
+  pub none : u.net.looped ≡ no_train
+  pub reass : IsReady u.pool t
+  pub mtu : u.net.mtu ≡ v.net.mtu
+  pub moves : Moves v.pool (held_all v.pool r.datagrams ++ out_chains v) u.pool (held_all u.pool t.datagrams ++ out_chains u)

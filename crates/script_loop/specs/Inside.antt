@@ -1,0 +1,74 @@
+-- What stands in hand between two bytes of a script.
+use Rattle.std.specs.Prelude.{◌≡◌, ◌≢◌, ◌⊎◌, ◌≤◌, ◌+◌, ◌-◌, ◌*◌, ℕ, List, [], ◌∷◌, ◌++◌, length, Option, Some, None, Result, Ok, Err}
+use Rattle.std.specs.Io.KnownBytes.{Appends}
+use Rattle.flat_model.specs.Scripts.Lines.{whole_lines, begun_line}
+use Rattle.script_loop.specs.Printed.{Prints}
+use Rattle.script_loop.specs.Serves.{GoesTooFar, StaysWithin}
+use Rattle.script_loop.specs.declared.fault.RunFault.{RunFault}
+use Rattle.script_loop.specs.declared.fault.RunFault.TheVariants.{Read, Write, Memory, TooManyLines, BadSizes, BadConfig}
+
+-- The whole lines seen were answered, on the way from `begin` to `now`, and this line is begun.
+pub record Answered {S : Type 0} (gives : S → List ℕ → List ℕ → S → Type 0) (begin now : S) (seen line : List ℕ) (count : ℕ) (written : List ℕ) : Type 0 where
+  pub begun : line ≡ begun_line seen
+  pub counted : count ≡ length (whole_lines seen)
+  pub within : StaysWithin seen
+  pub printed : Prints gives begin (whole_lines seen) written now
+  pub last : count ≡ 10000000 → line ≡ []
+
+-- how many bytes may still come
+abbrev pub budget : ℕ → List ℕ → ℕ
+budget count line = (10000000 - count) * 1048577 + (1048577 - length line)
+
+-- no byte of these ends a line
+abbrev pub EndsNoLine : List ℕ → Type 0
+EndsNoLine [] = Unit {0}
+EndsNoLine (byte ∷ bytes) = (byte ≢ 10) × EndsNoLine bytes
+
+-- Bytes that end no line may come: none of them is after the last line that is allowed, or makes the line too long.
+abbrev pub HasRoom : ℕ → List ℕ → List ℕ → Type 0
+HasRoom count line part = (part ≡ []) ⊎ ((count ≢ 10000000) × (length line + length part ≤ 1048576))
+
+-- A byte of the piece goes too far after those seen and those in front of it, which end no line.
+pub record BreaksLimit (seen piece : List ℕ) : Type 0 where
+  pub front : List ℕ
+  pub byte : ℕ
+  pub rest : List ℕ
+  pub cut : piece ≡ front ++ byte ∷ rest
+  pub within : StaysWithin (seen ++ front)
+  pub far : GoesTooFar (seen ++ front) byte
+  pub same : whole_lines (seen ++ front) ≡ whole_lines seen
+
+-- What a piece does, after the bytes seen. The answer to the line that it ends stands after the text.
+abbrev pub TakesPiece : {S : Type 0} → (S → List ℕ → List ℕ → S → Type 0) → S → S → List ℕ → List ℕ → List ℕ
+    → List ℕ → List ℕ → List ℕ → Option ℕ → Type 0
+TakesPiece gives begin now seen piece printed before after line (Some count) =
+    (reply : List ℕ) × (after ≡ before ++ reply) × Answered gives begin now (seen ++ piece) line count (printed ++ reply)
+TakesPiece gives begin now seen piece printed before after line None =
+    BreaksLimit seen piece × (after ≡ before) × Prints gives begin (whole_lines seen) printed now
+
+-- Of a text a writer took the part before the one that is left at `Ok`, and a front at `Err(Write)`, which is the only error.
+abbrev pub Flushes : Option (List ℕ) → Option (List ℕ) → List ℕ → List ℕ → Result Unit RunFault → Type 0
+Flushes before after text left (Ok done) = (sent : List ℕ) × (text ≡ sent ++ left) × Appends before after sent
+Flushes before after text left (Err Write) = (sent unsent : List ℕ) × (text ≡ sent ++ unsent) × Appends before after sent
+Flushes before after text left (Err Read) = ⊥
+Flushes before after text left (Err Memory) = ⊥
+Flushes before after text left (Err TooManyLines) = ⊥
+Flushes before after text left (Err BadSizes) = ⊥
+Flushes before after text left (Err BadConfig) = ⊥
+
+-- What a chunk of bytes does, after those seen. The answers `held` aren't written yet.
+abbrev pub TakesChunk : {S : Type 0} → (S → List ℕ → List ℕ → S → Type 0) → S → S → List ℕ → List ℕ → List ℕ
+    → Option (List ℕ) → Option (List ℕ) → List ℕ → List ℕ → Result ℕ RunFault → Type 0
+TakesChunk gives begin now seen chunk written before after held line (Ok count) =
+    (more : List ℕ) × Appends before after more × Answered gives begin now (seen ++ chunk) line count ((written ++ more) ++ held)
+TakesChunk gives begin now seen chunk written before after held line (Err Write) =
+    (front rest more unwritten : List ℕ) × (chunk ≡ front ++ rest) × Appends before after more × StaysWithin (seen ++ front)
+    × Prints gives begin (whole_lines (seen ++ front)) ((written ++ more) ++ unwritten) now
+TakesChunk gives begin now seen chunk written before after held line (Err TooManyLines) =
+    (front : List ℕ) × (byte : ℕ) × (rest more : List ℕ) × (chunk ≡ front ++ byte ∷ rest) × StaysWithin (seen ++ front)
+    × GoesTooFar (seen ++ front) byte × Appends before after more
+    × Prints gives begin (whole_lines (seen ++ front)) (written ++ more) now
+TakesChunk gives begin now seen chunk written before after held line (Err Read) = ⊥
+TakesChunk gives begin now seen chunk written before after held line (Err Memory) = ⊥
+TakesChunk gives begin now seen chunk written before after held line (Err BadSizes) = ⊥
+TakesChunk gives begin now seen chunk written before after held line (Err BadConfig) = ⊥

@@ -1,0 +1,3 @@
+-- What only this crate reads.
+pub mod Destination
+pub mod Putting

@@ -1,0 +1,117 @@
+-- A send step by step: its packets, and what is put where. Only this crate reads it.
+use Rattle.std.specs.Prelude.{◌≡◌, ◌≢◌, ℕ, ◌+◌, ◌≤◌, ◌%◌, ◌==◌, nat_lt, Bool, true, false, if◌then◌else◌, List, [], ◌++◌, length, take, drop, count_by}
+use Rattle.params.specs.declared.TheConstants.{MIN_MTU, LOOPBACK, IP_HEADER, IP_UDP_HEADERS, OUTPUT_QUEUE_PACKETS, IP_DEFAULT_TTL, PROTOCOL_UDP}
+use Rattle.flat_model.specs.Machine.Count.{counts_more}
+use Rattle.flat_model.specs.Amounts.Layout.{sent, laid_on, is_cluster}
+use Rattle.flat_model.specs.Machine.Send.{need_to, to_link, to_self}
+use Rattle.flat_model.specs.Machine.Sending as flat
+use Rattle.flat_model.specs.declared.address.Addr.{Addr}
+use Rattle.flat_model.specs.declared.config.Config.{Config}
+use Rattle.flat_model.specs.declared.counter.Counter.TheVariants.{IpLocalout, IpFragmented, OutDropped}
+use Rattle.flat_model.specs.declared.counters.Counters.{Counters}
+use Rattle.mbuf_chain.specs.Chain.{PoolView, Adds, chain_of, held_mbufs, string}
+use Rattle.mbuf_chain.specs.Owners.{Moves}
+use Rattle.mbuf_chain.specs.Train.{IsHeld, numbers}
+use Rattle.chain_ops.specs.Stored.{AreFree}
+use Rattle.chain_ops.specs.Weights.{laid}
+use Rattle.ip_out.specs.Packets.{packets, BeginPlain}
+use Rattle.ip_out.specs.Queues.{IsQueue}
+use Rattle.ip_out.specs.declared.head.IpHead.{IpHead}
+use Rattle.ip_out.specs.declared.ways.Packets.{Packets}
+use Rattle.ip_out.specs.declared.ways.Way.{Way}
+use Rattle.ip_out.specs.declared.ways.Way.TheVariants.{Link, Loopback, Both}
+use Rattle.pcb_table.specs.Table.{Table, KeepsOpen}
+use Rattle.pcb_table.specs.Found.{EnsuresPort, SendsFrom}
+use Rattle.ledger.specs.Reserve.{are_free}
+use Rattle.sock_calls.specs.declared.net.Net.{Net}
+use Rattle.sock_calls.specs.declared.packets.Heading.{Heading}
+
+-- what a send reads of the configuration of a machine with these blocks and this link
+abbrev pub config_of : Table → ℕ → Config
+config_of t mtu = record { addr = t.addr; bcast = t.bcast; mtu = mtu; mbufs = 0; clusters = 0; first_id = 0 }
+
+-- its two addresses differ, the broadcast address isn't 127.0.0.1, and the link takes packets of 68 bytes
+pub record IsRouted (c : Config) : Type 0 where
+  pub mtu : MIN_MTU ≤ c.mtu
+  pub apart : c.bcast ≢ c.addr
+  pub outside : c.bcast ≢ LOOPBACK
+
+-- where packets to an address go
+abbrev pub way_of : Config → ℕ → Way
+way_of c ip = if flat.is_looped c ip then Loopback else (if ip == c.bcast then Both else Link)
+
+-- the buffers of a send of n bytes to this address are free
+abbrev pub IsFreeFor : PoolView → Config → ℕ → ℕ → Type 0
+IsFreeFor p c ip n = are_free p (need_to c ip n).mbufs (need_to c ip n).clusters ≡ true
+
+-- what is sent: the headers say `heading`
+abbrev pub sent_as : Heading → List ℕ → flat.Sending
+sent_as h bytes = record { id = h.id; source = h.source; to = h.to; port = h.port; bytes = bytes }
+
+-- the IP header of all its packets, but for their lengths and offsets
+abbrev pub head_as : Heading → IpHead
+head_as h = record { tos = 0; total = 0; id = h.id; dont = false; more = false; offset = 0; ttl = IP_DEFAULT_TTL; proto = PROTOCOL_UDP; src = h.source; dst = h.to.ip }
+
+-- From p to q chain c came, of n bytes and 28 in front of them, laid out as a send of n bytes on clusters that were free.
+pub record IsLaidOut (p : PoolView) (n : ℕ) (clusters : List ℕ) (q : PoolView) (c : ℕ) : Type 0 where
+  pub number : length clusters ≡ count_by is_cluster (sent n)
+  pub free : AreFree p clusters
+  pub made : Adds p q c (chain_of q c)
+  pub headed : (chain_of q c).front.header ≡ true
+  pub laid : laid (chain_of q c).entries ≡ laid_on clusters (sent n)
+  pub size : length (string (chain_of q c)) ≡ n + IP_UDP_HEADERS
+  pub held : held_mbufs q ≡ held_mbufs p + length (sent n)
+
+-- its data are the bytes
+pub record IsStored (p : PoolView) (bytes : List ℕ) (q : PoolView) (c : ℕ) : Type 0 where
+  pub clusters : List ℕ
+  pub lies : IsLaidOut p (length bytes) clusters q c
+  pub holds : drop IP_UDP_HEADERS (string (chain_of q c)) ≡ bytes
+
+-- after 20 bytes it is the datagram
+pub record IsBuilt (p : PoolView) (x : flat.Sending) (q : PoolView) (c : ℕ) : Type 0 where
+  pub clusters : List ℕ
+  pub lies : IsLaidOut p (length x.bytes) clusters q c
+  pub datagram : drop IP_HEADER (string (chain_of q c)) ≡ flat.datagram x
+
+-- From p to q the packets of a send came: what goes to the link, and what comes back.
+pub record AreMade (p : PoolView) (c : Config) (x : flat.Sending) (q : PoolView) (made : Packets) : Type 0 where
+  pub clusters : List ℕ
+  pub number : length clusters ≡ (need_to c x.to.ip (length x.bytes)).clusters
+  pub free : AreFree p clusters
+  pub link : packets q made.link ≡ to_link c x.to.ip (flat.packets c clusters x)
+  pub back : packets q made.looped ≡ to_self c x.to.ip (flat.packets c clusters x)
+  pub is_cut : made.is_cut ≡ nat_lt 1 (length (flat.parts_of c x))
+  pub held_link : IsHeld q made.link
+  pub held_back : IsHeld q made.looped
+  pub plain : BeginPlain q made.looped
+  pub moves : Moves p [] q (numbers q made.link ++ numbers q made.looped)
+
+-- the counters of a send: whether it was cut, and whether a packet of it was lost
+abbrev pub counts_sent : Bool → Bool → Counters → Counters
+counts_sent cut lost c =
+    let sent : Counters = counts_more IpLocalout 1 c in
+    let cut_too : Counters = if cut then counts_more IpFragmented 1 sent else sent in
+    if lost then counts_more OutDropped 1 cut_too else cut_too
+
+-- A send that has its buffers, from p, t and n to q, u and m.
+pub record IsPut (fd : ℕ) (to : Addr) (bytes : List ℕ) (p : PoolView) (t : Table) (n : Net) (lost : Bool) (q : PoolView) (u : Table) (m : Net) : Type 0 where
+  pub heading : Heading
+  pub id : heading.id ≡ n.next_id
+  pub to_is : heading.to ≡ to
+  pub source : SendsFrom t fd to.ip heading.source
+  pub port : EnsuresPort t fd heading.port u
+  pub descriptors : KeepsOpen t u
+  pub clusters : List ℕ
+  pub number : length clusters ≡ (need_to (config_of t n.mtu) to.ip (length bytes)).clusters
+  pub free : AreFree p clusters
+  pub back : packets q m.looped ≡ to_self (config_of t n.mtu) to.ip (flat.packets (config_of t n.mtu) clusters (sent_as heading bytes))
+  pub out : packets q m.out ≡ take OUTPUT_QUEUE_PACKETS (packets p n.out ++ to_link (config_of t n.mtu) to.ip (flat.packets (config_of t n.mtu) clusters (sent_as heading bytes)))
+  pub is_lost : lost ≡ nat_lt OUTPUT_QUEUE_PACKETS (length (packets p n.out ++ to_link (config_of t n.mtu) to.ip (flat.packets (config_of t n.mtu) clusters (sent_as heading bytes))))
+  pub next_id : m.next_id ≡ (n.next_id + 1) % 65536
+  pub counters : m.counters ≡ counts_sent (nat_lt 1 (length (flat.parts_of (config_of t n.mtu) (sent_as heading bytes)))) lost n.counters
+  pub mtu : m.mtu ≡ n.mtu
+  pub queue : IsQueue q m.out
+  pub held : IsHeld q m.looped
+  pub plain : BeginPlain q m.looped
+  pub moves : Moves p (numbers p n.out) q (numbers q m.looped ++ numbers q m.out)
