@@ -1,5 +1,5 @@
 -- What a contract sees of a region (this project's own layout; the sizes are those of a 32-bit 4.4BSD, TCP/IP Illustrated, volume 2, section 2.2).
-use Rattle.std.specs.Prelude.{◌≡◌, ℕ, ◌+◌, ◌*◌, ◌<◌, ◌≤◌, ◌⊎◌, ◌≢◌, if◌then◌else◌, is_some, Some, None, Option, option_map, List, length, take, drop, replicate, slice_index_or, slice_set}
+use Rattle.std.specs.Prelude.{◌≡◌, ℕ, ◌+◌, ◌*◌, ◌<◌, ◌≤◌, if◌then◌else◌, is_some, Some, None, Option, option_map, List, length, take, drop, replicate, slice_index_or, slice_set}
 use Rattle.params.specs.declared.TheConstants.{MSIZE, MBUF_HEADER, PACKET_HEADER, MCLBYTES, MAX_MBUFS, MAX_CLUSTERS}
 use Rattle.raw_cells.specs.Over.{over}
 use Rattle.raw_cells.specs.declared.head.Head.{Head}
@@ -63,14 +63,6 @@ IsRoom c (Cluster i) s n = (i < c.clusters) × (s + n ≤ MCLBYTES)
 
 abbrev pub IsPart : Cells → Part → Type 0
 IsPart c p = IsRoom c p.buffer p.start p.len
-
--- no byte lies in both parts
-abbrev pub IsApart : Part → Part → Type 0
-IsApart p q = (p.buffer ≢ q.buffer) ⊎ ((p.start + p.len ≤ q.start) ⊎ (q.start + q.len ≤ p.start))
-
--- all bytes of q lie in p
-abbrev pub IsWithin : Part → Part → Type 0
-IsWithin q p = (q.buffer ≡ p.buffer) × (p.start ≤ q.start) × (q.start + q.len ≤ p.start + p.len)
 
 -- the bytes of a part
 abbrev pub read : Cells → Part → List ℕ

@@ -1,4 +1,4 @@
--- What the parts of a block of raw memory own and lend.
+-- What the parts of a block of raw memory own and lend (this project's own).
 use Rattle.std.specs.Prelude.{ℕ, ◌+◌, ◌^◌, List, length}
 use Rattle.std.specs.Borrow.{u8}
 use base.Fml.{Lft, Fml, ffalse, fsep, flt, froom}

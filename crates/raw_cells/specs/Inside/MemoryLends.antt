@@ -1,4 +1,4 @@
--- What the bytes of a block end as, once a `&mut` into them has ended.
+-- What the bytes of a block end as, once a `&mut` into them has ended (this project's own).
 use Rattle.std.specs.Prelude.{ℕ, List, take}
 use Rattle.std.specs.Borrow.{Lends, MutBor, Fml, Array, u8}
 use Rattle.raw_cells.specs.Over.{over}
