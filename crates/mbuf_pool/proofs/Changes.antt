@@ -1,24 +1,15 @@
 -- What a change of the region leaves of each mbuf and cluster, and what the store shows then.
-use Rattle.std.proofs.Common.{◌≡◌, ◌≢◌, ℕ, ◌+◌, ◌*◌, ◌<◌, ◌≤◌, Bool, true, false, if◌then◌else◌, List, length, take, drop, refl, sym, ap, ◌∙◌, arith, inl, inr}
-use Rattle.std.specs.List.{range_with_len}
+use Rattle.std.proofs.Common.{◌≡◌, ◌≢◌, ℕ, ◌+◌, ◌*◌, ◌<◌, ◌≤◌, List, length, take, drop, refl, sym, ap, ◌∙◌, arith, inl, inr}
 use Rattle.std.proofs.lemmas.Bool.{cases_lt}
 use Rattle.std.proofs.lemmas.List.{length-set, get_or-set_same, get_or-set_other}
 use Rattle.raw_cells.specs.Over.{over}
 use Rattle.raw_cells.specs.Cells as cells
-use Rattle.raw_cells.specs.Cells.{Cells, IsSized, with_head, head_size, zero_head, origin}
+use Rattle.raw_cells.specs.Cells.{Cells, IsSized, with_head, head_size, zero_head}
 use Rattle.raw_cells.specs.declared.head.Head.{Head}
-use Rattle.raw_cells.proofs.Laws.{length_over}
+use Rattle.raw_cells.proofs.Laws.{head_size_le, length_over}
 use Rattle.mbuf_pool.specs.Inside.Link.{link_in}
 use Rattle.mbuf_pool.specs.Inside.Fields.{mbuf_bytes, cluster_bytes, next_cluster}
 use Rattle.mbuf_pool.proofs.Blocks.{block, block_apart, block_written}
-
-pub head_size_le : (h : Head) → head_size h ≤ 32
-head_size_le h = go (Rattle.std.specs.Prelude.is_some h.cluster) (Rattle.std.specs.Prelude.is_some h.packet)
-  where
-    go : (a b : Bool) → (if a then 32 else (if b then 28 else 20)) ≤ 32
-    go true b = omega arith
-    go false true = omega arith
-    go false false = omega arith
 
 -- ---- two regions of which one mbuf, or one cluster, differs
 -- every mbuf but i, and every cluster, is the same

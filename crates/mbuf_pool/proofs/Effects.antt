@@ -264,11 +264,6 @@ module _ (s : Inside) (v : StoreView) (a : IsInside s) (e : seen s ≡ v) where
   first_cluster_index c first =
       (first_free (next_cluster s.region) s.region.clusters c s.free_clusters a.1.1 (subst (λ (f : Option ℕ). IsFreeList (next_cluster s.region) s.region.clusters f s.free_clusters a.1.1) first a.1.2.cluster_list)).2
 
-  pub some_free : (i : ℕ) → s.first_mbuf ≡ Some i → 0 < s.free_mbufs
-  some_free i first =
-      let found = first_free (next_mbuf s.region) (length s.region.heads) i s.free_mbufs a.1.0 (subst (λ (f : Option ℕ). IsFreeList (next_mbuf s.region) (length s.region.heads) f s.free_mbufs a.1.0) first a.1.2.mbuf_list) in
-      omega (arith, a.1.2.mbuf_list.size, ap length found.1)
-
   pub get_left : (h : Head) (i : ℕ) (t : Cells) (next : Option ℕ) → s.first_mbuf ≡ Some i → next ≡ next_mbuf s.region i → (sets : cells.SetsHead s.region t i h)
       → Leaves t s.counts.items next (s.free_mbufs - 1) s.first_cluster s.free_clusters (with_mbuf v i (Some (record { head = h; bytes = over (mbuf_bytes s.region i) 0 sets.0 }))) × TakesWith v (seen_in t s.counts.items next) i h
   get_left h i t next first next_is sets =

@@ -14,11 +14,6 @@ pub times-there : (k x : ℕ) (xs : List ℕ) → x ≢ k → times k (x ∷ xs)
 times-there k x xs ne = ap (λ b. cond {A = ℕ} b 1 0 + times k xs) (ne_eqb x k ne) ∙ omega arith
 
 -- ---- the links
--- a place past the last is in no linked list
-pub times_past : (next : ℕ → Option ℕ) (places : ℕ) (at : Option ℕ) (k : ℕ) (l : List ℕ) → IsLinked next places at l → places ≤ k → times k l ≡ 0
-times_past next places at k [] h past = refl
-times_past next places at k (x ∷ xs) h past = times-there k x xs (λ e. absurd (omega (arith, h.1))) ∙ times_past next places (next x) k xs h.2 past
-
 -- the links stay where the next of each place in the list does
 pub links_kept : (f g : ℕ → Option ℕ) (n : ℕ) (at : Option ℕ) (l : List ℕ) → ((k : ℕ) → k < n → 0 < times k l → g k ≡ f k) → IsLinked f n at l → IsLinked g n at l
 links_kept f g n at [] kept h = h

@@ -1,19 +1,16 @@
 -- What callers can use of a store.
-use Rattle.std.proofs.Common.{◌≡◌, ◌≢◌, ℕ, zero, suc, ◌+◌, ◌<◌, Bool, true, IsTrue, cond, if◌then◌else◌, ◌==◌, ◌-◌, Option, None, Some, is_some, is_none, List, [], ◌∷◌, length, take, count_by, slice_index_or, unwrap_or, refl, sym, ap, ◌∙◌, subst, arith, inl, inr, ◌≤◌, get_or, ext_get_or, slice_get, slice_set}
+use Rattle.std.proofs.Common.{◌≡◌, ◌≢◌, ℕ, zero, suc, ◌+◌, ◌<◌, Bool, true, IsTrue, cond, if◌then◌else◌, ◌==◌, ◌-◌, Option, None, Some, is_some, is_none, List, [], ◌∷◌, length, count_by, slice_index_or, unwrap_or, refl, sym, ap, ◌∙◌, subst, arith, inl, inr, ◌≤◌, get_or, ext_get_or, slice_get, slice_set}
 use Rattle.std.proofs.lemmas.Bool.{cases_eq, cases_lt, eq-eqb, ne_eqb, false≢true}
 use Rattle.std.proofs.lemmas.Option.{slice_get_within, none-some, same_Some}
-use Rattle.std.proofs.lemmas.List.{length-set, get_or-set_same, get_or-set_other, get_or_past}
+use Rattle.std.proofs.lemmas.List.{get_or-set_same, get_or-set_other, get_or_past}
 use Rattle.std.proofs.lemmas.List.Sums.{sum_by-cons}
 use Rattle.raw_cells.specs.Over.{over}
 use Rattle.raw_cells.specs.Cells.{head_size}
 use Rattle.raw_cells.specs.declared.head.Head.{Head}
-use Rattle.raw_cells.specs.declared.part.Part.{Part}
-use Rattle.raw_cells.specs.declared.part.Buffer.{Buffer}
-use Rattle.raw_cells.specs.declared.part.Buffer.TheVariants.{Mbuf, Cluster}
 pub use Rattle.raw_cells.proofs.Laws.{over_below, over_above, over_in, length_over}
-use Rattle.mbuf_pool.proofs.Changes.{head_size_le}
+use Rattle.raw_cells.proofs.Laws.{head_size_le}
 use Rattle.mbuf_pool.proofs.Reading.{some_or_none}
-use Rattle.mbuf_pool.specs.Store.{MbufView, ClusterView, StoreView, no_mbuf, new_head, free_cluster, is_out, mbuf_of, head_of, cluster_of, count_of, free_mbufs, mbufs_out, free_clusters, held, released, with_mbuf, with_cluster, with_bytes, bytes_in, write, IsRoom, IsPart, IsStore, TakesMbuf, TakesCluster, SetsHead}
+use Rattle.mbuf_pool.specs.Store.{MbufView, ClusterView, StoreView, no_mbuf, free_cluster, is_out, mbuf_of, head_of, cluster_of, count_of, free_mbufs, mbufs_out, free_clusters, held, released, with_mbuf, with_cluster, IsStore, TakesCluster, SetsHead}
 
 -- ---- one mbuf, or one cluster, in place of another
 pub mbuf_here : (s : StoreView) (i : ℕ) (m : Option MbufView) → i < length s.mbufs → slice_index_or (with_mbuf s i m).mbufs i None ≡ m
@@ -41,28 +38,13 @@ counted_within s c counted = elim (cases_lt c (length s.clusters)) [
   | inr ge ↦ absurd (omega (arith, ap (λ (v : ClusterView). v.count) (get_or_past s.clusters c free_cluster ge)))
 ]
 
--- ---- what was just handed out
-pub taken_out : (old new : StoreView) (i : ℕ) → TakesMbuf old new i → IsTrue (is_out new i)
-taken_out old new i h =
-    ap (λ (s : StoreView). is_out s i) h.change
-    ∙ ap is_some (mbuf_here old i (Some (record { head = new_head; bytes = h.bytes })) (slice_get_within old.mbufs i None h.was_free))
-
-pub taken_head : (old new : StoreView) (i : ℕ) → TakesMbuf old new i → head_of new i ≡ new_head
-taken_head old new i h =
-    ap (λ (s : StoreView). head_of s i) h.change
-    ∙ ap (λ (m : Option MbufView). (unwrap_or m no_mbuf).head) (mbuf_here old i (Some (record { head = new_head; bytes = h.bytes })) (slice_get_within old.mbufs i None h.was_free))
-
-pub taken_count : (old new : StoreView) (c : ℕ) → TakesCluster old new c → count_of new c ≡ 1
-taken_count old new c h =
-    ap (λ (s : StoreView). count_of s c) h.change
-    ∙ ap (λ (v : ClusterView). v.count) (cluster_here old c (record { count = 1; bytes = h.bytes }) (slice_get_within old.clusters c free_cluster h.was_free))
-
+-- ---- a cluster that was just handed out
 set_back : (vs : List ClusterView) (c : ℕ) (v w : ClusterView) → slice_get vs c ≡ Some w → slice_set (slice_set vs c v) c w ≡ vs
 set_back [] c v w is = absurd (none-some w is)
 set_back (x ∷ xs) zero v w is = ap (λ (y : ClusterView). y ∷ xs) (sym (same_Some x w is))
 set_back (x ∷ xs) (suc c) v w is = ap (λ (l : List ClusterView). x ∷ l) (set_back xs c v w is)
 
--- a cluster that was just handed out and is given back leaves all as it was
+-- given back, it leaves all as it was
 pub taken_back : (old new : StoreView) (c : ℕ) → TakesCluster old new c → with_cluster new c (released (cluster_of new c)) ≡ old
 taken_back old new c h =
     let v : ClusterView = record { count = 1; bytes = h.bytes } in
@@ -80,48 +62,6 @@ count_released s c counted =
       | inr ne ↦ ap (λ (b : Bool). (if b then free_cluster else record (cluster_of s c) { count = count_of s c - 1 }).count + 1) (ne_eqb (count_of s c) 1 ne) ∙ omega arith
     ] in
     ap (λ (v : ClusterView). v.count + 1) (cluster_here s c (released (cluster_of s c)) (counted_within s c counted)) ∙ one_less
-
--- ---- a write leaves a store
-pub store_written : (s : StoreView) (p : Part) (ws : List ℕ) → IsStore s → IsPart s p → IsStore (write s p ws)
-store_written s p ws ok room = go p.buffer p.start p.len room
-  where
-    go : (b : Buffer) (at n : ℕ) → IsRoom s b at n → IsStore (with_bytes s b (over (bytes_in s b) at (take n ws)))
-    go (Mbuf i) at n h =
-        let new : MbufView = record { head = head_of s i; bytes = over (mbuf_of s i).bytes at (take n ws) } in
-        let t = with_mbuf s i (Some new) in
-        let long = length-set s.mbufs i (Some new) in
-        record {
-          mbufs = (omega (arith, long, ok.mbufs.0), omega (arith, long, ok.mbufs.1));
-          clusters = ok.clusters;
-          mbuf_bytes = λ k out. elim (cases_eq k i) [
-            | inl e ↦ subst (λ (j : ℕ). length (mbuf_of t j).bytes ≡ 128) (sym e)
-                (ap (λ (m : Option MbufView). length (unwrap_or m no_mbuf).bytes) (mbuf_here s i (Some new) (out_within s i h.0))
-                ∙ length_over (mbuf_of s i).bytes at (take n ws) (omega (arith, h.3, ok.mbuf_bytes i h.0))
-                ∙ ok.mbuf_bytes i h.0)
-            | inr ne ↦
-                let same = mbuf_other s i k (Some new) ne in
-                ap (λ (m : Option MbufView). length (unwrap_or m no_mbuf).bytes) same ∙ ok.mbuf_bytes k (ap is_some (sym same) ∙ out)
-          ];
-          cluster_bytes = ok.cluster_bytes;
-        }
-    go (Cluster c) at n h =
-        let new : ClusterView = record { count = count_of s c; bytes = over (cluster_of s c).bytes at (take n ws) } in
-        let t = with_cluster s c new in
-        let long = length-set s.clusters c new in
-        record {
-          mbufs = ok.mbufs;
-          clusters = omega (arith, long, ok.clusters);
-          mbuf_bytes = ok.mbuf_bytes;
-          cluster_bytes = λ k counted. elim (cases_eq k c) [
-            | inl e ↦ subst (λ (j : ℕ). length (cluster_of t j).bytes ≡ 2048) (sym e)
-                (ap (λ (v : ClusterView). length v.bytes) (cluster_here s c new (counted_within s c h.0))
-                ∙ length_over (cluster_of s c).bytes at (take n ws) (omega (arith, h.1, ok.cluster_bytes c h.0))
-                ∙ ok.cluster_bytes c h.0)
-            | inr ne ↦
-                let same = cluster_other s c k new ne in
-                ap (λ (v : ClusterView). length v.bytes) same ∙ ok.cluster_bytes k (subst (λ (v : ClusterView). 0 < v.count) same counted)
-          ];
-        }
 
 -- ---- where nothing is free
 pub free_or_out : (s : StoreView) → free_mbufs s + mbufs_out s ≡ length s.mbufs

@@ -1,4 +1,4 @@
--- What a store ends as, once a `&mut` into it has ended.
+-- What a store ends as, once a `&mut` into it has ended (this project's own).
 use Rattle.std.specs.Borrow.{Lends, MutBor, Fml, Array, u8}
 use Rattle.std.specs.Prelude.{ℕ, List}
 use Rattle.raw_cells.specs.declared.part.Part.{Part}

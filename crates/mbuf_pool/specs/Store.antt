@@ -88,19 +88,16 @@ released v = if v.count == 1 then free_cluster else record v { count = v.count -
 abbrev pub free_store : Sizes → StoreView
 free_store z = record { mbufs = replicate z.mbufs None; clusters = replicate z.clusters free_cluster }
 
--- the mbuf i was free and is handed out, with a new head; what its other bytes are is not said
-pub record TakesMbuf (old new : StoreView) (i : ℕ) : Type 0 where
-  pub was_free : slice_get old.mbufs i ≡ Some None
-  pub bytes : List ℕ
-  pub long : length bytes ≡ MSIZE
-  pub change : new ≡ with_mbuf old i (Some (record { head = new_head; bytes = bytes }))
-
--- the same with this head
+-- the mbuf i was free and is handed out, with this head; what its other bytes are is not said
 pub record TakesWith (old new : StoreView) (i : ℕ) (h : Head) : Type 0 where
   pub was_free : slice_get old.mbufs i ≡ Some None
   pub bytes : List ℕ
   pub long : length bytes ≡ MSIZE
   pub change : new ≡ with_mbuf old i (Some (record { head = h; bytes = bytes }))
+
+-- the same with a new head
+abbrev pub TakesMbuf : StoreView → StoreView → ℕ → Type 0
+TakesMbuf old new i = TakesWith old new i new_head
 
 -- the cluster c was free and has the count 1; what its bytes are is not said
 pub record TakesCluster (old new : StoreView) (c : ℕ) : Type 0 where

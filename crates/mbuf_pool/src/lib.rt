@@ -2,8 +2,8 @@
 //!
 //! A [`Store`] owns one region of raw memory. It hands mbufs and clusters out by their numbers, and
 //! takes them back. Free mbufs are linked by their `next`, free clusters by their first four bytes, so
-//! that each call takes the same few steps however large the pool is, and after `boot` no memory is
-//! asked for.
+//! that each call but `boot` and `counts` takes the same few steps however large the pool is. After
+//! `boot` no memory is asked for.
 #![tactic(auto)]
 
 mod counts;

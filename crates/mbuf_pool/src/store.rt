@@ -109,10 +109,7 @@ impl Store {
         ensures same { OnErr result (self.new ≡ self.old) }
         ensures store { IsStore self.new }
     {
-        match self.get_with(NEW_HEAD) {
-            Ok(index) => Ok(index),
-            Err(refusal) => Err(refusal),
-        }
+        self.get_with(NEW_HEAD)
     }
 
     /// An mbuf that was free, by its number, with the head `given`, whose links must be below 0xffff_ffff. What its

@@ -1,4 +1,4 @@
--- A store as it is made, before all of it is given back.
+-- A store as it is made, before all of it is given back (this project's own).
 use Rattle.std.specs.Prelude.{◌≡◌, ℕ, ◌<◌, IsTrue, length}
 use Rattle.mbuf_pool.specs.declared.sizes.Sizes.{Sizes}
 use Rattle.mbuf_pool.specs.Store.{StoreView, is_out, count_of}

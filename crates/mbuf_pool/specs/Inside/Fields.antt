@@ -1,4 +1,4 @@
--- How the fields of a store mean what it shows, and when they do.
+-- How the fields of a store mean what it shows, and when they do (this project's own).
 use Rattle.std.specs.Prelude.{◌≡◌, ℕ, ◌+◌, ◌*◌, ◌<◌, ◌==◌, if◌then◌else◌, cond, Option, Some, None, List, [], length, map, take, drop, slice_index}
 use Rattle.std.specs.List.{range_with_len}
 use Rattle.params.specs.declared.TheConstants.{MSIZE, MCLBYTES}
