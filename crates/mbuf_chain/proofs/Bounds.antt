@@ -1,6 +1,7 @@
 -- How large the pool over a store is, and where its entries lie.
 use Rattle.std.proofs.Common.{◌≡◌, ℕ, zero, suc, ◌<◌, List, [], ◌∷◌, length, Option, Some, None, refl, arith, slice_get, slice_index}
 use Rattle.std.specs.Option.{IfSome}
+use Rattle.mbuf_pool.specs.Cells.{IsLink}
 use Rattle.mbuf_pool.specs.Store.{StoreView, head_of}
 use Rattle.mbuf_chain.specs.declared.place.Place.{Place}
 use Rattle.mbuf_chain.specs.Chain.{chain_of, IsLive, IsPlace}
@@ -41,6 +42,6 @@ bounded s ok = record {
 }
 
 -- a live chain's number is told from none
-pub told : (s : StoreView) (at : Option ℕ) → IsPool s → IfSome at (IsLive (pool_of s)) → IfSome at (λ k. k < 4294967295)
+pub told : (s : StoreView) (at : Option ℕ) → IsPool s → IfSome at (IsLive (pool_of s)) → IsLink at
 told s None ok live = tt
 told s (Some k) ok live = omega (arith, (bounded s ok).numbers k live, (bounded s ok).small)

@@ -7,7 +7,7 @@ use Rattle.std.specs.Option.{IsSome}
 use Rattle.std.proofs.lemmas.Option.{none-some, same_Some}
 use Rattle.mbuf_pool.specs.Cells.{Head, PacketHeader}
 use Rattle.mbuf_pool.specs.Store.{StoreView, is_out, head_of, SetsHead, IsStore}
-use Rattle.mbuf_chain.specs.Chain.{ChainView, PoolView, alone, chain_of, IsLive, with_chain, Adds}
+use Rattle.mbuf_chain.specs.Chain.{ChainView, alone, chain_of, IsLive, with_chain, Adds}
 use Rattle.mbuf_chain.specs.Steps.{first_part, second_part}
 use Rattle.mbuf_chain.specs.Inside.Cells.{weigh, weigh_all, is_at, one, len_at, entry_at, front_of, arrival_of, packet_len, total_of, refers_at, first_of, read_chain, cells_from, view_of, IsLinked, IsFollower, AllFollow, IsChain, IsOff, IsFit, pool_of, IsPool, last_of}
 use Rattle.mbuf_chain.proofs.Maps.{get_there, one_to_two}
@@ -16,7 +16,7 @@ use Rattle.mbuf_chain.proofs.Changes.{SameCell, step, view_is, links_kept}
 use Rattle.mbuf_chain.proofs.Focused.{Opened, open_on, in_list, once_in, count_cells}
 use Rattle.mbuf_chain.proofs.Rewrites.{rest_by, alone_first, off_here}
 use Rattle.mbuf_chain.proofs.Joins.{Relinked, relinked, entries_like, lens_like, refers_like, follow_like, weigh-append, last_in}
-use Rattle.mbuf_chain.proofs.Places.{live_there, live_here}
+use Rattle.mbuf_chain.proofs.Laws.Owners.{live_here, live_with}
 
 -- ---- lists
 map_take : {A B : Type 0} (f : A → B) (n : ℕ) (xs : List A) → map f (take n xs) ≡ take n (map f xs)
@@ -150,7 +150,7 @@ cut_made s t a b keep x kept whole pool live some within x_is kept_is whole_is n
           ),
         ),
       );
-      live = subst (λ (q : PoolView). IsLive q a) (sym map_is) (live_there (with_chain (pool_of s) a (first_part keep (chain_of (pool_of s) a))) a b (second_part keep (chain_of (pool_of s) a)) ne (live_here (pool_of s) a (first_part keep (chain_of (pool_of s) a))));
+      live = live_with _ _ b (second_part keep (chain_of (pool_of s) a)) a map_is (live_here (pool_of s) a (first_part keep (chain_of (pool_of s) a)));
       few = omega (arith, whole_is, bounded o (head_of s a).packet refl);
       adds = record {
         fresh = get_there (view_of s) a (first_part keep (chain_of (pool_of s) a)) b (λ e. ne (sym e))

@@ -5,18 +5,19 @@ use Rattle.std.proofs.lemmas.Bool.{cases_eq}
 use Rattle.std.proofs.lemmas.Option.{none-some, same_Some}
 use Rattle.std.proofs.lemmas.List.{length-set}
 use Rattle.mbuf_pool.specs.Cells.{Head, PacketHeader, head_size, over, with_packet_len}
-use Rattle.mbuf_pool.specs.Store.{StoreView, MbufView, ClusterView, is_out, mbuf_of, head_of, cluster_of, count_of, mbufs_out, with_mbuf, SetsHead, IsStore}
+use Rattle.mbuf_pool.specs.Store.{StoreView, MbufView, is_out, mbuf_of, head_of, with_mbuf, SetsHead, IsStore}
 use Rattle.mbuf_chain.specs.declared.place.Place.{Place}
-use Rattle.mbuf_chain.specs.Chain.{Entry, Front, ChainView, PoolView, chain_of, IsLive, with_chain, entry_of, IsPlace}
+use Rattle.mbuf_chain.specs.Chain.{Entry, ChainView, PoolView, chain_of, IsLive, with_chain, entry_of, IsPlace}
 use Rattle.mbuf_chain.specs.Steps.{with_entry, narrowed}
 use Rattle.mbuf_chain.specs.Inside.Cells.{weigh, is_at, one, len_at, place_bytes, entry_from, entry_at, front_of, arrival_of, refers_at, IsLinked, IsFollower, IsTotal, IsOff, IsFit, pool_of, IsPool, room_low, room_high, with_segment}
-use Rattle.mbuf_chain.proofs.Maps.{get_here, insert_same}
-use Rattle.mbuf_chain.proofs.Lists.{bit, on, is_at_same, out_below, chains_of, high_small}
+use Rattle.mbuf_chain.proofs.Maps.{insert_same}
+use Rattle.mbuf_chain.proofs.Lists.{bit, on, out_below}
 use Rattle.mbuf_chain.proofs.Changes.{SameCell, same_cell}
-use Rattle.mbuf_chain.proofs.Focused.{Focused, Opened, OpenedOff, open_on, open_off, Entered, enter, in_list, first_out}
+use Rattle.mbuf_chain.proofs.Focused.{Focused, open_on, open_off, Entered, enter, in_list, first_out}
 use Rattle.mbuf_chain.proofs.Rewrites.{SameOuts, Changed, changed, changed_entry, off_after, rest_right, alone_first, some_cell, off_here}
 use Rattle.mbuf_chain.proofs.Bytes.{run_apart, run_length, run_inner}
 use Rattle.mbuf_chain.proofs.Stores.{slot_here, mbuf_there, out_there, out_here, outs_total, refers_to}
+use Rattle.mbuf_chain.proofs.Laws.Steps.{live_shown}
 
 -- ---- a head of a store
 pub record HeadSet (s t : StoreView) (x : ℕ) (h : Head) : Type 0 where
@@ -210,9 +211,6 @@ pub record Resized (s t : StoreView) (c added removed i : ℕ) (e : Entry) : Typ
   pub live : IsLive (pool_of t) c
   pub map_is : pool_of t ≡ with_chain (pool_of s) c (with_entry (chain_of (pool_of s) c) i e)
 
-pub live_with : (p q : PoolView) (c : ℕ) (v : ChainView) → q ≡ with_chain p c v → IsLive q c
-live_with p q c v is = subst (λ (r : PoolView). IsLive r c) (sym is) (get_here p.chains c v ∙ ap (λ (o : Option ChainView). Some (unwrap_or o Rattle.mbuf_chain.specs.Chain.no_chain)) (sym (get_here p.chains c v)))
-
 pub resized : (s t : StoreView) (c added removed start len : ℕ) (at : Place) → IsPool s → IsLive (pool_of s) c → IsPlace (chain_of (pool_of s) c) at → SetsHead s t at.cell (with_segment (head_of s at.cell) start len) → IsStore t
     → room_low (head_of s at.cell) ≤ start → start + len ≤ room_high (head_of s at.cell) → len + removed ≡ (head_of s at.cell).len + added → Resized s t c added removed at.index (entry_from s at.cell (with_segment (head_of s at.cell) start len))
 resized s t c added removed start len at pool live place sets store low high lens =
@@ -231,7 +229,7 @@ resized s t c added removed start len at pool live place sets store low high len
     let map_is = changed_entry s t c at.index at.cell o.at r.change front ∙ ap (λ (y : Entry). with_chain (pool_of s) c (with_entry (chain_of (pool_of s) c) at.index y)) r.entry in
     record {
       off = off_after s t c at.index at.cell added removed o r.change (same c) (omega (arith, lens, ap (λ (y : Head). y.len) r.head));
-      live = live_with (pool_of s) (pool_of t) c _ map_is;
+      live = live_shown (pool_of s) (pool_of t) c _ map_is;
       map_is = map_is;
     }
 

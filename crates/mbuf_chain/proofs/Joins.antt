@@ -5,7 +5,7 @@ use Rattle.std.specs.FinMap.{FinMap}
 use Rattle.std.specs.Ordering.{nat_cmp}
 use Rattle.std.specs.Option.{option_eq}
 use Rattle.std.specs.List.{AllByRecursion}
-use Rattle.std.proofs.lemmas.Bool.{cases_eq, cases_lt}
+use Rattle.std.proofs.lemmas.Bool.{cases_eq}
 use Rattle.std.proofs.lemmas.Option.{none-some, same_Some, get_or_from_slice_get}
 use Rattle.std.proofs.lemmas.List.{length-append, map-append}
 use Rattle.mbuf_pool.specs.Cells.{Head, PacketHeader}
@@ -16,19 +16,20 @@ use Rattle.mbuf_chain.specs.Chain.{Front, ChainView, chain_of, IsLive, IsPlace, 
 use Rattle.mbuf_chain.specs.Steps.{headless, joined}
 use Rattle.mbuf_chain.specs.Inside.Cells.{weigh, weigh_all, is_at, one, len_at, entry_at, front_of, refers_at, first_of, read_chain, cells_from, view_of, IsLinked, IsFollower, AllFollow, IsChain, IsTotal, IsOff, IsSound, IsFit, pool_of, IsPool, out_at, Freed, last_of}
 use Rattle.mbuf_chain.proofs.Maps.{get_there, remove-insert, two_to_one}
-use Rattle.mbuf_chain.proofs.Lists.{bit, on, off, small, is_at_same, is_at_other, chains_of, get-chains_of, heads_at, heads-tails, split_first, not_first, find_chain, bytes_bound, few_out}
+use Rattle.mbuf_chain.proofs.Lists.{bit, on, off, small, is_at_same, chains_of, get-chains_of, heads_at, heads-tails, split_first, not_first, find_chain, few_out}
 use Rattle.mbuf_chain.proofs.Changes.{SameCell, same_cell, step, view_is, links_kept, count_ones}
 use Rattle.mbuf_chain.proofs.Focused.{Focused, first_out, open_on, enter, in_list, linked_from, once_in, weigh_all_has}
 use Rattle.mbuf_chain.proofs.Rewrites.{SameOuts, rest_by, some_cell, off_here}
-use Rattle.mbuf_chain.proofs.Heads.{HeadSet, head_set, Reheaded, rehead, enter_first, entry_long, IsSet, live_with}
+use Rattle.mbuf_chain.proofs.Heads.{head_set, rehead, enter_first, cell_long}
 use Rattle.mbuf_chain.proofs.Stores.{refers_to}
+use Rattle.mbuf_chain.proofs.Laws.Steps.{live_shown}
 
 -- ---- the bytes of a chain
 pub bytes_are : (s : StoreView) (c : ℕ) → (f : Focused s c) → length (string (chain_of (pool_of s) c)) ≡ weigh (len_at s) f.cells
 bytes_are s c f = ap (λ (v : ChainView). length (string v)) (sym f.shows) ∙ go f.cells (λ k p. p)
   where
     one_long : (k : ℕ) → 0 < weigh (is_at k) f.cells → length (entry_at s k).bytes ≡ (head_of s k).len
-    one_long k p = Rattle.mbuf_chain.proofs.Heads.cell_long s c k f p
+    one_long k p = cell_long s c k f p
 
     go : (l : List ℕ) → ((k : ℕ) → 0 < weigh (is_at k) l → 0 < weigh (is_at k) f.cells) → length (flat_bytes (map (entry_at s) l)) ≡ weigh (len_at s) l
     go [] h = refl
@@ -324,6 +325,6 @@ joined_made s t a b added last pool live_a live_b ne place is_last bare_b sets s
           rest_by t a added 0 two.rest alone_a (went.totals two.rest_totals),
         ),
       );
-      live = live_with (without (pool_of s) b) (pool_of t) a _ map_is;
+      live = live_shown (without (pool_of s) b) (pool_of t) a _ map_is;
       map_is = map_is;
     }

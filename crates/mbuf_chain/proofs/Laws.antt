@@ -4,7 +4,5 @@ pub mod Owners
 pub mod Accounts
 pub mod Trains
 pub mod Iterators
-pub mod Booted
 pub mod Maps
-pub mod Strings
 pub mod Two

@@ -11,7 +11,7 @@ use Rattle.std.proofs.lemmas.Option.{none-some, same_Some, slice_get_within, get
 use Rattle.std.proofs.lemmas.List.{length-set}
 use Rattle.mbuf_pool.specs.Cells.{Head, PacketHeader}
 use Rattle.mbuf_pool.specs.Store.{StoreView, MbufView, ClusterView, no_mbuf, free_cluster, TakesCluster, with_cluster, held, is_out, mbuf_of, head_of, cluster_of, count_of, mbufs_out, with_mbuf, released, IsStore}
-use Rattle.mbuf_pool.proofs.Laws.{taken_back}
+use Rattle.mbuf_pool.proofs.Laws.{taken_back, counted_within}
 use Rattle.mbuf_chain.specs.Chain.{Entry, Front, ChainView, alone, Adds, held_mbufs, references, counts, free_clusters, chain_of, entry_of}
 use Rattle.mbuf_chain.specs.declared.place.Place.{Place}
 use Rattle.mbuf_chain.specs.Chain.{IsLive, IsPlace}
@@ -20,7 +20,7 @@ use Rattle.mbuf_chain.specs.Inside.Cells.{weigh, weigh_all, is_at, one, place_by
 use Rattle.mbuf_chain.proofs.Lists.{is_at_same, is_at_other, on, off, bit, chains_of, out_below}
 use Rattle.mbuf_chain.proofs.Changes.{SameCell, same_cell, step, view_is, get-view_of, held_is, references_is}
 use Rattle.mbuf_chain.proofs.Focused.{weigh_all_has, open_on, enter}
-use Rattle.mbuf_chain.proofs.Stores.{slot_here, mbuf_there, out_there, out_here, outs_total, cluster_below, cluster_here, cluster_there, refers_to, refers_not, refers_none}
+use Rattle.mbuf_chain.proofs.Stores.{slot_here, mbuf_there, out_there, out_here, outs_total, cluster_here, cluster_there, refers_to, refers_not, refers_none}
 use Rattle.mbuf_chain.proofs.Heads.{Shown, narrowed_is}
 
 -- from s to t the mbuf i was taken and stands alone, with its reference counted
@@ -157,7 +157,7 @@ can_hold s t i d h (lists, ok, totals) got some =
 pub new_shared : (s t u : StoreView) (i d : ℕ) (h : Head) → Taken s t i h → h.cluster ≡ Some d → 0 < count_of s d → u ≡ with_cluster t d (held (cluster_of t d)) → IsStore u → NewMbuf s u i h
 new_shared s t u i d h got is some is_held store =
     let m : MbufView = record { head = h; bytes = got.bytes } in
-    let below : d < length t.clusters = omega (arith, cluster_below s d some, ap (λ (v : StoreView). length v.clusters) got.change) in
+    let below : d < length t.clusters = omega (arith, counted_within s d some, ap (λ (v : StoreView). length v.clusters) got.change) in
     let here : cluster_of u d ≡ held (cluster_of t d) = ap (λ (v : StoreView). cluster_of v d) is_held ∙ cluster_here t d (held (cluster_of t d)) below in
     let there : (c : ℕ) → c ≢ d → cluster_of u c ≡ cluster_of t c = λ c ne. ap (λ (v : StoreView). cluster_of v c) is_held ∙ cluster_there t d (held (cluster_of t d)) below c ne in
     let head_is : head_of u i ≡ h = ap (λ (v : StoreView). head_of v i) (is_held) ∙ ap (λ (v : StoreView). head_of v i) got.change ∙ ap (λ (o : Option MbufView). (unwrap_or o no_mbuf).head) (slot_here s i (Some m) got.below) in
@@ -200,7 +200,7 @@ shared_made s t u i c d skip keep at header start pool k is some within start_is
   where
     bytes_kept : NewMbuf s u i (head_for header start keep (Some d)) → (cluster_of u d).bytes ≡ (cluster_of s d).bytes
     bytes_kept n =
-        let below : d < length t.clusters = omega (arith, cluster_below s d some, ap (λ (v : StoreView). length v.clusters) got.change) in
+        let below : d < length t.clusters = omega (arith, counted_within s d some, ap (λ (v : StoreView). length v.clusters) got.change) in
         ap (λ (v : StoreView). (cluster_of v d).bytes) is_held ∙ ap (λ (v : ClusterView). v.bytes) (cluster_here t d (held (cluster_of t d)) below) ∙ ap (λ (v : StoreView). (cluster_of v d).bytes) got.change
 
     entry : NewMbuf s u i (head_for header start keep (Some d)) → entry_at u i ≡ narrowed (entry_of (chain_of (pool_of s) c) at.index) skip keep

@@ -1,5 +1,5 @@
 -- Places of a live chain.
-use Rattle.std.proofs.Common.{◌≡◌, ◌≢◌, ℕ, zero, suc, ◌+◌, ◌<◌, ◌≤◌, false, List, [], ◌∷◌, ◌++◌, length, Option, None, Some, is_some, unwrap_or, refl, sym, ap, ◌∙◌, subst, arith, slice_get, slice_index}
+use Rattle.std.proofs.Common.{◌≡◌, ◌≢◌, ℕ, zero, suc, ◌+◌, ◌<◌, ◌≤◌, false, List, [], ◌∷◌, ◌++◌, length, Option, None, Some, is_some, refl, sym, ap, ◌∙◌, subst, arith, slice_get, slice_index}
 use Rattle.std.specs.FinMap as finmap
 use Rattle.std.proofs.lemmas.Option.{none-some, slice_get_within}
 use Rattle.std.proofs.lemmas.List.{length-append}
@@ -7,10 +7,11 @@ use Rattle.mbuf_pool.specs.Cells.{Head}
 use Rattle.mbuf_pool.specs.Store.{StoreView, head_of}
 use Rattle.mbuf_chain.specs.declared.place.Place.{Place}
 use Rattle.mbuf_chain.specs.declared.place.Segment.{Segment}
-use Rattle.mbuf_chain.specs.Chain.{Entry, ChainView, PoolView, chain_of, no_chain, IsLive, IsPlace, with_chain, without, entry_of, alone}
+use Rattle.mbuf_chain.specs.Chain.{Entry, ChainView, PoolView, chain_of, IsLive, IsPlace, with_chain, without, entry_of, alone}
 use Rattle.mbuf_chain.specs.Steps.{headless, joined}
 use Rattle.mbuf_chain.specs.Inside.Cells.{weigh, one, front_of, first_of, IsLinked, IsChain, pool_of, IsPool}
-use Rattle.mbuf_chain.proofs.Maps.{get_here, get_there, remove-insert_any}
+use Rattle.mbuf_chain.proofs.Maps.{remove-insert_any}
+use Rattle.mbuf_chain.proofs.Laws.Owners.{chain_here, chain_there, live_here, live_with}
 use Rattle.mbuf_chain.proofs.Focused.{open_on, enter, count_cells}
 use Rattle.mbuf_chain.proofs.Heads.{Shown}
 
@@ -88,18 +89,6 @@ segment_is s c at h k head = λ i. record {
 }
 
 -- ---- a chain linked after another, once it has lost its header
-pub chain_there : (p : PoolView) (a b : ℕ) (v : ChainView) → a ≢ b → chain_of (with_chain p b v) a ≡ chain_of p a
-chain_there p a b v ne = ap (λ (o : Option ChainView). unwrap_or o no_chain) (get_there p.chains b v a ne)
-
-pub chain_here : (p : PoolView) (c : ℕ) (v : ChainView) → chain_of (with_chain p c v) c ≡ v
-chain_here p c v = ap (λ (o : Option ChainView). unwrap_or o no_chain) (get_here p.chains c v)
-
-pub live_there : (p : PoolView) (a b : ℕ) (v : ChainView) → a ≢ b → IsLive p a → IsLive (with_chain p b v) a
-live_there p a b v ne live = get_there p.chains b v a ne ∙ live ∙ ap (λ (w : ChainView). Some w) (sym (chain_there p a b v ne))
-
-pub live_here : (p : PoolView) (c : ℕ) (v : ChainView) → IsLive (with_chain p c v) c
-live_here p c v = get_here p.chains c v ∙ ap (λ (w : ChainView). Some w) (sym (chain_here p c v))
-
 -- what the second part of a link needs after the first
 pub record Bared (p q : PoolView) (a b : ℕ) : Type 0 where
   pub front_live : IsLive q a
@@ -111,14 +100,14 @@ pub record Bared (p q : PoolView) (a b : ℕ) : Type 0 where
 pub bared : (p q : PoolView) (a b : ℕ) → a ≢ b → IsLive p a → IsLive p b → q ≡ with_chain p b (headless (chain_of p b)) → Bared p q a b
 bared p q a b ne live_a live_b is =
     subst (λ (r : PoolView). Bared p r a b) (sym is) (record {
-      front_live = live_there p a b (headless (chain_of p b)) ne live_a;
+      front_live = live_with p (with_chain p b (headless (chain_of p b))) b (headless (chain_of p b)) a refl live_a;
       back_live = live_here p b (headless (chain_of p b));
-      front_same = chain_there p a b (headless (chain_of p b)) ne;
+      front_same = chain_there p b a (headless (chain_of p b)) ne;
       bare = ap (λ (v : ChainView). v.front) (chain_here p b (headless (chain_of p b)));
       whole = λ i. record {
         mbufs = p.mbufs;
         clusters = p.clusters;
-        chains = finmap.insert (remove-insert_any p.chains b (headless (chain_of p b)) i) a (joined (chain_there p a b (headless (chain_of p b)) ne i) (chain_here p b (headless (chain_of p b)) i));
+        chains = finmap.insert (remove-insert_any p.chains b (headless (chain_of p b)) i) a (joined (chain_there p b a (headless (chain_of p b)) ne i) (chain_here p b (headless (chain_of p b)) i));
       };
     })
 

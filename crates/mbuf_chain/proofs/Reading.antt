@@ -9,7 +9,8 @@ use Rattle.mbuf_chain.specs.Pieces.{pieces_of}
 use Rattle.mbuf_chain.specs.Inside.Readable.{entries_from, IsReadable, data_of}
 use Rattle.mbuf_chain.proofs.Lists.{Walked, walk_on}
 use Rattle.mbuf_chain.proofs.Focused.{open_on, freeable, enter, weigh_has}
-use Rattle.mbuf_chain.proofs.Stores.{refers_to, cluster_below}
+use Rattle.mbuf_pool.proofs.Laws.{counted_within}
+use Rattle.mbuf_chain.proofs.Stores.{refers_to}
 use Rattle.mbuf_chain.proofs.Bytes.{run_length}
 
 -- ---- where a walk begins
@@ -29,7 +30,7 @@ cluster_known s c at pool live place d is =
     let f = (open_on s c pool live).at in
     let e = enter s c at f place in
     let refers : (head_of s at.cell).cluster ≡ Some d = ap (λ (x : Entry). x.cluster) (sym e.shows) ∙ is in
-    cluster_below s d (omega (arith, refers_to s at.cell d refers, weigh_has (refers_at s d) at.cell f.cells e.inside, f.sound.counted d))
+    counted_within s d (omega (arith, refers_to s at.cell d refers, weigh_has (refers_at s d) at.cell f.cells e.inside, f.sound.counted d))
 
 -- ---- one step
 -- what is known of the next mbuf, whose head is h

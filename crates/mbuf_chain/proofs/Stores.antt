@@ -1,12 +1,13 @@
 -- What each call on a store does to heads, bytes and counts.
-use Rattle.std.proofs.Common.{◌≡◌, ◌≢◌, ℕ, ◌+◌, ◌-◌, ◌<◌, ◌≤◌, true, cond, nat_eq, List, [], ◌∷◌, length, Option, None, Some, is_some, is_none, unwrap_or, refl, sym, ap, ◌∙◌, subst, arith, inl, inr, slice_index_or, count_by}
+use Rattle.std.proofs.Common.{◌≡◌, ◌≢◌, ℕ, ◌+◌, ◌-◌, ◌<◌, ◌≤◌, true, cond, nat_eq, List, ◌∷◌, length, Option, None, Some, is_some, unwrap_or, refl, sym, ap, ◌∙◌, subst, arith, inl, inr, slice_index_or, count_by}
 use Rattle.std.specs.Option.{option_eq}
-use Rattle.std.proofs.lemmas.Bool.{cases_lt, cases_eq, eq-eqb, ne_eqb}
+use Rattle.std.proofs.lemmas.Bool.{cases_eq, eq-eqb, ne_eqb}
 use Rattle.std.proofs.lemmas.Option.{slice_get_within, get_or_from_slice_get}
-use Rattle.std.proofs.lemmas.List.{get_or_past, length-set, get_or-set_same, get_or-set_other}
-use Rattle.std.proofs.lemmas.List.Sums.{sum_by-set, sum_by-cons}
+use Rattle.std.proofs.lemmas.List.{length-set, get_or-set_same, get_or-set_other}
+use Rattle.std.proofs.lemmas.List.Sums.{sum_by-set}
 use Rattle.mbuf_pool.specs.Cells.{Head}
 use Rattle.mbuf_pool.specs.Store.{StoreView, MbufView, ClusterView, no_mbuf, free_cluster, is_out, mbuf_of, head_of, cluster_of, count_of, mbufs_out, with_mbuf, with_cluster, released, TakesWith}
+use Rattle.mbuf_pool.proofs.Laws.{counted_within}
 use Rattle.mbuf_chain.specs.Inside.Cells.{weigh, is_at, one, refers_at, out_at, released_in, Taken, Freed, IsFreeable, IsWhole, cells_from}
 use Rattle.mbuf_chain.proofs.Lists.{is_at_same, is_at_other, on, off, bit, out_below, walk_on}
 
@@ -31,13 +32,6 @@ module _ (s : StoreView) (x : ℕ) (m : Option MbufView) (lt : x < length s.mbuf
   outs_total = sum_by-set (λ (o : Option MbufView). cond {A = ℕ} (is_some o) 1 0) s.mbufs x m None lt
 
 -- ---- one cluster of the table
-pub cluster_below : (s : StoreView) (c : ℕ) → 0 < count_of s c → c < length s.clusters
-cluster_below s c some =
-    elim (cases_lt c (length s.clusters)) [
-      | inl lt ↦ lt
-      | inr past ↦ absurd (omega (arith, ap (λ (v : ClusterView). v.count) (get_or_past s.clusters c free_cluster past)))
-    ]
-
 module _ (s : StoreView) (c : ℕ) (v : ClusterView) (lt : c < length s.clusters) where
   pub cluster_here : cluster_of (with_cluster s c v) c ≡ v
   cluster_here = get_or-set_same s.clusters c v free_cluster lt
@@ -104,7 +98,7 @@ free_one s t l m i f out known = go (head_of s i).cluster refl
     }
     go (Some d) some =
         let counted : 0 < count_of t d = omega (arith, known d, refers_to s i d some) in
-        let lt : d < length t.clusters = cluster_below t d counted in
+        let lt : d < length t.clusters = counted_within t d counted in
         let v = released (cluster_of t d) in
         let here : cluster_of (with_cluster t d (released (cluster_of t d))) d ≡ released (cluster_of t d) = cluster_here t d v lt in
         record {
@@ -153,10 +147,6 @@ ready s t first at i is own whole f =
     }
 
 -- ---- an mbuf taken
-pub free_none : (xs : List (Option MbufView)) → count_by (λ (o : Option MbufView). is_none o) xs ≡ 0 → count_by (λ (o : Option MbufView). is_some o) xs ≡ length xs
-free_none [] e = refl
-free_none (None ∷ xs) e = absurd (omega (arith, sum_by-cons (λ (o : Option MbufView). cond {A = ℕ} (is_none o) 1 0) None xs))
-free_none (Some m ∷ xs) e = omega (arith, sum_by-cons (λ (o : Option MbufView). cond {A = ℕ} (is_none o) 1 0) (Some m) xs, sum_by-cons (λ (o : Option MbufView). cond {A = ℕ} (is_some o) 1 0) (Some m) xs, free_none xs (omega (arith, sum_by-cons (λ (o : Option MbufView). cond {A = ℕ} (is_none o) 1 0) (Some m) xs)))
 
 pub taken : (s t : StoreView) (i : ℕ) (h : Head) → TakesWith s t i h → Taken s t i h
 taken s t i h got = record {

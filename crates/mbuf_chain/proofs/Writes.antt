@@ -14,7 +14,8 @@ use Rattle.mbuf_chain.proofs.Focused.{Focused, open_on, enter, weigh_has}
 use Rattle.mbuf_chain.proofs.Rewrites.{SameOuts, changed, changed_entry}
 use Rattle.mbuf_chain.proofs.Heads.{same_outs, Shown, shown_at, low_is, with_entry_same, with_self}
 use Rattle.mbuf_chain.proofs.Made.{unreferenced, counted_at}
-use Rattle.mbuf_chain.proofs.Stores.{slot_here, mbuf_there, out_there, refers_to, cluster_below, cluster_here, cluster_there}
+use Rattle.mbuf_pool.proofs.Laws.{counted_within}
+use Rattle.mbuf_chain.proofs.Stores.{slot_here, mbuf_there, out_there, refers_to, cluster_here, cluster_there}
 use Rattle.mbuf_chain.proofs.Bytes.{run_apart, written_after, written_before, written_within}
 
 -- ---- a write in a store
@@ -43,7 +44,7 @@ in_mbuf s x start ws out none =
 in_cluster : (s : StoreView) (x d start : ℕ) (ws : List ℕ) → (head_of s x).cluster ≡ Some d → 0 < count_of s d → PlaceWrite s (with_bytes s (buffer_of x (Some d)) (over (bytes_in s (buffer_of x (Some d))) start ws)) x start ws
 in_cluster s x d start ws some counted =
     let v : ClusterView = record { count = count_of s d; bytes = over (cluster_of s d).bytes start ws } in
-    let lt = cluster_below s d counted in
+    let lt = counted_within s d counted in
     let here : cluster_of (with_cluster s d (record { count = count_of s d; bytes = over (cluster_of s d).bytes start ws })) d ≡ record { count = count_of s d; bytes = over (cluster_of s d).bytes start ws } = cluster_here s d v lt in
     record {
       outs = record {

@@ -1,5 +1,6 @@
 //! Changes of one mbuf of a chain.
-ghost use Rattle.std.specs.Prelude.{◌≡◌, ◌≢◌, ℕ, ◌+◌, ◌<◌, ◌≤◌, ◌^◌, true, Some, None, IfSome, length};
+ghost use Rattle.std.specs.Prelude.{◌≡◌, ◌≢◌, ℕ, ◌+◌, ◌<◌, ◌≤◌, ◌^◌, true, Some, None, length};
+ghost use Rattle.mbuf_pool.specs.Cells.{IsLink};
 ghost use Rattle.mbuf_pool.specs.Store.{IsStore, is_out, head_of};
 ghost use Rattle.mbuf_chain.specs.Chain.{IsLive, IsPlace, chain_of, entry_of, with_chain, entry_in};
 ghost use Rattle.mbuf_chain.specs.Steps.{with_entry, narrowed, placed, with_entry_in};
@@ -60,7 +61,7 @@ pub(crate) fn set_after(store: &mut Store, first: u32, after: Option<u32>, tag: 
     requires pool { IsPool store.old }
     requires live { IsLive (pool_of store.old) first }
     requires headed { (chain_of (pool_of store.old) first).front.header ≡ true }
-    requires link { IfSome after (λ k. k < 0xffff_ffff) }
+    requires link { IsLink after }
     ensures pool { IsPool store.new }
     ensures change { pool_of store.new ≡
         with_chain (pool_of store.old) first

@@ -232,7 +232,7 @@ impl Pool {
         links::segment(&self.store, chain.first, at)
     }
 
-    /// Leaves `keep` of an mbuf's bytes, after the first `skip`. An emptied mbuf stays.
+    /// Leaves `keep` of an mbuf's bytes, after the first `skip`: it must have so many. An emptied mbuf stays.
     pub fn narrow(&mut self, chain: &Chain, at: Place, skip: u32, keep: u32)
         requires live { IsLive self.old chain.now }
         requires place { IsPlace (chain_of self.old chain.now) at }
@@ -273,7 +273,8 @@ impl Pool {
         data::bytes(&self.store, chain.first, at)
     }
 
-    /// Puts bytes in front of those of an mbuf, into its room. No other mbuf may share its cluster.
+    /// Puts bytes in front of those of an mbuf, into its room: its own after its head, or the whole of its
+    /// cluster, which no other mbuf may share. They must fit there.
     pub fn put_front(&mut self, chain: &Chain, at: Place, bytes: &[u8])
         requires live { IsLive self.old chain.now }
         requires place { IsPlace (chain_of self.old chain.now) at }
@@ -285,7 +286,8 @@ impl Pool {
         data::put_front(&mut self.store, chain.first, at, bytes);
     }
 
-    /// Puts bytes after those of an mbuf, into its room. No other mbuf may share its cluster.
+    /// Puts bytes after those of an mbuf, into its room: its own, or the whole of its cluster, which no other
+    /// mbuf may share. They must fit there.
     pub fn put_back(&mut self, chain: &Chain, at: Place, bytes: &[u8])
         requires live { IsLive self.old chain.now }
         requires place { IsPlace (chain_of self.old chain.now) at }
@@ -297,7 +299,8 @@ impl Pool {
         data::put_back(&mut self.store, chain.first, at, bytes);
     }
 
-    /// Writes bytes over those of an mbuf, from `offset` on. No other mbuf may share its cluster.
+    /// Writes bytes over those of an mbuf, from `offset` on. It must have so many, and no other mbuf may share
+    /// its cluster.
     pub fn overwrite(&mut self, chain: &Chain, at: Place, offset: u32, bytes: &[u8])
         requires live { IsLive self.old chain.now }
         requires place { IsPlace (chain_of self.old chain.now) at }
@@ -310,7 +313,8 @@ impl Pool {
     }
 
     /// Puts bytes of an mbuf of this or another chain, `count` of them after the first `skip`, after
-    /// those of an mbuf, into its room. No other mbuf may share the cluster that is written.
+    /// those of an mbuf, into its room. There must be so many, they must fit, and no other mbuf may share the
+    /// cluster that is written.
     pub fn append(
         &mut self,
         chain: &Chain,
@@ -351,8 +355,8 @@ impl Pool {
     }
 
     /// A chain of one mbuf that shares the cluster of another mbuf, of which it shows `keep` bytes,
-    /// after the first `skip`. The cluster has one reference more. `NoBufs` comes exactly where no
-    /// mbuf is free, and changes nothing.
+    /// after the first `skip`: that one must have a cluster, and so many bytes. The cluster has one
+    /// reference more. `NoBufs` comes exactly where no mbuf is free, and changes nothing.
     pub fn new_shared(
         &mut self,
         header: bool,
@@ -396,9 +400,10 @@ impl Pool {
         }
     }
 
-    /// Links a chain after the last mbuf of another. It loses its packet header. The answer is the
-    /// place of its first mbuf in the whole. Where the front has a packet header, and the chain after it has
-    /// none, that one is walked for its length; `link_counted` is told it.
+    /// Links a chain after the last mbuf of another, whose place is `last`. They must be two chains. The one
+    /// that is linked loses its packet header. The answer is the place of its first mbuf in the whole. Where
+    /// the front has a packet header, and the chain after it has none, that one is walked for its length;
+    /// `link_counted` is told it.
     pub fn link(&mut self, chain: &Chain, last: Place, back: Chain) -> Place
         requires front { IsLive self.old chain.now }
         requires back { IsLive self.old back }
@@ -435,8 +440,8 @@ impl Pool {
         links::link(&mut self.store, chain.first, last, number, len)
     }
 
-    /// Cuts a chain after its first `keep` mbufs, and answers the chain of the others. It has no packet
-    /// header. It takes one step for each mbuf that stays.
+    /// Cuts a chain after its first `keep` mbufs, from 1 to one fewer than it has, and answers the chain of
+    /// the others, which has no packet header. It takes one step for each mbuf that stays.
     pub fn cut(&mut self, chain: &Chain, keep: u32) -> Chain
         requires live { IsLive self.old chain.now }
         requires some { 0 < keep }

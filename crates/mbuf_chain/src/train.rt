@@ -15,7 +15,8 @@ use crate::queued_place::QueuedPlace;
 use std::marker::Model;
 
 /// Chains in a row, each linked after the one before through their first mbufs, and each with a tag
-/// that is kept in its packet header. A train takes no buffer. It must be spent, by `free`.
+/// that is kept in its packet header. A train takes no buffer. It must be spent, by `free`, or by
+/// `end_empty` where no chain is left.
 ///
 /// The chains stay in the pool that each call is given, which is the one that they came from.
 pub struct Train {
@@ -58,8 +59,9 @@ impl Train {
         self.len == 0
     }
 
-    /// Puts a chain in at a place, with a tag. At the front and at the end this takes a number of steps
-    /// that doesn't depend on the train, elsewhere one for each chain in front.
+    /// Puts a chain in at a place, with a tag. The place is at most the number of chains, and the chain must
+    /// have a packet header. At the front and at the end this takes a number of steps that doesn't depend on
+    /// the train, elsewhere one for each chain in front.
     pub fn insert(&mut self, pool: &mut Pool, i: u32, chain: Chain, tag: u32)
         requires place { i ≤ self.old.len }
         requires live { IsLive pool.old chain }
@@ -86,8 +88,9 @@ impl Train {
         }
     }
 
-    /// Puts a chain in after the one at a place of a walk, with a tag, and answers its place. This takes a number
-    /// of steps that doesn't depend on the train. The place that was given stays one.
+    /// Puts a chain, which must have a packet header, in after the one at a place of a walk, with a tag, and
+    /// answers its place. This takes a number of steps that doesn't depend on the train. The place that was given
+    /// stays one.
     pub fn insert_after(
         &mut self,
         pool: &mut Pool,
@@ -115,8 +118,8 @@ impl Train {
         self.insert_next(pool, at, number, tag)
     }
 
-    /// Takes the chain at a place out, with its tag. At the front this takes a number of steps that doesn't
-    /// depend on the train, elsewhere one for each chain in front.
+    /// Takes the chain at a place out, with its tag. The place must be below the number of chains. At the front
+    /// this takes a number of steps that doesn't depend on the train, elsewhere one for each chain in front.
     pub fn take(&mut self, pool: &mut Pool, i: u32) -> (Chain, u32)
         requires place { i < self.old.len }
         requires held { IsHeld pool.old self.old }
@@ -232,7 +235,7 @@ impl Train {
         pieces_of(pool, at.number)
     }
 
-    /// The tag of the chain at a place.
+    /// The tag of the chain at a place, which must be below the number of chains.
     pub fn tag(&self, pool: &Pool, i: u32) -> u32
         requires place { i < self.now.len }
         requires held { IsHeld pool.now self.now }
@@ -241,7 +244,7 @@ impl Train {
         tag_of(pool, self.number_at(pool, i))
     }
 
-    /// How many bytes the chain at a place has.
+    /// How many bytes the chain at a place has. The place must be below the number of chains.
     pub fn chain_len(&self, pool: &Pool, i: u32) -> u32
         requires place { i < self.now.len }
         requires held { IsHeld pool.now self.now }

@@ -1,22 +1,19 @@
 -- The pool's accounts: what a step adds to the mbufs held and to a cluster's references, and both as sums over what the owners have.
-use Rattle.std.proofs.Common.{◌≡◌, ◌≢◌, ℕ, zero, suc, ◌+◌, ◌<◌, ◌≤◌, Bool, cond, List, [], ◌∷◌, length, take, drop, take-append-drop, Option, None, Some, sum_by, count_by, nat_eq, slice_index_or, refl, sym, ap, ◌∙◌, subst, arith, inl, inr}
-use Rattle.std.specs.Option.{option_eq}
+use Rattle.std.proofs.Common.{◌≡◌, ◌≢◌, ℕ, zero, suc, ◌+◌, ◌<◌, ◌≤◌, Bool, cond, List, [], ◌∷◌, length, None, Some, sum_by, count_by, nat_eq, refl, sym, ap, ◌∙◌, subst, arith, inl, inr}
 use Rattle.std.specs.List.{range_with_len}
 use Rattle.std.specs.Ordering.{nat_cmp}
 use Rattle.std.specs.FinMap as finmap
 use Rattle.std.specs.FinMap.{FinMap, get-empty}
 use Rattle.std.proofs.lemmas.Bool.{cases_eq, cond-true, cond-false, eq-eqb, ne_eqb}
 use Rattle.std.proofs.lemmas.Option.{same_Some}
-use Rattle.std.proofs.lemmas.List.{length-append}
-use Rattle.std.proofs.lemmas.List.Sums.{sum_by-append, sum_by-cons}
-use Rattle.mbuf_chain.specs.declared.place.Place.{Place}
-use Rattle.mbuf_chain.specs.Chain.{Entry, ChainView, PoolView, IsLive, IsPlace, IsUnshared, no_entry, chain_of, entry_of, entry_in, with_chain, without, Adds, mbufs_of, refers, references_of, held_mbufs, references, free_clusters}
-use Rattle.mbuf_chain.specs.Steps.{one_mbuf, empty_entry, joined, first_part, second_part}
+use Rattle.std.proofs.lemmas.List.Sums.{sum_by-cons}
+use Rattle.mbuf_chain.specs.Chain.{Entry, ChainView, PoolView, IsLive, IsUnshared, chain_of, entry_of, with_chain, without, Adds, mbufs_of, refers, references_of, held_mbufs, references, free_clusters}
+use Rattle.mbuf_chain.specs.Steps.{one_mbuf, empty_entry}
 use Rattle.mbuf_chain.specs.Owners.{times, live_at, IsOwned, IsAll, Moves}
-use Rattle.mbuf_chain.specs.Frames.{SameAt, IsBounded}
+use Rattle.mbuf_chain.specs.Frames.{IsBounded}
 use Rattle.mbuf_chain.proofs.Maps.{same, get_gone, get_left, get_here, get_there, total, total_is, total-insert, total-remove, total-empty}
-use Rattle.mbuf_chain.proofs.Laws.Owners.{times_same, times_other, live_same, live_none, live_one, live_at_most, live_from, live_first, live_owned, apart_first, none_from, chain_left, chain_same, owned_after}
-use Rattle.mbuf_chain.proofs.Laws.Steps.{live_without, new_entry}
+use Rattle.mbuf_chain.proofs.Laws.Owners.{times_same, times_other, live_same, live_none, live_at_most, live_from, live_first, live_owned, apart_first, none_from, chain_left, owned_after}
+use Rattle.mbuf_chain.proofs.Laws.Steps.{new_entry}
 
 -- ---- any sum over the chains
 insert-removed : (m : FinMap nat_cmp ChainView) (c : ℕ) (v : ChainView) → finmap.insert (finmap.remove m c) c v ≡ finmap.insert m c v
@@ -50,9 +47,6 @@ sum-adds f p q c v a =
 pub held-without : (p q : PoolView) (c : ℕ) → IsLive p c → q ≡ without p c → held_mbufs q + mbufs_of (chain_of p c) ≡ held_mbufs p
 held-without p q c l e = ap (λ (r : PoolView). held_mbufs r + mbufs_of (chain_of p c)) e ∙ sum-without mbufs_of p c l
 
-pub held-with : (p q : PoolView) (c : ℕ) (v : ChainView) → IsLive p c → q ≡ with_chain p c v → held_mbufs q + mbufs_of (chain_of p c) ≡ held_mbufs p + mbufs_of v
-held-with p q c v l e = ap (λ (r : PoolView). held_mbufs r + mbufs_of (chain_of p c)) e ∙ sum-with mbufs_of p c v l
-
 pub held-adds : {p q : PoolView} {c : ℕ} {v : ChainView} → Adds p q c v → held_mbufs q ≡ held_mbufs p + mbufs_of v
 held-adds {p} {q} {c} {v} a = sum-adds mbufs_of p q c v a
 
@@ -64,48 +58,6 @@ references-with p q c cluster v l e = ap (λ (r : PoolView). references r cluste
 
 pub references-adds : {p q : PoolView} {c : ℕ} {v : ChainView} (cluster : ℕ) → Adds p q c v → references q cluster ≡ references p cluster + references_of cluster v
 references-adds {p} {q} {c} {v} cluster a = sum-adds (references_of cluster) p q c v a
-
--- a link moves mbufs and references from one chain to another
-pub held-link : (p q : PoolView) (a b : ℕ) → IsLive p a → IsLive p b → a ≢ b → q ≡ with_chain (without p b) a (joined (chain_of p a) (chain_of p b)) → held_mbufs q ≡ held_mbufs p
-held-link p q a b la lb ne e =
-    omega (
-      arith,
-      held-without p (without p b) b lb refl,
-      held-with (without p b) q a (joined (chain_of p a) (chain_of p b)) (live_without p (without p b) b refl a ne la) e,
-      ap mbufs_of (chain_left p b a ne),
-      length-append (chain_of p a).entries (chain_of p b).entries,
-    )
-
-pub references-link : (p q : PoolView) (a b cluster : ℕ) → IsLive p a → IsLive p b → a ≢ b → q ≡ with_chain (without p b) a (joined (chain_of p a) (chain_of p b)) → references q cluster ≡ references p cluster
-references-link p q a b cluster la lb ne e =
-    omega (
-      arith,
-      references-without p (without p b) b cluster lb refl,
-      references-with (without p b) q a cluster (joined (chain_of p a) (chain_of p b)) (live_without p (without p b) b refl a ne la) e,
-      ap (references_of cluster) (chain_left p b a ne),
-      sum_by-append (λ (x : Entry). cond {A = ℕ} (refers cluster x) 1 0) (chain_of p a).entries (chain_of p b).entries,
-    )
-
--- a cut leaves as many in two chains as there were in one
-pub held-cut : (p q : PoolView) (c d n : ℕ) → IsLive p c → Adds (with_chain p c (first_part n (chain_of p c))) q d (second_part n (chain_of p c)) → held_mbufs q ≡ held_mbufs p
-held-cut p q c d n live a =
-    omega (
-      arith,
-      held-with p (with_chain p c (first_part n (chain_of p c))) c (first_part n (chain_of p c)) live refl,
-      held-adds a,
-      length-append (take n (chain_of p c).entries) (drop n (chain_of p c).entries),
-      ap (λ (es : List Entry). length es) (take-append-drop n (chain_of p c).entries),
-    )
-
-pub references-cut : (p q : PoolView) (c d n cluster : ℕ) → IsLive p c → Adds (with_chain p c (first_part n (chain_of p c))) q d (second_part n (chain_of p c)) → references q cluster ≡ references p cluster
-references-cut p q c d n cluster live a =
-    omega (
-      arith,
-      references-with p (with_chain p c (first_part n (chain_of p c))) c cluster (first_part n (chain_of p c)) live refl,
-      references-adds cluster a,
-      sum_by-append (λ (x : Entry). cond {A = ℕ} (refers cluster x) 1 0) (take n (chain_of p c).entries) (drop n (chain_of p c).entries),
-      ap (λ (es : List Entry). count_by (refers cluster) es) (take-append-drop n (chain_of p c).entries),
-    )
 
 -- ---- what owners have
 -- a sum over a list that lacks c doesn't see that c is gone
@@ -172,9 +124,6 @@ references_by_owners p all cluster h = sum_all (references_of cluster) p all h
 pub owned_held : (p : PoolView) (xs : List ℕ) → IsOwned p xs → sum_by (λ k. mbufs_of (chain_of p k)) xs ≤ held_mbufs p
 owned_held p xs o = sum_owned mbufs_of p xs o
 
-pub owned_references : (p : PoolView) (xs : List ℕ) (cluster : ℕ) → IsOwned p xs → sum_by (λ k. references_of cluster (chain_of p k)) xs ≤ references p cluster
-owned_references p xs cluster o = sum_owned (references_of cluster) p xs o
-
 -- ---- what an owner's step makes of the pool's counts: the difference of its own chains
 -- the pool without the chains of a list
 abbrev pub without_all : PoolView → List ℕ → PoolView
@@ -229,45 +178,11 @@ sum_moves {p} {q} {xs} {ys} f m o =
 pub held_moves : {p q : PoolView} {xs ys : List ℕ} → Moves p xs q ys → IsOwned p xs → held_mbufs q + sum_by (λ k. mbufs_of (chain_of p k)) xs ≡ held_mbufs p + sum_by (λ k. mbufs_of (chain_of q k)) ys
 held_moves m o = sum_moves mbufs_of m o
 
-pub references_moves : {p q : PoolView} {xs ys : List ℕ} (cluster : ℕ) → Moves p xs q ys → IsOwned p xs
-    → references q cluster + sum_by (λ k. references_of cluster (chain_of p k)) xs ≡ references p cluster + sum_by (λ k. references_of cluster (chain_of q k)) ys
-references_moves cluster m o = sum_moves (references_of cluster) m o
-
--- ---- an entry refers to its cluster
-refers_some : (es : List Entry) (i c : ℕ) → i < length es → (slice_index_or es i no_entry).cluster ≡ Some c → 0 < count_by (refers c) es
-refers_some [] i c h is = absurd (omega (arith, h))
-refers_some (e ∷ es) zero c h is =
-    omega (arith, sum_by-cons (λ (x : Entry). cond {A = ℕ} (refers c x) 1 0) e es, ap (λ (o : Option ℕ). cond {A = ℕ} (option_eq nat_eq o (Some c)) 1 0) is, ap (λ (b : Bool). cond {A = ℕ} b 1 0) (eq-eqb c c refl))
-refers_some (e ∷ es) (suc i) c h is = omega (arith, sum_by-cons (λ (x : Entry). cond {A = ℕ} (refers c x) 1 0) e es, refers_some es i c (omega (arith, h)) is)
-
-one_owned : (p : PoolView) (k : ℕ) → IsLive p k → IsOwned p (k ∷ [])
-one_owned p k live = λ j. elim (cases_eq j k) [
-  | inl e ↦ subst (λ (i : ℕ). times i (k ∷ []) ≤ live_at p i) (sym e) (omega (arith, times_same k [], live_one p k live))
-  | inr ne ↦ omega (arith, times_other j k [] ne)
-]
-
--- so the cluster of a live chain's entry isn't free
-pub referred : (p : PoolView) (k cluster : ℕ) (at : Place) → IsLive p k → IsPlace (chain_of p k) at → (entry_in p k at).cluster ≡ Some cluster → 0 < references p cluster
-referred p k cluster at live place is =
-    omega (
-      arith,
-      owned_references p (k ∷ []) cluster (one_owned p k live),
-      sum_by-cons (λ (j : ℕ). references_of cluster (chain_of p j)) k [],
-      refers_some (chain_of p k).entries at.index cluster place.within is,
-    )
-
 -- nobody else refers to the cluster that a new chain was given
 pub unshared_new : (p q : PoolView) (c d i : ℕ) (header : Bool) (start : ℕ) → Adds p q c (one_mbuf header (empty_entry start (Some d)) c) → references p d ≡ 0 → i ≡ 0 → IsUnshared q (entry_of (chain_of q c) i)
 unshared_new p q c d i header start a none first =
     let one : references q d ≡ 1 = omega (arith, references-adds d a, none, sum_by-cons (λ (e : Entry). cond {A = ℕ} (refers d e) 1 0) (empty_entry start (Some d)) [], ap (λ (b : Bool). cond {A = ℕ} b 1 0) (eq-eqb d d refl)) in
     subst (IsUnshared q) (sym (new_entry p q c i header (empty_entry start (Some d)) a first)) (λ k is. subst (λ (j : ℕ). references q j ≡ 1) (same_Some d k is) one)
-
--- where nothing is owned, every buffer is free
-pub none_held : (p : PoolView) → IsAll p [] → held_mbufs p ≡ 0
-none_held p h = held_by_owners p [] h
-
-pub none_referred : (p : PoolView) (cluster : ℕ) → IsAll p [] → references p cluster ≡ 0
-none_referred p cluster h = references_by_owners p [] cluster h
 
 -- owned chains are at most as many as the pool has mbufs
 some_each : (p : PoolView) (xs : List ℕ) → ((c : ℕ) → IsLive p c → 0 < mbufs_of (chain_of p c)) → ((k : ℕ) → 0 < times k xs → IsLive p k) → length xs ≤ sum_by (λ k. mbufs_of (chain_of p k)) xs
@@ -284,18 +199,6 @@ pub owned_at_most : (p : PoolView) (xs : List ℕ) → IsBounded p → IsOwned p
 owned_at_most p xs b o =
     omega (arith, some_each p xs b.some (λ k h. live_owned p xs k o h), owned_held p xs o, b.few)
 
--- a list's sum stays where its chains do
-pub sum_same : (f : ChainView → ℕ) (p q : PoolView) (xs : List ℕ) → SameAt p q xs → sum_by (λ k. f (chain_of q k)) xs ≡ sum_by (λ k. f (chain_of p k)) xs
-sum_same f p q [] s = refl
-sum_same f p q (x ∷ xs) s =
-    omega (
-      arith,
-      sum_by-cons (λ k. f (chain_of p k)) x xs,
-      sum_by-cons (λ k. f (chain_of q k)) x xs,
-      ap f (chain_same p q (x ∷ xs) x s (omega (arith, times_same x xs))),
-      sum_same f p q xs (record { mbufs = s.mbufs; same = λ k h. s.same k (omega (arith, h)) }),
-    )
-
 -- ---- the free clusters
 free_in : (f : ℕ → ℕ) (a n : ℕ) → ℕ
 free_in f a n = count_by (λ c. nat_eq (f c) 0) (range_with_len a n)
@@ -303,11 +206,6 @@ free_in f a n = count_by (λ c. nat_eq (f c) 0) (range_with_len a n)
 free-step : (f : ℕ → ℕ) (a n : ℕ) → free_in f a (suc n) ≡ cond {A = ℕ} (nat_eq (f a) 0) 1 0 + free_in f (a + 1) n
 unfolding free_in
 free-step f a n = sum_by-cons (λ c. cond {A = ℕ} (nat_eq (f c) 0) 1 0) a (range_with_len (a + 1) n)
-
-free-none : (f : ℕ → ℕ) (a n : ℕ) → ((c : ℕ) → f c ≡ 0) → free_in f a n ≡ n
-unfolding free_in
-free-none f a zero h = refl
-free-none f a (suc n) h = omega (arith, free-step f a n, free-none f (a + 1) n h, cond-true {A = ℕ} _ 1 0 (eq-eqb (f a) 0 (h a)))
 
 free-beside : (f g : ℕ → ℕ) (c a n : ℕ) → ((k : ℕ) → k ≢ c → g k ≡ f k) → c < a → free_in g a n ≡ free_in f a n
 unfolding free_in
@@ -337,7 +235,3 @@ free-same p q e h = λ i. count_by (λ c. nat_eq (h c i) 0) (range_with_len 0 (e
 pub free-taken : (p q : PoolView) (c : ℕ) → q.clusters ≡ p.clusters → c < p.clusters → references p c ≡ 0 → 0 < references q c → ((k : ℕ) → k ≢ c → references q k ≡ references p k) → free_clusters q + 1 ≡ free_clusters p
 free-taken p q c e l none some h =
     omega (arith, free_is p, free_is q, ap (free_in (references q) 0) e, free-one (references p) (references q) c 0 p.clusters h none some (omega arith) (omega arith))
-
--- where nothing is owned, every cluster is free
-pub none_free : (p : PoolView) → IsAll p [] → free_clusters p ≡ p.clusters
-none_free p h = free_is p ∙ free-none (references p) 0 p.clusters (λ c. none_referred p c h)

@@ -3,7 +3,7 @@ use Rattle.std.proofs.Common.{◌≡◌, ◌≢◌, ℕ, zero, suc, ◌+◌, ◌
 use Rattle.std.specs.FinMap as finmap
 use Rattle.std.proofs.lemmas.Bool.{cases_eq, cond-false, ne_eqb}
 use Rattle.mbuf_chain.specs.Chain.{ChainView, PoolView, IsLive, chain_of, with_chain, without, no_chain, Adds}
-use Rattle.mbuf_chain.specs.Owners.{times, live_at, IsOwned, IsAll, Moves}
+use Rattle.mbuf_chain.specs.Owners.{times, live_at, IsOwned, Moves}
 use Rattle.mbuf_chain.specs.Frames.{SameAt}
 pub use Rattle.mbuf_chain.specs.Kept.{times_same, chain_same, owned_same}
 use Rattle.mbuf_chain.proofs.Maps.{same, get_here, get_there, get_gone, get_left}
@@ -131,10 +131,6 @@ owned_after m o = λ k. omega (arith, m.owned k, o k)
 -- what else is owned beside stays owned
 pub owned_beside : {p q : PoolView} {xs ys : List ℕ} (zs : List ℕ) → Moves p xs q ys → IsOwned p (zs ++ xs) → IsOwned q (zs ++ ys)
 owned_beside {p} {q} {xs} {ys} zs m o = λ k. omega (arith, m.owned k, o k, times-append k zs xs, times-append k zs ys)
-
--- where the owners have each chain once, they have it so after the step
-pub all_after : {p q : PoolView} {xs ys : List ℕ} (us vs zs : List ℕ) → Moves p xs q ys → ((k : ℕ) → times k us ≡ times k zs + times k xs) → ((k : ℕ) → times k vs ≡ times k zs + times k ys) → IsAll p us → IsAll q vs
-all_after us vs zs m a b all = λ k. omega (arith, m.owned k, all k, a k, b k)
 
 -- a step leaves the chains of an owner who has none of its own
 pub same_beside : {p q : PoolView} {xs ys : List ℕ} (zs : List ℕ) → Moves p xs q ys → IsOwned p zs → ((k : ℕ) → 0 < times k zs → times k xs ≡ 0) → SameAt p q zs

@@ -1,5 +1,5 @@
 -- What a caller knows of a pool after one step.
-use Rattle.std.proofs.Common.{◌≡◌, ◌≢◌, ℕ, ◌+◌, ◌∷◌, [], length, Bool, Result, Ok, Option, Some, unwrap_or, sym, ap, ◌∙◌, arith, subst, inl, inr, refl, None}
+use Rattle.std.proofs.Common.{◌≡◌, ◌≢◌, ℕ, ◌+◌, length, Bool, Result, Ok, Option, Some, unwrap_or, sym, ap, ◌∙◌, arith, subst, inl, inr, None}
 use Rattle.std.specs.FinMap as finmap
 use Rattle.std.specs.FinMap.{FinMap}
 use Rattle.std.specs.Ordering.{nat_cmp}
@@ -8,11 +8,10 @@ use Rattle.std.proofs.lemmas.Option.{none-some}
 use Rattle.std.proofs.lemmas.List.{length-append, length-set}
 use Rattle.mbuf_chain.specs.declared.place.Place.{Place}
 use Rattle.mbuf_chain.specs.Chain.{Entry, ChainView, PoolView, chain_of, no_chain, entry_of, IsLive, IsPlace, with_chain, without, Adds}
-use Rattle.mbuf_chain.specs.Steps.{one_mbuf, joined, with_entry, first_part, second_part}
-use Rattle.mbuf_chain.specs.Owners.{Moves}
+use Rattle.mbuf_chain.specs.Steps.{one_mbuf, joined, with_entry}
 use Rattle.mbuf_chain.proofs.Maps.{same, get_here, get_there, get_gone, get_left, insert-insert, remove-insert, remove-insert_any}
 use Rattle.std.specs.Result.{IfOk}
-use Rattle.mbuf_chain.proofs.Laws.Owners.{live_here, live_with, shown_with, shown_adds, kept_with, moves_trans, moves_beside, moves_with, moves_without, moves_adds}
+use Rattle.mbuf_chain.proofs.Laws.Owners.{live_here, live_with, shown_with, shown_adds, kept_with}
 
 -- the chain that was written is live
 pub live_shown : (p q : PoolView) (c : ℕ) (v : ChainView) → q ≡ with_chain p c v → IsLive q c
@@ -182,14 +181,3 @@ pub base_new : (p q : PoolView) (c d : ℕ) (w : ChainView) → IsLive p c → A
 base_new p q c d w live a =
     ap (λ (s : PoolView). without (without s c) d) a.pool
     ∙ (λ i. record { mbufs = p.mbufs; clusters = p.clusters; chains = new_gone p.chains c d w a.fresh (λ e. apart p q d w a c live (sym e)) i })
-
--- ---- who owns what after a link, and after a cut
-pub moves_link : (p q : PoolView) (a b : ℕ) → IsLive p a → IsLive p b → a ≢ b → q ≡ with_chain (without p b) a (joined (chain_of p a) (chain_of p b)) → Moves p (a ∷ b ∷ []) q (a ∷ [])
-moves_link p q a b la lb ne e =
-    moves_trans (moves_beside (a ∷ b ∷ []) (a ∷ []) (a ∷ []) (moves_without p (without p b) b lb refl) (λ k. omega arith) (λ k. omega arith))
-    (moves_with (without p b) q a (joined (chain_of p a) (chain_of p b)) (live_without p (without p b) b refl a ne la) e)
-
-pub moves_cut : (p q : PoolView) (c d n : ℕ) → IsLive p c → Adds (with_chain p c (first_part n (chain_of p c))) q d (second_part n (chain_of p c)) → Moves p (c ∷ []) q (c ∷ d ∷ [])
-moves_cut p q c d n live a =
-    moves_trans (moves_with p (with_chain p c (first_part n (chain_of p c))) c (first_part n (chain_of p c)) live refl)
-    (moves_beside (c ∷ []) (c ∷ d ∷ []) (c ∷ []) (moves_adds a) (λ k. omega arith) (λ k. omega arith))

@@ -1,4 +1,4 @@
--- How the mbufs of a store mean chains, and when they do.
+-- How the mbufs of a store mean chains, and when they do (this project's own).
 use Rattle.std.specs.Prelude.{◌≡◌, ℕ, zero, suc, ◌+◌, ◌<◌, ◌≤◌, Bool, true, false, not, cond, if◌then◌else◌, ◌&&◌, ◌||◌, List, [], ◌∷◌, length, map, take, drop, slice_index, Option, None, Some, is_some, nat_eq}
 use Rattle.std.specs.Ordering.{nat_cmp}
 use Rattle.std.specs.FinMap as finmap

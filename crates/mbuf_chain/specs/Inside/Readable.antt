@@ -1,4 +1,4 @@
--- How a walk along the links means the entries of a chain.
+-- How a walk along the links means the entries of a chain (this project's own).
 use Rattle.std.specs.Prelude.{ℕ, ◌≤◌, List, map, Option}
 use Rattle.mbuf_pool.specs.Cells.{Head, Part}
 use Rattle.mbuf_pool.specs.Store.{StoreView, count_of, IsStore}

@@ -2,7 +2,8 @@ use Rattle.std.proofs.Common.{length, sym, ap, subst, ◌∙◌, arith}
 use Rattle.mbuf_chain.specs.Chain.{ChainView, PoolView, IsPlace, chain_of, string}
 use Rattle.mbuf_chain.specs.Steps.{headless}
 use Rattle.mbuf_chain.specs.Inside.Cells.{pool_of}
-use Rattle.mbuf_chain.proofs.Places.{bared, linked_place, live_cells, chain_here}
+use Rattle.mbuf_chain.proofs.Laws.Owners.{chain_here}
+use Rattle.mbuf_chain.proofs.Places.{bared, linked_place, live_cells}
 use Rattle.mbuf_chain.proofs.links.link.Goals as goal
 
 pub join-requires-clause-front : goal.join-requires-clause-front
