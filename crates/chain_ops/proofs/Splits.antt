@@ -1,6 +1,6 @@
 -- Laws of cuts.
 use Rattle.std.proofs.Common.{◌≡◌, ℕ, ◌+◌, ◌-◌, ◌<◌, ◌≤◌, cond, Bool, true, false, List, [], ◌∷◌, ◌++◌, length, take, drop, Option, None, Some, is_some, sym, ap, ◌∙◌, arith}
-use Rattle.std.proofs.lemmas.Bool.{cond-true, cond-false, eq-eqb, ne_eqb, le-leb, lt-leb, le-ltb, false≢true}
+use Rattle.std.proofs.lemmas.Bool.{cond-true, cond-false, eq-eqb, ne_eqb, le-leb, le-ltb, false≢true}
 use Rattle.std.proofs.lemmas.List.{take_all, take_more_set, length-drop}
 use Rattle.mbuf_chain.specs.Chain.{Entry, ChainView, PoolView, IsPlace, chain_of, entry_of, with_chain, Adds}
 use Rattle.mbuf_chain.specs.Steps.{one_mbuf, empty_entry, with_entry, with_back, narrowed}
@@ -54,12 +54,6 @@ module _ (e : Entry) (off n : ℕ) (is : n ≡ length e.bytes - off) where
   pub rest-end : 0 < n → is_some e.cluster ≡ false → n ≤ 100 → rest_of true e off ≡ end_entry true (drop off e.bytes) ∷ []
   unfolding rest
   rest-end p c le = some true p ∙ cond-false {A = List Entry} _ _ _ c ∙ cond-true {A = List Entry} _ _ _ (le-leb (length e.bytes - off) 100 (omega (arith, is)))
-
-  pub rest-two : is_some e.cluster ≡ false → 100 < n → rest_of true e off ≡ empty_entry 28 None ∷ copied_entry 20 e off n ∷ []
-  unfolding rest
-  rest-two c gt =
-      some true (omega arith) ∙ cond-false {A = List Entry} _ _ _ c ∙ cond-false {A = List Entry} _ _ _ (lt-leb (length e.bytes - off) 100 (omega (arith, is)))
-      ∙ ap (λ (k : ℕ). empty_entry 28 None ∷ copied_entry 20 e off k ∷ []) (sym is)
 
 -- ---- the cut
 pub front_done : (v : ChainView) (at : Place) (off : ℕ) → IsPlace v at → off ≤ length (entry_of v at.index).bytes

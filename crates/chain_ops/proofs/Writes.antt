@@ -12,7 +12,7 @@ use Rattle.mbuf_chain.specs.Steps.{overwritten, with_entry}
 use Rattle.mbuf_chain.proofs.Laws.Accounts.{references-with, references-without, references-adds}
 use Rattle.chain_ops.specs.Makes.{Makes}
 use Rattle.chain_ops.specs.Writes.{is_shared, is_writable, overlaid, plain_pieces, in_plain, tail_of, copied_back, written_bytes}
-use Rattle.chain_ops.proofs.Laws.Lists.{take_over, take_least, drop_over}
+use Rattle.chain_ops.proofs.Laws.Lists.{take_over, take_least, drop_over, drop-append}
 use Rattle.chain_ops.proofs.Laws.Strings.{take_none, drop_none}
 use Rattle.chain_ops.proofs.Lists.{at_entry, flat-append, walk_set}
 use Rattle.chain_ops.proofs.Trims.{entries_now}
@@ -151,12 +151,6 @@ pub plain_counts : {p q : PoolView} {d : ℕ} {f : Rattle.mbuf_chain.specs.Chain
 plain_counts {p} {q} {d} xs k m = omega (arith, references-adds k m.adds, ap (count_by (refers k)) m.entries, pieces_counts k (length xs) xs)
 
 -- what is left after the first mbuf
-drop-append : (n : ℕ) (xs ys : List ℕ) → drop n (xs ++ ys) ≡ drop n xs ++ drop (n - length xs) ys
-drop-append n xs ys = elim (cases_lt n (length xs)) [
-  | inl l ↦ let none : 0 ≡ n - length xs = omega arith in drop-append-le n xs ys (omega arith) ∙ ap (λ (k : ℕ). drop n xs ++ drop k ys) none
-  | inr l ↦ drop_over n xs ys l ∙ ap (λ (zs : List ℕ). zs ++ drop (n - length xs) ys) (sym (drop_all n xs l))
-]
-
 pub tail_left : (z : ℕ) (xs : List ℕ) → replicate (z - 108) 0 ++ drop (108 - z) xs ≡ drop 108 (replicate z 0 ++ xs)
 tail_left z xs =
     sym (drop-append 108 (replicate z 0) xs ∙ (λ j. drop-replicate {X = ℕ} 108 z 0 j ++ drop (108 - length-replicate {A = ℕ} z 0 j) xs))

@@ -5,7 +5,8 @@ ghost use Rattle.chain_ops.specs.Trims.{without_first, only_first, adjusted, adj
 
 use mbuf_chain::{Chain, Pool};
 
-/// Takes the first `n` bytes off a chain, or all where it has fewer.
+/// Takes the first `n` bytes off a chain, or all where it has fewer: the half of `m_adj` that works at the front
+/// (TCP/IP Illustrated, volume 2, chapter 2), as a call of this project's own.
 pub fn trim_front(pool: &mut Pool, chain: &Chain, n: u32)
     requires { IsLive pool.old chain.now }
     ensures { pool.new ≡ with_chain pool.old chain.now (record (chain_of pool.old chain.now) {
@@ -26,7 +27,8 @@ pub fn trim_front(pool: &mut Pool, chain: &Chain, n: u32)
     }
 }
 
-/// Leaves the first `keep` bytes of a chain, or all where it has fewer.
+/// Leaves the first `keep` bytes of a chain, or all where it has fewer: the half of `m_adj` that works at the end
+/// (TCP/IP Illustrated, volume 2, chapter 2), as a call of this project's own, which is told what stays.
 pub fn trim_back(pool: &mut Pool, chain: &Chain, keep: u32)
     requires { IsLive pool.old chain.now }
     ensures { pool.new ≡ with_chain pool.old chain.now (record (chain_of pool.old chain.now) {

@@ -40,8 +40,8 @@ fn last_from(pool: &Pool, chain: &Chain, from: Place) -> Place
     }
 }
 
-/// Joins a chain to another, whose last mbuf is told. The answer is the place of the first mbuf that was linked, or that
-/// of the last mbuf where none was.
+/// Joins a chain to another, whose last mbuf is told. The answer is the place of the first mbuf that was linked, or
+/// that of the last mbuf where none was.
 fn join(pool: &mut Pool, chain: &Chain, last: Place, second: Chain) -> Place
     requires front { IsLive pool.old chain.now }
     requires back { IsLive pool.old second }
@@ -68,8 +68,8 @@ fn join(pool: &mut Pool, chain: &Chain, last: Place, second: Chain) -> Place
     }
 }
 
-/// Joins a chain to another, whose last mbuf is told, as `m_cat` does. The answer is the place of the last mbuf
-/// then, so that many chains are joined in one walk over their mbufs.
+/// Joins a chain to another, whose last mbuf is told, as `m_cat` does. They must be two chains. The answer is the
+/// place of the last mbuf then, so that many chains are joined in one walk over their mbufs (this project's own).
 pub fn cat_after(pool: &mut Pool, chain: &Chain, last: Place, second: Chain) -> Place
     requires front { IsLive pool.old chain.now }
     requires back { IsLive pool.old second }

@@ -21,8 +21,8 @@ pub struct Cursor {
     pub skip: u32,
 }
 
-/// Where the byte at `off` of a chain lies. Mbufs that end at the byte or in front of it are passed; at 0 none is. It
-/// takes one step for each mbuf that is passed.
+/// Where the byte at `off` of a chain lies: `off` must be below the chain's length. Mbufs that end at the byte or in
+/// front of it are passed; at 0 none is. It takes one step for each mbuf that is passed (this project's own).
 pub fn cursor_at(pool: &Pool, chain: &Chain, off: u32) -> Cursor
     requires live { IsLive pool.now chain.now }
     requires within { off < length (string (chain_of pool.now chain.now)) }
@@ -42,8 +42,8 @@ pub fn cursor_at(pool: &Pool, chain: &Chain, off: u32) -> Cursor
     Cursor { off, place, skip }
 }
 
-/// Where the byte lies that is `by` bytes, 1 or more, after that of a cursor. It takes one step for each mbuf
-/// that is passed on the way.
+/// Where the byte lies that is `by` bytes, 1 or more, after that of a cursor. It must lie in the chain, at 65,535 at
+/// most. It takes one step for each mbuf that is passed on the way (this project's own).
 pub fn advance(pool: &Pool, chain: &Chain, from: Cursor, by: u32) -> Cursor
     requires live { IsLive pool.now chain.now }
     requires cursor { IsCursor (chain_of pool.now chain.now) from }
@@ -75,9 +75,9 @@ fn copy_header(pool: &Pool, chain: &Chain, off: u32) -> bool
     pool.has_header(chain) && off == 0
 }
 
-/// Copies `len` bytes of a chain, 1 or more, from a cursor on, as `m_copym` does. It takes one step for each
-/// mbuf that it copies, so several ranges in order are copied in one walk. `NoBufs` comes exactly where fewer
-/// mbufs are free than the copy has, and changes nothing.
+/// Copies `len` bytes of a chain, 1 or more, from a cursor on, as `m_copym` does. They must lie in the chain. It takes
+/// one step for each mbuf that it copies, so several ranges in order are copied in one walk. `NoBufs` comes exactly
+/// where fewer mbufs are free than the copy has, and changes nothing (this project's own).
 pub fn copy_at(pool: &mut Pool, chain: &Chain, from: Cursor, len: u32) -> Result<Chain, NoBufs>
     requires live { IsLive pool.old chain.now }
     requires cursor { IsCursor (chain_of pool.old chain.now) from }

@@ -117,8 +117,8 @@ fn new_head(
 
 /// Cuts a chain in two after its first `at` bytes, fewer than it has. The chain keeps these, the answer has the
 /// others: of an mbuf that is cut through, a cluster is shared, and bytes of a plain one are copied. Where the chain
-/// has a packet header, both have one, and no mbuf after the cut is looked at. `NoBufs` comes exactly where fewer mbufs are free than that takes, and
-/// changes nothing (`m_split` of 4.4BSD; the details are this project's own).
+/// has a packet header, both have one, and no mbuf after the cut is looked at. `NoBufs` comes exactly where fewer
+/// mbufs are free than that takes, and changes nothing (`m_split` of 4.4BSD; the details are this project's own).
 pub fn m_split(pool: &mut Pool, chain: &Chain, at: u32) -> Result<Chain, NoBufs>
     requires live { IsLive pool.old chain.now }
     requires within { at < length (string (chain_of pool.old chain.now)) }

@@ -1,7 +1,7 @@
 -- Laws of lists that operations on chains want.
 use Rattle.std.proofs.Common.{◌≡◌, ℕ, zero, suc, ◌-◌, ◌≤◌, min, List, [], ◌∷◌, ◌++◌, length, take, drop, refl, sym, ap, ◌∙◌, arith, inl, inr}
 use Rattle.std.proofs.lemmas.Bool.{cases_lt}
-use Rattle.std.proofs.lemmas.List.{take_all, length-drop, drop-append-le}
+use Rattle.std.proofs.lemmas.List.{take_all, drop_all, length-drop, drop-append-le}
 
 pub take_over : (m : ℕ) (xs ys : List ℕ) → take m (xs ++ ys) ≡ take m xs ++ take (m - length xs) ys
 take_over zero [] ys = refl
@@ -17,6 +17,12 @@ drop_over zero (x ∷ xs) ys h = absurd (omega arith)
 drop_over (suc m) (x ∷ xs) ys h =
     let same : m - length xs ≡ suc m - suc (length xs) = omega arith in
     drop_over m xs ys (omega arith) ∙ ap (λ (k : ℕ). drop k ys) same
+
+pub drop-append : (n : ℕ) (xs ys : List ℕ) → drop n (xs ++ ys) ≡ drop n xs ++ drop (n - length xs) ys
+drop-append n xs ys = elim (cases_lt n (length xs)) [
+  | inl l ↦ let none : 0 ≡ n - length xs = omega arith in drop-append-le n xs ys (omega arith) ∙ ap (λ (k : ℕ). drop n xs ++ drop k ys) none
+  | inr l ↦ drop_over n xs ys l ∙ ap (λ (zs : List ℕ). zs ++ drop (n - length xs) ys) (sym (drop_all n xs l))
+]
 
 pub take_least : (m : ℕ) (xs : List ℕ) → take m xs ≡ take (min (length xs) m) xs
 take_least m xs = elim (cases_lt m (length xs)) [

@@ -12,7 +12,7 @@ use Rattle.chain_ops.specs.Joins.{filled_up, cat}
 use Rattle.chain_ops.specs.Pulls.{moved, has_room, pulled_len, pulled_up}
 use Rattle.chain_ops.specs.Prepends.{has_front, prepended}
 use Rattle.chain_ops.specs.Splits.{rest_of, split_front, split_back}
-use Rattle.chain_ops.proofs.Laws.Lists.{take_over, take_least, drop_over, piece_copied}
+use Rattle.chain_ops.proofs.Laws.Lists.{take_over, take_least, drop_over, drop-append, piece_copied}
 use Rattle.chain_ops.proofs.Lists.{flat-append, position-stays, position-passes, copied_none}
 use Rattle.chain_ops.proofs.Joins.{fill-goes, fill-stops, moved-none, moved-goes, moved-part}
 
@@ -80,12 +80,6 @@ pub copied_bytes : (header : Bool) (es : List Entry) (off len : ℕ) → flat_by
 copied_bytes header es off len = position_bytes (room_low header) es off len
 
 -- ---- bytes taken off an end
-drop-append : (n : ℕ) (xs ys : List ℕ) → drop n (xs ++ ys) ≡ drop n xs ++ drop (n - length xs) ys
-drop-append n xs ys = elim (cases_lt n (length xs)) [
-  | inl l ↦ let none : 0 ≡ n - length xs = omega arith in drop-append-le n xs ys (omega arith) ∙ ap (λ (k : ℕ). drop n xs ++ drop k ys) none
-  | inr l ↦ drop_over n xs ys l ∙ ap (λ (zs : List ℕ). zs ++ drop (n - length xs) ys) (sym (drop_all n xs l))
-]
-
 drop_least : (n : ℕ) (xs : List ℕ) → take (length xs - min n (length xs)) (drop (min n (length xs)) xs) ≡ drop n xs
 drop_least n xs = take_rest xs (min n (length xs)) ∙ elim (cases_lt n (length xs)) [
   | inl l ↦ let same : min n (length xs) ≡ n = omega arith in ap (λ (k : ℕ). drop k xs) same
