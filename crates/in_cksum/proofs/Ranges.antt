@@ -36,11 +36,3 @@ piece_taken piece rest skip k want inside is =
     ap (take want) (drop-append-le skip piece rest inside) ∙ take_over want p rest
     ∙ (λ j. take_least want p j ++ take (less j) rest)
     ∙ ap (λ (n : ℕ). take n p ++ take (want - k) rest) k'
-
-pub take_none : (n : ℕ) → take {A = ℕ} n [] ≡ []
-take_none zero = refl
-take_none (suc n) = refl
-
-pub drop_none : (n : ℕ) → drop {A = ℕ} n [] ≡ []
-drop_none zero = refl
-drop_none (suc n) = refl

@@ -1,9 +1,8 @@
--- What a sum over pieces knows of the bytes that it was given so far.
+-- What a sum over pieces knows of the bytes that it was given so far (this project's own).
 use Rattle.std.specs.Prelude.{ℕ, ◌%◌, ◌==◌, Bool, List, length}
 use Rattle.flat_model.specs.Packets.Checksum.{folded_sum}
 
--- This project's own: the folded sum of the bytes so far, and whether the next byte is the low half of
--- a word.
+-- the folded sum of the bytes so far, and whether the next byte is the low half of a word
 pub record Partial : Type 0 where
   pub total : ℕ
   pub is_odd : Bool
