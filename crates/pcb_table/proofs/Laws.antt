@@ -1,20 +1,16 @@
 -- For the layers above, which have the receive queues: what a table tells of the machines that have its blocks.
-use Rattle.std.proofs.Common.{◌≡◌, ◌≢◌, ℕ, Bool, true, false, ◌==◌, not, nat_lt, cond, List, [], ◌∷◌, ◌++◌, map, filter, find, Option, Some, None, option_map, is_some, refl, sym, ap, ◌∙◌, subst, arith}
+use Rattle.std.proofs.Common.{◌≡◌, ◌≢◌, ℕ, Bool, true, false, ◌==◌, not, nat_lt, cond, List, [], ◌∷◌, map, filter, find, Option, Some, None, option_map, is_some, refl, sym, ap, ◌∙◌, arith}
 use Rattle.std.specs.Prelude.{IsNone, sum_by, if◌then◌else◌}
 use Rattle.std.specs.List.{range_with_len}
 use Rattle.std.proofs.lemmas.Bool.{eq-eqb, eqb-true, eqb-false, ne_eqb, lt-ltb, true≢false}
 use Rattle.std.proofs.lemmas.List.Sums.{sum_by-cons, sum_by-append}
-use Rattle.std.proofs.lemmas.Option.{none-some, same_Some}
 use Rattle.flat_model.specs.Amounts.Weight.{Weight, times, all_of}
 use Rattle.flat_model.specs.Machine.State.{State, Socket, Datagram, socket_at, change_socket}
 use Rattle.flat_model.specs.Machine.Event.{Reply, Refused}
-use Rattle.flat_model.specs.Machine.Calls.{OnSocket, GetsPort}
-use Rattle.flat_model.specs.Fragments.Cuts.{Part}
-use Rattle.flat_model.specs.Machine.Send.{counts_send, spent}
+use Rattle.flat_model.specs.Machine.Calls.{OnSocket}
 use Rattle.flat_model.specs.declared.errno.Errno.TheVariants.{BadDescriptor}
 use Rattle.pcb_table.specs.declared.block.Block.{Block}
 use Rattle.pcb_table.specs.Table.{Table, Queues, KeepsOpen, OpensOnly, ClosesOnly, IsOpen, block_at, descriptors, machine, socket_with, sockets_with}
-use Rattle.pcb_table.specs.Found.{EnsuresPort}
 use Rattle.pcb_table.specs.Apart.{AreApart, has_fd}
 use Rattle.pcb_table.proofs.Searching.{counted-cons}
 use Rattle.pcb_table.proofs.Descriptors.{named_times, sum_in_range}
@@ -82,22 +78,6 @@ closed_others old new fd k closes ne =
 pub socket_found : (rest : State) (queues : Queues) (t : Table) (fd : ℕ) → socket_at fd (machine rest queues t) ≡ option_map (socket_with queues) (block_at fd t)
 socket_found rest queues t fd = sockets-find queues fd t.blocks
 
--- it is that of this block
-pub record HasBlock (t : Table) (queues : Queues) (fd : ℕ) (me : Socket) : Type 0 where
-  pub block : Block
-  pub at : block_at fd t ≡ Some block
-  pub is : me ≡ socket_with queues block
-
-pub has_block : (rest : State) (queues : Queues) (t : Table) (fd : ℕ) (me : Socket) → socket_at fd (machine rest queues t) ≡ Some me → HasBlock t queues fd me
-has_block rest queues t fd me e = go (block_at fd t) refl
-  where
-    there : option_map (socket_with queues) (block_at fd t) ≡ Some me
-    there = sym (socket_found rest queues t fd) ∙ e
-
-    go : (o : Option Block) → block_at fd t ≡ o → HasBlock t queues fd me
-    go (Some b) f = record { block = b; at = f; is = same_Some me (socket_with queues b) (sym there ∙ ap (option_map (socket_with queues)) f) }
-    go None f = absurd (none-some me (sym (ap (option_map (socket_with queues)) f) ∙ there))
-
 -- a call on a descriptor that isn't open, and on one that is
 pub not_open : (rest : State) (queues : Queues) (t : Table) (fd : ℕ) (Call : Socket → Type 0) → block_at fd t ≡ None → OnSocket fd (machine rest queues t) (Refused BadDescriptor) (machine rest queues t) Call
 not_open rest queues t fd Call e = steps.not_open rest queues t fd Call e
@@ -135,11 +115,6 @@ queue_changed f g t rest fd change here others = ap (λ (s : List Socket). recor
     go : (bs : List Block) → map (socket_with g) bs ≡ map (λ socket. cond (socket.fd == fd) (record socket { queue = change socket.queue }) socket) (map (socket_with f) bs)
     go [] = refl
     go (b ∷ bs) = λ i. at b (b.fd == fd) refl i ∷ go bs i
-
--- what a delivery makes of the machine: `queued` at one socket
-pub delivered : (f g : Queues) (t : Table) (rest : State) (fd : ℕ) (d : Datagram) → g fd ≡ f fd ++ d ∷ [] → ((k : ℕ) → k ≢ fd → g k ≡ f k)
-    → machine rest g t ≡ change_socket fd (λ socket. record socket { queue = socket.queue ++ d ∷ [] }) (machine rest f t)
-delivered f g t rest fd d here others = queue_changed f g t rest fd (λ q. q ++ d ∷ []) here others
 
 -- ---- what the receive queues weigh
 
@@ -182,17 +157,3 @@ by_descriptor t f apart none =
     is_None : (o : Option Block) → is_some o ≡ false → o ≡ None
     is_None None e = refl
     is_None (Some b) e = absurd (true≢false e)
-
--- ---- sends
-
--- what `ensure_port` makes of the machine, of which a send counts its parts too
-pub named_port : (old new : Table) (fd port : ℕ) → EnsuresPort old fd port new
-    → (rest : State) (queues : Queues) (me : Socket) (parts : List Part) → socket_at fd (machine rest queues old) ≡ Some me
-    → (named : State) × GetsPort (machine rest queues old) me.local me.port port named × (spent fd port parts named ≡ machine (counts_send parts rest) queues new)
-named_port old new fd port gives rest queues me parts found =
-    let has = has_block rest queues old fd me found in
-    let named : State = machine rest queues (record old { last_port = gives.last }) in (
-      named,
-      subst (λ (m : Socket). GetsPort (machine rest queues old) m.local m.port port named) (sym has.is) (gives.gets rest queues has.block has.at),
-      sym (gives.changes (counts_send parts rest) queues),
-    )

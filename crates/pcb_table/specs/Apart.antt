@@ -1,5 +1,6 @@
 -- When the blocks of a table are apart (this project's own).
-use Rattle.std.specs.Prelude.{ℕ, ◌<◌, ◌≤◌, ◌≡◌, Bool, ◌==◌, ◌&&◌, List, [], count_by, Some, is_some, is_none}
+use Rattle.std.specs.Prelude.{ℕ, ◌+◌, ◌<◌, ◌≤◌, ◌≡◌, Bool, ◌==◌, ◌&&◌, List, [], count_by, Some, is_some, is_none}
+use Rattle.params.specs.declared.TheConstants.{FIRST_DESCRIPTOR, MAX_SOCKETS}
 use Rattle.flat_model.specs.Machine.State.{Socket}
 use Rattle.flat_model.specs.Sockets.Lookup.{matches, wildcards}
 use Rattle.flat_model.specs.declared.address.Addr.{Addr}
@@ -35,7 +36,7 @@ lacks_port b = is_some b.peer && is_none b.port
 -- connected block has a port.
 pub record AreApart (bs : List Block) : Type 0 where
   pub fds : (fd : ℕ) → count_by (has_fd fd) bs ≤ 1
-  pub least : (fd : ℕ) → 0 < count_by (has_fd fd) bs → 3 ≤ fd
-  pub most : (fd : ℕ) → 0 < count_by (has_fd fd) bs → fd < 67
+  pub least : (fd : ℕ) → 0 < count_by (has_fd fd) bs → FIRST_DESCRIPTOR ≤ fd
+  pub most : (fd : ℕ) → 0 < count_by (has_fd fd) bs → fd < FIRST_DESCRIPTOR + MAX_SOCKETS
   pub ports : count_by lacks_port bs ≡ 0
   pub fours : (local port : ℕ) (peer : Addr) → count_by (has_four local port peer) bs ≤ 1

@@ -1,4 +1,5 @@
--- What look-ups answer, and calls on an open descriptor, as facts on each machine that has the blocks (own).
+-- What look-ups answer, and calls on an open descriptor, as facts on each machine that has the blocks (this project's
+-- own).
 use Rattle.std.specs.Prelude.{◌≡◌, ℕ, ◌≤◌, List, map, All, Option, Some, None, Result, MatchResult}
 use Rattle.flat_model.specs.Amounts.Weight.{times}
 use Rattle.flat_model.specs.Machine.State.{State, Socket, change_socket}

@@ -1,5 +1,6 @@
 -- The control blocks of a machine (volume 2 chapter 22), and the machines that have them (this project's own).
-use Rattle.std.specs.Prelude.{◌≡◌, ℕ, ◌==◌, not, List, ◌∷◌, map, filter, find, Option, Some, IsSome, IsNone, unwrap_or, ◌≤◌}
+use Rattle.std.specs.Prelude.{◌≡◌, ℕ, ◌+◌, ◌-◌, ◌==◌, not, List, ◌∷◌, map, filter, find, Option, Some, IsSome, IsNone, unwrap_or, ◌≤◌}
+use Rattle.params.specs.declared.TheConstants.{FIRST_DESCRIPTOR, MAX_SOCKETS}
 use Rattle.flat_model.specs.declared.lookup_key.LookupKey.{LookupKey}
 use Rattle.flat_model.specs.Machine.State.{State, Socket, Datagram}
 use Rattle.flat_model.specs.Machine.Event.{Event, Reply}
@@ -87,5 +88,5 @@ abbrev pub peer_of : Block → Addr
 peer_of b = unwrap_or b.peer (record { ip = 0; port = 0 })
 
 pub record IsDescriptor (fd : ℕ) : Type 0 where
-  pub least : 3 ≤ fd
-  pub most : fd ≤ 66
+  pub least : FIRST_DESCRIPTOR ≤ fd
+  pub most : fd ≤ FIRST_DESCRIPTOR + MAX_SOCKETS - 1

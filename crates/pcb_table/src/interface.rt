@@ -5,13 +5,7 @@ ghost use Rattle.pcb_table.specs.Apart.{plain};
 
 use crate::block::Block;
 use flat_model::Addr;
-
-/// 127.0.0.1
-pub(crate) const LOOPBACK: u32 = 127 * NET + 1;
-/// 255.255.255.255
-const EVERYONE: u32 = u32::MAX;
-/// How many addresses begin with one number.
-const NET: u32 = 1 << 24;
+use params::{FIRST_MULTICAST, LIMITED_BROADCAST, LOOPBACK};
 
 /// The one interface of a machine.
 #[derive(Clone, Copy, Debug, PartialEq, Eq)]
@@ -34,7 +28,7 @@ impl Interface {
     {
         let ip = if address.ip == 0 {
             self.addr
-        } else if address.ip == EVERYONE {
+        } else if address.ip == LIMITED_BROADCAST {
             self.bcast
         } else {
             address.ip
@@ -61,5 +55,6 @@ impl Interface {
 pub(crate) fn is_reached(ip: u32) -> bool
     ensures { result ≡ flat.is_reached ip }
 {
-    ip == LOOPBACK || ip / NET != 0 && ip / NET != 127 && ip < 224 * NET
+    let network = ip >> 24;
+    ip == LOOPBACK || network != 0 && network != LOOPBACK >> 24 && ip < FIRST_MULTICAST
 }

@@ -7,28 +7,22 @@ ghost use Rattle.pcb_table.specs.Inside.Fields.{IsInCircle, IsLowestFree};
 use crate::block::Block;
 use crate::search::{best, block_of};
 use flat_model::LookupKey;
+use params::{FIRST_DESCRIPTOR, FIRST_EPHEMERAL_PORT, LAST_EPHEMERAL_PORT, MAX_SOCKETS};
 
-/// The ephemeral ports are 1024 to 5000, in a circle.
-const FIRST: u16 = 1024;
-
-const LAST: u16 = 5000;
-
-const PORTS: u16 = LAST - FIRST + 1;
-
-/// The lowest descriptor.
-const LOWEST: u32 = 3;
+/// How many ephemeral ports there are, in a circle.
+const PORTS: u16 = LAST_EPHEMERAL_PORT - FIRST_EPHEMERAL_PORT + 1;
 
 /// The port so many turns after the last one chosen.
 fn port_after(last: Option<u16>, turns: u16) -> u16
     requires last { IsInCircle last }
-    requires turns { turns < 3977 }
+    requires turns { turns < PORTS }
     ensures { result ≡ flat.port_after last turns }
 {
     let start = match last {
         None => 0,
-        Some(port) => port - FIRST + 1,
+        Some(port) => port - FIRST_EPHEMERAL_PORT + 1,
     };
-    FIRST + (start + turns) % PORTS
+    FIRST_EPHEMERAL_PORT + (start + turns) % PORTS
 }
 
 /// Whether a block has the port, at this address or at one that agrees with it.
@@ -48,11 +42,11 @@ pub(crate) fn is_in_use(blocks: &[Block], local: Option<u32>, port: u16) -> bool
 
 /// The next ephemeral port that isn't in use. There is one, since there are more ports than blocks.
 pub(crate) fn next_free(blocks: &[Block], local: Option<u32>, last: Option<u16>) -> u16
-    requires few { length blocks.now ≤ 64 }
+    requires few { length blocks.now ≤ MAX_SOCKETS }
     requires last { IsInCircle last }
     ensures free { IsFreePort blocks.now last local result }
-    ensures least { 1024 ≤ result }
-    ensures most { result ≤ 5000 }
+    ensures least { FIRST_EPHEMERAL_PORT ≤ result }
+    ensures most { result ≤ LAST_EPHEMERAL_PORT }
 {
     for turns in 0..PORTS {
         let port = port_after(last, turns);
@@ -77,7 +71,7 @@ pub(crate) fn port_for(
     last: Option<u16>,
     asked: Option<u16>,
 ) -> Chosen
-    requires few { length blocks.now ≤ 64 }
+    requires few { length blocks.now ≤ MAX_SOCKETS }
     requires last { IsInCircle last }
     ensures port { GivesPort blocks.now last local asked result.port result.last }
     ensures last { IsInCircle result.last }
@@ -96,11 +90,11 @@ pub(crate) fn port_for(
 
 /// The lowest descriptor that no block has. There is one of 3 to 66, since fewer than 64 are in use.
 pub(crate) fn lowest_free(blocks: &[Block]) -> u32
-    requires few { length blocks.now < 64 }
+    requires few { length blocks.now < MAX_SOCKETS }
     ensures free { IsLowestFree blocks.now result }
-    ensures most { result < 67 }
+    ensures most { result < FIRST_DESCRIPTOR + MAX_SOCKETS }
 {
-    for fd in LOWEST..67 {
+    for fd in FIRST_DESCRIPTOR..FIRST_DESCRIPTOR + MAX_SOCKETS {
         if block_of(blocks, fd).is_none() {
             return fd;
         }

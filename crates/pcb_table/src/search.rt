@@ -126,7 +126,7 @@ pub(crate) fn exact(blocks: &[Block], key: LookupKey) -> Option<&Block>
 /// The descriptors of the blocks that meet the key, the youngest first, up to and with the first one
 /// that doesn't share its port.
 pub(crate) fn receivers(blocks: &[Block], key: LookupKey) -> ArrayVec<u32, SOCKETS>
-    requires { length blocks.now ≤ 64 }
+    requires { length blocks.now ≤ SOCKETS }
     ensures { result.items ≡ map (λ b. b.fd) (hearing_blocks key blocks.now) }
 {
     let mut fds = ArrayVec::new();

@@ -17,10 +17,11 @@ use crate::refusals::{bind_fault, destination_fault, port_unless_zero, unless_ze
 use crate::search::{best, block_of, exact, locate, located, receivers, set_block};
 use arrayvec::ArrayVec;
 use flat_model::{Addr, Errno, LookupKey, Opt};
+use params::MAX_SOCKETS;
 use std::marker::Model;
 
-/// How many sockets are open at most (this project's own limit).
-pub const SOCKETS: usize = 64;
+/// How many sockets are open at most, as the length of an array.
+pub const SOCKETS: usize = MAX_SOCKETS as usize;
 
 /// The control blocks of at most 64 sockets, the last ephemeral port chosen, and the addresses of the machine that
 /// they belong to. A call that changes them is a step of the flat machine, whatever is queued at the sockets.
@@ -78,7 +79,7 @@ impl Pcbs {
     /// What holds of every table: descriptors are 3 to 66 and no two the same, a connected block has a port, and
     /// no two blocks have all four of their values set and equal.
     pub fn laws(&self)
-        ensures few { length self.now.blocks ≤ 64 }
+        ensures few { length self.now.blocks ≤ MAX_SOCKETS }
         ensures apart { AreApart self.now.blocks }
     {
         let _few = self.blocks.len();

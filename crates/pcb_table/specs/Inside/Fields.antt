@@ -1,5 +1,6 @@
--- What holds of the fields of a table, and where a block stands in it.
+-- What holds of the fields of a table, and where a block stands in it (this project's own).
 use Rattle.std.specs.Prelude.{◌≡◌, ℕ, ◌<◌, ◌≤◌, Bool, ◌&&◌, List, length, slice_index_or, count_by, find, Option, Some, None, IsSome}
+use Rattle.params.specs.declared.TheConstants.{FIRST_DESCRIPTOR, FIRST_EPHEMERAL_PORT, LAST_EPHEMERAL_PORT}
 use Rattle.pcb_table.specs.Apart.{has_fd, has_four}
 use Rattle.pcb_table.specs.declared.block.Block.{Block}
 use Rattle.pcb_table.specs.declared.block.Connection.{Connection}
@@ -17,13 +18,13 @@ IsCached bs (Some c) = 0 < count_by (is_connected_as c) bs
 -- a last port is one of the circle
 abbrev pub IsInCircle : Option ℕ → Type 0
 IsInCircle None = Unit {0}
-IsInCircle (Some port) = (1024 ≤ port) × (port ≤ 5000)
+IsInCircle (Some port) = (FIRST_EPHEMERAL_PORT ≤ port) × (port ≤ LAST_EPHEMERAL_PORT)
 
 -- the lowest descriptor that no block has
 pub record IsLowestFree (bs : List Block) (fd : ℕ) : Type 0 where
-  pub least : 3 ≤ fd
+  pub least : FIRST_DESCRIPTOR ≤ fd
   pub free : find (has_fd fd) bs ≡ None
-  pub passed : (k : ℕ) → 3 ≤ k → k < fd → IsSome (find (has_fd k) bs)
+  pub passed : (k : ℕ) → FIRST_DESCRIPTOR ≤ k → k < fd → IsSome (find (has_fd k) bs)
 
 -- the block stands at the index, and has the descriptor
 pub record IsLocated (fd : ℕ) (bs : List Block) (index : ℕ) (block : Block) : Type 0 where

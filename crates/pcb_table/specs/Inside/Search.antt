@@ -4,7 +4,7 @@ use Rattle.std.specs.Prelude.{◌≡◌, ℕ, ◌<◌, Bool, true, false, ◌==�
 use Rattle.std.specs.Option.{option_or}
 use Rattle.flat_model.specs.declared.lookup_key.LookupKey.{LookupKey}
 use Rattle.flat_model.specs.Sockets.Lookup.{agree, are_same, is_addr, up_to_first}
-use Rattle.flat_model.specs.Machine.Calls.{port_after, is_ours, is_reached, source_for, unless_zero}
+use Rattle.flat_model.specs.Machine.Calls.{ephemeral_ports, port_after, is_ours, is_reached, source_for, unless_zero}
 use Rattle.flat_model.specs.declared.address.Addr.{Addr}
 use Rattle.flat_model.specs.declared.config.Config.{Config}
 use Rattle.flat_model.specs.declared.errno.Errno.{Errno}
@@ -45,7 +45,7 @@ is_used bs local port = is_some (best_block (key_port local port) bs)
 -- the first port in the circle after the last one chosen that no block has
 pub record IsFreePort (bs : List Block) (last local : Option ℕ) (port : ℕ) : Type 0 where
   pub turns : ℕ
-  pub within : turns < 3977
+  pub within : turns < ephemeral_ports
   pub here : port ≡ port_after last turns
   pub free : is_used bs local port ≡ false
   pub passed : (k : ℕ) → k < turns → is_used bs local (port_after last k) ≡ true
