@@ -1,9 +1,10 @@
--- What stands in hand between two bytes of a script.
+-- What stands in hand between two bytes of a script (this project's own).
 use Rattle.std.specs.Prelude.{◌≡◌, ◌≢◌, ◌⊎◌, ◌≤◌, ◌+◌, ◌-◌, ◌*◌, ℕ, List, [], ◌∷◌, ◌++◌, length, Option, Some, None, Result, Ok, Err}
 use Rattle.std.specs.Io.KnownBytes.{Appends}
 use Rattle.flat_model.specs.Scripts.Lines.{whole_lines, begun_line}
 use Rattle.script_loop.specs.Printed.{Prints}
 use Rattle.script_loop.specs.Serves.{GoesTooFar, StaysWithin}
+use Rattle.script_loop.specs.declared.serve.TheConstants.{LONGEST, MOST_LINES}
 use Rattle.script_loop.specs.declared.fault.RunFault.{RunFault}
 use Rattle.script_loop.specs.declared.fault.RunFault.TheVariants.{Read, Write, Memory, TooManyLines, BadSizes, BadConfig}
 
@@ -13,11 +14,11 @@ pub record Answered {S : Type 0} (gives : S → List ℕ → List ℕ → S → 
   pub counted : count ≡ length (whole_lines seen)
   pub within : StaysWithin seen
   pub printed : Prints gives begin (whole_lines seen) written now
-  pub last : count ≡ 10000000 → line ≡ []
+  pub last : count ≡ MOST_LINES → line ≡ []
 
 -- how many bytes may still come
 abbrev pub budget : ℕ → List ℕ → ℕ
-budget count line = (10000000 - count) * 1048577 + (1048577 - length line)
+budget count line = (MOST_LINES - count) * (LONGEST + 1) + (LONGEST + 1 - length line)
 
 -- no byte of these ends a line
 abbrev pub EndsNoLine : List ℕ → Type 0
@@ -26,7 +27,7 @@ EndsNoLine (byte ∷ bytes) = (byte ≢ 10) × EndsNoLine bytes
 
 -- Bytes that end no line may come: none of them is after the last line that is allowed, or makes the line too long.
 abbrev pub HasRoom : ℕ → List ℕ → List ℕ → Type 0
-HasRoom count line part = (part ≡ []) ⊎ ((count ≢ 10000000) × (length line + length part ≤ 1048576))
+HasRoom count line part = (part ≡ []) ⊎ ((count ≢ MOST_LINES) × (length line + length part ≤ LONGEST))
 
 -- A byte of the piece goes too far after those seen and those in front of it, which end no line.
 pub record BreaksLimit (seen piece : List ℕ) : Type 0 where

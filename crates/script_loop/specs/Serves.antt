@@ -1,8 +1,9 @@
--- What serving a script did, by its outcome.
+-- What serving a script did, by its outcome (this project's own).
 use Rattle.std.specs.Prelude.{◌≡◌, ◌≢◌, ℕ, ◌<◌, ◌⊎◌, List, [], ◌∷◌, ◌++◌, length, take, slice_index, Option, Result, Ok, Err}
 use Rattle.std.specs.Io.KnownBytes.{Consumes, Appends, IsAtEnd}
 use Rattle.flat_model.specs.Scripts.Lines.{whole_lines, begun_line, lines}
 use Rattle.script_loop.specs.Printed.{Prints}
+use Rattle.script_loop.specs.declared.serve.TheConstants.{LONGEST, MOST_LINES}
 use Rattle.script_loop.specs.declared.fault.RunFault.{RunFault}
 use Rattle.script_loop.specs.declared.fault.RunFault.TheVariants.{Read, Write, Memory, TooManyLines, BadSizes, BadConfig}
 
@@ -10,8 +11,8 @@ use Rattle.script_loop.specs.declared.fault.RunFault.TheVariants.{Read, Write, M
 
 -- After this input the byte comes after the last line that is allowed, or makes a line too long.
 abbrev pub GoesTooFar : List ℕ → ℕ → Type 0
-GoesTooFar input byte = ((length (whole_lines input) ≡ 10000000) × (begun_line input ≡ []))
-    ⊎ ((length (begun_line input) ≡ 1048576) × (byte ≢ 10))
+GoesTooFar input byte = ((length (whole_lines input) ≡ MOST_LINES) × (begun_line input ≡ []))
+    ⊎ ((length (begun_line input) ≡ LONGEST) × (byte ≢ 10))
 
 -- no byte of the input goes too far after those before it
 abbrev pub StaysWithin : List ℕ → Type 0

@@ -1,4 +1,5 @@
--- How many failures a reader or a writer has answered, where it tells, and what a writer took of a text.
+-- How many failures a reader or a writer has answered, where it tells, and what a writer took of a text (this
+-- project's own).
 use Rattle.std.specs.Prelude.{◌≡◌, ℕ, zero, suc, ◌+◌, List, ◌++◌, Option, Some, None, Result, Ok, Err}
 use Rattle.std.specs.Io.KnownBytes.{Appends}
 use Rattle.script_loop.specs.declared.fault.RunFault.{RunFault}

@@ -1,4 +1,5 @@
 ghost use Rattle.std.specs.Prelude.{◌≡◌, ◌≤◌, ◌++◌, ℕ, List, length};
+ghost use Rattle.script_loop.specs.declared.serve.TheConstants.{HELD};
 
 use crate::buffer::Buffer;
 
@@ -17,7 +18,7 @@ pub trait Answers<const N: usize> {
 
     /// Puts its answer to a line after the text.
     fn answer(&mut self, line: &[u8], text: &mut Buffer<N>)
-        requires { length text.old ≤ 65536 }
+        requires { length text.old ≤ HELD }
         ensures { (reply : List ℕ) × may_answer (state self.old) line.now reply (state self.new)
             × (text.new ≡ text.old ++ reply) };
 }

@@ -3,7 +3,7 @@ ghost use Rattle.std.specs.Prelude.{◌≡◌, ℕ, ◌+◌, ◌<◌, ◌≤◌,
 use std::alloc::{AllocError, Global};
 use std::marker::Model;
 
-/// Up to `N` bytes, or somewhat more, whose memory is taken when it is made.
+/// Up to `N` bytes, whose memory is taken when it is made.
 #[derive(Drop)]
 pub struct Buffer<const N: usize> {
     bytes: Vec<u8>,
@@ -14,7 +14,7 @@ impl<const N: usize> Model for Buffer<N> {
 
     ghost view = { λ b. b.bytes.items };
 
-    ghost invariant = { λ b. N ≤ vec_capacity b.bytes };
+    ghost invariant = { λ b. (length b.bytes.items ≤ N) × (N ≤ vec_capacity b.bytes) };
 }
 
 impl<const N: usize> Buffer<N> {
@@ -36,7 +36,8 @@ impl<const N: usize> Buffer<N> {
 
     /// How many bytes there are, at most `N`.
     pub fn len(&self) -> usize
-        ensures { result ≡ length self.now }
+        ensures is { result ≡ length self.now }
+        ensures most { result ≤ N }
     {
         self.bytes.len()
     }

@@ -24,7 +24,7 @@ fn room(alloc: Global, len: usize) -> Result<Vec<u8>, AllocError>
 }
 
 impl LineBuffers {
-    /// All the memory, each byte of it 0. `AllocError` comes only where the host refuses a part of it.
+    /// All the memory. `AllocError` comes only where the host refuses a part of it.
     pub fn new(alloc: Global) -> Result<LineBuffers, AllocError> {
         Ok(LineBuffers {
             bytes: room(alloc, MOST_BYTES)?,

@@ -12,10 +12,10 @@ use memchr::memchr;
 use std::alloc::Global;
 
 /// The most lines that are served.
-pub const MOST_LINES: u32 = 10_000_000;
+pub(crate) const MOST_LINES: u32 = 10_000_000;
 
 /// The most bytes that a line may have before its end.
-pub const LONGEST: usize = 1_048_576;
+pub(crate) const LONGEST: usize = 1_048_576;
 
 /// The most bytes of answers that are held while another one comes.
 pub const HELD: usize = 65_536;
@@ -55,7 +55,7 @@ fn flush<const N: usize, W: Sink>(writer: &mut W, text: &mut Buffer<N>) -> Resul
 fn make_room<const N: usize, W: Sink>(writer: &mut W, text: &mut Buffer<N>) -> Result<(), RunFault>
     ensures flushed { Flushes (W.contents writer.old) (W.contents writer.new) text.old text.new result }
     ensures told { MoreBy (writer_failures result) (W.failures writer.old) (W.failures writer.new) }
-    ensures room { IfOk result (λ _. length text.new ≤ 65536) }
+    ensures room { IfOk result (λ _. length text.new ≤ HELD) }
 {
     if text.len() <= HELD {
         return Ok(());
@@ -65,7 +65,7 @@ fn make_room<const N: usize, W: Sink>(writer: &mut W, text: &mut Buffer<N>) -> R
 
 /// Takes bytes that end no line, and answers whether all may come. Where one goes too far, nothing changes.
 fn take_part(line: &mut Buffer<LONGEST>, count: u32, part: &[u8]) -> bool
-    requires { length line.old ≤ 1048576 }
+    requires { length line.old ≤ LONGEST }
     ensures room { IsTrue result ↔ HasRoom count line.old part.now }
     ensures line { IsTrue result → line.new ≡ line.old ++ part.now }
 {
@@ -88,14 +88,14 @@ fn take_end<const N: usize, A: Answers<N>>(
     count: u32,
     part: &[u8],
 ) -> Option<u32>
-    requires count { count ≤ 10000000 }
-    requires short { length line.old ≤ 1048576 }
-    requires text { length text.old ≤ 65536 }
+    requires count { count ≤ MOST_LINES }
+    requires short { length line.old ≤ LONGEST }
+    requires text { length text.old ≤ HELD }
     requires part { EndsNoLine part.now }
     ensures taken { (begin : A.State) (seen printed : List ℕ)
         → Answered A.may_answer begin (A.state machine.old) seen line.old count printed
         → TakesPiece A.may_answer begin (A.state machine.new) seen (part.now ++ 10 ∷ []) printed text.old text.new line.new result }
-    ensures within { IfSome result (λ now. (now ≤ 10000000) × (length line.new ≤ 1048576)) }
+    ensures within { IfSome result (λ now. (now ≤ MOST_LINES) × (length line.new ≤ LONGEST)) }
     ensures fewer { IfSome result (λ now. budget now line.new + (length part.now + 1) ≤ budget count line.old) }
 {
     if count == MOST_LINES {
@@ -118,17 +118,17 @@ fn take_line<const N: usize, A: Answers<N>, W: Sink>(
     part: &[u8],
     writer: &mut W,
 ) -> Result<u32, RunFault>
-    requires count { count ≤ 10000000 }
-    requires short { length line.old ≤ 1048576 }
-    requires text { length text.old ≤ 65536 }
+    requires count { count ≤ MOST_LINES }
+    requires short { length line.old ≤ LONGEST }
+    requires text { length text.old ≤ HELD }
     requires part { EndsNoLine part.now }
     ensures taken { (begin : A.State) (seen written : List ℕ)
         → Answered A.may_answer begin (A.state machine.old) seen line.old count (written ++ text.old)
         → TakesChunk A.may_answer begin (A.state machine.new) seen (part.now ++ 10 ∷ []) written
         (W.contents writer.old) (W.contents writer.new) text.new line.new result }
     ensures told { MoreBy (writer_failures result) (W.failures writer.old) (W.failures writer.new) }
-    ensures within { IfOk result (λ now. (now ≤ 10000000) × (length line.new ≤ 1048576)) }
-    ensures room { IfOk result (λ _. length text.new ≤ 65536) }
+    ensures within { IfOk result (λ now. (now ≤ MOST_LINES) × (length line.new ≤ LONGEST)) }
+    ensures room { IfOk result (λ _. length text.new ≤ HELD) }
     ensures fewer { IfOk result (λ now. budget now line.new + (length part.now + 1) ≤ budget count line.old) }
 {
     match take_end(machine, text, line, count, part) {
@@ -144,7 +144,7 @@ fn take_line<const N: usize, A: Answers<N>, W: Sink>(
 }
 
 /// Takes the bytes of a chunk, and answers each line that ends in it. All answers are written then.
-pub fn take_chunk<const N: usize, A: Answers<N>, W: Sink>(
+pub(crate) fn take_chunk<const N: usize, A: Answers<N>, W: Sink>(
     machine: &mut A,
     text: &mut Buffer<N>,
     line: &mut Buffer<LONGEST>,
@@ -152,8 +152,8 @@ pub fn take_chunk<const N: usize, A: Answers<N>, W: Sink>(
     chunk: &[u8],
     writer: &mut W,
 ) -> Result<u32, RunFault>
-    requires count { count ≤ 10000000 }
-    requires short { length line.old ≤ 1048576 }
+    requires count { count ≤ MOST_LINES }
+    requires short { length line.old ≤ LONGEST }
     requires text { text.old ≡ [] }
     ensures taken { (begin : A.State) (seen written : List ℕ)
         → Answered A.may_answer begin (A.state machine.old) seen line.old count written
@@ -161,7 +161,7 @@ pub fn take_chunk<const N: usize, A: Answers<N>, W: Sink>(
         (W.contents writer.old) (W.contents writer.new) [] line.new result }
     ensures told { MoreBy (writer_failures result) (W.failures writer.old) (W.failures writer.new) }
     ensures empty { IfOk result (λ _. text.new ≡ []) }
-    ensures within { IfOk result (λ now. (now ≤ 10000000) × (length line.new ≤ 1048576)) }
+    ensures within { IfOk result (λ now. (now ≤ MOST_LINES) × (length line.new ≤ LONGEST)) }
     ensures fewer { IfOk result (λ now. budget now line.new + length chunk.now ≤ budget count line.old) }
 {
     let mut now = count;
@@ -180,7 +180,19 @@ pub fn take_chunk<const N: usize, A: Answers<N>, W: Sink>(
     }
 }
 
-/// Serves a script, and answers each line when its end was read. Memory is taken before the first read alone.
+/// Serves a script: has `machine` answer its lines, one after another.
+///
+/// Each line is answered when its end was read, and a line begun when the input ends is one too. Host memory is taken
+/// before the first read alone.
+///
+/// # Errors
+///
+/// `Memory` where host memory is lacking. Nothing was read or written then, and the machine is as it was.
+///
+/// `Read` where the reader answers an error: each whole line before it was answered. `Write` where the writer answers
+/// an error, or takes none of the bytes that it is given: a front of the answers was written. `TooManyLines` at a byte
+/// after the 10,000,000th line, or one that makes a line longer than 1,048,576 bytes: each whole line before it was
+/// answered. `BadSizes` and `BadConfig` never come.
 pub fn serve_script<const N: usize, A: Answers<N>, R: Source, W: Sink>(
     alloc: Global,
     machine: &mut A,

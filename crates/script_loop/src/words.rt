@@ -87,7 +87,8 @@ pub fn number(word: &[u8], most: u32) -> Option<u32>
 }
 
 /// Puts the bytes that a word writes into the room, and answers how many they are: `-` for none, or two hexadecimal
-/// digits of either case for each of 1 to 65,535 bytes.
+/// digits of either case for each of 1 to 65,535 bytes. Any other word is answered `None`, and what the room held may
+/// be lost then. The room has exactly 65,535 bytes.
 pub fn bytes(word: &[u8], room: &mut [u8]) -> Option<usize>
     requires { length room.old ≡ 65535 }
     ensures bytes { MatchOption result ((xs : List ℕ) → IsHex word.now xs → ⊥)
