@@ -1,20 +1,15 @@
 -- A pool without chains, and empty slots.
-use Rattle.std.proofs.Common.{◌≡◌, ℕ, zero, suc, List, [], ◌∷◌, map, replicate, Option, None, refl, sym, ap, ◌∙◌}
+use Rattle.std.proofs.Common.{◌≡◌, ℕ, zero, suc, List, [], replicate, Option, None, refl, sym, ap, ◌∙◌}
 use Rattle.std.specs.FinMap as finmap
 use Rattle.std.specs.FinMap.{FinMap, get-empty}
 use Rattle.std.specs.Ordering.{nat_cmp}
 use Rattle.mbuf_chain.specs.Chain.{ChainView, PoolView}
 use Rattle.mbuf_chain.proofs.Laws.Owners.{live_none}
-use Rattle.chain_script.specs.Machines.{Slot}
-use Rattle.chain_script.specs.Inside.Slots.{numbers, slot_of, Fits}
+use Rattle.chain_script.specs.Inside.Slots.{numbers, Fits}
 
 none_numbered : (n : ℕ) → numbers (replicate n None) ≡ []
 none_numbered zero = refl
 none_numbered (suc n) = none_numbered n
-
-none_shown : (p : PoolView) (n : ℕ) → map (slot_of p) (replicate n None) ≡ replicate n None
-none_shown p zero = refl
-none_shown p (suc n) = ap (λ (ss : List (Option Slot)). None ∷ ss) (none_shown p n)
 
 pub booted_fits : (p : PoolView) (slots : List (Option ℕ)) → p.chains ≡ finmap.empty {R = nat_cmp} → slots ≡ replicate 64 None → Fits p slots
 booted_fits p slots none all = λ k.

@@ -23,13 +23,6 @@ wrong_chain b r s = refused b r Wrong_chain (λ j. first_of (s j) (is_in_range b
 pub shared : (b : Machine) (r : Request) → has_slots b r ≡ true → is_in_range b r ≡ true → hits_shared b r ≡ true → Step b r Shared b
 shared b r s g h = refused b r Shared (λ j. first_of (s j) (g j) (h j) (is_too_long r) (is_too_short b r) (lacks_buffers b r))
 
-pub too_long : (b : Machine) (r : Request) → has_slots b r ≡ true → is_in_range b r ≡ true → hits_shared b r ≡ false → is_too_long r ≡ true → Step b r Too_long b
-too_long b r s g h l = refused b r Too_long (λ j. first_of (s j) (g j) (h j) (l j) (is_too_short b r) (lacks_buffers b r))
-
-pub too_short : (b : Machine) (r : Request) → has_slots b r ≡ true → is_in_range b r ≡ true → hits_shared b r ≡ false → is_too_long r ≡ false → is_too_short b r ≡ true
-    → Step b r Too_short b
-too_short b r s g h l t = refused b r Too_short (λ j. first_of (s j) (g j) (h j) (l j) (t j) (lacks_buffers b r))
-
 pub no_buffers : (b : Machine) (r : Request) → has_slots b r ≡ true → is_in_range b r ≡ true → hits_shared b r ≡ false → is_too_long r ≡ false → is_too_short b r ≡ false
     → lacks_buffers b r ≡ true → Step b r No_buffers b
 no_buffers b r s g h l t k = refused b r No_buffers (λ j. first_of (s j) (g j) (h j) (l j) (t j) (k j))

@@ -23,5 +23,3 @@ header_is p slots i c is = ap header_in (at_slot p slots i ∙ ap (slot_of p) is
 
 pub length_is : (p : PoolView) (slots : List (Option ℕ)) (i c : ℕ) → get_or slots i None ≡ Some c → length_at (machine_of p slots) i ≡ length (string (chain_of p c))
 length_is p slots i c is = ap (λ (es : List Entry). length (flat_bytes es)) (entries_are p slots i c is)
-
--- ---- tests joined

@@ -135,7 +135,7 @@ fn put_answer(
 }
 
 /// A pool, 64 slots for chains of it, and the memory for the work on one line. It must be spent, by `end`.
-pub struct Caller {
+pub(crate) struct Caller {
     pool: Pool,
     chains: Vec<Option<Chain>>,
     buffers: LineBuffers,
@@ -158,7 +158,7 @@ fn empty_slots(alloc: Global) -> Result<Vec<Option<Chain>>, AllocError>
 impl Caller {
     /// A pool without chains, and empty slots. `BadSizes` comes exactly where the sizes aren't those of a pool, and is
     /// tested first; `Memory` where the host refuses memory. Nothing is left behind.
-    pub fn boot(alloc: Global, sizes: Sizes) -> Result<Caller, BootFault>
+    pub(crate) fn boot(alloc: Global, sizes: Sizes) -> Result<Caller, BootFault>
         ensures ok { IfOk result (λ c. machine_of c.pool c.chains.items ≡ booted sizes.mbufs sizes.clusters) }
         ensures bad { (result ≡ Err boot_fault.BadSizes) ↔ IsBad sizes }
     {
@@ -177,7 +177,7 @@ impl Caller {
     }
 
     /// Frees all chains, and gives the pool back.
-    pub fn end(self) -> Pool
+    pub(crate) fn end(self) -> Pool
         ensures { IsAll result [] }
     {
         let Caller {

@@ -19,7 +19,7 @@ use mbuf_chain::{Chain, Pool};
 use params::{IP_MAX_PACKET, MHLEN};
 
 /// Puts a chain of bytes to send into an empty slot.
-pub fn user(
+pub(crate) fn user(
     pool: &mut Pool,
     chains: &mut [Option<Chain>],
     slot: usize,
@@ -53,7 +53,7 @@ fn may_prepend(count: usize, total: u32) -> bool
 }
 
 /// Puts bytes in front of a chain.
-pub fn prepend(
+pub(crate) fn prepend(
     pool: &mut Pool,
     chains: &mut [Option<Chain>],
     slot: usize,
@@ -79,7 +79,12 @@ pub fn prepend(
 }
 
 /// Takes bytes off an end of a chain.
-pub fn adj(pool: &mut Pool, chains: &mut [Option<Chain>], slot: usize, n: i32) -> Result<(), Fault>
+pub(crate) fn adj(
+    pool: &mut Pool,
+    chains: &mut [Option<Chain>],
+    slot: usize,
+    n: i32,
+) -> Result<(), Fault>
     requires slot { slot < length chains.old }
     requires fits { Fits pool.old chains.old }
     ensures fits { Fits pool.new chains.new }
@@ -95,7 +100,7 @@ pub fn adj(pool: &mut Pool, chains: &mut [Option<Chain>], slot: usize, n: i32) -
 }
 
 /// Frees a chain.
-pub fn free(pool: &mut Pool, chains: &mut [Option<Chain>], slot: usize) -> Result<(), Fault>
+pub(crate) fn free(pool: &mut Pool, chains: &mut [Option<Chain>], slot: usize) -> Result<(), Fault>
     requires slot { slot < length chains.old }
     requires fits { Fits pool.old chains.old }
     ensures fits { Fits pool.new chains.new }
@@ -112,7 +117,7 @@ pub fn free(pool: &mut Pool, chains: &mut [Option<Chain>], slot: usize) -> Resul
 }
 
 /// Puts a chain of the bytes of a packet that arrived into an empty slot.
-pub fn wire(
+pub(crate) fn wire(
     pool: &mut Pool,
     chains: &mut [Option<Chain>],
     slot: usize,
@@ -149,7 +154,7 @@ fn is_part(extent: Extent, total: u32) -> bool
 }
 
 /// Puts a copy of a chain, or of a part of it, into an empty slot. It shares the clusters.
-pub fn copym(
+pub(crate) fn copym(
     pool: &mut Pool,
     chains: &mut [Option<Chain>],
     to: usize,
@@ -183,7 +188,7 @@ pub fn copym(
 }
 
 /// Brings the first `n` bytes of a chain into one mbuf.
-pub fn pullup(
+pub(crate) fn pullup(
     pool: &mut Pool,
     chains: &mut [Option<Chain>],
     slot: usize,
@@ -208,7 +213,7 @@ pub fn pullup(
 }
 
 /// Cuts a chain at a byte, and puts its back into an empty slot.
-pub fn split(
+pub(crate) fn split(
     pool: &mut Pool,
     chains: &mut [Option<Chain>],
     to: usize,
@@ -257,7 +262,7 @@ fn join(pool: &mut Pool, chains: &[Option<Chain>], slot: usize, second: Chain)
 }
 
 /// Joins the chain of another slot to a chain. That slot is empty then.
-pub fn join_slots(
+pub(crate) fn join_slots(
     pool: &mut Pool,
     chains: &mut [Option<Chain>],
     slot: usize,
@@ -289,7 +294,7 @@ pub fn join_slots(
 }
 
 /// Writes bytes over those of a chain from `off` on, and lengthens it where they go past its end.
-pub fn copyback(
+pub(crate) fn copyback(
     pool: &mut Pool,
     chains: &mut [Option<Chain>],
     slot: usize,
@@ -322,7 +327,7 @@ pub fn copyback(
 }
 
 /// Copies bytes out of a chain.
-pub fn copydata(
+pub(crate) fn copydata(
     pool: &Pool,
     chains: &[Option<Chain>],
     slot: usize,

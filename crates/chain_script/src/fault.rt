@@ -1,6 +1,6 @@
 /// Why a request wasn't done. Nothing has changed then.
 #[derive(Clone, Copy, Debug, PartialEq, Eq)]
-pub enum Fault {
+pub(crate) enum Fault {
     /// A slot that must hold a chain is empty, one that must be empty isn't, or two are the same.
     Chain,
     /// A condition of the call doesn't hold.

@@ -17,7 +17,7 @@ const MOST: u32 = IP_MAX_PACKET;
 
 /// What a line asks for. Where it has bytes, they stand in a room beside it, and the call tells how many they are.
 #[derive(Clone, Copy)]
-pub enum Call {
+pub(crate) enum Call {
     User(u32, usize),
     Wire(u32, usize),
     Copy(u32, u32, Extent),
@@ -192,7 +192,7 @@ fn usage_of(rest: Option<&[u8]>) -> Option<Call>
 }
 
 /// What the line asks for, where it is of a form.
-pub fn call_of(line: &[u8], room: &mut [u8]) -> Option<Call>
+pub(crate) fn call_of(line: &[u8], room: &mut [u8]) -> Option<Call>
     requires { length room.old ≡ IP_MAX_PACKET }
     ensures call { MatchOption result ((request : Request) → IsRequest line.now request → ⊥)
         (λ call. IsRequest line.now (request_of call room.new)) }

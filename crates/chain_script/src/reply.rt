@@ -11,7 +11,7 @@ use script_loop::{Buffer, HELD, put_hex, put_number};
 
 /// Room for the longest reply after those that are held: the layout of a chain of 65,535 mbufs, of which each takes 23
 /// bytes at most.
-pub const TEXT: usize = HELD + 1_507_328;
+pub(crate) const TEXT: usize = HELD + 1_507_328;
 
 fn put_fault(text: &mut Buffer<TEXT>, fault: Fault)
     requires { length text.old + 8 ≤ 1572864 }
@@ -29,7 +29,7 @@ fn put_fault(text: &mut Buffer<TEXT>, fault: Fault)
 }
 
 /// The line for a request that answers nothing else.
-pub fn put_done(text: &mut Buffer<TEXT>, outcome: Result<(), Fault>)
+pub(crate) fn put_done(text: &mut Buffer<TEXT>, outcome: Result<(), Fault>)
     requires { length text.old ≤ 65536 }
     ensures { text.new ≡ text.old ++ answer_text (Some (done_reply outcome)) }
 {
@@ -41,7 +41,12 @@ pub fn put_done(text: &mut Buffer<TEXT>, outcome: Result<(), Fault>)
 }
 
 /// The line for bytes that were copied out into the room.
-pub fn put_held(text: &mut Buffer<TEXT>, digits: &mut [u8], room: &[u8], outcome: Result<(), Fault>)
+pub(crate) fn put_held(
+    text: &mut Buffer<TEXT>,
+    digits: &mut [u8],
+    room: &[u8],
+    outcome: Result<(), Fault>,
+)
     requires text { length text.old ≤ 65536 }
     requires room { length room.now ≤ IP_MAX_PACKET }
     requires digits { length digits.old ≡ 2 * IP_MAX_PACKET }
@@ -68,7 +73,7 @@ fn put_share(text: &mut Buffer<TEXT>, free: u32, all: u32)
 }
 
 /// The line for how much of a pool is in use.
-pub fn put_usage(text: &mut Buffer<TEXT>, usage: Usage)
+pub(crate) fn put_usage(text: &mut Buffer<TEXT>, usage: Usage)
     requires { length text.old ≤ 65536 }
     ensures { text.new ≡ text.old ++ answer_text (Some (Shown (record {
       free_mbufs = usage.free_mbufs;
@@ -91,7 +96,7 @@ pub fn put_usage(text: &mut Buffer<TEXT>, usage: Usage)
 }
 
 /// An mbuf of a layout: its length, and where it has a cluster the count of that.
-pub fn put_mbuf(text: &mut Buffer<TEXT>, len: u32, count: Option<u32>)
+pub(crate) fn put_mbuf(text: &mut Buffer<TEXT>, len: u32, count: Option<u32>)
     requires { length text.old + 23 ≤ 1572864 }
     ensures items { text.new ≡ text.old ++ mbuf_text len count }
     ensures len { length text.new ≤ length text.old + 23 }

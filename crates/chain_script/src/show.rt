@@ -55,7 +55,7 @@ fn put_layout(text: &mut Buffer<TEXT>, pool: &Pool, chain: &Chain)
 }
 
 /// Shows the layout of a slot's chain.
-pub fn show(pool: &Pool, chains: &[Option<Chain>], slot: usize, text: &mut Buffer<TEXT>)
+pub(crate) fn show(pool: &Pool, chains: &[Option<Chain>], slot: usize, text: &mut Buffer<TEXT>)
     requires slot { slot < length chains.now }
     requires fits { Fits pool.now chains.now }
     requires text { length text.old ≤ 65536 }
@@ -69,7 +69,7 @@ pub fn show(pool: &Pool, chains: &[Option<Chain>], slot: usize, text: &mut Buffe
 }
 
 /// Shows how much of the pool is in use.
-pub fn usage(pool: &Pool, chains: &[Option<Chain>], text: &mut Buffer<TEXT>)
+pub(crate) fn usage(pool: &Pool, chains: &[Option<Chain>], text: &mut Buffer<TEXT>)
     requires fits { Fits pool.now chains.now }
     requires text { length text.old ≤ 65536 }
     ensures { (reply : Reply) × Step (machine_of pool.now chains.now) Ask_usage reply (machine_of pool.now chains.now)

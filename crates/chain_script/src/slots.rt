@@ -5,7 +5,7 @@ use mbuf_chain::Chain;
 use std::mem;
 
 /// Puts a chain into an empty slot.
-pub fn put(chains: &mut [Option<Chain>], slot: usize, chain: Chain)
+pub(crate) fn put(chains: &mut [Option<Chain>], slot: usize, chain: Chain)
     requires within { slot < length chains.old }
     requires empty { slice_index_or chains.old slot None ≡ None }
     ensures { chains.new ≡ slice_set chains.old slot (Some chain) }
@@ -17,7 +17,7 @@ pub fn put(chains: &mut [Option<Chain>], slot: usize, chain: Chain)
 }
 
 /// Takes the chain out of a slot that has one.
-pub fn take(chains: &mut [Option<Chain>], slot: usize) -> Chain
+pub(crate) fn take(chains: &mut [Option<Chain>], slot: usize) -> Chain
     requires within { slot < length chains.old }
     requires held { (c : ℕ) × (slice_index_or chains.old slot None ≡ Some c) }
     ensures value { slice_index_or chains.old slot None ≡ Some result }

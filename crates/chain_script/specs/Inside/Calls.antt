@@ -1,4 +1,5 @@
--- The request that a call stands for. The bytes that a line has stand in front of the room beside it.
+-- The request that a call stands for. The bytes that a line has stand in front of the room beside it (this project's
+-- own).
 use Rattle.std.specs.Prelude.{◌≡◌, ℕ, ◌<◌, ◌≤◌, List, take, Option, Some, None}
 use Rattle.params.specs.declared.TheConstants.{IP_MAX_PACKET}
 use Rattle.chain_script.specs.Lines as lines

@@ -1,4 +1,5 @@
--- How the machine of the chain script stands in memory: a pool, and in each slot a chain of it or none. Only this crate reads it.
+-- How the machine of the chain script stands in memory: a pool, and in each slot a chain of it or none (this
+-- project's own).
 use Rattle.std.specs.Prelude.{ℕ, List, [], ◌∷◌, map, Option, Some, None}
 use Rattle.mbuf_chain.specs.Chain.{PoolView, chain_of}
 use Rattle.mbuf_chain.specs.Owners.{IsAll}
