@@ -138,9 +138,6 @@ module _ (bag : List ℕ) where
     pub few_free : free ≤ k
     pub few_refs : refs ≤ 65536 * k
 
-  pub none_counted : AreCounted 0 0 0 0
-  none_counted = record { free_is = refl; refs_are = refl; most_is = refl; few_free = omega arith; few_refs = omega arith }
-
   pub one_counted : (k free refs most count more : ℕ) → AreCounted k free refs most → count ≡ times k bag → count ≤ 65536 → more ≡ cond (count == 0) 1 0
       → AreCounted (k + 1) (free + more) (refs + count) (max most count)
   one_counted k free refs most count more a is few one = record {

@@ -1,4 +1,4 @@
--- A control block of the programs as a socket of the definitions, with an empty queue.
+-- A control block of the programs as a socket of the definitions, with an empty queue (this project's own).
 use Rattle.std.specs.Prelude.{false, [], List, map}
 use Rattle.flat_model.specs.Machine.State.{Socket}
 use Rattle.flat_plain.specs.declared.lookup.Pcb.{Pcb}

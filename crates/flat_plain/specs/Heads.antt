@@ -1,4 +1,4 @@
--- A head of the programs as a head of the definitions.
+-- A head of the programs as a head of the definitions (this project's own).
 use Rattle.flat_model.specs.Packets.Header as Header
 use Rattle.flat_plain.specs.declared.headers.Head.{Head}
 

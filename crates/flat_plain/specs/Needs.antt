@@ -1,4 +1,4 @@
--- A need of the programs as a need of the definitions.
+-- A need of the programs as a need of the definitions (this project's own).
 use Rattle.flat_model.specs.Amounts.Layout as Layout
 use Rattle.flat_plain.specs.declared.needs.Buffers.{Buffers}
 

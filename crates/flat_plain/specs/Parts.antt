@@ -1,4 +1,4 @@
--- A part of the programs as a part of the definitions.
+-- A part of the programs as a part of the definitions (this project's own).
 use Rattle.flat_model.specs.Fragments.Cuts as Cuts
 use Rattle.flat_plain.specs.declared.parts.Part.{Part}
 

@@ -1,5 +1,5 @@
 -- A queue of the programs as a queue of the definitions. Which bytes and which clusters there are makes no
--- difference to its limits: all are 0.
+-- difference to its limits: all are 0 (this project's own).
 use Rattle.std.specs.Prelude.{List, map, replicate}
 use Rattle.flat_model.specs.Machine.State.{Datagram}
 use Rattle.flat_plain.specs.declared.queues.Waiting.{Waiting}

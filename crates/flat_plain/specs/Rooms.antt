@@ -1,4 +1,4 @@
--- A room of the programs as a room of the definitions.
+-- A room of the programs as a room of the definitions (this project's own).
 use Rattle.std.specs.Prelude.{List, map}
 use Rattle.flat_model.specs.Amounts.Layout as Layout
 use Rattle.flat_plain.specs.declared.rooms.Room.{Room}

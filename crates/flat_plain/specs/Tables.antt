@@ -1,4 +1,4 @@
--- A table of the programs as a map of the definitions.
+-- A table of the programs as a map of the definitions (this project's own).
 use Rattle.std.specs.Prelude.{ℕ, Bool, false, List, Option, Some, None, slice_index_or, filter_map}
 use Rattle.flat_model.specs.Amounts.Weight.{Weight}
 use Rattle.flat_model.specs.Fragments.Overlay as Overlay

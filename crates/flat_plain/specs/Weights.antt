@@ -1,4 +1,4 @@
--- Weights and mbufs of the programs as those of the definitions.
+-- Weights and mbufs of the programs as those of the definitions (this project's own).
 use Rattle.std.specs.Prelude.{ℕ, ◌==◌, if◌then◌else◌, List, map, Option, Some, None}
 use Rattle.flat_model.specs.Amounts.Weight as flat
 use Rattle.flat_model.specs.Amounts.Layout as Layout

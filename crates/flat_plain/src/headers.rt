@@ -11,12 +11,17 @@ use std::alloc::{AllocError, Global};
 /// What differs from packet to packet.
 #[derive(Clone, Copy, Debug, PartialEq, Eq)]
 pub struct Head {
+    /// The identification of its datagram.
     pub id: u16,
+    /// Whether more fragments come after it.
     pub more: bool,
-    /// In bytes.
+    /// Where what it carries begins in its datagram, in bytes.
     pub offset: u32,
+    /// The protocol number of what it carries.
     pub protocol: u8,
+    /// The address that it comes from.
     pub source: u32,
+    /// The address that it goes to.
     pub destination: u32,
 }
 
@@ -113,7 +118,8 @@ fn header(head: Head, n: u16, sum: u16) -> [u8; 20]
     ]
 }
 
-/// A packet that carries at most 65,515 bytes, at an offset of at most 65,528.
+/// A packet that carries at most 65,515 bytes, at an offset of at most 65,528. `AllocError` where the host refuses
+/// memory for it.
 pub fn packet(alloc: Global, head: Head, carried: &[u8]) -> Result<Vec<u8>, AllocError>
     requires total { length carried.now ≤ IP_MAX_DATA }
     requires offset { head.offset ≤ 65528 }
@@ -180,7 +186,7 @@ fn joined(alloc: Global, front: &[u8], middle: &[u8], back: &[u8]) -> Result<Vec
     Ok(bytes)
 }
 
-/// A datagram of at most 65,507 bytes after its UDP header.
+/// A datagram of at most 65,507 bytes after its UDP header. `AllocError` where the host refuses memory for it.
 pub fn udp(
     alloc: Global,
     source: Addr,
@@ -201,7 +207,8 @@ pub fn udp(
     Ok(bytes)
 }
 
-/// Why a datagram of at most 65,515 bytes is refused, by the first test that it fails.
+/// Why a datagram of at most 65,515 bytes is refused, by the first test that it fails. `AllocError` where the host
+/// refuses memory for what its checksum covers.
 pub fn udp_fault(
     alloc: Global,
     source: u32,

@@ -10,10 +10,15 @@ use std::alloc::{AllocError, Global};
 /// What a lookup reads of an open socket.
 #[derive(Clone, Copy, Debug, PartialEq, Eq)]
 pub struct Pcb {
+    /// The socket's descriptor.
     pub fd: u32,
+    /// Its local address, where that is set.
     pub local: Option<u32>,
+    /// Its local port, where that is set.
     pub port: Option<u16>,
+    /// Whom it is connected to, if it is.
     pub peer: Option<Addr>,
+    /// Whether it shares its port.
     pub reuse_port: bool,
 }
 
@@ -153,7 +158,8 @@ fn hear(found: &mut Vec<Pcb>, q: LookupKey, pcbs: &[Pcb]) -> Result<(), AllocErr
     }
 }
 
-/// All that hear a broadcast, up to the first one that doesn't share its port.
+/// All that hear a broadcast, up to the first one that doesn't share its port. `AllocError` where the host refuses
+/// memory for the list.
 pub fn receivers(alloc: Global, q: LookupKey, pcbs: &[Pcb]) -> Result<Vec<Pcb>, AllocError>
     ensures { IfOk result (λ v. sockets_of v.items ≡
         Lookup.receivers q (sockets_of pcbs.now)) }

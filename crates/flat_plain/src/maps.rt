@@ -8,6 +8,7 @@ ghost use Rattle.flat_plain.specs.Tables.{map_of, held_of, fragment_of, more_of}
 /// What lies at an offset, and the piece that brought it.
 #[derive(Clone, Copy, Debug, PartialEq, Eq)]
 pub struct Cell {
+    /// The byte.
     pub byte: u8,
     /// The least offset that the piece owns.
     pub first: u32,
@@ -51,8 +52,11 @@ fn staying(cells: &[Option<Cell>], offset: u32, at: u32, n: u32) -> u32
 /// Where a fragment begins, whether more come after it, and what it weighs.
 #[derive(Clone, Copy, Debug, PartialEq, Eq)]
 pub struct Fragment {
+    /// Where it begins in its datagram, in bytes.
     pub offset: u32,
+    /// Whether more come after it.
     pub more: bool,
+    /// How many mbufs it has.
     pub mbufs: u32,
     /// The clusters to which its mbufs refer.
     pub clusters: [Option<u32>; 5],

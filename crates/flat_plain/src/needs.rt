@@ -13,7 +13,9 @@ use std::alloc::{AllocError, Global};
 /// How many free buffers something takes.
 #[derive(Clone, Copy, Debug, PartialEq, Eq)]
 pub struct Buffers {
+    /// How many mbufs.
     pub mbufs: u64,
+    /// How many clusters.
     pub clusters: u64,
 }
 
@@ -48,7 +50,7 @@ fn later_mbufs(rooms: &[Room], parts: &[Part]) -> u64
     }
 }
 
-/// What a send of n bytes takes on a link with this MTU.
+/// What a send of n bytes takes on a link with this MTU. `AllocError` where the host refuses memory to lay it out in.
 pub fn need(alloc: Global, n: u32, mtu: u32) -> Result<Buffers, AllocError>
     requires short { n ≤ UDP_MAX_DATA }
     requires least { IP_HEADER + FRAGMENT_UNIT ≤ mtu }
@@ -67,7 +69,7 @@ pub fn need(alloc: Global, n: u32, mtu: u32) -> Result<Buffers, AllocError>
     })
 }
 
-/// What a send of n bytes to the broadcast address takes.
+/// What a send of n bytes to the broadcast address takes. `AllocError` where the host refuses memory to lay it out in.
 pub fn need_bcast(alloc: Global, n: u32) -> Result<Buffers, AllocError>
     requires { n ≤ UDP_MAX_DATA }
     ensures { IfOk result (λ r. need_of r ≡ Layout.need_bcast n) }

@@ -31,7 +31,8 @@ fn part_at(n: u32, chunk: u32, i: u32) -> Part
     }
 }
 
-/// The parts of n bytes after an IP header, for a link that takes packets of `mtu` bytes.
+/// The parts of n bytes after an IP header, for a link that takes packets of `mtu` bytes. `AllocError` where the host
+/// refuses memory for the list.
 pub fn cuts(alloc: Global, n: u32, mtu: u32) -> Result<Vec<Part>, AllocError>
     requires short { n ≤ IP_MAX_PACKET }
     requires least { IP_HEADER + FRAGMENT_UNIT ≤ mtu }

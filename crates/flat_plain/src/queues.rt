@@ -8,7 +8,9 @@ use params::{MCLBYTES, MSIZE, SOCKADDR_BYTES, UDP_RECEIVE_MEMORY, UDP_RECEIVE_SP
 /// A datagram in a receive queue, by its sizes. The mbuf for the sender's address counts too.
 #[derive(Clone, Copy, Debug, PartialEq, Eq)]
 pub struct Waiting {
+    /// How many bytes it has.
     pub len: u16,
+    /// How many mbufs it has.
     pub mbufs: u16,
     /// How many mbufs refer to clusters.
     pub references: u16,

@@ -83,14 +83,15 @@ fn layout(alloc: Global, large: u32, small: u32, n: u32) -> Result<Vec<Room>, Al
     Ok(rooms)
 }
 
-/// The layout of n bytes to send, without their headers.
+/// The layout of n bytes to send, without their headers. `AllocError` where the host refuses memory for the list.
 pub fn user(alloc: Global, n: u32) -> Result<Vec<Room>, AllocError>
     ensures { IfOk result (λ v. rooms_of v.items ≡ Layout.user n) }
 {
     layout(alloc, MCLBYTES - CLUSTER_LEADING_SPACE, MHLEN, n)
 }
 
-/// The layout of n bytes to send after the 28 bytes of their headers, for at most 65,507 bytes.
+/// The layout of n bytes to send after the 28 bytes of their headers, for at most 65,507 bytes. `AllocError` where the
+/// host refuses memory for the list.
 pub fn sent(alloc: Global, n: u32) -> Result<Vec<Room>, AllocError>
     requires { n ≤ UDP_MAX_DATA }
     ensures rooms { IfOk result (λ v. rooms_of v.items ≡ Layout.sent n) }
@@ -106,7 +107,7 @@ pub fn sent(alloc: Global, n: u32) -> Result<Vec<Room>, AllocError>
     Ok(rooms)
 }
 
-/// The layout of a packet of n bytes that arrives.
+/// The layout of a packet of n bytes that arrives. `AllocError` where the host refuses memory for the list.
 pub fn wire(alloc: Global, n: u32) -> Result<Vec<Room>, AllocError>
     ensures { IfOk result (λ v. rooms_of v.items ≡ Layout.wire n) }
 {

@@ -17,14 +17,18 @@ use std::alloc::{AllocError, Global};
 /// So many mbufs, and the number of a cluster for each of them that refers to one.
 #[derive(Debug, Drop)]
 pub struct Weight {
+    /// How many mbufs.
     pub mbufs: u64,
+    /// The clusters to which they refer, each as often as it is referred to.
     pub bag: Vec<u32>,
 }
 
 /// An mbuf of a chain: the bytes in it, and the cluster to which it refers, if it does.
 #[derive(Clone, Copy, Debug, PartialEq, Eq)]
 pub struct Entry {
+    /// How many bytes are in it.
     pub size: u32,
+    /// The cluster to which it refers, if it does.
     pub cluster: Option<u32>,
 }
 
@@ -79,7 +83,8 @@ fn add_clusters(bag: &mut Vec<u32>, clusters: &[Option<u32>]) -> Result<(), Allo
     }
 }
 
-/// The weight of the packet of a later part, of a send whose bytes lie in these mbufs.
+/// The weight of the packet of a later part, of a send whose bytes lie in these mbufs. `AllocError` where the host
+/// refuses memory for the numbers of its clusters.
 pub fn later_weight(alloc: Global, entries: &[Entry], part: Part) -> Result<Weight, AllocError>
     requires { length entries.now ≤ 65536 }
     ensures { IfOk result (λ w. weight_of w ≡ Sending.later_weight (entries_of entries.now) (part_of part)) }
@@ -108,7 +113,8 @@ pub fn pulled_up(total: u32, weight: Weight) -> Weight
     weight
 }
 
-/// What the pieces in a table weigh that still own an offset.
+/// What the pieces in a table weigh that still own an offset. `AllocError` where the host refuses memory for the
+/// numbers of their clusters.
 pub fn weight_of_pieces(alloc: Global, cells: &[Option<Cell>]) -> Result<Weight, AllocError>
     requires { length cells.now ≤ IP_MAX_DATA }
     ensures { IfOk result (λ w. weight_of w ≡ Whole.weight_of_pieces (map_of cells.now)) }
