@@ -3,12 +3,11 @@
 
 -- ---- lists and weights: what is added up, and how often a cluster stands in it
 pub use Rattle.flat_model.proofs.Lists.Totals.{count_cons, count-append}
-pub use Rattle.flat_model.proofs.Amounts.Weights.{nothing-both, both-nothing, both-assoc, all_of-append, mbufs-all_of, weight_of-append, times-both, times-all_of, same_weight-refl, same_weight-sym, same_weight-trans, same_weight-both, same_weight-swap, count_of-same, free_mbufs-same, free_clusters-same, has_enough-same, has_buffers-same}
--- ---- the same weight in another order, and that tests answer the same for it
+pub use Rattle.flat_model.proofs.Amounts.Weights.{nothing-both, both-nothing, both-assoc, all_of-append, times-both}
 -- ---- the accounts of a consistent state
 pub use Rattle.flat_model.proofs.Machine.Balance.{free_and_held, references_are, none_held}
--- ---- sends: both parts of one are the whole, and the other way round
-pub use Rattle.flat_model.proofs.Machine.Putting.{put_goes, goes_put}
+-- ---- sends: both parts of one are the whole
+pub use Rattle.flat_model.proofs.Machine.Putting.{put_goes}
 -- ---- runs: one more event, and what a script prints
 pub use Rattle.flat_model.proofs.Runs.Ranges.{in_range}
 pub use Rattle.flat_model.proofs.Runs.Runs.{one_more_turn, print_of_run}

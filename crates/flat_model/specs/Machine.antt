@@ -7,5 +7,6 @@ pub mod Calls
 pub mod Sending
 pub mod Send
 pub mod Arrival
+pub mod Puts
 pub mod Step
 pub mod Replies

@@ -4,4 +4,3 @@ pub mod Lines
 pub mod Grammar
 pub mod Texts
 pub mod Script
-pub mod Puts

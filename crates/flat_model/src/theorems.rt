@@ -1,5 +1,6 @@
 //! Theorems of the definitions. Each is a function that does nothing, and its contract is the theorem.
 ghost use Rattle.std.specs.Prelude.{◌≡◌, ◌+◌, ℕ, Bool, List, [], ◌∷◌, ◌++◌, ◌≤◌, ◌<◌, length, All};
+ghost use Rattle.params.specs.declared.TheConstants.{FRAGMENT_UNIT, IP_HEADER};
 ghost use Rattle.flat_model.specs.Fragments.Overlay.{Fragment};
 ghost use Rattle.flat_model.specs.Amounts.Weight.{nothing};
 ghost use Rattle.flat_model.specs.Machine.Ledger.{exact_ledger, loose_ledger, weight_of_state, free_mbufs, usage_of};
@@ -16,13 +17,13 @@ ghost use Rattle.flat_model.specs.Runs.Laws.{CutsJoin, IsFragmentOf, OverlayOrde
 /// The parts of a string put together are the string. All but the last are a multiple of 8 long, and
 /// each packet is at most as long as the link takes (RFC 791 section 3.2, "Fragmentation and Reassembly").
 pub fn cuts_join()
-    ensures { (s : List ℕ) (mtu : ℕ) → 28 ≤ mtu → CutsJoin s mtu }
+    ensures { (s : List ℕ) (mtu : ℕ) → IP_HEADER + FRAGMENT_UNIT ≤ mtu → CutsJoin s mtu }
 {}
 
 /// The order in which the parts of a cut string come, and how often, makes no difference to what is
 /// put together of them.
 pub fn overlay_order()
-    ensures { (s : List ℕ) (mtu : ℕ) (fragments : List Fragment) → 0 < length s → 28 ≤ mtu →
+    ensures { (s : List ℕ) (mtu : ℕ) (fragments : List Fragment) → 0 < length s → IP_HEADER + FRAGMENT_UNIT ≤ mtu →
         All (IsFragmentOf s mtu) fragments → OverlayOrder s mtu fragments }
 {}
 

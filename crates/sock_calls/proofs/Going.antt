@@ -11,7 +11,7 @@ use Rattle.flat_model.specs.Machine.State.{State, Socket, Unfinished, socket_at,
 use Rattle.flat_model.specs.Machine.Event.{Reply, Sent, Refused}
 use Rattle.flat_model.specs.Machine.Ledger.{exact_ledger, has_enough, IsFree}
 use Rattle.flat_model.specs.Amounts.Layout.{Need}
-use Rattle.flat_model.specs.Scripts.Puts.{Puts}
+use Rattle.flat_model.specs.Machine.Puts.{Puts}
 use Rattle.flat_model.specs.Machine.Replies.{sent_reply}
 use Rattle.flat_model.specs.Machine.Send.{need_to, to_link, to_self}
 use Rattle.flat_model.specs.Machine.Sending as flat

@@ -15,7 +15,7 @@ use Rattle.flat_model.specs.Amounts.Choice.{Choice}
 use Rattle.flat_model.specs.Amounts.Layout.{Need}
 use Rattle.flat_model.specs.Machine.Calls.{Refuses}
 use Rattle.flat_model.specs.Machine.Send.{Sends, Goes, send_faults, target, need_to}
-use Rattle.flat_model.specs.Scripts.Puts.{Puts}
+use Rattle.flat_model.specs.Machine.Puts.{Puts}
 use Rattle.flat_model.specs.declared.address.Addr.{Addr}
 use Rattle.flat_model.specs.declared.errno.Errno.{Errno}
 use Rattle.flat_model.specs.declared.errno.Errno.TheVariants.{NoBufs, Access, DestinationRequired, MessageSize, IsConnected, AddressNotAvailable, HostUnreachable, AddressInUse, BadDescriptor, Invalid, TooManyFiles, WouldBlock}

@@ -10,7 +10,7 @@ use Rattle.flat_model.specs.Machine.State.{State, Socket, socket_at}
 use Rattle.flat_model.specs.Machine.Ledger.{Ledger}
 use Rattle.flat_model.specs.Machine.Calls.{Refuses}
 use Rattle.flat_model.specs.Machine.Send.{send_faults, target, need_to}
-use Rattle.flat_model.specs.Scripts.Puts.{Puts}
+use Rattle.flat_model.specs.Machine.Puts.{Puts}
 use Rattle.flat_model.specs.declared.address.Addr.{Addr}
 use Rattle.flat_model.specs.declared.errno.Errno.{Errno}
 use Rattle.flat_model.specs.declared.errno.Errno.TheVariants.{BadDescriptor, NoBufs}

@@ -82,9 +82,6 @@ index_at n c offset some h =
 
 -- the law on a grid
 module _ (s : List ℕ) (c : ℕ) (some : 0 < c) (any : 0 < length s) (fragments : List Fragment) (made : IsMade s c (laid fragments) (Index c fragments)) where
-  n : ℕ
-  n = length s
-
   pub bytes_laid : (i offset : ℕ) → Index c fragments i → IsIn (length s) c i offset → option_map (λ (h : Held). h.byte) (laid fragments offset) ≡ Some (slice_index s offset)
   bytes_laid i offset d place = go (laid fragments offset) refl (made.there i offset d place)
     where

@@ -133,9 +133,6 @@ splits p at (suc n) closed k low high = go (splits p (at + 1) n (λ j i l m h. c
 -- ---- the fragment laid over the map
 
 module _ (c : Config) (bytes : Map) (f : Fragment) (is_map : IsMap c bytes) (carries : Carries c f.weight (length f.bytes)) (inside : fragment_end f ≤ 65515) where
-  IsWithin : ℕ → Type 0
-  IsWithin offset = (f.offset ≤ offset) × (offset < fragment_end f)
-
   within_is : (offset : ℕ) → is_within f offset ≡ true → (f.offset ≤ offset) × (offset < fragment_end f)
   within_is offset e = let parts = and_parts (nat_le f.offset offset) (nat_lt offset (fragment_end f)) e in (leb-true _ _ parts.0, ltb-true _ _ parts.1)
 
@@ -157,9 +154,6 @@ module _ (c : Config) (bytes : Map) (f : Fragment) (is_map : IsMap c bytes) (car
       let s = stays_is k true e in
       let at = (is_map k s.0 s.1).filled j (omega (arith, s.2)) le in
       is_staying j at.0 at.1 (let same : at.0.piece.first ≡ s.0.piece.first = ap (λ (p : Piece). p.first) at.2 in omega (arith, s.2))
-
-  fo : ℕ
-  fo = first_owned bytes f
 
   -- what stays lies in front of what the fragment owns
   owned_from : (offset : ℕ) → f.offset ≤ offset → offset < fragment_end f → (stays f.offset (bytes offset) ≡ true → offset < first_owned bytes f) × (stays f.offset (bytes offset) ≡ false → first_owned bytes f ≤ offset)
@@ -189,9 +183,6 @@ module _ (c : Config) (bytes : Map) (f : Fragment) (is_map : IsMap c bytes) (car
     was : bytes offset ≡ Some old
     outside : is_within f offset ≡ false
     is : h ≡ cut_back f old
-
-  Outcome : ℕ → Held → Type 0
-  Outcome offset h = Stayed offset h ⊎ (Brought offset h ⊎ Kept offset h)
 
   outcome : (offset : ℕ) (h : Held) → overlay bytes f offset ≡ Some h → Stayed offset h ⊎ (Brought offset h ⊎ Kept offset h)
   unfolding overlay
@@ -348,15 +339,6 @@ module _ (c : Config) (bytes : Map) (f : Fragment) (is_map : IsMap c bytes) (car
       go (inr (inr k)) = kept_place offset h k.old k.was k.outside k.is
 
   -- ---- what it weighs
-
-  before : ℕ → ℕ
-  before offset = starts offset (bytes offset)
-
-  after : ℕ → ℕ
-  after offset = starts offset (overlay bytes f offset)
-
-  new_spike : ℕ → ℕ
-  new_spike = spike (first_owned bytes f) f.weight.mbufs
 
   starts_is : (offset : ℕ) (h : Held) → starts offset (Some h) ≡ spike h.piece.first h.piece.weight.mbufs offset
   unfolding starts

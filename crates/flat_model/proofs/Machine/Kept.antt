@@ -349,9 +349,6 @@ module _ (c : Config) where
 
   -- a test that passes leaves so many mbufs more to hold
   module _ (old new : State) (held : Weight) (need : Need) where
-    abbrev Left : Type 0
-    Left = (new ≡ old) ⊎ (new ≡ reclaimed old)
-
     room_left : (s : State) → Good c held.mbufs s → true ≡ has_enough s held need → Good c (held.mbufs + need.mbufs) s
     room_left s good e =
         let parts = and_parts _ _ (sym e) in

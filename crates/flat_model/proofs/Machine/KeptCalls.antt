@@ -1,4 +1,4 @@
--- Every step keeps what holds of the state.
+-- The socket calls but for sends keep what holds of the state.
 use Rattle.std.proofs.Common.{◌≡◌, ℕ, zero, suc, ◌+◌, ◌<◌, ◌≤◌, Bool, true, false, List, [], ◌∷◌, length, map, refl, sym, ap, subst, arith, Option, Some, None, cond, ◌⊎◌, inl, inr}
 use Rattle.std.specs.Prelude.{◌==◌, ◌||◌, not, count_by, find, unwrap_or, is_some, IsSome, IsNone}
 use Rattle.std.specs.List.{AllByRecursion as Each}

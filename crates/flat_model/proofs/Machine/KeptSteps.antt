@@ -84,12 +84,6 @@ module _ (c : Config) (boots : IsConfig c) where
       go (inr h) = boots.bcast.no_loopback (ap (λ n. n / 2 ^ 24) (sym same ∙ eqb-true ip loopback h))
 
   module _ (fd : ℕ) (x : Sending) (clusters : List ℕ) (s : State) where
-    n : ℕ
-    n = length x.bytes
-
-    out : List Item
-    out = packets c clusters x
-
     -- the state once the port and the identification are spent
     good_spent : (h : ℕ) → Good c h s → IsPort c host lo x.port → Good c h (spent fd x.port (parts_of s.config x) s)
     good_spent h good port = KeptCalls.renames c host lo h fd (λ socket. record socket { port = Some x.port }) (counts_send (parts_of s.config x) s)

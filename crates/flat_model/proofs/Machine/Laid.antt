@@ -235,9 +235,6 @@ pub record ItemFits (c : Config) (mtu : ℕ) (item : Item) : Type 0 where
 
 module _ (c : Config) (clusters : List ℕ) (n mtu : ℕ) (number : length clusters ≡ count_by is_cluster (sent n)) (exist : Each (λ k. k < c.clusters) clusters)
     (bytes : Part → List ℕ) (sizes : (p : Part) → length (bytes p) ≤ 20 + p.size) where
-  entries : List Entry
-  entries = laid_on clusters (sent n)
-
   later_fits : (p : Part) → PartFits (n + 8) mtu p → ItemFits c mtu (record { bytes = bytes p; weight = later_weight (laid_on clusters (sent n)) p })
   unfolding shared
   later_fits p fit =

@@ -1,5 +1,5 @@
 -- A send's two parts are the whole of it.
-use Rattle.std.proofs.Common.{ℕ, List, refl, subst}
+use Rattle.std.proofs.Common.{ℕ, List, subst}
 use Rattle.flat_model.specs.Amounts.Weight.{Item}
 use Rattle.flat_model.specs.Machine.Event.{Reply}
 use Rattle.flat_model.specs.Machine.State.{State, Socket}
@@ -9,7 +9,7 @@ use Rattle.flat_model.specs.declared.address.Addr.{Addr}
 use Rattle.flat_model.specs.Machine.Send.{Goes, to_self}
 use Rattle.flat_model.specs.Machine.Sending.{Sending, packets}
 use Rattle.flat_model.specs.Machine.Calls.{source_for}
-use Rattle.flat_model.specs.Scripts.Puts.{Puts, PutsThenArrive}
+use Rattle.flat_model.specs.Machine.Puts.{Puts}
 
 module _ (L : Ledger) (fd : ℕ) (me : Socket) (to : Addr) (bytes : List ℕ) (old : State) (reply : Reply) where
   pub put_goes : (looped : List Item) (mid new : State) → Puts L fd me to bytes old reply looped mid → AllArrive L looped mid new → Goes L fd me to bytes old reply new
@@ -23,6 +23,3 @@ module _ (L : Ledger) (fd : ℕ) (me : Socket) (to : Addr) (bytes : List ℕ) (o
         taken,
         (subst (λ s. AllArrive L (to_self named.config to.ip (packets named.config clusters x)) s new) left.state back, left.answer),
       )
-
-  pub goes_put : (new : State) → Goes L fd me to bytes old reply new → PutsThenArrive L fd me to bytes old reply new
-  goes_put new (port, named, clusters, gets, taken, left) = (_, _, (port, named, clusters, gets, taken, record { back = refl; state = refl; answer = left.1 }), left.0)

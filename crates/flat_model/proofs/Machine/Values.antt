@@ -18,9 +18,9 @@ user_208 : user 208 ≡ Cluster 208 ∷ []
 unfolding filled
 user_208 = refl
 
-user_207 : sent 207 ≡ Plain 28 ∷ Plain 100 ∷ Plain 107 ∷ []
+sent_207 : sent 207 ≡ Plain 28 ∷ Plain 100 ∷ Plain 107 ∷ []
 unfolding filled
-user_207 = refl
+sent_207 = refl
 
 sent_9216 : sent 9216 ≡ Plain 28 ∷ Cluster 1992 ∷ Cluster 2048 ∷ Cluster 2048 ∷ Cluster 2048 ∷ Cluster 1080 ∷ []
 unfolding filled

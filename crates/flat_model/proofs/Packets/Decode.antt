@@ -61,9 +61,6 @@ carried_read h t =
 -- ---- UDP
 
 module _ (source destination port to : ℕ) (s : List ℕ) where
-  t : List ℕ
-  t = udp source destination port to s
-
   udp_header : List ℕ
   udp_header =
       let front : List ℕ = two_bytes port ++ two_bytes to ++ two_bytes (8 + length s) in

@@ -142,9 +142,6 @@ module _ (L : Ledger) (c : Config) (boots : IsConfig c) where
 
   -- ---- a send
 
-  abbrev HasFd : ℕ → State → Type 0
-  HasFd fd s = (me : Socket) × (socket_at fd s ≡ Some me)
-
   fits_all : (s : State) (packets : List Item) (n : ℕ) (reply : Reply) → length (s.output ++ packets) ≤ 50
       → reply ≡ cond (overflows s packets) (Event.Refused (NoBufs Queue)) (Sent n) → reply ≡ Sent n
   fits_all s packets n reply h e = e ∙ cond-false (overflows s packets) _ _ (le-ltb 50 (length (s.output ++ packets)) h)

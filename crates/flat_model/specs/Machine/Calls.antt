@@ -1,8 +1,8 @@
 -- The socket calls but for sends: what each is refused for, in order, and what it does (`socket`, `close` and
 -- `setsockopt`: volume 2, chapters 15 and 17; `bind` and `connect`: `in_pcbbind` and `in_pcbconnect` of chapter 22;
 -- `recvfrom`: chapter 16). Where an order or a list is this project's own, its definition says so.
-use Rattle.std.specs.Prelude.{◌≡◌, ℕ, zero, suc, ◌+◌, ◌-◌, ◌*◌, ◌<◌, ◌≤◌, ◌%◌, ◌/◌, ◌^◌, Bool, true, false, ◌==◌, nat_lt, ◌&&◌, ◌||◌, not, if◌then◌else◌, List, [], ◌∷◌, take, length, filter, Option, Some, None, is_some, IsSome, IsNone, unwrap_or}
-use Rattle.params.specs.declared.TheConstants.{FIRST_EPHEMERAL_PORT, LAST_EPHEMERAL_PORT, FIRST_DESCRIPTOR}
+use Rattle.std.specs.Prelude.{◌≡◌, ℕ, zero, suc, ◌+◌, ◌-◌, ◌<◌, ◌≤◌, ◌%◌, ◌/◌, ◌^◌, Bool, true, false, ◌==◌, nat_lt, ◌&&◌, ◌||◌, not, if◌then◌else◌, List, [], ◌∷◌, take, length, filter, Option, Some, None, is_some, IsSome, IsNone, unwrap_or}
+use Rattle.params.specs.declared.TheConstants.{FIRST_MULTICAST, LOOPBACK, FIRST_EPHEMERAL_PORT, LAST_EPHEMERAL_PORT, FIRST_DESCRIPTOR}
 use Rattle.flat_model.specs.declared.lookup_key.LookupKey.{LookupKey}
 use Rattle.flat_model.specs.Amounts.Choice.{Choice, Case}
 use Rattle.flat_model.specs.Packets.Header.{first_fault}
@@ -43,7 +43,7 @@ read_addr c a = record a { ip = read_address c a.ip }
 -- Some interface leads there: the one that there is leads everywhere but to 0/8, to 127/8 and from 224.0.0.0 on, and
 -- 127.0.0.1 is reached by loopback. For an address that was read (this project's own).
 abbrev pub is_reached : ℕ → Bool
-is_reached ip = (ip == loopback) || (not (ip / 2 ^ 24 == 0) && not (ip / 2 ^ 24 == 127) && nat_lt ip (224 * 2 ^ 24))
+is_reached ip = (ip == loopback) || (not (ip / 2 ^ 24 == 0) && not (ip / 2 ^ 24 == LOOPBACK / 2 ^ 24) && nat_lt ip FIRST_MULTICAST)
 
 -- one of the three addresses of this machine
 abbrev pub is_ours : Config → ℕ → Bool

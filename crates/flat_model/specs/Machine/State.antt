@@ -1,7 +1,7 @@
 -- The state of the machine between two events (this project's own; what it keeps of a socket is the control block
 -- and the receive queue of volume 2, chapters 22 and 16).
-use Rattle.std.specs.Prelude.{ℕ, ◌*◌, ◌<◌, ◌≤◌, ◌^◌, ◌/◌, ◌≢◌, Bool, ◌==◌, ◌&&◌, not, if◌then◌else◌, List, [], ◌∷◌, ◌++◌, map, filter, find, Option, None}
-use Rattle.params.specs.declared.TheConstants.{LOOPBACK, LIMITED_BROADCAST, MAX_MBUFS, MAX_CLUSTERS, MIN_MTU, MAX_MTU, FRAGMENT_TICKS}
+use Rattle.std.specs.Prelude.{ℕ, ◌<◌, ◌≤◌, ◌^◌, ◌/◌, ◌≢◌, Bool, ◌==◌, ◌&&◌, not, if◌then◌else◌, List, [], ◌∷◌, ◌++◌, map, filter, find, Option, None}
+use Rattle.params.specs.declared.TheConstants.{FIRST_MULTICAST, LOOPBACK, LIMITED_BROADCAST, MAX_MBUFS, MAX_CLUSTERS, MIN_MTU, MAX_MTU, FRAGMENT_TICKS}
 use Rattle.flat_model.specs.Amounts.Weight.{Item}
 use Rattle.flat_model.specs.Fragments.Overlay.{Map, empty}
 use Rattle.flat_model.specs.Machine.Count.{no_counts, counted}
@@ -24,8 +24,8 @@ limited_broadcast = LIMITED_BROADCAST
 -- an address that a host may have: 1.0.0.0 to 223.255.255.255, and not in 127/8
 pub record IsHost (address : ℕ) : Type 0 where
   pub low : 2 ^ 24 ≤ address
-  pub high : address < 224 * 2 ^ 24
-  pub no_loopback : address / 2 ^ 24 ≢ 127
+  pub high : address < FIRST_MULTICAST
+  pub no_loopback : address / 2 ^ 24 ≢ LOOPBACK / 2 ^ 24
 
 -- sizes that a pool may have; the clusters may be none
 pub record HasSizes (c : Config) : Type 0 where

@@ -1,7 +1,7 @@
 -- The bytes of a packet: its IP header (RFC 791, section 3.1), and the UDP header after it (RFC 768). All
 -- numbers are big-endian.
 use Rattle.std.specs.Prelude.{ℕ, ◌+◌, ◌*◌, ◌/◌, ◌%◌, Bool, false, nat_lt, ◌==◌, not, if◌then◌else◌, List, [], ◌∷◌, ◌++◌, length, take, drop, slice_index, Option, Some, None}
-use Rattle.params.specs.declared.TheConstants.{IP_HEADER, UDP_HEADER, IP_DEFAULT_TTL, PROTOCOL_UDP}
+use Rattle.params.specs.declared.TheConstants.{FRAGMENT_UNIT, IP_HEADER, UDP_HEADER, IP_DEFAULT_TTL, PROTOCOL_UDP}
 use Rattle.flat_model.specs.Packets.Checksum.{folded_sum, checksum}
 use Rattle.flat_model.specs.declared.counters.Why.{Why}
 use Rattle.flat_model.specs.declared.counters.Why.TheVariants.{TooSmall, BadVersion, BadHeaderLength, Options, BadSum, BadLength, TooShort, UdpHeaderDrops, UdpBadLength, UdpBadSum}
@@ -40,7 +40,7 @@ flag set worth = if set then worth else 0
 -- The ten bytes in front of the header's checksum, of a packet that carries n bytes: version 4 and 5 words of
 -- header, type of service 0, total length, identification, flags and offset, time to live 64, protocol.
 abbrev pub front_bytes : Head → ℕ → List ℕ
-front_bytes h n = 69 ∷ 0 ∷ two_bytes (IP_HEADER + n) ++ two_bytes h.id ++ two_bytes (flag h.more 8192 + h.offset / 8) ++ IP_DEFAULT_TTL ∷ h.protocol ∷ []
+front_bytes h n = 69 ∷ 0 ∷ two_bytes (IP_HEADER + n) ++ two_bytes h.id ++ two_bytes (flag h.more 8192 + h.offset / FRAGMENT_UNIT) ++ IP_DEFAULT_TTL ∷ h.protocol ∷ []
 
 -- the eight bytes after the checksum
 abbrev pub address_bytes : ℕ → ℕ → List ℕ
@@ -58,7 +58,7 @@ abbrev pub head_of : List ℕ → Head
 head_of bytes = record {
   id = u16_at 4 bytes;
   more = nat_lt 0 (u16_at 6 bytes / 8192 % 2);
-  offset = u16_at 6 bytes % 8192 * 8;
+  offset = u16_at 6 bytes % 8192 * FRAGMENT_UNIT;
   protocol = slice_index bytes 9;
   source = u32_at 12 bytes;
   destination = u32_at 16 bytes;

@@ -1,6 +1,6 @@
 -- Laws of cuts and of overlays (RFC 791, section 3.2).
 use Rattle.std.specs.Prelude.{◌≡◌, ◌↔◌, ℕ, ◌+◌, ◌%◌, ◌<◌, ◌≤◌, List, [], ◌∷◌, length, take, drop, slice_index, slice_index_or, All, Contains, Any, flat_map, Some, IsSome, option_map}
-use Rattle.params.specs.declared.TheConstants.{IP_HEADER}
+use Rattle.params.specs.declared.TheConstants.{FRAGMENT_UNIT, IP_HEADER}
 use Rattle.flat_model.specs.Fragments.Cuts.{Part, cuts}
 use Rattle.flat_model.specs.Fragments.Overlay.{Map, Fragment, empty, overlay}
 use Rattle.flat_model.specs.Fragments.Whole.{IsWhole}
@@ -12,7 +12,7 @@ bytes_of s p = take p.size (drop p.offset s)
 -- The parts of a string put together are the string; all but the last are a multiple of 8 long; and each fits after its header.
 pub record CutsJoin (s : List ℕ) (mtu : ℕ) : Type 0 where
   pub joined : flat_map (bytes_of s) (cuts (length s) mtu) ≡ s
-  pub multiples : (k : ℕ) (d : Part) → k + 1 < length (cuts (length s) mtu) → (slice_index_or (cuts (length s) mtu) k d).size % 8 ≡ 0
+  pub multiples : (k : ℕ) (d : Part) → k + 1 < length (cuts (length s) mtu) → (slice_index_or (cuts (length s) mtu) k d).size % FRAGMENT_UNIT ≡ 0
   pub within : All (λ p. IP_HEADER + p.size ≤ mtu) (cuts (length s) mtu)
 
 -- the fragment is a part of the cut string

@@ -1,5 +1,5 @@
--- A send in two parts: what it does itself, and the arrival of the packets that come back (this project's own). Both
--- together are `Goes`, by `put_goes` and `goes_put` of proofs/Laws.
+-- A send up to the arrival of the packets that come back (this project's own). With that it is `Goes`, by `put_goes` of
+-- proofs/Laws.
 use Rattle.std.specs.Prelude.{◌≡◌, ℕ, if◌then◌else◌, List, length}
 use Rattle.flat_model.specs.Amounts.Weight.{Item}
 use Rattle.flat_model.specs.Machine.Event.{Reply, Sent, Refused}
@@ -9,7 +9,6 @@ use Rattle.flat_model.specs.Machine.State.{State, Socket}
 use Rattle.flat_model.specs.Machine.Calls.{GetsPort, source_for}
 use Rattle.flat_model.specs.Machine.Sending.{Sending, packets, parts_of}
 use Rattle.flat_model.specs.Machine.Ledger.{Ledger, AreTaken}
-use Rattle.flat_model.specs.Machine.Arrival.{AllArrive}
 use Rattle.flat_model.specs.declared.address.Addr.{Addr}
 use Rattle.flat_model.specs.Machine.Send.{need_to, to_link, to_self, overflows, enqueued, spent}
 
@@ -28,7 +27,3 @@ module _ (L : Ledger) where
       × AreTaken L old (need_to old.config to.ip (length bytes)).clusters clusters
       × (let x : Sending = record { id = old.next_id; source = source_for old.config me to.ip; to = to; port = port; bytes = bytes } in
       Queues fd (packets named.config clusters x) x named reply looped new)
-
-  -- both parts
-  abbrev pub PutsThenArrive : ℕ → Socket → Addr → List ℕ → State → Reply → State → Type 0
-  PutsThenArrive fd me to bytes old reply new = (looped : List Item) × (mid : State) × Puts fd me to bytes old reply looped mid × AllArrive L looped mid new
