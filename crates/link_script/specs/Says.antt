@@ -1,4 +1,4 @@
--- What a machine may print for a line by its steps.
+-- What a machine may print for a line by its steps (this project's own).
 use Rattle.std.specs.Prelude.{◌≡◌, ℕ, List, Option}
 use Rattle.flat_model.specs.Machine.Event.{Event, Reply}
 use Rattle.flat_model.specs.Machine.State.{State}

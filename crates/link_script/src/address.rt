@@ -5,7 +5,7 @@ ghost use Rattle.flat_model.specs.Scripts.Grammar.{IsAddress};
 use std::net::Ipv4Addr;
 
 /// The address that the word writes.
-pub fn address(word: &[u8]) -> Option<u32>
+pub(crate) fn address(word: &[u8]) -> Option<u32>
     ensures { MatchOption result ((ip : ℕ) → IsAddress word.now ip → ⊥) (λ ip. IsAddress word.now ip) }
 {
     match Ipv4Addr::parse_ascii(word) {

@@ -119,9 +119,9 @@ fn put_answer<M: Machine>(
 }
 
 /// A machine, and the memory for the work on one line.
-pub struct Caller<M> {
-    pub machine: M,
-    pub buffers: LineBuffers,
+pub(crate) struct Caller<M> {
+    pub(crate) machine: M,
+    pub(crate) buffers: LineBuffers,
 }
 
 impl<M: Machine> Answers<TEXT> for Caller<M> {

@@ -6,7 +6,7 @@ ghost use Rattle.link_script.specs.Inside.Parts.{word_of};
 
 /// The word that a line begins with.
 #[derive(Clone, Copy)]
-pub enum Keyword {
+pub(crate) enum Keyword {
     Socket,
     Bind,
     Connect,
@@ -23,7 +23,7 @@ pub enum Keyword {
 }
 
 /// The keyword that this word is.
-pub fn keyword_of(word: &[u8]) -> Option<Keyword>
+pub(crate) fn keyword_of(word: &[u8]) -> Option<Keyword>
     ensures { MatchOption result ((event : Event) → grammar.keyword event ≡ word.now → ⊥) (λ k. word.now ≡ word_of k) }
 {
     match word {

@@ -10,6 +10,9 @@ use script_loop::RunFault;
 use std::alloc::Global;
 
 /// A machine that answers one call after another. The runner knows nothing else of it. It must be spent by `end`.
+///
+/// What a call may answer and do is what `may_step` says of it. The refusals told here are those of the flat machine's
+/// step, in its order.
 pub trait Machine: Sized {
     /// What callers see of it.
     ghost state: { Self → State };
@@ -26,34 +29,47 @@ pub trait Machine: Sized {
     fn boot(alloc: Global, config: Config) -> Result<Self, RunFault>
         ensures { MatchResult result (λ machine. flat.IsConfig config × (state machine ≡ flat.boot config)) (IsUnbooted config) };
 
-    /// Opens a socket, and answers its descriptor.
+    /// Opens a socket, and answers its descriptor. Refused, and then nothing changes: `TooManyFiles` where 64 are open.
     fn socket(&mut self) -> Result<u32, Errno>
         ensures { may_step (state self.old) Open (opened_reply result) (state self.new) };
 
-    /// Gives a socket its local address and port.
+    /// Gives an unbound socket its local address, unless that is 0.0.0.0, and its port, where that is 0 an ephemeral
+    /// one. Refused, and then nothing changes: `BadDescriptor`; `Invalid` where the socket has a port or a local address;
+    /// `AddressNotAvailable` where the address isn't 0.0.0.0 or one of the machine; `AddressInUse` where the port isn't
+    /// 0 and another socket stands in the way.
     fn bind(&mut self, fd: u32, local: Addr) -> Result<(), Errno>
         ensures { may_step (state self.old) (Bind fd local) (done_reply result) (state self.new) };
 
-    /// Connects a socket to an address and port.
+    /// Connects a socket to an address and port; one that is connected is disconnected first, and stays so where the
+    /// call is refused: `BadDescriptor`; `AddressNotAvailable` where the port is 0; `HostUnreachable`; `AddressInUse`
+    /// where another socket has the same four values.
     fn connect(&mut self, fd: u32, peer: Addr) -> Result<(), Errno>
         ensures { may_step (state self.old) (Connect fd peer) (done_reply result) (state self.new) };
 
     /// Sends bytes to an address and port, or to the peer, and answers how many they are.
+    ///
+    /// Refused, and then nothing changes: `BadDescriptor`; `DestinationRequired` without an address on an unconnected
+    /// socket; `MessageSize` above 9,216 bytes; `IsConnected` with an address on a connected one; `AddressNotAvailable`
+    /// for port 0; `HostUnreachable`; `AddressInUse`; `Access` for the broadcast address without the option;
+    /// `MessageSize` for a broadcast that is longer than the link's packets. Then `NoBufs(Pool)`, where the pool has too
+    /// few buffers even without the unfinished datagrams, which are dropped then; and `NoBufs(Queue)`, where not all
+    /// packets find room in the output queue: those that do are sent, and port and identification are spent.
     fn sendto(&mut self, fd: u32, to: Option<Addr>, bytes: &[u8]) -> Result<usize, Errno>
         ensures { may_step (state self.old) (Send fd to bytes.now) (sent_reply result) (state self.new) };
 
     /// Takes the oldest datagram of a socket, puts at most as many bytes of it into the room as that has, and
-    /// answers the sender and how many bytes these are.
+    /// answers the sender and how many bytes these are. Refused, and then nothing changes: `BadDescriptor`; `WouldBlock`
+    /// where none waits.
     fn recvfrom(&mut self, fd: u32, room: &mut [u8]) -> Result<(Addr, usize), Errno>
         ensures step { may_step (state self.old) (Receive fd (length room.old)) (received_reply result room.new)
             (state self.new) }
         ensures fits { FitsRoom result room.new };
 
-    /// Closes a socket.
+    /// Closes a socket, and loses what waits in it. Refused, and then nothing changes: `BadDescriptor`.
     fn close(&mut self, fd: u32) -> Result<(), Errno>
         ensures { may_step (state self.old) (Close fd) (done_reply result) (state self.new) };
 
-    /// Sets or clears an option of a socket.
+    /// Sets or clears an option of a socket. Refused, and then nothing changes: `BadDescriptor`.
     fn setsockopt(&mut self, fd: u32, option: Opt, on: bool) -> Result<(), Errno>
         ensures { may_step (state self.old) (Set_option fd option on) (done_reply result) (state self.new) };
 

@@ -20,7 +20,7 @@ use std::alloc::{AllocError, Global};
 
 /// What the words ask for.
 #[derive(Clone, Copy)]
-pub enum Task {
+pub(crate) enum Task {
     /// `run`: the script of calls on sockets, on a machine of this configuration.
     Run(Config),
     /// `chain`: the script of calls on chains, over a pool of these sizes.
@@ -153,7 +153,7 @@ fn ends_in_dashes(words: &[String]) -> bool
 ///
 /// `Usage` where they aren't a subcommand with its options, each at most once, or a number isn't one or is out of its
 /// range; `--` ends no command. `Memory` where host memory is lacking.
-pub fn read_words(alloc: Global, words: &[String]) -> Result<Task, Failure>
+pub(crate) fn read_words(alloc: Global, words: &[String]) -> Result<Task, Failure>
     ensures { MatchResult result (IsCommand defaults (map string_bytes words.now)) (IsWordsFault (IsCommand defaults (map string_bytes words.now))) }
 {
     if ends_in_dashes(words) {

@@ -10,7 +10,7 @@ use flat_model::{Addr, Counter, Counters, Errno, Mbstat};
 use script_loop::{Buffer, HELD, put_hex, put_number};
 
 /// Room for the longest line of reply, after those that are held.
-pub const TEXT: usize = HELD + 131_200;
+pub(crate) const TEXT: usize = HELD + 131_200;
 
 fn put_address(text: &mut Buffer<TEXT>, ip: u32)
     requires { length text.old + 43 ≤ 196736 }
@@ -51,7 +51,7 @@ fn put_refusal(text: &mut Buffer<TEXT>, errno: Errno)
 }
 
 /// The line for a socket that was to be opened.
-pub fn put_opened(text: &mut Buffer<TEXT>, outcome: Result<u32, Errno>)
+pub(crate) fn put_opened(text: &mut Buffer<TEXT>, outcome: Result<u32, Errno>)
     requires { length text.old ≤ 65536 }
     ensures { text.new ≡ text.old ++ answer_text (Some (opened_reply outcome)) }
 {
@@ -66,7 +66,7 @@ pub fn put_opened(text: &mut Buffer<TEXT>, outcome: Result<u32, Errno>)
 }
 
 /// The line for a call that answers nothing else.
-pub fn put_done(text: &mut Buffer<TEXT>, outcome: Result<(), Errno>)
+pub(crate) fn put_done(text: &mut Buffer<TEXT>, outcome: Result<(), Errno>)
     requires { length text.old ≤ 65536 }
     ensures { text.new ≡ text.old ++ answer_text (Some (done_reply outcome)) }
 {
@@ -78,7 +78,7 @@ pub fn put_done(text: &mut Buffer<TEXT>, outcome: Result<(), Errno>)
 }
 
 /// The line for what was received.
-pub fn put_received(
+pub(crate) fn put_received(
     text: &mut Buffer<TEXT>,
     digits: &mut [u8],
     room: &[u8],
@@ -115,7 +115,7 @@ fn put_long(text: &mut Buffer<TEXT>, n: u64)
 }
 
 /// The line for a send.
-pub fn put_sent(text: &mut Buffer<TEXT>, outcome: Result<usize, Errno>)
+pub(crate) fn put_sent(text: &mut Buffer<TEXT>, outcome: Result<usize, Errno>)
     requires { length text.old ≤ 65536 }
     ensures { text.new ≡ text.old ++ answer_text (Some (sent_reply outcome)) }
 {
@@ -130,7 +130,12 @@ pub fn put_sent(text: &mut Buffer<TEXT>, outcome: Result<usize, Errno>)
 }
 
 /// The line for the packet that the link takes, which stands in front of the room.
-pub fn put_given(text: &mut Buffer<TEXT>, digits: &mut [u8], room: &[u8], given: Option<usize>)
+pub(crate) fn put_given(
+    text: &mut Buffer<TEXT>,
+    digits: &mut [u8],
+    room: &[u8],
+    given: Option<usize>,
+)
     requires text { length text.old ≤ 65536 }
     requires fits { IfSome given (λ len. len ≤ length room.now) }
     requires within { length room.now ≤ 65535 }
@@ -163,7 +168,7 @@ fn put_count(text: &mut Buffer<TEXT>, counter: Counter, value: u64)
 }
 
 /// The line for the counters: those that aren't 0, in the order in which they're printed.
-pub fn put_counters(text: &mut Buffer<TEXT>, counters: &Counters)
+pub(crate) fn put_counters(text: &mut Buffer<TEXT>, counters: &Counters)
     requires { length text.old ≤ 65536 }
     ensures { text.new ≡ text.old ++ answer_text (Some (Counted counters.now)) }
 {
@@ -186,7 +191,7 @@ fn put_share(text: &mut Buffer<TEXT>, free: u32, all: u32)
 }
 
 /// The line for how much of the pool is in use.
-pub fn put_usage(text: &mut Buffer<TEXT>, usage: Mbstat)
+pub(crate) fn put_usage(text: &mut Buffer<TEXT>, usage: Mbstat)
     requires { length text.old ≤ 65536 }
     ensures { text.new ≡ text.old ++ answer_text (Some (Shown usage)) }
 {

@@ -16,7 +16,7 @@ use script_loop::{LONGEST_REQUEST, bytes, first_word, is_end, number, one, three
 
 /// What a line asks for. The bytes of a packet or of a send stand in a room beside it.
 #[derive(Clone, Copy)]
-pub enum Request {
+pub(crate) enum Request {
     Socket,
     Bind(u32, Addr),
     Connect(u32, Addr),
@@ -185,7 +185,7 @@ fn form_of(word: Keyword, rest: Option<&[u8]>, room: &mut [u8]) -> Option<Reques
 }
 
 /// What the line asks for, where it is of a form.
-pub fn request_of(line: &[u8], room: &mut [u8]) -> Option<Request>
+pub(crate) fn request_of(line: &[u8], room: &mut [u8]) -> Option<Request>
     requires { length room.old ≡ 65535 }
     ensures event { MatchOption result ((event : Event) → Asks all_events line.now event → ⊥)
         (λ request. Asks all_events line.now (event_of request room.new)) }

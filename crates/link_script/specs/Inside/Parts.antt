@@ -1,4 +1,4 @@
--- What a keyword and the words after it ask for.
+-- What a keyword and the words after it ask for (this project's own).
 use Rattle.std.specs.Prelude.{◌≡◌, ℕ, List, Option, Some, None, codes}
 use Rattle.flat_model.specs.Machine.Event.{Event}
 use Rattle.flat_model.specs.Scripts.Grammar.{keyword, HasArguments}

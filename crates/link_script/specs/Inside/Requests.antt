@@ -1,4 +1,5 @@
--- The event that a request stands for. The bytes of a packet or of a send stand in front of the room beside it.
+-- The event that a request stands for. The bytes of a packet or of a send stand in front of the room beside it (this
+-- project's own).
 use Rattle.std.specs.Prelude.{ℕ, List, take}
 use Rattle.flat_model.specs.Machine.Event as event
 use Rattle.link_script.specs.declared.request.Request.{Request}
