@@ -397,8 +397,11 @@ none_cluster rest held new h p q ds es c c1 d n len answer long good counts orig
     (tests_of rest held new (key_in h) (record { offset = h.offset; bytes = drop 20 (string (chain_of p n)); more = h.more; weight = flat.pulled_up (20 + len) (weight_at p n) }) (weight_at p n) p q ds es c1 d answer tested (λ e. absurd (false≢true (sym refused ∙ e))) (λ e. is)))
 
 -- the length of what is carried
+pub carried_size : (p : PoolView) (n len : ℕ) → length (string (chain_of p n)) ≡ 20 + len → length (flat_bytes (carried_entries (chain_of p n))) ≡ len
+carried_size p n len long = omega (arith, long, length-drop 20 (string (chain_of p n)), ap length (carried_bytes (chain_of p n)))
+
 pub carried_len : (p r : PoolView) (n n' len : ℕ) → length (string (chain_of p n)) ≡ 20 + len → (chain_of r n').entries ≡ carried_entries (chain_of p n) → length (string (chain_of r n')) ≡ len
-carried_len p r n n' len long e = omega (arith, long, length-drop 20 (string (chain_of p n)), ap length (ap flat_bytes e ∙ carried_bytes (chain_of p n)))
+carried_len p r n n' len long e = omega (arith, carried_size p n len long, ap length (ap flat_bytes e))
 
 -- the same weight beside other counters
 pub accounted_counters : (p : PoolView) (ds : List Datagram) (c d : Counters) (rest : State) (held : Weight) → IsAccounted p (machine p ds c rest) held → IsAccounted p (machine p ds d rest) held

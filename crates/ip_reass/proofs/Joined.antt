@@ -37,10 +37,6 @@ pub joined_next : (es : List Entry) (qs : List QueuedFragment) → 0 < length qs
 joined_next es [] l = absurd (omega arith)
 joined_next es (q ∷ qs) l = refl
 
-pub joined_first : (qs : List QueuedFragment) → 0 < length qs → joined qs ≡ joined_after (queued_at qs 0).entries (remove qs 0)
-joined_first [] l = absurd (omega arith)
-joined_first (q ∷ qs) l = refl
-
 -- ---- the pool
 pub record Joins (p q : PoolView) (t : TrainView) (c : ℕ) (r : PoolView) (u : TrainView) : Type 0 where
   pub live : IsLive r c

@@ -108,9 +108,6 @@ pub record Around (a : ℕ) (xs ys : List Fragment) : Type 0 where
   pub above : AllAbove a ys
 
 module _ (f : Fragment) (xs ys : List Fragment) (w : Around f.offset xs ys) where
-  all : Map
-  all = map_of (xs ++ ys)
-
   stays_here : (k : ℕ) → f.offset ≤ k → k < flat.fragment_end f → k < reach 0 xs → stays f.offset (map_of (xs ++ ys) k) ≡ true
   stays_here k l m r = elim (covered f.offset 0 xs k w.before w.upto l r) [
     | inl z ↦ absurd (omega arith)

@@ -1,6 +1,6 @@
 -- One datagram of a table takes a step, or goes.
-use Rattle.std.proofs.Common.{◌≡◌, ℕ, zero, suc, ◌+◌, ◌<◌, ◌≤◌, Bool, true, false, not, cond, List, [], ◌∷◌, ◌++◌, length, map, filter, find, count_by, get_or, set, insert, remove, Option, None, Some, unwrap_or, refl, sym, ap, ◌∙◌, arith, ◌⊎◌, inl, inr}
-use Rattle.std.proofs.lemmas.Bool.{cond-true, cond-false}
+use Rattle.std.proofs.Common.{◌≡◌, ℕ, zero, suc, ◌+◌, ◌<◌, ◌≤◌, Bool, true, false, not, cond, List, [], ◌∷◌, ◌++◌, length, map, filter, find, count_by, get_or, set, insert, remove, Option, None, Some, unwrap_or, refl, sym, ap, ◌∙◌, arith, inl, inr}
+use Rattle.std.proofs.lemmas.Bool.{cond-true, cond-false, cases_Bool}
 use Rattle.std.proofs.lemmas.Option.{none-some}
 use Rattle.flat_model.specs.Machine.State.{Unfinished}
 use Rattle.flat_model.proofs.Laws.{count_cons}
@@ -81,10 +81,6 @@ module _ (p q : PoolView) (ds : List Datagram) (i : ℕ) (x : Datagram) (xs zs :
   gone_queues = queues_same p q (remove ds i) others_same ∙ map-remove (queue_of p) ds i
 
 -- ---- what is found by a test that no two pass
-true_or_false : (b : Bool) → (b ≡ true) ⊎ (b ≡ false)
-true_or_false true = inl refl
-true_or_false false = inr refl
-
 module _ {X : Type 0} (t : X → Bool) where
   counts_yes : (x : X) (xs : List X) → t x ≡ true → count_by t (x ∷ xs) ≡ 1 + count_by t xs
   counts_yes x xs e = omega (arith, count_cons t x xs, cond-true {A = ℕ} (t x) 1 0 e)
@@ -94,14 +90,14 @@ module _ {X : Type 0} (t : X → Bool) where
 
   pub found_passes : (xs : List X) (x : X) → find t xs ≡ Some x → t x ≡ true
   found_passes [] x e = absurd (none-some x e)
-  found_passes (y ∷ ys) x e = elim (true_or_false (t y)) [
+  found_passes (y ∷ ys) x e = elim (cases_Bool (t y)) [
     | inl is ↦ ap t (sym (ap (λ (o : Option X). unwrap_or o y) (sym (cond-true (t y) (Some y) (find t ys) is) ∙ e))) ∙ is
     | inr is ↦ found_passes ys x (sym (cond-false (t y) (Some y) (find t ys) is) ∙ e)
   ]
 
   pub none_found : (xs : List X) → find t xs ≡ None → count_by t xs ≡ 0
   none_found [] e = refl
-  none_found (y ∷ ys) e = elim (true_or_false (t y)) [
+  none_found (y ∷ ys) e = elim (cases_Bool (t y)) [
     | inl is ↦ absurd (none-some y (sym e ∙ cond-true (t y) (Some y) (find t ys) is))
     | inr is ↦ counts_no y ys is ∙ none_found ys (sym (cond-false (t y) (Some y) (find t ys) is) ∙ e)
   ]
@@ -109,14 +105,14 @@ module _ {X : Type 0} (t : X → Bool) where
   -- none passes
   pub map_none : (g : X → X) (xs : List X) → count_by t xs ≡ 0 → map (λ x. cond (t x) (g x) x) xs ≡ xs
   map_none g [] z = refl
-  map_none g (x ∷ xs) z = elim (true_or_false (t x)) [
+  map_none g (x ∷ xs) z = elim (cases_Bool (t x)) [
     | inl is ↦ absurd (omega (arith, z, counts_yes x xs is))
     | inr is ↦ λ i. cond-false (t x) (g x) x is i ∷ map_none g xs (omega (arith, z, counts_no x xs is)) i
   ]
 
   pub filter_none : (xs : List X) → count_by t xs ≡ 0 → filter (λ x. not (t x)) xs ≡ xs
   filter_none [] z = refl
-  filter_none (x ∷ xs) z = elim (true_or_false (t x)) [
+  filter_none (x ∷ xs) z = elim (cases_Bool (t x)) [
     | inl is ↦ absurd (omega (arith, z, counts_yes x xs is))
     | inr is ↦ ap (λ (b : Bool). cond (not b) (x ∷ filter (λ y. not (t y)) xs) (filter (λ y. not (t y)) xs)) is ∙ ap (λ (ys : List X). x ∷ ys) (filter_none xs (omega (arith, z, counts_no x xs is)))
   ]
@@ -130,7 +126,7 @@ module _ {X : Type 0} (t : X → Bool) where
   pub map_one : (g : X → X) (xs : List X) (i : ℕ) (d : X) → i < length xs → t (get_or xs i d) ≡ true → count_by t xs ≤ 1 → map (λ x. cond (t x) (g x) x) xs ≡ set xs i (g (get_or xs i d))
   map_one g [] i d l h most = absurd (omega arith)
   map_one g (x ∷ xs) zero d l h most = λ i. cond-true (t x) (g x) x h i ∷ map_none g xs (omega (arith, most, counts_yes x xs h)) i
-  map_one g (x ∷ xs) (suc n) d l h most = elim (true_or_false (t x)) [
+  map_one g (x ∷ xs) (suc n) d l h most = elim (cases_Bool (t x)) [
     | inl is ↦ absurd (omega (arith, one_passes xs n d (omega arith) h, most, counts_yes x xs is))
     | inr is ↦ λ i. cond-false (t x) (g x) x is i ∷ map_one g xs n d (omega arith) h (omega (arith, most, counts_no x xs is)) i
   ]
@@ -139,7 +135,7 @@ module _ {X : Type 0} (t : X → Bool) where
   filter_one [] i d l h most = absurd (omega arith)
   filter_one (x ∷ xs) zero d l h most =
       ap (λ (b : Bool). cond (not b) (x ∷ filter (λ y. not (t y)) xs) (filter (λ y. not (t y)) xs)) h ∙ filter_none xs (omega (arith, most, counts_yes x xs h))
-  filter_one (x ∷ xs) (suc n) d l h most = elim (true_or_false (t x)) [
+  filter_one (x ∷ xs) (suc n) d l h most = elim (cases_Bool (t x)) [
     | inl is ↦ absurd (omega (arith, one_passes xs n d (omega arith) h, most, counts_yes x xs is))
     | inr is ↦ ap (λ (b : Bool). cond (not b) (x ∷ filter (λ y. not (t y)) xs) (filter (λ y. not (t y)) xs)) is ∙ ap (λ (ys : List X). x ∷ ys) (filter_one xs n d (omega arith) h (omega (arith, most, counts_no x xs is)))
   ]

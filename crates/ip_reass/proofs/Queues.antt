@@ -1,20 +1,24 @@
 -- The queues of the table's fragments, with their mbufs, at an arrival.
-use Rattle.std.proofs.Common.{◌≡◌, ◌⊎◌, ℕ, zero, suc, ◌<◌, Bool, true, false, List, [], ◌∷◌, ◌++◌, length, map, find, get_or, set, remove, take, drop, None, refl, sym, ap, ◌∙◌, subst, arith, inl, inr}
+use Rattle.std.proofs.Common.{◌≡◌, ℕ, zero, suc, ◌-◌, ◌<◌, Bool, true, false, List, [], ◌∷◌, ◌++◌, length, map, find, get_or, set, remove, take, drop, None, refl, sym, ap, ◌∙◌, subst, arith, inl, inr}
 use Rattle.std.specs.Prelude.{slice_get}
-use Rattle.std.proofs.lemmas.Bool.{false≢true, cond-true, cond-false}
+use Rattle.std.proofs.lemmas.Bool.{false≢true, cond-true, cond-false, cases_Bool}
 use Rattle.std.proofs.lemmas.List.{get_or-map, length-map, length-set, take-map}
 use Rattle.std.proofs.lemmas.Option.{none-some}
 use Rattle.flat_model.specs.Fragments.Overlay.{Fragment, is_covered}
 use Rattle.flat_model.specs.Machine.State.{Key}
+use Rattle.flat_model.specs.Machine.Arrival.{is_bad_fragment}
 use Rattle.flat_model.specs.declared.counters.Counters.{Counters}
+use Rattle.flat_model.specs.declared.counters.Why.{Why}
+use Rattle.flat_model.specs.declared.counters.Why.TheVariants.{FragmentDropped, NoBufs}
 use Rattle.mbuf_chain.specs.Chain.{Entry, ChainView, PoolView, chain_of, string}
 use Rattle.ip_out.specs.declared.head.IpHead.{IpHead}
-use Rattle.ip_reass.specs.Arrivals.{carried_entries, key_in}
+use Rattle.ledger.specs.Reserve.{are_free}
+use Rattle.ip_reass.specs.Arrivals.{carried_entries, flat_head, key_in}
 use Rattle.ip_reass.specs.Fragments.{QueuedFragment, laid, joined, fragment_of, fragments, map_of}
 use Rattle.ip_reass.specs.Inside.Walks.{arrived}
 use Rattle.ip_reass.specs.Table.{TableView, has_key}
 use Rattle.ip_reass.specs.Inside.Steps.{datagram_at, no_datagram, LaysIn}
-use Rattle.ip_reass.specs.Layouts.{KeyedQueue, queue_of, queues, goes_by, with_laid, laid_under, under, without_key, Leaves, WaitOrNone, HasLayout, fragment_carried, no_queue, queue_at, LeavesAt}
+use Rattle.ip_reass.specs.Layouts.{KeyedQueue, queue_of, queues, goes_by, with_laid, laid_under, under, without_key, Leaves, WaitOrNone, HasLayout, HasCause, cause_among, cause_of, fragment_carried, no_queue, queue_at, LeavesAt}
 use Rattle.ip_reass.specs.declared.datagram.Datagram.{Datagram}
 use Rattle.ip_reass.specs.declared.arrival.Arrival.{Arrival}
 use Rattle.ip_reass.specs.declared.arrival.Arrival.TheVariants.{Kept, Whole, Dropped}
@@ -24,14 +28,10 @@ use Rattle.ip_reass.proofs.Steps.{fragments_are}
 use Rattle.ip_reass.proofs.Aging.{lent}
 use Rattle.ip_reass.proofs.Arriving.{slice_at}
 
-true_or_false : (b : Bool) → (b ≡ true) ⊎ (b ≡ false)
-true_or_false true = inl refl
-true_or_false false = inr refl
-
 -- ---- by key and by place
 none_in : (p : PoolView) (k : Key) (ds : List Datagram) → find (has_key k) ds ≡ None → find (goes_by k) (queues p ds) ≡ None
 none_in p k [] e = refl
-none_in p k (d ∷ ds) e = elim (true_or_false (has_key k d)) [
+none_in p k (d ∷ ds) e = elim (cases_Bool (has_key k d)) [
   | inl is ↦ absurd (none-some d (sym e ∙ cond-true _ _ _ is))
   | inr is ↦ cond-false _ _ _ is ∙ none_in p k ds (sym (cond-false _ _ _ is) ∙ e)
 ]
@@ -39,21 +39,21 @@ none_in p k (d ∷ ds) e = elim (true_or_false (has_key k d)) [
 module _ (k : Key) (f : QueuedFragment) where
   laid_none : (qs : List KeyedQueue) → find (goes_by k) qs ≡ None → laid_under k f qs ≡ qs ++ with_laid f (record { key = k; fragments = [] }) ∷ []
   laid_none [] e = refl
-  laid_none (q ∷ qs) e = elim (true_or_false (goes_by k q)) [
+  laid_none (q ∷ qs) e = elim (cases_Bool (goes_by k q)) [
     | inl is ↦ absurd (none-some q (sym e ∙ cond-true _ _ _ is))
     | inr is ↦ cond-false _ _ _ is ∙ ap (λ (rs : List KeyedQueue). q ∷ rs) (laid_none qs (sym (cond-false _ _ _ is) ∙ e))
   ]
 
   under_none : (qs : List KeyedQueue) → find (goes_by k) qs ≡ None → under k qs ≡ []
   under_none [] e = refl
-  under_none (q ∷ qs) e = elim (true_or_false (goes_by k q)) [
+  under_none (q ∷ qs) e = elim (cases_Bool (goes_by k q)) [
     | inl is ↦ absurd (none-some q (sym e ∙ cond-true _ _ _ is))
     | inr is ↦ cond-false _ _ _ is ∙ under_none qs (sym (cond-false _ _ _ is) ∙ e)
   ]
 
   without_none : (qs : List KeyedQueue) → find (goes_by k) qs ≡ None → without_key k qs ≡ qs
   without_none [] e = refl
-  without_none (q ∷ qs) e = elim (true_or_false (goes_by k q)) [
+  without_none (q ∷ qs) e = elim (cases_Bool (goes_by k q)) [
     | inl is ↦ absurd (none-some q (sym e ∙ cond-true _ _ _ is))
     | inr is ↦ cond-false _ _ _ is ∙ ap (λ (rs : List KeyedQueue). q ∷ rs) (without_none qs (sym (cond-false _ _ _ is) ∙ e))
   ]
@@ -61,7 +61,7 @@ module _ (k : Key) (f : QueuedFragment) where
   laid_here : (qs : List KeyedQueue) (i : ℕ) → i < length qs → find (goes_by k) (take i qs) ≡ None → goes_by k (queue_at qs i) ≡ true → laid_under k f qs ≡ set qs i (with_laid f (queue_at qs i))
   laid_here [] i l n e = absurd (omega arith)
   laid_here (q ∷ qs) zero l n e = cond-true _ _ _ e
-  laid_here (q ∷ qs) (suc i) l n e = elim (true_or_false (goes_by k q)) [
+  laid_here (q ∷ qs) (suc i) l n e = elim (cases_Bool (goes_by k q)) [
     | inl is ↦ absurd (none-some q (sym n ∙ cond-true _ _ _ is))
     | inr is ↦ cond-false _ _ _ is ∙ ap (λ (rs : List KeyedQueue). q ∷ rs) (laid_here qs i (omega arith) (sym (cond-false _ _ _ is) ∙ n) e)
   ]
@@ -69,7 +69,7 @@ module _ (k : Key) (f : QueuedFragment) where
   under_here : (qs : List KeyedQueue) (i : ℕ) → i < length qs → find (goes_by k) (take i qs) ≡ None → goes_by k (queue_at qs i) ≡ true → under k qs ≡ (queue_at qs i).fragments
   under_here [] i l n e = absurd (omega arith)
   under_here (q ∷ qs) zero l n e = cond-true _ _ _ e
-  under_here (q ∷ qs) (suc i) l n e = elim (true_or_false (goes_by k q)) [
+  under_here (q ∷ qs) (suc i) l n e = elim (cases_Bool (goes_by k q)) [
     | inl is ↦ absurd (none-some q (sym n ∙ cond-true _ _ _ is))
     | inr is ↦ cond-false _ _ _ is ∙ under_here qs i (omega arith) (sym (cond-false _ _ _ is) ∙ n) e
   ]
@@ -77,7 +77,7 @@ module _ (k : Key) (f : QueuedFragment) where
   without_here : (qs : List KeyedQueue) (i : ℕ) → i < length qs → find (goes_by k) (take i qs) ≡ None → goes_by k (queue_at qs i) ≡ true → without_key k qs ≡ remove qs i
   without_here [] i l n e = absurd (omega arith)
   without_here (q ∷ qs) zero l n e = cond-true _ _ _ e
-  without_here (q ∷ qs) (suc i) l n e = elim (true_or_false (goes_by k q)) [
+  without_here (q ∷ qs) (suc i) l n e = elim (cases_Bool (goes_by k q)) [
     | inl is ↦ absurd (none-some q (sym n ∙ cond-true _ _ _ is))
     | inr is ↦ cond-false _ _ _ is ∙ ap (λ (rs : List KeyedQueue). q ∷ rs) (without_here qs i (omega arith) (sym (cond-false _ _ _ is) ∙ n) e)
   ]
@@ -87,6 +87,14 @@ leaves_here : (k : Key) (f : QueuedFragment) (qs : List KeyedQueue) (i : ℕ) (q
 leaves_here k f qs i q Kept now l n e h = h ∙ sym (laid_here k f qs i l n e)
 leaves_here k f qs i q (Whole c x) now l n e h = (h.0 ∙ ap (λ (fs : List QueuedFragment). joined (laid f fs)) (sym (under_here k f qs i l n e)), h.1 ∙ sym (without_here k f qs i l n e))
 leaves_here k f qs i q (Dropped why) now l n e h = h.0
+
+-- and so is the cause
+cause_here : (k : Key) (f : QueuedFragment) (qs : List KeyedQueue) (i : ℕ) (q : PoolView) (result : Arrival) (now : List KeyedQueue) → i < length qs → find (goes_by k) (take i qs) ≡ None → goes_by k (queue_at qs i) ≡ true → LeavesAt i f qs q result now
+    → HasCause FragmentDropped result → HasCause (cause_among (under k now) f) result
+cause_here k f qs i q Kept now l n e h is = tt
+cause_here k f qs i q (Whole c x) now l n e h is = tt
+cause_here k f qs i q (Dropped why) now l n e h is =
+    is ∙ sym (cond-true _ _ _ ((λ j. is_covered (map_of (map fragment_of (under k (h.0 j)))) (fragment_of f)) ∙ (ap (λ (fs : List QueuedFragment). is_covered (map_of (map fragment_of fs)) (fragment_of f)) (under_here k f qs i l n e) ∙ h.1)))
 
 -- and where a new one stands after the others
 set_end : {X : Type 0} (xs : List X) (x y : X) → set (xs ++ x ∷ []) (length xs) y ≡ xs ++ y ∷ []
@@ -116,6 +124,17 @@ leaves_new k f qs q (Whole c x) now l n h = (
 leaves_new k f qs q (Dropped why) now l n h =
     absurd (false≢true (sym (none_covers f l) ∙ (λ j. is_covered (map_of (map fragment_of (sym (at_end qs (record { key = k; fragments = [] }) no_queue) j).fragments)) (fragment_of f)) ∙ h.1))
 
+-- a fragment with bytes is laid in a new queue
+cause_new : (cause : Why) (k : Key) (f : QueuedFragment) (qs : List KeyedQueue) (q : PoolView) (result : Arrival) (now : List KeyedQueue) → 0 < length (fragment_of f).bytes → LeavesAt (length qs) f (qs ++ record { key = k; fragments = [] } ∷ []) q result now → HasCause cause result
+cause_new cause k f qs q Kept now l h = tt
+cause_new cause k f qs q (Whole c x) now l h = tt
+cause_new cause k f qs q (Dropped why) now l h =
+    absurd (false≢true (sym (none_covers f l) ∙ (λ j. is_covered (map_of (map fragment_of (sym (at_end qs (record { key = k; fragments = [] }) no_queue) j).fragments)) (fragment_of f)) ∙ h.1))
+
+-- **where nothing waits, a fragment with bytes ended for want of an mbuf**
+pub cause_lacking : (k : Key) (f : QueuedFragment) (now : List KeyedQueue) → 0 < length (fragment_of f).bytes → now ≡ [] → NoBufs ≡ cause_among (under k now) f
+cause_lacking k f now l e = sym (ap (λ (qs : List KeyedQueue). cause_among (under k qs) f) e ∙ cond-false _ _ _ (none_covers f l))
+
 -- ---- a step in between
 pub wait_then : (qs rs ts : List KeyedQueue) → WaitOrNone qs rs → ts ≡ rs → WaitOrNone qs ts
 wait_then qs rs ts (inl a) e = inl (e ∙ a)
@@ -125,54 +144,89 @@ wait_trans : (qs rs ts : List KeyedQueue) → WaitOrNone qs rs → WaitOrNone rs
 wait_trans qs rs ts w (inl a) = wait_then qs rs ts w a
 wait_trans qs rs ts w (inr a) = inr a
 
+no_queues : (q : PoolView) (es : List Datagram) → length es ≡ 0 → queues q es ≡ []
+no_queues q [] e = refl
+no_queues q (d ∷ es) e = absurd (omega arith)
+
 -- the test of the pool
 pub wait_tested : (p q : PoolView) (ds es : List Datagram) (b : Bool) → (b ≡ true → queues q es ≡ queues p ds) → (b ≡ false → length es ≡ 0) → WaitOrNone (queues p ds) (queues q es)
 wait_tested p q ds es true a n = inl (a refl)
-wait_tested p q ds es false a n = inr (none_left es (n refl))
-  where
-    none_left : (xs : List Datagram) → length xs ≡ 0 → queues q xs ≡ []
-    none_left [] e = refl
-    none_left (x ∷ xs) e = absurd (omega arith)
+wait_tested p q ds es false a n = inr (no_queues q es (n refl))
 
 pub wait_reserved : (p q : PoolView) (r s : TableView) (c d : Counters) (b : Bool) → (b ≡ true → (q ≡ p) × (s ≡ r) × (d ≡ c)) → (b ≡ false → length s.datagrams ≡ 0) → WaitOrNone (queues p r.datagrams) (queues q s.datagrams)
 wait_reserved p q r s c d b kept none = wait_tested p q r.datagrams s.datagrams b (λ e. let a = kept e in λ j. queues (a.0 j) (a.1 j).datagrams) none
+
+-- **nothing waits where the pool had no mbuf**
+pub none_reserved : (p q : PoolView) (r s : TableView) (c d : Counters) (answer : Bool) → (are_free p 1 0 ≡ true → (q ≡ p) × (s ≡ r) × (d ≡ c)) → (are_free p 1 0 ≡ false → length s.datagrams ≡ 0) → answer ≡ are_free q 1 0 → answer ≡ false → queues q s.datagrams ≡ []
+none_reserved p q r s c d answer kept none is refused = elim (cases_Bool (are_free p 1 0)) [
+  | inl free ↦ absurd (false≢true (sym refused ∙ is ∙ ap (λ (o : PoolView). are_free o 1 0) (kept free).0 ∙ free))
+  | inr lacks ↦ no_queues q s.datagrams (none lacks)
+]
 
 none_then : (k : Key) (qs rs : List KeyedQueue) → WaitOrNone qs rs → find (goes_by k) qs ≡ None → find (goes_by k) rs ≡ None
 none_then k qs rs (inl a) n = ap (find (goes_by k)) a ∙ n
 none_then k qs rs (inr a) n = ap (find (goes_by k)) a
 
+-- what is left where the queue is a new one
+new_place : (p r t : PoolView) (hs : List Datagram) (qs now : List KeyedQueue) (k : Key) (n i offset : ℕ) (more : Bool) (result : Arrival) → chain_of r n ≡ chain_of p n → queues r hs ≡ qs ++ record { key = k; fragments = [] } ∷ [] → i ≡ length qs
+    → LeavesAt i (arrived r n offset more) (queues r hs) t result now → LeavesAt (length qs) (arrived p n offset more) (qs ++ record { key = k; fragments = [] } ∷ []) t result now
+new_place p r t hs qs now k n i offset more result chain rows size leaves =
+    subst (λ (v : ChainView). LeavesAt (length qs) (record { offset = offset; more = more; entries = v.entries }) (qs ++ record { key = k; fragments = [] } ∷ []) t result now) chain
+    (subst (λ (rs : List KeyedQueue). LeavesAt (length qs) (arrived r n offset more) rs t result now) rows
+    (subst (λ (j : ℕ). LeavesAt j (arrived r n offset more) (queues r hs) t result now) size leaves))
+
 -- **a fragment that begins its datagram**
 pub begins_layout : (p q r t : PoolView) (ds es hs ts : List Datagram) (k : Key) (n i offset : ℕ) (more : Bool) (result : Arrival) → WaitOrNone (queues p ds) (queues q es) → find (has_key k) ds ≡ None → 0 < length (string (chain_of p n)) → chain_of r n ≡ chain_of p n
     → queues r hs ≡ queues q es ++ record { key = k; fragments = [] } ∷ [] → i ≡ length es → LeavesAt i (arrived r n offset more) (queues r hs) t result (queues t ts) → HasLayout p ds k (arrived p n offset more) result t ts
 begins_layout p q r t ds es hs ts k n i offset more result wait none some chain rows i_is leaves =
-    let size : i ≡ length (queues q es) = omega (arith, i_is, length-map es (queue_of q)) in
-    let f : QueuedFragment = arrived p n offset more in
-    let here : LeavesAt (length (queues q es)) (arrived p n offset more) (queues q es ++ record { key = k; fragments = [] } ∷ []) t result (queues t ts) =
-    subst (λ (v : ChainView). LeavesAt (length (queues q es)) (record { offset = offset; more = more; entries = v.entries }) (queues q es ++ record { key = k; fragments = [] } ∷ []) t result (queues t ts)) chain
-    (subst (λ (qs : List KeyedQueue). LeavesAt (length (queues q es)) (arrived r n offset more) qs t result (queues t ts)) rows
-    (subst (λ (j : ℕ). LeavesAt j (arrived r n offset more) (queues r hs) t result (queues t ts)) size leaves)) in
+    let here = new_place p r t hs (queues q es) (queues t ts) k n i offset more result chain rows (omega (arith, i_is, length-map es (queue_of q))) leaves in
     record {
       waited = queues q es;
       before = wait;
       leaves = leaves_new k (arrived p n offset more) (queues q es) t result (queues t ts) some (none_then k (queues p ds) (queues q es) wait (none_in p k ds none)) here;
     }
 
+pub begins_cause : (cause : Why) (p q r t : PoolView) (es hs ts : List Datagram) (k : Key) (n i offset : ℕ) (more : Bool) (result : Arrival) → 0 < length (string (chain_of p n)) → chain_of r n ≡ chain_of p n
+    → queues r hs ≡ queues q es ++ record { key = k; fragments = [] } ∷ [] → i ≡ length es → LeavesAt i (arrived r n offset more) (queues r hs) t result (queues t ts) → HasCause cause result
+begins_cause cause p q r t es hs ts k n i offset more result some chain rows i_is leaves =
+    cause_new cause k (arrived p n offset more) (queues q es) t result (queues t ts) some
+    (new_place p r t hs (queues q es) (queues t ts) k n i offset more result chain rows (omega (arith, i_is, length-map es (queue_of q))) leaves)
+
+-- the first datagram with the key stands at a place
+record Found (p : PoolView) (ds : List Datagram) (k : Key) (i : ℕ) : Type 0 where
+  within : i < length (queues p ds)
+  front : find (goes_by k) (take i (queues p ds)) ≡ None
+  here : goes_by k (queue_at (queues p ds) i) ≡ true
+
+found : (p : PoolView) (slice items ds : List Datagram) (k k' : Key) (i : ℕ) → slice ≡ items → items ≡ ds → k' ≡ k → i < length slice → find (has_key k') slice ≡ slice_get slice i → find (has_key k') (take i slice) ≡ None → Found p ds k i
+found p slice items ds k k' i a b e l at_is none_is =
+    let same : slice ≡ ds = a ∙ b in
+    let at : find (has_key k) ds ≡ slice_get ds i = subst (λ (zs : List Datagram). find (has_key k) zs ≡ slice_get zs i) same (subst (λ (j : Key). find (has_key j) slice ≡ slice_get slice i) e at_is) in
+    let front : find (has_key k) (take i ds) ≡ None = subst (λ (zs : List Datagram). find (has_key k) (take i zs) ≡ None) same (subst (λ (j : Key). find (has_key j) (take i slice) ≡ None) e none_is) in
+    let within : i < length ds = omega (arith, ap (λ (zs : List Datagram). length zs) same) in
+    let passes : has_key k (datagram_at ds i) ≡ true = found_passes (has_key k) ds (datagram_at ds i) (at ∙ slice_at ds i within) in
+    record {
+      within = omega (arith, within, length-map ds (queue_of p));
+      front = ap (find (goes_by k)) (take-map (queue_of p) i ds) ∙ none_in p k (take i ds) front;
+      here = ap (goes_by k) (get_or-map (queue_of p) ds i no_datagram no_queue within) ∙ passes;
+    }
+
 -- **a fragment that joins the others of its datagram**
 pub found_layout : (p t : PoolView) (slice items ds ts : List Datagram) (k k' : Key) (f : QueuedFragment) (i : ℕ) (result : Arrival) → slice ≡ items → items ≡ ds → k' ≡ k → i < length slice → find (has_key k') slice ≡ slice_get slice i → find (has_key k') (take i slice) ≡ None
     → LeavesAt i f (queues p items) t result (queues t ts) → HasLayout p ds k f result t ts
-found_layout p t slice items ds ts k k' f i result a b e l found none leaves =
-    let same : slice ≡ ds = a ∙ b in
-    let at : find (has_key k) ds ≡ slice_get ds i = subst (λ (zs : List Datagram). find (has_key k) zs ≡ slice_get zs i) same (subst (λ (j : Key). find (has_key j) slice ≡ slice_get slice i) e found) in
-    let front : find (has_key k) (take i ds) ≡ None = subst (λ (zs : List Datagram). find (has_key k) (take i zs) ≡ None) same (subst (λ (j : Key). find (has_key j) (take i slice) ≡ None) e none) in
-    let within : i < length ds = omega (arith, ap (λ (zs : List Datagram). length zs) same) in
-    let passes : has_key k (datagram_at ds i) ≡ true = found_passes (has_key k) ds (datagram_at ds i) (at ∙ slice_at ds i within) in
-    let here : queue_at (queues p ds) i ≡ queue_of p (datagram_at ds i) = get_or-map (queue_of p) ds i no_datagram no_queue within in
+found_layout p t slice items ds ts k k' f i result a b e l at_is none_is leaves =
+    let o = found p slice items ds k k' i a b e l at_is none_is in
     record {
       waited = queues p ds;
       before = inl refl;
-      leaves = leaves_here k f (queues p ds) i t result (queues t ts) (omega (arith, within, length-map ds (queue_of p))) (ap (find (goes_by k)) (take-map (queue_of p) i ds) ∙ none_in p k (take i ds) front) (ap (goes_by k) here ∙ passes)
-          (subst (λ (zs : List Datagram). LeavesAt i f (queues p zs) t result (queues t ts)) b leaves);
+      leaves = leaves_here k f (queues p ds) i t result (queues t ts) o.within o.front o.here (subst (λ (zs : List Datagram). LeavesAt i f (queues p zs) t result (queues t ts)) b leaves);
     }
+
+pub found_cause : (p t : PoolView) (slice items ds ts : List Datagram) (k k' : Key) (f : QueuedFragment) (i : ℕ) (result : Arrival) → slice ≡ items → items ≡ ds → k' ≡ k → i < length slice → find (has_key k') slice ≡ slice_get slice i → find (has_key k') (take i slice) ≡ None
+    → LeavesAt i f (queues p items) t result (queues t ts) → HasCause FragmentDropped result → HasCause (cause_among (under k (queues t ts)) f) result
+found_cause p t slice items ds ts k k' f i result a b e l at_is none_is leaves cause =
+    let o = found p slice items ds k k' i a b e l at_is none_is in
+    cause_here k f (queues p ds) i t result (queues t ts) o.within o.front o.here (subst (λ (zs : List Datagram). LeavesAt i f (queues p zs) t result (queues t ts)) b leaves) cause
 
 -- **the header was pulled up and cut off before**
 pub arrived_layout : (p q r t : PoolView) (ds es ts : List Datagram) (n n' : ℕ) (h : IpHead) (result : Arrival) → WaitOrNone (queues p ds) (queues q es) → queues r es ≡ queues q es → (chain_of r n').entries ≡ carried_entries (chain_of p n)
@@ -182,6 +236,12 @@ arrived_layout p q r t ds es ts n n' h result wait rows entries x = record {
   before = wait_trans (queues p ds) (queues r es) x.waited (wait_then (queues p ds) (queues q es) (queues r es) wait rows) x.before;
   leaves = subst (λ (xs : List Entry). Leaves (key_in h) (record { offset = h.offset; more = h.more; entries = xs }) x.waited t result (queues t ts)) entries x.leaves;
 }
+
+pub arrived_cause : (p r : PoolView) (n n' : ℕ) (h : IpHead) (held : List QueuedFragment) (result : Arrival) → is_bad_fragment (flat_head h) (h.total - 20) ≡ false → (chain_of r n').entries ≡ carried_entries (chain_of p n)
+    → HasCause (cause_among held (arrived r n' h.offset h.more)) result → HasCause (cause_of (chain_of p n) h held) result
+arrived_cause p r n n' h held result good entries x =
+    subst (λ (w : Why). HasCause w result)
+    (ap (λ (xs : List Entry). cause_among held (record { offset = h.offset; more = h.more; entries = xs })) entries ∙ sym (cond-false _ _ _ good)) x
 
 -- **a fragment of which nothing is left**
 pub covered_layout : (p q : PoolView) (ds slice es back : List Datagram) (i c n : ℕ) (f : QueuedFragment) (answer : Bool) → i < length ds → n ≡ length ds → slice ≡ ds → answer ≡ false → LaysIn p slice i c f answer q es → back ≡ take n (es ++ drop (length es) ds)

@@ -37,12 +37,6 @@ end_at n [] i a l = absurd (omega arith)
 end_at n (q ∷ qs) zero a l = a.0
 end_at n (q ∷ qs) (suc i) a l = end_at n qs i a.1 (omega arith)
 
-pub AllWithin-remove : (n : ℕ) (qs : List QueuedFragment) (i : ℕ) → AllWithin n qs → AllWithin n (remove qs i)
-AllWithin-remove n [] zero a = tt
-AllWithin-remove n [] (suc i) a = tt
-AllWithin-remove n (q ∷ qs) zero a = a.1
-AllWithin-remove n (q ∷ qs) (suc i) a = (a.0, AllWithin-remove n qs i a.1)
-
 pub within_of : (n : ℕ) (p : PoolView) (t : TrainView) → AllEnd n (fragments p t) → AllWithin n (queued p t)
 within_of n p t a = go (queued_packets p t) a
   where

@@ -1,5 +1,5 @@
 -- Steps over the table of unfinished datagrams.
-use Rattle.std.proofs.Common.{◌≡◌, ◌⊎◌, ℕ, zero, suc, ◌+◌, ◌<◌, Bool, true, false, List, [], ◌∷◌, ◌++◌, length, map, get_or, take, drop, refl, sym, ap, ◌∙◌, subst, inl, inr, arith}
+use Rattle.std.proofs.Common.{◌≡◌, ℕ, zero, suc, ◌+◌, ◌<◌, Bool, true, false, List, [], ◌∷◌, ◌++◌, length, map, get_or, take, drop, refl, sym, ap, ◌∙◌, subst, inl, inr, arith}
 use Rattle.std.proofs.lemmas.List.{map-append}
 use Rattle.flat_model.specs.Machine.State.{Unfinished, begun}
 use Rattle.mbuf_chain.specs.Chain.{PoolView, without}
@@ -15,7 +15,7 @@ use Rattle.ip_reass.specs.declared.datagram.Datagram.{Datagram}
 use Rattle.flat_model.specs.Machine.State.{Key}
 use Rattle.std.specs.Prelude.{find, slice_get}
 use Rattle.std.proofs.Common.{None}
-use Rattle.std.proofs.lemmas.Bool.{cond-true, cond-false}
+use Rattle.std.proofs.lemmas.Bool.{cond-true, cond-false, cases_Bool}
 use Rattle.std.proofs.lemmas.Option.{none-some}
 use Rattle.mbuf_chain.specs.Chain.{Adds}
 use Rattle.mbuf_chain.specs.Steps.{one_mbuf, empty_entry}
@@ -90,10 +90,6 @@ pub same_none : (p : PoolView) (xs : List ℕ) → SameAt p p xs
 same_none p xs = record { mbufs = refl; same = λ k h. refl }
 
 -- ---- a look-up
-true_or_false : (b : Bool) → (b ≡ true) ⊎ (b ≡ false)
-true_or_false true = inl refl
-true_or_false false = inr refl
-
 pub find_at : (test : Datagram → Bool) (xs : List Datagram) (i : ℕ) (d : Datagram) → i < length xs → test (get_or xs i d) ≡ true → find test (drop i xs) ≡ slice_get xs i
 find_at test [] i d l e = absurd (omega arith)
 find_at test (x ∷ xs) zero d l e = cond-true _ _ _ e
@@ -113,7 +109,7 @@ find_none_more test xs i d l none e = (let e' : i + 1 ≡ suc i = omega arith in
     go : (ys : List Datagram) (j : ℕ) → j < length ys → find test (take j ys) ≡ None → test (get_or ys j d) ≡ false → find test (take (suc j) ys) ≡ None
     go [] j m n f = refl
     go (y ∷ ys) zero m n f = cond-false _ _ _ f
-    go (y ∷ ys) (suc j) m n f = elim (true_or_false (test y)) [
+    go (y ∷ ys) (suc j) m n f = elim (cases_Bool (test y)) [
       | inl is ↦ absurd (none-some y (sym n ∙ cond-true _ _ _ is))
       | inr is ↦ cond-false _ _ _ is ∙ go ys j (omega arith) (sym (cond-false _ _ _ is) ∙ n) f
     ]

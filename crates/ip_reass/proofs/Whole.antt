@@ -37,9 +37,6 @@ known_end low ps k a h = elim (cases_lt k (reach low ps)) [
   | inr l ↦ absurd (false≢true (subst IsSome (nothing_past low ps k a l) h))
 ]
 
-abbrev more_of : Held → Type 0
-more_of held = held.piece.more ≡ false
-
 -- the last byte is the last fragment's
 pub last_is : (low : ℕ) (p : Fragment) (ps : List Fragment) (k : ℕ) → Apart low (p ∷ ps) → k + 1 ≡ reach low (p ∷ ps) → (c : Held) × (map_of (p ∷ ps) k ≡ Some c) × (c.piece.more ≡ last_more (p ∷ ps))
 last_is low p [] k a e = (own p k, known_here p [] k (omega arith) (omega arith), refl)

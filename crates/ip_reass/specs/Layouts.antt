@@ -1,11 +1,15 @@
 -- The layout of what waits and of what is handed out: the mbufs that fragments have, where their bytes begin, and which clusters
 -- they refer to (`ip_reass` of TCP/IP Illustrated, volume 2, chapter 10, with `m_pullup`, `m_adj` and `m_cat` of chapter 2).
-use Rattle.std.specs.Prelude.{◌≡◌, ◌⊎◌, ℕ, Bool, true, ◌==◌, ◌&&◌, if◌then◌else◌, List, [], ◌∷◌, map, slice_index_or, slice_set, remove}
+use Rattle.std.specs.Prelude.{◌≡◌, ◌⊎◌, ℕ, ◌-◌, Bool, true, ◌==◌, ◌&&◌, if◌then◌else◌, List, [], ◌∷◌, map, slice_index_or, slice_set, remove}
+use Rattle.params.specs.declared.TheConstants.{IP_HEADER}
 use Rattle.flat_model.specs.Fragments.Overlay.{is_covered}
+use Rattle.flat_model.specs.Machine.Arrival.{is_bad_fragment}
 use Rattle.flat_model.specs.Machine.State.{Key}
+use Rattle.flat_model.specs.declared.counters.Why.{Why}
+use Rattle.flat_model.specs.declared.counters.Why.TheVariants.{BadFragment, FragmentDropped, NoBufs}
 use Rattle.mbuf_chain.specs.Chain.{ChainView, PoolView, chain_of}
 use Rattle.ip_out.specs.declared.head.IpHead.{IpHead}
-use Rattle.ip_reass.specs.Arrivals.{carried_entries}
+use Rattle.ip_reass.specs.Arrivals.{carried_entries, flat_head}
 use Rattle.ip_reass.specs.Fragments.{QueuedFragment, queued, laid, joined, fragment_of, map_of}
 use Rattle.ip_reass.specs.declared.datagram.Datagram.{Datagram}
 use Rattle.ip_reass.specs.declared.arrival.Arrival.{Arrival}
@@ -66,6 +70,24 @@ pub record HasLayout (p : PoolView) (ds : List Datagram) (k : Key) (f : QueuedFr
   pub waited : List KeyedQueue
   pub before : WaitOrNone (queues p ds) waited
   pub leaves : Leaves k f waited q result (queues q es)
+
+-- ---- the cause of a drop
+
+-- Why the fragment f ended, where those in `held` wait under its key then: they hold all its bytes, or no mbuf was free, and
+-- nothing waits.
+abbrev pub cause_among : List QueuedFragment → QueuedFragment → Why
+cause_among held f = if is_covered (map_of (map fragment_of held)) (fragment_of f) then FragmentDropped else NoBufs
+
+-- the same of a packet, which may also be a fragment that none can be: the first cause that fits
+abbrev pub cause_of : ChainView → IpHead → List QueuedFragment → Why
+cause_of v h held =
+    if is_bad_fragment (flat_head h) (h.total - IP_HEADER) then BadFragment else cause_among held (fragment_carried v h)
+
+-- where the answer is a drop, this is the cause that it tells
+abbrev pub HasCause : Why → Arrival → Type 0
+HasCause cause Kept = Unit {0}
+HasCause cause (Whole c h) = Unit {0}
+HasCause cause (Dropped why) = why ≡ cause
 
 -- ---- by place
 abbrev pub no_queue : KeyedQueue

@@ -1,5 +1,5 @@
 //! A fragment arrives: its header is pulled up, its key is looked for, and it joins the others of its datagram.
-ghost use Rattle.std.specs.Prelude.{◌≡◌, ℕ, ◌+◌, ◌<◌, ◌≤◌, ◌∷◌, ◌++◌, true, false, None, Some, IfSome, length, find, is_some, option_to_list};
+ghost use Rattle.std.specs.Prelude.{◌≡◌, ℕ, ◌+◌, ◌<◌, ◌≤◌, [], ◌∷◌, ◌++◌, true, false, None, Some, IfSome, length, find, is_some, option_to_list};
 ghost use Rattle.flat_model.specs.Machine.State.{State, is_key};
 ghost use Rattle.flat_model.specs.Amounts.Weight.{Weight, ◌⊕◌};
 ghost use Rattle.flat_model.specs.Machine.Ledger.{exact_ledger};
@@ -9,7 +9,7 @@ ghost use Rattle.mbuf_chain.specs.Owners.{IsOwned, Moves};
 ghost use Rattle.ledger.specs.Accounts.{IsAccounted, weight_at, weight_owned};
 ghost use Rattle.ip_reass.specs.Arrivals.{AreDistinct, BeginsAt, CameBy, GoesOn, HasWhole, IsPulled, carried_at, flat_head, in_hand, key_in, machine, pulled_entries};
 ghost use Rattle.ip_reass.specs.Fragments.{fragment_of};
-ghost use Rattle.ip_reass.specs.Layouts.{HasLayout, WaitOrNone, fragment_carried, queues};
+ghost use Rattle.ip_reass.specs.Layouts.{HasCause, HasLayout, WaitOrNone, cause_among, cause_of, fragment_carried, queues, under};
 ghost use Rattle.ip_reass.specs.Table.{IsReady, has_key, held_all, unfinished};
 ghost use Rattle.ip_reass.specs.Inside.Walks.{arrived};
 
@@ -69,6 +69,9 @@ impl Reass {
         ensures layout { find (has_key (key_in head)) self.old.datagrams ≡ None →
             HasLayout pool.old self.old.datagrams (key_in head) (arrived pool.old chain head.offset head.more) result
             pool.new self.new.datagrams }
+        ensures cause { find (has_key (key_in head)) self.old.datagrams ≡ None →
+            HasCause (cause_among (under (key_in head) (queues pool.new self.new.datagrams))
+            (arrived pool.old chain head.offset head.more)) result }
         ensures ready { IsReady pool.new self.new }
         ensures moves { Moves pool.old (chain ∷ held_all pool.old self.old.datagrams) pool.new
             (in_hand result ++ held_all pool.new self.new.datagrams) }
@@ -108,6 +111,8 @@ impl Reass {
         ensures whole { HasWhole pool.new head result }
         ensures layout { HasLayout pool.old self.old.datagrams (key_in head)
             (arrived pool.old chain head.offset head.more) result pool.new self.new.datagrams }
+        ensures cause { HasCause (cause_among (under (key_in head) (queues pool.new self.new.datagrams))
+            (arrived pool.old chain head.offset head.more)) result }
         ensures ready { IsReady pool.new self.new }
         ensures moves { Moves pool.old (chain ∷ held_all pool.old self.old.datagrams) pool.new
             (in_hand result ++ held_all pool.new self.new.datagrams) }
@@ -137,6 +142,7 @@ impl Reass {
             IsPulled pool.old self.old.datagrams counters.old (weight_at pool.old chain) (is_some result) pool.new self.new.datagrams counters.new
             rest held }
         ensures waits { WaitOrNone (queues pool.old self.old.datagrams) (queues pool.new self.new.datagrams) }
+        ensures none { is_some result ≡ false → queues pool.new self.new.datagrams ≡ [] }
         ensures entries { IfSome result (λ d. (chain_of pool.new d).entries ≡ pulled_entries (chain_of pool.old chain)) }
         ensures headed { IfSome result (λ d. (chain_of pool.new d).front.header ≡ true) }
         ensures ready { IsReady pool.new self.new }
@@ -194,6 +200,8 @@ impl Reass {
         ensures whole { HasWhole pool.new head result }
         ensures layout { HasLayout pool.old self.old.datagrams (key_in head)
             (fragment_carried (chain_of pool.old chain) head) result pool.new self.new.datagrams }
+        ensures cause { HasCause (cause_of (chain_of pool.old chain) head
+            (under (key_in head) (queues pool.new self.new.datagrams))) result }
         ensures ready { IsReady pool.new self.new }
         ensures moves { Moves pool.old (chain ∷ held_all pool.old self.old.datagrams) pool.new
             (in_hand result ++ held_all pool.new self.new.datagrams) }

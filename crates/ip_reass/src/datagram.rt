@@ -7,11 +7,15 @@ ghost use Rattle.ip_reass.specs.Table.{held};
 use flat_model::FragmentKey;
 use mbuf_chain::{Chain, Pool, Train};
 
-/// An unfinished datagram: the mbuf of its key, the ticks that it has left, and its fragments, in order of offset.
+/// An unfinished datagram. Its fragments are in order of offset and apart from one another.
 pub struct Datagram {
+    /// The four fields that its fragments go by.
     pub key: FragmentKey,
+    /// The mbuf of the key.
     pub holder: Chain,
+    /// How many ticks it has left.
     pub ticks: u8,
+    /// Its fragments: a chain's tag is its offset times 2, plus 1 where more come after it.
     pub fragments: Train,
 }
 

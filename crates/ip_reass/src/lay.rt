@@ -4,11 +4,12 @@ ghost use Rattle.flat_model.specs.Machine.State.{State, is_key};
 ghost use Rattle.flat_model.specs.Amounts.Weight.{Weight};
 ghost use Rattle.flat_model.specs.Machine.Ledger.{exact_ledger};
 ghost use Rattle.flat_model.specs.Machine.Arrival.{Lays};
+ghost use Rattle.flat_model.specs.declared.counters.Why.TheVariants.{FragmentDropped};
 ghost use Rattle.mbuf_chain.specs.Chain.{PoolView, IsLive, chain_of, string, alone};
 ghost use Rattle.mbuf_chain.specs.Owners.{IsOwned, Moves};
 ghost use Rattle.ip_reass.specs.Arrivals.{GoesOn, HasWhole, in_hand, key_in, machine};
 ghost use Rattle.ip_reass.specs.Fragments.{fragment_of, fragments, map_of};
-ghost use Rattle.ip_reass.specs.Layouts.{LeavesAt, queues};
+ghost use Rattle.ip_reass.specs.Layouts.{HasCause, LeavesAt, queues};
 ghost use Rattle.ip_reass.specs.Table.{IsTable, held_all, unfinished, unfinished_of};
 ghost use Rattle.ip_reass.specs.Inside.Walks.{TellsWhole, arrived, is_left};
 ghost use Rattle.ip_reass.specs.Inside.Steps.{LaysIn, TakesOut, datagram_at};
@@ -86,6 +87,7 @@ pub(crate) fn settle(
     ensures whole { HasWhole pool.new head result }
     ensures layout { LeavesAt i (arrived pool.old chain head.offset head.more) (queues pool.old table.old.items)
         pool.new result (queues pool.new table.new.items) }
+    ensures cause { HasCause FragmentDropped result }
     ensures table { IsTable pool.new table.new.items }
     ensures moves { Moves pool.old (chain ∷ held_all pool.old table.old.items) pool.new
         (in_hand result ++ held_all pool.new table.new.items) }

@@ -1,24 +1,21 @@
-use Rattle.std.proofs.Common.{◌≡◌, ◌⊎◌, ◌+◌, ◌-◌, ◌∷◌, ◌++◌, [], ℕ, Bool, true, false, Option, is_some, length, refl, sym, ap, ◌∙◌, subst, arith, inl, inr}
+use Rattle.std.proofs.Common.{◌≡◌, ◌+◌, ◌-◌, ◌<◌, ◌∷◌, ◌++◌, [], ℕ, Bool, false, Option, is_some, length, refl, sym, ap, ◌∙◌, subst, arith, inl, inr}
 use Rattle.std.specs.Prelude.{option_to_list}
+use Rattle.std.proofs.lemmas.Bool.{cond-true, cond-false, cases_Bool}
 use Rattle.std.proofs.lemmas.Option.{none-some}
 use Rattle.flat_model.specs.Amounts.Weight.{nothing, ◌⊕◌}
 use Rattle.flat_model.specs.Machine.Arrival.{is_bad_fragment}
-use Rattle.mbuf_chain.specs.Chain.{ChainView, PoolView, chain_of, entry_of, string}
+use Rattle.mbuf_chain.specs.Chain.{ChainView, PoolView, chain_of, entry_of, flat_bytes, string}
 use Rattle.mbuf_chain.specs.Owners.{Moves}
 use Rattle.mbuf_chain.proofs.Laws.Owners.{moves_none, moves_trans, owned_after}
 use Rattle.chain_ops.specs.Trims.{without_first}
 use Rattle.ledger.specs.Accounts.{weight_at, weight_owned}
-use Rattle.ip_reass.specs.Arrivals.{flat_head, in_hand, IsPulled}
+use Rattle.ip_reass.specs.Arrivals.{carried_entries, flat_head, in_hand, key_in, IsPulled}
 use Rattle.ip_reass.specs.Table.{TableView, held_all}
-use Rattle.ip_reass.specs.Layouts.{queues}
-use Rattle.ip_reass.proofs.Queues.{arrived_layout}
+use Rattle.ip_reass.specs.Layouts.{fragment_carried, queues, under}
+use Rattle.ip_reass.proofs.Queues.{arrived_layout, arrived_cause, cause_lacking}
 use Rattle.ip_reass.proofs.Reserved.{stays, freed}
-use Rattle.ip_reass.proofs.Arriving.{accounts, one_weighs, same_weight, trimmed_off, arrives_bad, none_cluster, some_plain, some_cluster, carried_len, good_some, good_small, accounted_counters}
+use Rattle.ip_reass.proofs.Arriving.{accounts, one_weighs, same_weight, trimmed_off, arrives_bad, none_cluster, some_plain, some_cluster, carried_len, carried_size, good_some, good_small, accounted_counters}
 use Rattle.ip_reass.proofs.table.Reass.arrive.Goals as goal
-
-true_or_false : (b : Bool) → (b ≡ true) ⊎ (b ≡ false)
-true_or_false true = inl refl
-true_or_false false = inr refl
 
 pub returns-then-is_bad-clause-step : goal.returns-then-is_bad-clause-step
 returns-then-is_bad-clause-step c = λ rest held origin new distinct came acc is.
@@ -45,7 +42,7 @@ pub returns-in_default-clause-step : goal.returns-in_default-clause-step
 returns-in_default-clause-step c = λ rest held origin new distinct came acc is.
     let long : length (string (chain_of c.args.pool.now c.args.chain)) ≡ 20 + (c.len-len.result - 20) = omega (arith, c.len-len.ensures, c.requires.total, c.requires.header) in
     let good : is_bad_fragment (flat_head c.args.head) (c.len-len.result - 20) ≡ false = sym c.is_bad.ensures ∙ c.if-is_bad.false in
-    elim (true_or_false (is_some (entry_of (chain_of c.args.pool.now c.args.chain) 0).cluster)) [
+    elim (cases_Bool (is_some (entry_of (chain_of c.args.pool.now c.args.chain) 0).cluster)) [
       | inr plain ↦ absurd (none-some c.args.chain (sym c.in_default.is ∙ (c.pull_up.ensures.plain plain).3))
       | inl cluster ↦
           let tested = c.pull_up.ensures.tested cluster rest held (accounted_counters c.args.pool.now c.args.self.now.datagrams c.args.counters.now c.count.new.self rest (held ⊕ weight_at c.args.pool.now c.args.chain) acc) in
@@ -103,7 +100,7 @@ returns-clause-step c = λ rest held origin new distinct came acc goes.
     let good : is_bad_fragment (flat_head c.args.head) (c.len-len.result - 20) ≡ false = sym c.is_bad.ensures ∙ c.if-is_bad.false in
     let acc' = accounts c.args.pool.now c.trim_front.new.pool (c.args.chain ∷ []) (c.in-Some.chain ∷ []) rest held (weight_at c.args.pool.now c.args.chain) (weight_at c.trim_front.new.pool c.in-Some.chain) c.args.self.now.datagrams c.pull_up.new.self.datagrams c.args.counters.now c.pull_up.new.counters acc
     (moves_trans m t.moves) c.requires.owned c.requires.ready.table t.table (one_weighs c.args.pool.now c.args.chain) (one_weighs c.trim_front.new.pool c.in-Some.chain) in
-    elim (true_or_false (is_some (entry_of (chain_of c.args.pool.now c.args.chain) 0).cluster)) [
+    elim (cases_Bool (is_some (entry_of (chain_of c.args.pool.now c.args.chain) 0).cluster)) [
       | inr plain ↦
           let same = c.pull_up.ensures.plain plain in
           some_plain rest held new c.args.head c.args.pool.now c.pull_up.new.pool c.trim_front.new.pool c.args.self.now.datagrams c.pull_up.new.self.datagrams c.args.counters.now c.count.new.self c.pull_up.new.counters c.args.chain c.in-Some.chain (c.len-len.result - 20) long good c.count.ensures c.in-Some.ensures.entries t distinct
@@ -144,3 +141,24 @@ returns-clause-layout c =
     let t = trimmed_off c.pull_up.new.pool c.trim_front.new.pool c.pull_up.new.self.datagrams c.in-Some.chain c.pull_up.ensures.ready.table (owned_after m c.requires.owned) c.trim_front.ensures in
     arrived_layout c.args.pool.now c.pull_up.new.pool c.trim_front.new.pool c.join_others.new.pool c.args.self.now.datagrams c.pull_up.new.self.datagrams c.join_others.new.self.datagrams c.args.chain c.in-Some.chain c.args.head c.join_others.result
     c.pull_up.ensures.waits t.rows (ap (λ (v : ChainView). v.entries) t.chain ∙ ap (without_first 20) c.in-Some.ensures.entries) c.join_others.ensures.layout
+
+pub returns-then-is_bad-clause-cause : goal.returns-then-is_bad-clause-cause
+returns-then-is_bad-clause-cause c =
+    sym (cond-true _ _ _ (ap (λ (n : ℕ). is_bad_fragment (flat_head c.args.head) (n - 20)) (sym c.requires.total ∙ sym c.len-len.ensures) ∙ (sym c.is_bad.ensures ∙ c.if-is_bad.true)))
+
+pub returns-in_default-clause-cause : goal.returns-in_default-clause-cause
+returns-in_default-clause-cause c =
+    let long : length (string (chain_of c.args.pool.now c.args.chain)) ≡ 20 + (c.len-len.result - 20) = omega (arith, c.len-len.ensures, c.requires.total, c.requires.header) in
+    let good : is_bad_fragment (flat_head c.args.head) (c.len-len.result - 20) ≡ false = sym c.is_bad.ensures ∙ c.if-is_bad.false in
+    let some : 0 < length (flat_bytes (carried_entries (chain_of c.args.pool.now c.args.chain))) =
+    omega (arith, carried_size c.args.pool.now c.args.chain (c.len-len.result - 20) long, good_some c.args.head (c.len-len.result - 20) good) in
+    cause_lacking (key_in c.args.head) (fragment_carried (chain_of c.args.pool.now c.args.chain) c.args.head) (queues c.pull_up.new.pool c.pull_up.new.self.datagrams) some (c.pull_up.ensures.none (ap is_some c.in_default.is))
+    ∙ sym (cond-false _ _ _ (ap (λ (n : ℕ). is_bad_fragment (flat_head c.args.head) (n - 20)) (sym c.requires.total ∙ sym c.len-len.ensures) ∙ good))
+
+pub returns-clause-cause : goal.returns-clause-cause
+returns-clause-cause c =
+    let m = subst (λ (o : Option ℕ). Moves c.args.pool.now (c.args.chain ∷ held_all c.args.pool.now c.args.self.now.datagrams) c.pull_up.new.pool (option_to_list o ++ held_all c.pull_up.new.pool c.pull_up.new.self.datagrams)) c.in-Some.is c.pull_up.ensures.moves in
+    let t = trimmed_off c.pull_up.new.pool c.trim_front.new.pool c.pull_up.new.self.datagrams c.in-Some.chain c.pull_up.ensures.ready.table (owned_after m c.requires.owned) c.trim_front.ensures in
+    arrived_cause c.args.pool.now c.trim_front.new.pool c.args.chain c.in-Some.chain c.args.head (under (key_in c.args.head) (queues c.join_others.new.pool c.join_others.new.self.datagrams)) c.join_others.result
+    (ap (λ (n : ℕ). is_bad_fragment (flat_head c.args.head) (n - 20)) (sym c.requires.total ∙ sym c.len-len.ensures) ∙ (sym c.is_bad.ensures ∙ c.if-is_bad.false))
+    (ap (λ (v : ChainView). v.entries) t.chain ∙ ap (without_first 20) c.in-Some.ensures.entries) c.join_others.ensures.cause

@@ -7,10 +7,11 @@ use Rattle.ledger.specs.Accounts.{weight_at}
 use Rattle.ip_reass.specs.Arrivals.{in_hand, key_in, machine}
 use Rattle.ip_reass.specs.Fragments.{fragment_of}
 use Rattle.ip_reass.specs.Inside.Walks.{arrived}
+use Rattle.ip_reass.specs.Layouts.{cause_among, queues, under}
 use Rattle.ip_reass.specs.Table.{held_all, new_datagram}
 use Rattle.ip_reass.specs.declared.datagram.Datagram.{Datagram}
 use Rattle.ip_reass.specs.Table.{TableView}
-use Rattle.ip_reass.proofs.Queues.{begins_layout, wait_reserved}
+use Rattle.ip_reass.proofs.Queues.{begins_layout, begins_cause, cause_lacking, none_reserved, wait_reserved}
 use Rattle.ip_reass.proofs.Reserved.{stays, freed, lacking, Began, began, begins_here, room}
 use Rattle.ip_reass.proofs.table.Reass.begin_with.Goals as goal
 
@@ -119,3 +120,19 @@ returns-clause-layout c = λ none.
     begins_layout c.args.pool.now c.reserve.new.pool c.new_chain.new.self c.settle.new.pool c.args.self.now.datagrams c.reserve.new.waiting.datagrams c.begin.new.table.items c.settle.new.table.items (key_in c.args.head) c.args.chain (length c.as_slice-i.result.now) c.args.head.offset c.args.head.more c.settle.result
     (wait_reserved c.args.pool.now c.reserve.new.pool c.args.self.now c.reserve.new.waiting c.args.counters.now c.reserve.new.counters _ c.reserve.ensures.kept c.reserve.ensures.none)
     none c.requires.some (b.stays.chain ∙ st.chain) b.rows (ap (λ (ds : List Datagram). length ds) (c.as_slice-i.ensures.value ∙ (ap (λ (r : TableView). r.datagrams) c.self.view_is))) c.settle.ensures.layout
+
+pub returns-then-not-reserve-clause-cause : goal.returns-then-not-reserve-clause-cause
+returns-then-not-reserve-clause-cause c = λ none.
+    let fr = freed c.args.pool.now c.reserve.new.pool c.free_chain.new.self c.args.self.now.datagrams c.reserve.new.waiting.datagrams c.args.chain
+    (stays c.args.pool.now c.reserve.new.pool c.args.self.now.datagrams c.reserve.new.waiting.datagrams c.args.chain c.requires.owned c.reserve.ensures.moves) c.reserve.ensures.ready.table c.free_chain.ensures in
+    cause_lacking (key_in c.args.head) (arrived c.args.pool.now c.args.chain c.args.head.offset c.args.head.more) (queues c.free_chain.new.self c.reserve.new.waiting.datagrams) c.requires.some
+    (fr.rows ∙ none_reserved c.args.pool.now c.reserve.new.pool c.args.self.now c.reserve.new.waiting c.args.counters.now c.reserve.new.counters c.reserve.result c.reserve.ensures.kept c.reserve.ensures.none c.reserve.ensures.answer c.if-not-reserve.true)
+
+pub returns-clause-cause : goal.returns-clause-cause
+returns-clause-cause c = λ none.
+    let st = stays c.args.pool.now c.reserve.new.pool c.args.self.now.datagrams c.reserve.new.waiting.datagrams c.args.chain c.requires.owned c.reserve.ensures.moves in
+    let b = began c.reserve.new.pool c.new_chain.new.self c.reserve.new.waiting.datagrams c.begin.new.table.items c.args.chain c.in-Ok.holder (length c.as_slice-i.result.now) (key_in c.args.head) c.reserve.ensures.ready.table st.owned c.in-Ok.ensures.ok
+    (c.begin.ensures.items ∙ (λ j. ((ap (λ (r : TableView). r.datagrams) c.self.view_is) j) ++ new_datagram (c.key_of.ensures j) c.in-Ok.holder ∷ [])) (ap (λ (ds : List Datagram). length ds) (c.as_slice-i.ensures.value ∙ (ap (λ (r : TableView). r.datagrams) c.self.view_is))) in
+    begins_cause (cause_among (under (key_in c.args.head) (queues c.settle.new.pool c.settle.new.table.items)) (arrived c.args.pool.now c.args.chain c.args.head.offset c.args.head.more))
+    c.args.pool.now c.reserve.new.pool c.new_chain.new.self c.settle.new.pool c.reserve.new.waiting.datagrams c.begin.new.table.items c.settle.new.table.items (key_in c.args.head) c.args.chain (length c.as_slice-i.result.now) c.args.head.offset c.args.head.more c.settle.result
+    c.requires.some (b.stays.chain ∙ st.chain) b.rows (ap (λ (ds : List Datagram). length ds) (c.as_slice-i.ensures.value ∙ (ap (λ (r : TableView). r.datagrams) c.self.view_is))) c.settle.ensures.layout

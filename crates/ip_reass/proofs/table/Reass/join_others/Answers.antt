@@ -3,7 +3,7 @@ use Rattle.ip_reass.specs.Arrivals.{key_in}
 use Rattle.ip_reass.specs.Fragments.{fragment_of}
 use Rattle.ip_reass.specs.Inside.Walks.{arrived}
 use Rattle.ip_reass.specs.Table.{TableView}
-use Rattle.ip_reass.proofs.Queues.{found_layout}
+use Rattle.ip_reass.proofs.Queues.{found_layout, found_cause}
 use Rattle.ip_reass.proofs.Arriving.{joins_found, joins_none, none_found_in}
 use Rattle.ip_reass.proofs.table.Reass.join_others.Goals as goal
 
@@ -33,3 +33,8 @@ pub returns-in-Some-clause-layout : goal.returns-in-Some-clause-layout
 returns-in-Some-clause-layout c =
     found_layout c.args.pool.now c.settle.new.pool c.as_slice.result.now c.self.inside.datagrams.items c.args.self.now.datagrams c.settle.new.table.items (key_in c.args.head) c.key_of.result (arrived c.args.pool.now c.args.chain c.args.head.offset c.args.head.more) c.in-Some.i c.settle.result
     c.as_slice.ensures.value (ap (λ (r : TableView). r.datagrams) c.self.view_is) c.key_of.ensures c.in-Some.ensures.0 c.in-Some.ensures.1 c.in-Some.ensures.2 c.settle.ensures.layout
+
+pub returns-in-Some-clause-cause : goal.returns-in-Some-clause-cause
+returns-in-Some-clause-cause c =
+    found_cause c.args.pool.now c.settle.new.pool c.as_slice.result.now c.self.inside.datagrams.items c.args.self.now.datagrams c.settle.new.table.items (key_in c.args.head) c.key_of.result (arrived c.args.pool.now c.args.chain c.args.head.offset c.args.head.more) c.in-Some.i c.settle.result
+    c.as_slice.ensures.value (ap (λ (r : TableView). r.datagrams) c.self.view_is) c.key_of.ensures c.in-Some.ensures.0 c.in-Some.ensures.1 c.in-Some.ensures.2 c.settle.ensures.layout c.settle.ensures.cause

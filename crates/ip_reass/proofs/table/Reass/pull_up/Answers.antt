@@ -1,9 +1,9 @@
-use Rattle.std.proofs.Common.{refl, ap, arith}
+use Rattle.std.proofs.Common.{◌∙◌, refl, ap, arith}
 use Rattle.mbuf_chain.specs.Chain.{PoolView}
 use Rattle.flat_model.specs.Amounts.Weight.{◌⊕◌}
 use Rattle.ledger.specs.Accounts.{weight_at}
 use Rattle.ip_reass.specs.Arrivals.{machine}
-use Rattle.ip_reass.proofs.Queues.{wait_then, wait_reserved}
+use Rattle.ip_reass.proofs.Queues.{wait_then, wait_reserved, none_reserved}
 use Rattle.ip_reass.proofs.Reserved.{stays, freed}
 use Rattle.ip_reass.proofs.Arriving.{pulled, pulled_done, pulled_lacking}
 use Rattle.ip_reass.proofs.table.Reass.pull_up.Goals as goal
@@ -51,3 +51,9 @@ returns-clause-waits c =
     (wait_reserved c.args.pool.now c.reserve.new.pool c.args.self.now c.reserve.new.waiting c.args.counters.now c.reserve.new.counters _ c.reserve.ensures.kept c.reserve.ensures.none)
     (pulled c.args.pool.now c.reserve.new.pool c.m_pullup.new.pool c.args.self.now.datagrams c.reserve.new.waiting.datagrams c.args.chain c.m_pullup.new.chain _ _
     (stays c.args.pool.now c.reserve.new.pool c.args.self.now.datagrams c.reserve.new.waiting.datagrams c.args.chain c.requires.owned c.reserve.ensures.moves) c.reserve.ensures.ready.table c.in-Ok.ensures.ok).rows
+
+pub returns-then-not-reserve-clause-none : goal.returns-then-not-reserve-clause-none
+returns-then-not-reserve-clause-none c = λ lacks.
+    (freed c.args.pool.now c.reserve.new.pool c.free_chain.new.self c.args.self.now.datagrams c.reserve.new.waiting.datagrams c.args.chain
+    (stays c.args.pool.now c.reserve.new.pool c.args.self.now.datagrams c.reserve.new.waiting.datagrams c.args.chain c.requires.owned c.reserve.ensures.moves) c.reserve.ensures.ready.table c.free_chain.ensures).rows
+    ∙ none_reserved c.args.pool.now c.reserve.new.pool c.args.self.now c.reserve.new.waiting c.args.counters.now c.reserve.new.counters c.reserve.result c.reserve.ensures.kept c.reserve.ensures.none c.reserve.ensures.answer c.if-not-reserve.true
