@@ -10,7 +10,7 @@ use Rattle.mbuf_chain.proofs.Laws.Owners.{times-append, live_at_most, same_besid
 use Rattle.mbuf_chain.specs.Train.{QueuedPacket, queued_packet_of, queued_packets}
 use Rattle.mbuf_chain.proofs.Laws.Trains.{length-queued_packets}
 use Rattle.sockbuf.specs.SockBuf.{SockBufView, IsSockBuf, datagrams, datagram_of, datagrams_of, chains_of, no_datagrams}
-use Rattle.sockbuf.proofs.Laws.{new_ready, chains_same, datagrams_same, ready_same}
+use Rattle.sockbuf.proofs.Laws.{chains_same, datagrams_same, ready_same}
 use Rattle.sock_calls.specs.Sockets.{SocksView, IsSocks, StepsAt, AreEmpty, from_three, queue_at, queues_of, queued_chains}
 
 -- ---- a list with one element changed
@@ -145,35 +145,8 @@ all_gone q [] each none = refl
 all_gone q (b ∷ bs) each none = λ i. none_there q b (each 0) (none 0 (omega arith)) i ++ all_gone q bs (λ k. each (suc k)) (λ k lt. none (suc k) (omega arith)) i
 
 -- ---- queues by descriptor
-pub queue_from_three : (bs : List SockBufView) (i k : ℕ) → i + 3 ≡ k → queue_at (from_three bs) k ≡ queue_at bs i
-queue_from_three bs i zero e = absurd (omega arith)
-queue_from_three bs i (suc zero) e = absurd (omega arith)
-queue_from_three bs i (suc (suc zero)) e = absurd (omega arith)
-queue_from_three bs i (suc (suc (suc k))) e = ap (queue_at bs) (let h : k ≡ i = omega arith in h)
-
 pub each_from_three : (p : PoolView) (bs : List SockBufView) → ((k : ℕ) → IsSockBuf p (queue_at (from_three bs) k)) → (i : ℕ) → IsSockBuf p (queue_at bs i)
-each_from_three p bs each i = subst (IsSockBuf p) (queue_from_three bs i (i + 3) refl) (each (i + 3))
-
-pub steps_from_three : {p q : PoolView} {ins outs : List ℕ} {bs cs : List SockBufView} (i fd : ℕ) → i + 3 ≡ fd → StepsAt p ins bs i q outs cs → StepsAt p ins (from_three bs) fd q outs (from_three cs)
-steps_from_three {p} {q} {ins} {outs} {bs} {cs} i fd e s = record {
-  len = omega (arith, s.len);
-  others = others;
-  each = each;
-  owned = s.owned;
-  moves = s.moves;
-}
-  where
-    others : (k : ℕ) → (k ≡ fd → ⊥) → queues_of q (from_three cs) k ≡ queues_of p (from_three bs) k
-    others zero ne = refl
-    others (suc zero) ne = refl
-    others (suc (suc zero)) ne = refl
-    others (suc (suc (suc k))) ne = s.others k (λ h. ne (omega (arith, h, e)))
-
-    each : (k : ℕ) → IsSockBuf q (queue_at (from_three cs) k)
-    each zero = new_ready q
-    each (suc zero) = new_ready q
-    each (suc (suc zero)) = new_ready q
-    each (suc (suc (suc k))) = s.each k
+each_from_three p bs each i = each (suc (suc (suc i)))
 
 pub all_empty : (q : PoolView) (bs : List SockBufView) → ((k : ℕ) → IsSockBuf q (queue_at bs k)) → ((k : ℕ) → k < length bs → queues_of q bs k ≡ []) → AreEmpty bs
 all_empty q [] each none = tt

@@ -25,12 +25,14 @@ use Rattle.flat_model.proofs.Laws.{times-both, count_cons, all_of-append}
 use Rattle.mbuf_chain.specs.Chain.{PoolView, references}
 use Rattle.mbuf_chain.specs.Owners.{times, Moves}
 use Rattle.mbuf_chain.specs.Frames.{SameAt}
-use Rattle.mbuf_chain.specs.Train.{TrainView, QueuedPacket, queued_packet_of, numbers, follow, IsHeld}
+use Rattle.mbuf_chain.specs.Train.{QueuedPacket, queued_packet_of, numbers, IsHeld}
 use Rattle.mbuf_chain.proofs.Laws.Owners.{times-append, live_at_most, moves_beside, moves_none, same_beside}
 use Rattle.ip_out.specs.Packets.{packets, AreBegunPlain}
 use Rattle.pcb_table.specs.declared.block.Block.{Block}
 use Rattle.pcb_table.specs.Table.{Table, Queues, block_at, machine, socket_with}
 use Rattle.pcb_table.specs.Apart.{AreApart}
+use Rattle.mbuf_chain.proofs.Laws.Trains.{none_left}
+use Rattle.ip_out.proofs.Laws.{none_wait}
 use Rattle.pcb_table.proofs.Laws.{same_machine, socket_found}
 use Rattle.ledger.specs.Accounts.{item_of, weight_at, weight_owned, IsAccounted}
 use Rattle.ledger.specs.Reserve.{are_free}
@@ -64,17 +66,11 @@ on_block fd to bytes t f rest b reply looped new at by =
     }
 
 -- ---- what leaves everything as it was
-pub no_packets : (p : PoolView) (t : TrainView) → t.len ≡ 0 → packets p t ≡ []
-no_packets p t e = ap (λ (n : ℕ). map (λ (queued_packet : QueuedPacket). item_of queued_packet.entries) (map (queued_packet_of p) (follow p n t.first))) e
-
-no_numbers : (p : PoolView) (t : TrainView) → t.len ≡ 0 → numbers p t ≡ []
-no_numbers p t e = ap (λ (n : ℕ). follow p n t.first) e
-
 pub unchanged : {fd : ℕ} {to : Option Addr} {bytes : List ℕ} {errno : Errno} (v : SendView) → CanSend v
     → ((rest : State) → rest.config.mtu ≡ v.net.mtu → IsAccounted v.pool (state_in v rest) nothing → SendsOnce exact_ledger fd to bytes (state_in v rest) (Refused errno) [] (state_in v rest))
     → IsSent fd to bytes v (Err errno) v
 unchanged {fd} {to} {bytes} {errno} v can step =
-    let none : packets v.pool v.net.looped ≡ [] = no_packets v.pool v.net.looped can.none in
+    let none : packets v.pool v.net.looped ≡ [] = none_wait v.pool v.net.looped can.none in
     record {
       step = λ rest e a. subst (λ (l : List Item). SendsOnce exact_ledger fd to bytes (state_in v rest) (Refused errno) l (state_in v rest)) (sym none) (step rest e a);
       accounts = λ rest a. subst (λ (l : List Item). IsAccounted v.pool (state_in v rest) (weight_of_all l)) (sym none) a;
@@ -82,10 +78,10 @@ unchanged {fd} {to} {bytes} {errno} v can step =
       socks = can.socks;
       out = can.out;
       looped = can.looped;
-      plain = subst (λ (xs : List ℕ). AreBegunPlain (map (queued_packet_of v.pool) xs)) (sym (no_numbers v.pool v.net.looped can.none)) tt;
+      plain = subst (λ (xs : List ℕ). AreBegunPlain (map (queued_packet_of v.pool) xs)) (sym (none_left v.pool v.net.looped can.none)) tt;
       mtu = refl;
       moves = subst (λ (xs : List ℕ). Moves v.pool (numbers v.pool v.net.out ++ queued_chains v.pool v.socks.queues) v.pool (xs ++ (numbers v.pool v.net.out ++ queued_chains v.pool v.socks.queues)))
-          (sym (no_numbers v.pool v.net.looped can.none)) (moves_none v.pool (numbers v.pool v.net.out ++ queued_chains v.pool v.socks.queues));
+          (sym (none_left v.pool v.net.looped can.none)) (moves_none v.pool (numbers v.pool v.net.out ++ queued_chains v.pool v.socks.queues));
     }
 
 -- ---- refused before the buffers

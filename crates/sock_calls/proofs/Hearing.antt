@@ -28,7 +28,8 @@ use Rattle.ledger.specs.Accounts.{item_of, item_at, weight_of, weight_at, IsAcco
 use Rattle.ledger.proofs.Laws.{accounted_after}
 use Rattle.sockbuf.specs.SockBuf.{SockBufView}
 use Rattle.sock_calls.specs.Sockets.{SocksView, IsSocks, queues_of, queued_chains, with_net}
-use Rattle.sock_calls.specs.Delivery.{NetView, seen, state_at, queues_at, Offers, IsAppended, IsOffered, IsUnderWay, IsDelivered, no_block, socket_named, sockets_named}
+use Rattle.sock_calls.specs.Delivery.{NetView, seen, state_at, queues_at, Offers, IsAppended, IsOffered, IsDelivered, no_block, socket_named, sockets_named}
+use Rattle.sock_calls.specs.Inside.Delivering.{IsUnderWay}
 use Rattle.sock_calls.proofs.Frames.{Kept, kept}
 use Rattle.sock_calls.proofs.Delivered.{IsTested, tested, ends_here, shows_same, ends_accounted}
 

@@ -2,9 +2,8 @@
 
 -- Sockets beside a step of somebody else: they are as they were.
 pub use Rattle.sock_calls.proofs.Frames.{Kept, kept}
--- What the receive queues weigh is what their chains weigh, and so a step of the sockets keeps the pool's accounts.
+-- What the receive queues weigh is what their chains weigh.
 pub use Rattle.sock_calls.proofs.Weights.{queue_weight, socks_weigh}
-pub use Rattle.sock_calls.proofs.Accounts.{Passes, socks_accounted}
 -- A send that isn't refused for the pool is the machine's send; one that is, and then is made once more without the unfinished
 -- datagrams, is too.
 pub use Rattle.sock_calls.proofs.Tested.{sends_at_once, sends_again}

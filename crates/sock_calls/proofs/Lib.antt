@@ -3,7 +3,6 @@ mod Keeping
 mod Frames
 mod Copied
 mod Received
-mod Accounts
 pub mod Laws
 mod Delivered
 mod Hearing

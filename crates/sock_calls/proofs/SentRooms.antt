@@ -12,13 +12,12 @@ use Rattle.flat_model.specs.Machine.Sending.{is_looped, mtu_to}
 use Rattle.flat_model.specs.declared.config.Config.{Config}
 use Rattle.mbuf_chain.specs.Chain.{ChainView, PoolView, held_mbufs, string}
 use Rattle.chain_ops.specs.Weights.{laid}
-use Rattle.chain_ops.specs.Stored.{Has}
 use Rattle.chain_ops.proofs.Laws.Rooms.{rest_rooms, rooms_step, rest_none}
 use Rattle.ip_out.specs.declared.ways.Way.{Way}
 use Rattle.ip_out.specs.Packets.{part_need, later_need}
 use Rattle.ip_out.specs.Ways.{way_need}
 use Rattle.ledger.specs.Reserve.{are_free}
-use Rattle.ledger.proofs.Laws.{enough_mbufs, enough_clusters}
+use Rattle.ledger.proofs.Laws.{enough_mbufs}
 use Rattle.sock_calls.specs.Inside.Putting.{IsRouted, way_of}
 
 -- ---- rooms and the mbufs laid out so
@@ -132,11 +131,6 @@ need_most c ip n = go (ip == c.bcast)
 
 pub has_mbufs : (p : PoolView) (c : Config) (ip n : ℕ) → are_free p (need_to c ip n).mbufs (need_to c ip n).clusters ≡ true → held_mbufs p + (need_to c ip n).mbufs ≤ p.mbufs
 has_mbufs p c ip n h = enough_mbufs p (need_to c ip n).mbufs (need_to c ip n).clusters h (omega (arith, some_sent n, need_most c ip n))
-
--- the datagram's buffers are among them
-pub has_sent : (p : PoolView) (c : Config) (ip n : ℕ) → are_free p (need_to c ip n).mbufs (need_to c ip n).clusters ≡ true → Has p (sent n)
-has_sent p c ip n h =
-    (omega (arith, has_mbufs p c ip n h, need_most c ip n), omega (arith, need_clusters c ip n, enough_clusters p (need_to c ip n).mbufs (need_to c ip n).clusters h))
 
 -- ---- the packets beyond the datagram take the rest
 pub need_is_way : (c : Config) (ip n : ℕ) (v : ChainView) (cs : List ℕ) → IsRouted c → (ip ≡ c.bcast → n + 28 ≤ c.mtu) → laid v.entries ≡ laid_on cs (sent n) → length (string v) ≡ n + 28

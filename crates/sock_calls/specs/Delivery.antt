@@ -1,6 +1,6 @@
 -- Delivery of a datagram to those who hear it, for every rest of the machine (`udp_input` and `sbappendaddr` of volume
 -- 2, chapters 23 and 16; to say it by what a pool shows is this project's own).
-use Rattle.std.specs.Prelude.{◌≡◌, ℕ, ◌<◌, List, ◌∷◌, ◌++◌, drop, map, Some, None, unwrap_or, false}
+use Rattle.std.specs.Prelude.{◌≡◌, ℕ, List, ◌∷◌, ◌++◌, map, Some, None, unwrap_or, false}
 use Rattle.flat_model.specs.Amounts.Weight.{Weight, Item, ◌⊕◌}
 use Rattle.flat_model.specs.Machine.State.{State, Socket, Unfinished}
 use Rattle.flat_model.specs.Machine.Ledger.{exact_ledger}
@@ -8,7 +8,7 @@ use Rattle.flat_model.specs.Machine.Arrival.{Tests, Appends, Delivers, WholeArri
 use Rattle.flat_model.specs.declared.counters.Counters.{Counters}
 use Rattle.flat_model.specs.declared.address.Addr.{Addr}
 use Rattle.mbuf_chain.specs.Chain.{PoolView, chain_of}
-use Rattle.mbuf_chain.specs.Owners.{times, Moves}
+use Rattle.mbuf_chain.specs.Owners.{Moves}
 use Rattle.pcb_table.specs.declared.block.Block.{Block}
 use Rattle.pcb_table.specs.Table.{Table, Queues, block_at, socket_with}
 use Rattle.ledger.specs.Accounts.{item_at, weight_at, IsAccounted}
@@ -87,20 +87,6 @@ pub record IsDelivered (v : NetView) (c : ℕ) (fds : List ℕ) (sender : Addr) 
   pub ready : IsSocks u.pool u.socks
   pub pcbs : u.socks.pcbs ≡ v.socks.pcbs
   pub moves : Moves v.pool (c ∷ chains_at v) u.pool (chains_at u)
-
--- ---- the loop
-
--- From v on, chain c was offered to the first i of the receivers: whatever becomes of the others makes a delivery to all.
-pub record IsUnderWay (v : NetView) (c : ℕ) (fds : List ℕ) (sender : Addr) (i : ℕ) (u : NetView) : Type 0 where
-  pub goes : (rest : State) (held : Weight) (new : State) → IsAccounted v.pool (state_at v rest) (held ⊕ weight_at v.pool c)
-      → Delivers exact_ledger held sender (item_at v.pool c) (sockets_named (queues_at v) v.socks.pcbs (drop i fds)) (state_at u rest) new
-      → Delivers exact_ledger held sender (item_at v.pool c) (sockets_named (queues_at v) v.socks.pcbs fds) (state_at v rest) new
-  pub accounts : (rest : State) (held : Weight) → IsAccounted v.pool (state_at v rest) (held ⊕ weight_at v.pool c) → IsAccounted u.pool (state_at u rest) (held ⊕ weight_at v.pool c)
-  pub untouched : (k : ℕ) → 0 < times k (drop i fds) → queues_at u k ≡ queues_at v k
-  pub ready : IsSocks u.pool u.socks
-  pub chain : chain_of u.pool c ≡ chain_of v.pool c
-  pub moves : Moves v.pool (c ∷ chains_at v) u.pool (c ∷ chains_at u)
-  pub pcbs : u.socks.pcbs ≡ v.socks.pcbs
 
 -- ---- a whole datagram
 

@@ -1,3 +1,4 @@
 -- What only this crate reads.
 pub mod Destination
 pub mod Putting
+pub mod Delivering

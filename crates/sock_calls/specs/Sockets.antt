@@ -1,6 +1,7 @@
 -- Sockets: control blocks, and a receive queue for each descriptor (volume 2, chapters 15, 16 and 22).
-use Rattle.std.specs.Prelude.{◌≡◌, ℕ, List, [], ◌∷◌, ◌++◌, length, slice_index_or, None}
+use Rattle.std.specs.Prelude.{◌≡◌, ℕ, ◌+◌, List, [], ◌∷◌, ◌++◌, length, slice_index_or, None}
 use Rattle.std.specs.List.{AllByRecursion}
+use Rattle.params.specs.declared.TheConstants.{FIRST_DESCRIPTOR, MAX_SOCKETS}
 use Rattle.flat_model.specs.Machine.State.{State, Unfinished}
 use Rattle.flat_model.specs.Machine.Event.{Event, Reply}
 use Rattle.flat_model.specs.Machine.Step.{Step}
@@ -36,7 +37,7 @@ queued_chains p (b ∷ bs) = chains_of p b ++ queued_chains p bs
 pub record IsSocks (p : PoolView) (v : SocksView) : Type 0 where
   pub each : (fd : ℕ) → IsSockBuf p (queue_at v.queues fd)
   pub owned : IsOwned p (queued_chains p v.queues)
-  pub places : length v.queues ≡ 67
+  pub places : length v.queues ≡ FIRST_DESCRIPTOR + MAX_SOCKETS
   pub apart : AreApart v.pcbs.blocks
   pub closed : (fd : ℕ) → block_at fd v.pcbs ≡ None → queues_of p v.queues fd ≡ []
 

@@ -16,6 +16,7 @@ use chain_ops::{Extent, m_copym};
 use flat_model::{Addr, Counters, Why};
 use ledger::{Waiting, reserve};
 use mbuf_chain::{Chain, Pool};
+use params::MAX_SOCKETS;
 use pcb_table::Pcbs;
 use sockbuf::SockBuf;
 
@@ -23,7 +24,7 @@ use sockbuf::SockBuf;
 fn fits_at(pool: &Pool, queues: &[SockBuf], fd: u32, len: u32) -> bool
     requires each { (k : ℕ) → IsSockBuf pool.now (queue_at (from_three queues.now) k) }
     requires descriptor { IsDescriptor fd }
-    requires places { length queues.now ≡ 64 }
+    requires places { length queues.now ≡ MAX_SOCKETS }
     ensures { result ≡ flat.fits (queues_of pool.now (from_three queues.now) fd) len }
 {
     let _ = pool;
@@ -34,7 +35,7 @@ fn fits_at(pool: &Pool, queues: &[SockBuf], fd: u32, len: u32) -> bool
 fn append_at(pool: &mut Pool, queues: &mut [SockBuf], fd: u32, sender: Addr, chain: Chain)
     requires each { (k : ℕ) → IsSockBuf pool.old (queue_at (from_three queues.old) k) }
     requires descriptor { IsDescriptor fd }
-    requires places { length queues.old ≡ 64 }
+    requires places { length queues.old ≡ MAX_SOCKETS }
     requires owned { IsOwned pool.old (chain ∷ queued_chains pool.old (from_three queues.old)) }
     requires free { held_mbufs pool.old < pool.old.mbufs }
     requires fits { flat.fits (queues_of pool.old (from_three queues.old) fd) (length (string (chain_of pool.old chain))) ≡ true }
@@ -58,7 +59,7 @@ fn append(pool: &mut Pool, queue: &mut SockBuf, sender: Addr, chain: Chain)
 {
     match queue.append_addr(pool, sender, chain) {
         Ok(()) => {}
-        Err((chain, _)) => pool.free_chain(chain),
+        Err(_) => unreachable!(),
     }
 }
 

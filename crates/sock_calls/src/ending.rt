@@ -37,7 +37,7 @@ pub(crate) fn flush_all(pool: &mut Pool, queues: &mut [SockBuf])
     ensures len { length queues.new ≡ length queues.old }
     ensures moves { Moves pool.old (queued_chains pool.old queues.old) pool.new [] }
 {
-    'queues: for fd in 0..queues.len() {
-        flush_at(pool, queues, fd);
+    'queues: for place in 0..queues.len() {
+        flush_at(pool, queues, place);
     }
 }

@@ -15,6 +15,5 @@ mod receive;
 mod send;
 mod sockets;
 
-pub use destination::send_target;
 pub use net::Net;
 pub use sockets::Socks;

@@ -17,6 +17,7 @@ pub struct Net {
     pub mtu: u16,
     /// The identification of the next datagram that is sent.
     pub next_id: u16,
+    /// What was counted since boot.
     pub counters: Counters,
     /// The packets that wait for the link.
     pub out: Queue,

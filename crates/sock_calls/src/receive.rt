@@ -1,5 +1,5 @@
 //! The oldest datagram of a receive queue, copied out.
-ghost use Rattle.std.specs.Prelude.{◌≡◌, ◌<◌, ◌≤◌, ◌∷◌, [], length, take, MatchOption, ℕ};
+ghost use Rattle.std.specs.Prelude.{◌≡◌, ◌<◌, ◌≤◌, ◌∷◌, [], drop, length, take, IfNone, IfSome, MatchOption, ℕ};
 ghost use Rattle.flat_model.specs.Machine.State.{Datagram};
 ghost use Rattle.mbuf_chain.specs.Owners.{IsOwned, Moves};
 ghost use Rattle.sockbuf.specs.SockBuf.{IsSockBuf, chains_of, datagrams};
@@ -18,6 +18,8 @@ fn take_oldest(pool: &mut Pool, queue: &mut SockBuf, room: &mut [u8]) -> Option<
         (λ found. (d : Datagram) × (datagrams pool.old queue.old ≡ d ∷ datagrams pool.new queue.new)
         × (found.0 ≡ d.sender) × (take found.1 room.new ≡ take (length room.old) d.item.bytes)) }
     ensures within { MatchOption result (Unit {0}) (λ found. found.1 ≤ length room.new) }
+    ensures same { IfNone result (room.new ≡ room.old) }
+    ensures rest { IfSome result (λ found. drop found.1 room.new ≡ drop found.1 room.old) }
     ensures ready { IsSockBuf pool.new queue.new }
     ensures moves { Moves pool.old (chains_of pool.old queue.old) pool.new (chains_of pool.new queue.new) }
 {
@@ -32,28 +34,30 @@ fn take_oldest(pool: &mut Pool, queue: &mut SockBuf, room: &mut [u8]) -> Option<
 pub(crate) fn take_at(
     pool: &mut Pool,
     queues: &mut [SockBuf],
-    fd: usize,
+    place: usize,
     room: &mut [u8],
 ) -> Option<(Addr, usize)>
     requires each { (k : ℕ) → IsSockBuf pool.old (queue_at queues.old k) }
     requires owned { IsOwned pool.old (queued_chains pool.old queues.old) }
-    requires place { fd < length queues.old }
-    ensures takes { TakesAt pool.old queues.old fd pool.new queues.new }
-    ensures taken { MatchOption result ((queues_of pool.old queues.old fd ≡ []) × (queues_of pool.new queues.new fd ≡ []))
-        (λ found. (d : Datagram) × (queues_of pool.old queues.old fd ≡ d ∷ queues_of pool.new queues.new fd)
+    requires place { place < length queues.old }
+    ensures takes { TakesAt pool.old queues.old place pool.new queues.new }
+    ensures taken { MatchOption result ((queues_of pool.old queues.old place ≡ []) × (queues_of pool.new queues.new place ≡ []))
+        (λ found. (d : Datagram) × (queues_of pool.old queues.old place ≡ d ∷ queues_of pool.new queues.new place)
         × (found.0 ≡ d.sender) × (take found.1 room.new ≡ take (length room.old) d.item.bytes)) }
     ensures within { MatchOption result (Unit {0}) (λ found. found.1 ≤ length room.new) }
+    ensures same { IfNone result (room.new ≡ room.old) }
+    ensures rest { IfSome result (λ found. drop found.1 room.new ≡ drop found.1 room.old) }
 {
-    take_oldest(pool, &mut queues[fd], room)
+    take_oldest(pool, &mut queues[place], room)
 }
 
 /// Frees all that waits in the queue at a place.
-pub(crate) fn flush_at(pool: &mut Pool, queues: &mut [SockBuf], fd: usize)
+pub(crate) fn flush_at(pool: &mut Pool, queues: &mut [SockBuf], place: usize)
     requires each { (k : ℕ) → IsSockBuf pool.old (queue_at queues.old k) }
     requires owned { IsOwned pool.old (queued_chains pool.old queues.old) }
-    requires place { fd < length queues.old }
-    ensures takes { TakesAt pool.old queues.old fd pool.new queues.new }
-    ensures empty { queues_of pool.new queues.new fd ≡ [] }
+    requires place { place < length queues.old }
+    ensures takes { TakesAt pool.old queues.old place pool.new queues.new }
+    ensures empty { queues_of pool.new queues.new place ≡ [] }
 {
-    queues[fd].flush(pool);
+    queues[place].flush(pool);
 }

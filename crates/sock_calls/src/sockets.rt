@@ -1,5 +1,5 @@
 //! Sockets: control blocks and receive queues.
-ghost use Rattle.std.specs.Prelude.{◌≡◌, ◌<◌, ◌≤◌, ◌+◌, ◌∷◌, ◌++◌, ℕ, [], None, length};
+ghost use Rattle.std.specs.Prelude.{◌≡◌, ◌<◌, ◌≤◌, ◌+◌, ◌∷◌, ◌++◌, ℕ, [], None, drop, length, IfOk, OnErr};
 ghost use Rattle.flat_model.specs.Machine.Event.{Open, Bind, Close, Connect, Receive, Set_option};
 ghost use Rattle.flat_model.specs.Machine.State.{State};
 ghost use Rattle.flat_model.specs.Machine.Step.{Step};
@@ -33,7 +33,7 @@ pub(crate) const QUEUES: usize = MAX_SOCKETS as usize;
 /// A queue for each socket, in which nothing waits.
 fn no_queues() -> [SockBuf; QUEUES]
     ensures empty { (fd : ℕ) → queue_at result fd ≡ no_datagrams }
-    ensures places { length result ≡ 64 }
+    ensures places { length result ≡ MAX_SOCKETS }
 {
     array::from_fn(
         |_| -> SockBuf
@@ -45,8 +45,8 @@ fn no_queues() -> [SockBuf; QUEUES]
 /// The place of a descriptor's queue.
 pub(crate) fn place_of(fd: u32) -> usize
     requires { IsDescriptor fd }
-    ensures value { result + 3 ≡ fd }
-    ensures within { result < 64 }
+    ensures value { result + FIRST_DESCRIPTOR ≡ fd }
+    ensures within { result < MAX_SOCKETS }
 {
     (fd - FIRST_DESCRIPTOR) as usize
 }
@@ -135,7 +135,8 @@ impl Socks {
     }
 
     /// Sends bytes to an address, or without one to the socket's peer, and answers how many they were. Where the machine
-    /// hears the packets too, they're put into `net.looped`, which has to be empty before. The bytes are copied once.
+    /// hears the packets too, they're put into `net.looped`, which has to be empty before. The MTU has to be 68 or more, and
+    /// the machine's two addresses have to differ, with a broadcast address that isn't 127.0.0.1. The bytes are copied once.
     ///
     /// Refused, and then nothing changes, in this order: `BadDescriptor`; `DestinationRequired` without an address and
     /// a peer; `MessageSize` above 9,216 bytes; of an address that was given `IsConnected`, `AddressNotAvailable` for
@@ -162,7 +163,8 @@ impl Socks {
 
     /// Takes the oldest datagram that waits in a socket, copies as many of its bytes as there is room for, and answers
     /// its sender and how many were copied; the others are lost, and all its buffers are freed (`soreceive` of volume
-    /// 2, chapter 16). It never blocks. Refused, and then nothing changes: `BadDescriptor`; `WouldBlock` where none waits.
+    /// 2, chapter 16). The rest of the room stays as it was. It never blocks. Refused, and then nothing changes, the room
+    /// neither: `BadDescriptor`; `WouldBlock` where none waits.
     pub fn recvfrom(
         &mut self,
         pool: &mut Pool,
@@ -172,6 +174,8 @@ impl Socks {
         requires ready { IsSocks pool.old self.old }
         ensures step { (rest : State) → Step (with_sockets pool.old self.old rest) (Receive fd (length room.old)) (received_reply result room.new) (with_sockets pool.new self.new rest) }
         ensures fits { FitsRoom result room.new }
+        ensures same { OnErr result (room.new ≡ room.old) }
+        ensures rest { IfOk result (λ r. drop r.1 room.new ≡ drop r.1 room.old) }
         ensures ready { IsSocks pool.new self.new }
         ensures moves { Moves pool.old (queued_chains pool.old self.old.queues) pool.new (queued_chains pool.new self.new.queues) }
     {

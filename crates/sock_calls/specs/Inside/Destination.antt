@@ -1,6 +1,7 @@
 -- Where a send goes, and what it is refused for before its buffers are looked at (`sosend` and `udp_output` of volume
 -- 2, chapters 16 and 23).
 use Rattle.std.specs.Prelude.{◌≡◌, ℕ, ◌+◌, Bool, nat_lt, ◌&&◌, not, is_none, List, [], ◌∷◌, Option, Some, None, Result, MatchResult}
+use Rattle.params.specs.declared.TheConstants.{IP_UDP_HEADERS, UDP_SEND_SPACE}
 use Rattle.flat_model.specs.Machine.State.{State}
 use Rattle.flat_model.specs.Packets.Header.{first_fault}
 use Rattle.flat_model.specs.Machine.Send.{send_faults, address_faults, target}
@@ -12,11 +13,11 @@ use Rattle.pcb_table.specs.Table.{Table, Queues, block_at, machine, socket_with}
 
 -- what is asked before the address is looked at: that there is one, and that the bytes aren't too many
 abbrev pub early_faults : Option Addr → Option Addr → ℕ → List (Bool × Errno)
-early_faults to peer n = (is_none to && is_none peer, DestinationRequired) ∷ (nat_lt 9216 n, MessageSize) ∷ []
+early_faults to peer n = (is_none to && is_none peer, DestinationRequired) ∷ (nat_lt UDP_SEND_SPACE n, MessageSize) ∷ []
 
 -- what is asked of a send to the broadcast address
 abbrev pub broadcast_faults : Bool → Bool → ℕ → ℕ → List (Bool × Errno)
-broadcast_faults to_all allowed mtu n = (to_all && not allowed, Access) ∷ (to_all && nat_lt mtu (n + 28), MessageSize) ∷ []
+broadcast_faults to_all allowed mtu n = (to_all && not allowed, Access) ∷ (to_all && nat_lt mtu (n + IP_UDP_HEADERS), MessageSize) ∷ []
 
 -- the address of a send is refused for the first of its faults, or else it's the address as it's read, or the peer's
 abbrev pub FindsTarget : Table → ℕ → Option Addr → Result Addr Errno → Type 0

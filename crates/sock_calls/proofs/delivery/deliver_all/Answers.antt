@@ -4,7 +4,8 @@ use Rattle.std.proofs.lemmas.List.Elements.{All-get_or}
 use Rattle.mbuf_chain.proofs.Laws.Owners.{owned_after}
 use Rattle.pcb_table.specs.Table.{IsOpen, block_at}
 use Rattle.sock_calls.specs.Sockets.{from_three}
-use Rattle.sock_calls.specs.Delivery.{seen, IsUnderWay}
+use Rattle.sock_calls.specs.Delivery.{seen}
+use Rattle.sock_calls.specs.Inside.Delivering.{IsUnderWay}
 use Rattle.sock_calls.proofs.Hearing.{starts, offered_one, delivered_all}
 use Rattle.sock_calls.proofs.delivery.deliver_all.Goals as goal
 

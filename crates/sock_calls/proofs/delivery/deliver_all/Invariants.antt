@@ -1,6 +1,7 @@
 use Rattle.std.proofs.Common.{◌≤◌, ◌-◌}
 use Rattle.sock_calls.specs.Sockets.{from_three}
-use Rattle.sock_calls.specs.Delivery.{seen, IsUnderWay}
+use Rattle.sock_calls.specs.Delivery.{seen}
+use Rattle.sock_calls.specs.Inside.Delivering.{IsUnderWay}
 use Rattle.sock_calls.proofs.delivery.deliver_all.Given as goal
 
 abbrev pub invariant-receivers : goal.invariant-receivers

@@ -9,6 +9,6 @@ invariant-queues l = record {
   each : (k : ℕ) → IsSockBuf l.pool (queue_at l.queues k);
   owned : IsOwned l.pool (queued_chains l.pool l.queues);
   len : length l.queues ≡ length l.fn.queues;
-  empty : (k : ℕ) → k < l.fd → queues_of l.pool l.queues k ≡ [];
+  empty : (k : ℕ) → k < l.place → queues_of l.pool l.queues k ≡ [];
   moves : Moves l.fn.pool (queued_chains l.fn.pool l.fn.queues) l.pool (queued_chains l.pool l.queues);
 }

@@ -9,7 +9,7 @@ use Rattle.mbuf_chain.proofs.Laws.Owners.{apart_first, owned_after, same_without
 use Rattle.sockbuf.specs.SockBuf.{SockBufView, IsSockBuf, TakesOldest, datagram_from, datagrams, chains_of}
 use Rattle.sockbuf.proofs.Laws.{chains_same, datagrams_same, ready_same}
 use Rattle.flat_model.specs.declared.address.Addr.{Addr}
-use Rattle.sock_calls.proofs.Copied.{copied}
+use Rattle.sock_calls.proofs.Copied.{copied, rest_kept}
 use Rattle.sock_calls.proofs.receive.take_oldest.Goals as goal
 
 -- what a chain that was taken leaves once it's freed
@@ -46,3 +46,9 @@ returns-clause-ready c = (all_left c).ready
 
 pub returns-clause-moves : goal.returns-clause-moves
 returns-clause-moves c = (all_left c).moves
+
+pub returns-clause-rest : goal.returns-clause-rest
+returns-clause-rest c =
+    rest_kept c.min-len.result _ _ (string (chain_of c.take.new.pool c.in_ok-sender.chain)) c.m_copydata.new.to c.args.room.now c.m_copydata.ensures
+    (omega (arith, length-take c.min-len.result c.args.room.now, c.min-len.ensures))
+    (c.min-len.ensures ∙ ap (λ (j : ℕ). min j (length c.args.room.now)) c.len.ensures)
