@@ -18,12 +18,11 @@ use Rattle.flat_model.proofs.Laws.{count_cons}
 use Rattle.mbuf_chain.specs.Chain.{ChainView, Entry, PoolView, chain_of, entry_of, no_entry, references, string}
 use Rattle.mbuf_chain.specs.Owners.{times, IsOwned, Moves}
 use Rattle.mbuf_chain.proofs.Laws.Owners.{moves_adds, moves_trans, owned_after}
-use Rattle.chain_ops.specs.Stored.{Has, Lacks, stored_first}
+use Rattle.chain_ops.specs.Stored.{stored_first}
 use Rattle.chain_ops.specs.Weights.{laid}
 use Rattle.chain_ops.proofs.Laws.Rooms.{next_some, next_most, rest_rooms, rooms_step}
 use Rattle.ledger.specs.Accounts.{item_at, weight_of, weight_at, IsAccounted}
-use Rattle.ledger.specs.Reserve.{Reserves, are_free}
-use Rattle.ledger.proofs.Laws.{enough_mbufs, enough_clusters}
+use Rattle.ledger.specs.Reserve.{Reserves}
 use Rattle.pcb_table.specs.Table.{machine}
 use Rattle.ip_reass.specs.Arrivals.{CameByWire}
 use Rattle.ip_reass.specs.Table.{TableView, IsReady, held_all, unfinished}
@@ -48,9 +47,6 @@ need_is n = go (filled n 2048 100 n)
     go [] = refl
     go (room ∷ rooms) = let m : length (room ∷ rooms) ≡ max (length (room ∷ rooms)) 1 = omega arith in λ i. record { mbufs = m i; clusters = count_by is_cluster (room ∷ rooms) }
 
-pub wire_some : (n : ℕ) → 0 < length (wire n)
-wire_some n = omega (arith, ap (λ (x : Need). x.mbufs) (need_is n))
-
 pub record IsNext (small left size cluster : ℕ) : Type 0 where
   pub some : 0 < size
   pub most : size ≤ left
@@ -73,18 +69,6 @@ next_is small left size cluster s l is_size is_one =
     at_most : (b : Bool) → cond {A = ℕ} b 1 0 ≤ 1
     at_most true = omega arith
     at_most false = omega arith
-
--- ---- it's put into free buffers
-
-pub no_lack : (p : PoolView) (rooms : List Room) → Has p rooms → Lacks p rooms → ⊥
-no_lack p rooms has (inl lacks) = omega (arith, has.0, lacks)
-no_lack p rooms has (inr lacks) = omega (arith, has.1, lacks)
-
-pub has_room : (p : PoolView) (n : ℕ) (need : Need) → need ≡ need_of (wire n) → are_free p need.mbufs need.clusters ≡ true → Has p (wire n)
-has_room p n need is free =
-    let mbufs : need.mbufs ≡ length (wire n) = ap (λ (x : Need). x.mbufs) is in
-    let clusters : need.clusters ≡ count_by is_cluster (wire n) = ap (λ (x : Need). x.clusters) is in
-    (omega (arith, mbufs, enough_mbufs p need.mbufs need.clusters free (omega (arith, mbufs, wire_some n))), omega (arith, clusters, enough_clusters p need.mbufs need.clusters free))
 
 -- ---- how it came shows in its first mbuf
 

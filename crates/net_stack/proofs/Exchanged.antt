@@ -1,5 +1,5 @@
 -- A packet from the wire, and a send, as steps of the stack.
-use Rattle.std.proofs.Common.{◌≡◌, ◌<◌, ℕ, suc, [], ◌∷◌, get_or, Fits, w8, ◌+◌, ◌/◌, ◌^◌, List, ◌++◌, Option, refl, sym, ap, ◌∙◌, subst, arith}
+use Rattle.std.proofs.Common.{◌≡◌, ◌<◌, ℕ, suc, [], ◌∷◌, get_or, Fits, w8, ◌/◌, ◌^◌, List, ◌++◌, Option, refl, sym, ap, ◌∙◌, subst, arith}
 use Rattle.std.specs.Prelude.{Result}
 use Rattle.std.specs.List.{AllByRecursion as Each}
 use Rattle.std.proofs.lemmas.List.Elements.{All-from_recursion}
@@ -27,7 +27,7 @@ use Rattle.net_stack.specs.Inside.Sending.{HasSent, no_train, out_chains}
 use Rattle.net_stack.specs.Inside.Fields.{seen as seen_in, IsInside}
 use Rattle.net_stack.specs.declared.stack.Stack.TheInside.{Inside}
 use Rattle.net_stack.proofs.Called.{Called}
-use Rattle.net_stack.proofs.Lifted.{Stepped, accounts, stepped, input_step}
+use Rattle.net_stack.proofs.Lifted.{Stepped, accounts, stepped, input_step, split}
 
 -- the bytes behind a reference are bytes
 pub are_bytes : (xs : List ℕ) → ((k : ℕ) → Fits w8 (get_or xs k 0)) → IsBytes xs
@@ -52,13 +52,6 @@ rx_step s packet q w es c is can ready came = input_step s q w es c (Comes packe
 -- what a stack with this net shows
 abbrev pub shown : Config → PoolView → SocksView → TableView → Net → StackView
 shown config p s r n = record { config = config; pool = p; socks = s; reass = r; output = n.out; next_id = n.next_id; counters = n.counters }
-
-split : (s : StackView) (k : ℕ) → times k (chains_of s) ≡ times k (held_all s.pool s.reass.datagrams) + times k (queued_chains s.pool s.socks.queues) + times k (numbers s.pool s.output)
-split s k = omega (
-  arith,
-  times-append k (held_all s.pool s.reass.datagrams ++ queued_chains s.pool s.socks.queues) (numbers s.pool s.output),
-  times-append k (held_all s.pool s.reass.datagrams) (queued_chains s.pool s.socks.queues),
-)
 
 same_chains : (config : Config) (p : PoolView) (s : SocksView) (r : TableView) (n : Net) (k : ℕ) → times k (chains_of (shown config p s r n)) ≡ times k (held_all p r.datagrams ++ out_chains (sending p s n))
 same_chains config p s r n k = omega (

@@ -1,5 +1,5 @@
 -- A packet is taken from the output queue, copied out and freed.
-use Rattle.std.proofs.Common.{◌≡◌, ℕ, ◌≤◌, List, [], ◌∷◌, ◌++◌, length, take, drop, Some, None, refl, sym, ap, ◌∙◌, subst}
+use Rattle.std.proofs.Common.{◌≡◌, ℕ, ◌≤◌, List, ◌∷◌, ◌++◌, length, take, drop, Some, refl, sym, ap, ◌∙◌, subst}
 use Rattle.std.proofs.Math.Seq.{take-append_seam, take-length}
 use Rattle.std.specs.List.{AllByRecursion}
 use Rattle.flat_model.specs.Amounts.Weight.{Item}
@@ -9,7 +9,7 @@ use Rattle.mbuf_chain.specs.Chain.{PoolView, chain_of, string, without}
 use Rattle.mbuf_chain.specs.Owners.{times, Moves}
 use Rattle.mbuf_chain.specs.Frames.{SameAt}
 use Rattle.mbuf_chain.specs.Train.{TrainView, numbers}
-use Rattle.mbuf_chain.proofs.Laws.Owners.{moves_none, same_without, then_without}
+use Rattle.mbuf_chain.proofs.Laws.Owners.{same_without, then_without}
 use Rattle.ledger.specs.Accounts.{item_at}
 use Rattle.ip_out.specs.Packets.{packets}
 use Rattle.ip_out.specs.Queues.{IsQueue}
@@ -40,10 +40,3 @@ packet_given p q r t u c bytes was front apart now m gone e =
       queue = o.queue;
       moves = subst (Moves p (numbers p t) r) (sym o.chains) (then_without r c (numbers q u) m was.held.owned gone);
     }
-
-pub nothing_given : (p : PoolView) (t : TrainView) → IsQueue p t → packets p t ≡ [] → IsGiven p t (Given None) p t
-nothing_given p t is e = record {
-  step = λ rest. subst (λ (items : List Item). Transmits items (record rest { output = items }) (Given None) (record rest { output = items })) (sym e) (refl, refl);
-  queue = is;
-  moves = moves_none p (numbers p t);
-}

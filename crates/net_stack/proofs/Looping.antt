@@ -12,7 +12,7 @@ use Rattle.mbuf_chain.specs.Chain.{Entry, PoolView, chain_of, entry_of, no_entry
 use Rattle.mbuf_chain.specs.Owners.{times, IsOwned, Moves}
 use Rattle.mbuf_chain.specs.Frames.{SameAt}
 use Rattle.mbuf_chain.specs.Train.{TrainView, QueuedPacket, no_queued_packet, queued_packets, queued_packet_at, numbers, IsHeld}
-use Rattle.mbuf_chain.proofs.Laws.Owners.{times-append, live_at_most, moves_beside, moves_none, moves_trans, owned_after, same_beside}
+use Rattle.mbuf_chain.proofs.Laws.Owners.{times-append, live_at_most, moves_beside, moves_trans, owned_after, same_beside}
 use Rattle.mbuf_chain.proofs.Laws.Trains.{length-queued_packets, numbers_same, queued_packets_same, held_same, none_left}
 use Rattle.ledger.specs.Accounts.{item_of, item_at, weight_at, weight_owned, IsAccounted}
 use Rattle.ledger.proofs.Laws.{accounted_as}
@@ -146,17 +146,7 @@ one_more {v} {t} {u} {u1} {q} {q1} {q2} {s} {s2} {ds} {ds2} {a} {b} {c} tag w he
       owned = owned_after (moves_trans x.moves l.moves) owned;
     }
 
--- ---- the ends of the loop
-
-pub begun : (v : NetView) (t : TrainView) → IsSocks v.pool v.socks → AreArriving v t v t
-begun v t ready = record {
-  goes = λ rest new keys acc all. all;
-  keys = λ rest keys acc. keys;
-  accounts = λ rest acc. acc;
-  ready = ready;
-  pcbs = refl;
-  moves = moves_none v.pool (numbers v.pool t ++ chains_at v);
-}
+-- ---- the end of the loop
 
 pub all_arrived : (v : NetView) (t : TrainView) (w : NetView) (u : TrainView) → AreArriving v t w u → u.len ≡ 0 → HaveArrived v t w
 all_arrived v t w u way none = record {

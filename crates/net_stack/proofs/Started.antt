@@ -1,7 +1,7 @@
 -- How a stack starts, and what it leaves.
 use Rattle.std.proofs.lemmas.List.{length-replicate}
 use Rattle.mbuf_pool.specs.Store.{StoreView, free_store, free_cluster}
-use Rattle.std.proofs.Common.{◌≡◌, ℕ, ◌≤◌, List, [], ◌++◌, length, map, None, sym, ap, ◌∙◌, subst, arith}
+use Rattle.std.proofs.Common.{◌≡◌, ℕ, ◌≤◌, List, [], ◌++◌, length, None, sym, ap, ◌∙◌, subst, arith}
 use Rattle.std.specs.FinMap as finmap
 use Rattle.std.specs.FinMap.{get-empty}
 use Rattle.std.specs.Ordering.{nat_cmp}
@@ -13,15 +13,14 @@ use Rattle.flat_model.proofs.Laws.{boot_is_consistent}
 use Rattle.mbuf_chain.specs.Chain.{PoolView}
 use Rattle.mbuf_chain.specs.Frames.{SameAt}
 use Rattle.mbuf_chain.specs.Owners.{times, live_at, IsAll, Moves}
-use Rattle.mbuf_chain.specs.Train.{TrainView, QueuedPacket, queued_packet_of, follow, numbers}
+use Rattle.mbuf_chain.specs.Train.{numbers}
 use Rattle.mbuf_chain.proofs.Laws.Owners.{times-append, live_at_most, live_none, live_one, moves_beside, moves_trans, moves_nothing, same_beside, same_part}
-use Rattle.ledger.specs.Accounts.{item_of}
 use Rattle.pcb_table.specs.Table.{sockets_with}
-use Rattle.ip_out.specs.Packets.{packets}
 use Rattle.ip_out.specs.Queues.{IsQueue}
 use Rattle.ip_reass.specs.Table.{IsTable, held_all, unfinished}
 use Rattle.ip_reass.specs.declared.datagram.Datagram.{Datagram}
 use Rattle.sock_calls.specs.Sockets.{IsSocks, queues_of, queued_chains}
+use Rattle.ip_out.proofs.Laws.{none_wait}
 use Rattle.net_stack.specs.Boots.{free_pool}
 use Rattle.net_stack.specs.Stack.{IsStack, state_of, chains_of}
 use Rattle.net_stack.specs.Inside.Fields.{seen, IsInside}
@@ -32,9 +31,6 @@ free_live : (config : Config) (k : ℕ) → live_at (free_pool config) k ≡ 0
 free_live config k = live_none (free_pool config) k (get-empty nat_cmp k)
 
 -- ---- the start
-
-no_packets : (p : PoolView) (t : TrainView) → t.len ≡ 0 → packets p t ≡ []
-no_packets p t e = ap (λ (n : ℕ). map (λ (queued_packet : QueuedPacket). item_of queued_packet.entries) (map (queued_packet_of p) (follow p n t.first))) e
 
 -- the pool over a store of that size
 pub pool_of_store : (config : Config) (store : StoreView) (p : PoolView) → store ≡ free_store (record { mbufs = config.mbufs; clusters = config.clusters })
@@ -64,7 +60,7 @@ started_state config s h = λ i. record {
   config = record (h.same i) { addr = (h.blocks i).addr; bcast = (h.blocks i).bcast };
   sockets = sockets_with (queues_of s.pool s.socks.queues) (h.blocks i);
   unfinished = unfinished s.pool (h.none i);
-  output = no_packets s.pool s.net.out h.waits i;
+  output = none_wait s.pool s.net.out h.waits i;
   last_port = (h.blocks i).last_port;
   next_id = h.next_id i;
   counters = h.counters i;

@@ -16,7 +16,7 @@ use flat_model::{Counter, Counters, Why};
 use ip_out::{IpHead, read_head};
 use ip_reass::{Arrival, Reass};
 use mbuf_chain::{Chain, Pool, Train};
-use params::{IP_HEADER, LIMITED_BROADCAST, LOOPBACK};
+use params::{IP_HEADER, IP_MAX_PACKET, LIMITED_BROADCAST, LOOPBACK};
 use sock_calls::Socks;
 
 /// Whether the address is one that this machine hears: one of its three, or 255.255.255.255.
@@ -48,7 +48,7 @@ fn take_fragment(
     requires headed { (chain_of pool.old chain).front.header ≡ true }
     requires total { length (string (chain_of pool.old chain)) ≡ head.total }
     requires header { IP_HEADER ≤ head.total }
-    requires offset { head.offset ≤ 65528 }
+    requires offset { head.offset ≤ IP_MAX_PACKET }
     ensures taken { IsTaken
         (seen pool.old socks.old (unfinished pool.old reass.old.datagrams) (held_all pool.old reass.old.datagrams) counters.old) chain head
         (seen pool.new socks.new (unfinished pool.new reass.new.datagrams) (held_all pool.new reass.new.datagrams) counters.new) }

@@ -1,5 +1,5 @@
 //! The calls that change one part of the stack alone.
-ghost use Rattle.std.specs.Prelude.{◌≡◌, ◌≤◌, [], length, IfSome};
+ghost use Rattle.std.specs.Prelude.{◌≡◌, ◌≤◌, [], drop, length, IfNone, IfOk, IfSome, OnErr};
 ghost use Rattle.flat_model.specs.Machine.Event.{Open, Bind, Connect, Receive, Close, Set_option, Transmit, Tick, Ask_counters, Ask_usage, Done, Counted, Shown};
 ghost use Rattle.flat_model.specs.Machine.Replies.{opened_reply, done_reply, received_reply, given_reply, FitsRoom};
 ghost use Rattle.flat_model.specs.Machine.Step.{Step};
@@ -47,11 +47,14 @@ impl Stack {
 
     /// Takes the oldest datagram that waits in a socket, copies as many of its bytes as there is room for, and answers
     /// its sender and how many were copied; the others are lost, and all its buffers are freed (`soreceive` of volume
-    /// 2, chapter 16). It never blocks. Refused, and then nothing changes: `BadDescriptor`; `WouldBlock` where none waits.
+    /// 2, chapter 16). The rest of the room stays as it was. It never blocks. Refused, and then nothing changes, the room
+    /// neither: `BadDescriptor`; `WouldBlock` where none waits.
     pub fn recvfrom(&mut self, fd: u32, room: &mut [u8]) -> Result<(Addr, usize), Errno>
         ensures step { Step (state_of self.old) (Receive fd (length room.old)) (received_reply result room.new)
             (state_of self.new) }
         ensures fits { FitsRoom result room.new }
+        ensures same { OnErr result (room.new ≡ room.old) }
+        ensures rest { IfOk result (λ r. drop r.1 room.new ≡ drop r.1 room.old) }
     {
         self.socks.recvfrom(&mut self.pool, fd, room)
     }
@@ -65,11 +68,14 @@ impl Stack {
     }
 
     /// Gives the link the packet that has waited longest: its bytes stand in front of the room, and the answer is how many
-    /// they are, or `None` where none waits. Its buffers are freed. The room has at least 4,352 bytes, the greatest MTU.
+    /// they are, or `None` where none waits. Its buffers are freed. What stands after them in the room stays as it was, and
+    /// all of it where none waits. The room has at least 4,352 bytes, the greatest MTU.
     pub fn tx(&mut self, room: &mut [u8]) -> Option<usize>
         requires { MAX_MTU ≤ length room.old }
         ensures step { Step (state_of self.old) Transmit (given_reply result room.new) (state_of self.new) }
         ensures fits { IfSome result (λ n. n ≤ length room.new) }
+        ensures same { IfNone result (room.new ≡ room.old) }
+        ensures rest { IfSome result (λ n. drop n room.new ≡ drop n room.old) }
     {
         take_packet(&mut self.pool, &mut self.net.out, room)
     }

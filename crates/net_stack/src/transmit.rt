@@ -1,5 +1,5 @@
 //! The packet that has waited longest, copied out.
-ghost use Rattle.std.specs.Prelude.{◌≡◌, ◌≤◌, length, IfSome};
+ghost use Rattle.std.specs.Prelude.{◌≡◌, ◌≤◌, drop, length, IfNone, IfSome};
 ghost use Rattle.flat_model.specs.Machine.Replies.{given_reply};
 ghost use Rattle.ip_out.specs.Queues.{IsQueue};
 ghost use Rattle.net_stack.specs.Inside.Transmit.{AreWithin, IsGiven};
@@ -9,12 +9,14 @@ use ip_out::Queue;
 use mbuf_chain::Pool;
 
 /// Takes the packet that has waited longest, puts its bytes in front of the room, and frees its buffers. It answers how
-/// many bytes they are, or `None` where none waits. The room has a place for each byte of any packet that waits.
+/// many bytes they are, or `None` where none waits. The rest of the room stays as it was. The room has a place for each byte of any packet that waits.
 pub(crate) fn take_packet(pool: &mut Pool, out: &mut Queue, room: &mut [u8]) -> Option<usize>
     requires queue { IsQueue pool.old out.old }
     requires within { AreWithin pool.old out.old (length room.old) }
     ensures given { IsGiven pool.old out.old (given_reply result room.new) pool.new out.new }
     ensures fits { IfSome result (λ n. n ≤ length room.new) }
+    ensures same { IfNone result (room.new ≡ room.old) }
+    ensures rest { IfSome result (λ n. drop n room.new ≡ drop n room.old) }
 {
     let packet = out.pop(pool)?;
     let len = pool.len(&packet) as usize;

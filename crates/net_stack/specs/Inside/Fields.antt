@@ -1,4 +1,4 @@
--- How the fields of a stack mean what it shows, and when they do.
+-- How the fields of a stack mean what it shows, and when they do (this project's own).
 use Rattle.std.specs.Prelude.{◌≡◌, None}
 use Rattle.net_stack.specs.Stack.{StackView, IsStack}
 use Rattle.net_stack.specs.declared.stack.Stack.TheInside.{Inside}
