@@ -82,7 +82,7 @@ pub const UDP_SEND_SPACE: u32 = 9_216;
 pub const UDP_RECEIVE_SPACE: u32 = 40 * (1024 + SOCKADDR_BYTES);
 /// Bytes of memory that may stand after a receive queue, `sb_mbmax`: twice its bytes (volume 2, chapter 16).
 pub const UDP_RECEIVE_MEMORY: u32 = 2 * UDP_RECEIVE_SPACE;
-/// Bytes of a sender's address in a receive queue, a `sockaddr_in` (volume 2, chapter 3).
+/// Bytes of a sender's address in a receive queue, a `sockaddr_in` (volume 2, chapter 6).
 pub const SOCKADDR_BYTES: u32 = 16;
 
 // What the book's text and the RFCs give for those that are computed.
