@@ -20,6 +20,7 @@ use Rattle.chain_ops.specs.Copies.{copied_all}
 use Rattle.chain_ops.specs.Weights.{laid, HaveBytes}
 use Rattle.chain_ops.proofs.Laws.Makes.{makes_kept, makes_held, apart_made}
 use Rattle.chain_ops.proofs.Laws.Strings.{copied_all_bytes}
+use Rattle.chain_ops.proofs.Laws.Weights.{copied_all-laid}
 use Rattle.ledger.specs.Accounts.{item_of}
 use Rattle.ip_out.specs.declared.head.IpHead.{IpHead}
 use Rattle.ip_out.specs.Packets.{IsDatagram, packets, packets_of, parts_of, part_bytes, later_need}
@@ -28,10 +29,6 @@ use Rattle.ip_out.proofs.Sends.{aside_gone}
 -- ---- the copy
 whole : (xs : List ℕ) → take (length xs) (drop 0 xs) ≡ xs
 whole xs = take_all (length xs) xs (omega arith)
-
-laid_copied : (room : ℕ) (es : List Entry) → laid (copied_all room es) ≡ laid es
-laid_copied room [] = refl
-laid_copied room (e ∷ es) = λ i. record { size = length (whole e.bytes i); cluster = e.cluster } ∷ laid_copied 20 es i
 
 have_bytes : (room : ℕ) (es : List Entry) → HaveBytes es → HaveBytes (copied_all room es)
 have_bytes room [] h = h
@@ -62,7 +59,7 @@ pub copied : {p q : PoolView} (c d room : ℕ) (header : Bool) (h : IpHead) (mtu
 copied {p} {q} c d room header h mtu m headed live dg =
     let es : List Entry = (chain_of p c).entries in
     let w : ChainView = chain_of q d in
-    let laid_is : laid w.entries ≡ laid es = ap laid m.entries ∙ laid_copied room es in
+    let laid_is : laid w.entries ≡ laid es = ap laid m.entries ∙ copied_all-laid room es in
     let bytes : string w ≡ flat_bytes es = ap flat_bytes m.entries ∙ copied_all_bytes room es in
     let first = first_copied room es in
     record {

@@ -80,15 +80,6 @@ puts p r s t u t' u'' w c m few is held len moves =
       room = omega (arith, len, few);
     }
 
--- a packet at the end of a train
-pub pushed : (r s : PoolView) (t w : TrainView) (c : ℕ) → IsHeld r t → queued_packets s w ≡ insert (queued_packets r t) t.len (record { number = c; entries = (chain_of r c).entries; tag = 0 })
-    → packets s w ≡ packets r t ++ item_of (chain_of r c).entries ∷ []
-pushed r s t w c held is =
-    let f : QueuedPacket → Item = λ queued_packet. item_of queued_packet.entries in
-    let x : QueuedPacket = record { number = c; entries = (chain_of r c).entries; tag = 0 } in
-    let queued_packets_are : queued_packets s w ≡ queued_packets r t ++ x ∷ [] = is ∙ ap (λ (k : ℕ). insert (queued_packets r t) k x) (sym (length-queued_packets r t held)) ∙ insert_end (queued_packets r t) x in
-    ap (map f) queued_packets_are ∙ map-append f (queued_packets r t) (x ∷ [])
-
 pub none_wait : (p : PoolView) (t : TrainView) → t.len ≡ 0 → packets p t ≡ []
 none_wait p t e = ap (λ (xs : List ℕ). map (λ (queued_packet : QueuedPacket). item_of queued_packet.entries) (map (queued_packet_of p) xs)) (none_left p t e)
 

@@ -1,6 +1,7 @@
 -- IP headers with all their fields (RFC 791, section 3.1). Those of the flat machine have type of service 0, time to
 -- live 64 and "don't fragment" clear.
 use Rattle.std.specs.Prelude.{ℕ, ◌+◌, ◌*◌, ◌/◌, ◌%◌, nat_lt, if◌then◌else◌, List, [], ◌∷◌, ◌++◌, length, take, drop, slice_index}
+use Rattle.params.specs.declared.TheConstants.{FRAGMENT_UNIT}
 use Rattle.flat_model.specs.Packets.Checksum.{checksum}
 use Rattle.flat_model.specs.Packets.Header.{flag, two_bytes, address_bytes, u16_at, u32_at}
 use Rattle.ip_out.specs.declared.head.IpHead.{IpHead}
@@ -11,7 +12,7 @@ written bytes at new = take at bytes ++ (new ++ drop (at + length new) bytes)
 
 -- the field of flags and offset
 abbrev pub flags_of : IpHead → ℕ
-flags_of h = if h.dont then 16384 + (flag h.more 8192 + h.offset / 8) else flag h.more 8192 + h.offset / 8
+flags_of h = if h.dont then 16384 + (flag h.more 8192 + h.offset / FRAGMENT_UNIT) else flag h.more 8192 + h.offset / FRAGMENT_UNIT
 
 -- the ten bytes in front of the checksum: version 4, 5 words of header, and what the header says
 abbrev pub front_of : IpHead → List ℕ
@@ -37,7 +38,7 @@ head_in bytes = record {
   id = u16_at 4 bytes;
   dont = nat_lt 0 (u16_at 6 bytes / 16384 % 2);
   more = nat_lt 0 (u16_at 6 bytes / 8192 % 2);
-  offset = u16_at 6 bytes % 8192 * 8;
+  offset = u16_at 6 bytes % 8192 * FRAGMENT_UNIT;
   ttl = slice_index bytes 8;
   proto = slice_index bytes 9;
   src = u32_at 12 bytes;

@@ -1,7 +1,7 @@
 -- How packets are counted and made, one after another (this project's own). No caller reads it.
 use Rattle.std.specs.Prelude.{◌≡◌, ℕ, ◌+◌, ◌-◌, ◌*◌, ◌/◌, ◌%◌, ◌<◌, ◌≤◌, min, max, nat_lt, if◌then◌else◌, List, [], ◌∷◌, ◌++◌, length, map, drop, sum_by, None}
 use Rattle.std.specs.List.{range_with_len}
-use Rattle.params.specs.declared.TheConstants.{IP_HEADER, FRAGMENT_UNIT}
+use Rattle.params.specs.declared.TheConstants.{FRAGMENT_UNIT, IP_HEADER, IP_UDP_HEADERS, OUTPUT_QUEUE_PACKETS, PACKET_START, UDP_HEADER}
 use Rattle.flat_model.specs.Amounts.Weight.{Item}
 use Rattle.flat_model.specs.Fragments.Cuts.{Part, cuts, part}
 use Rattle.flat_model.specs.Machine.Sending.{later_weight}
@@ -17,22 +17,22 @@ use Rattle.ip_out.specs.Packets.{packets, part_bytes, BeginPlain}
 
 -- 1 where the bytes from `at` up to `end` share one with a part
 abbrev pub here : ℕ → ℕ → Part → ℕ
-here at end p = if nat_lt (max at (20 + p.offset)) (min end (20 + p.offset + p.size)) then 1 else 0
+here at end p = if nat_lt (max at (IP_HEADER + p.offset)) (min end (IP_HEADER + p.offset + p.size)) then 1 else 0
 
 -- the parts of a send of n bytes after the first
 abbrev pub later_parts : ℕ → ℕ → List Part
-later_parts n mtu = drop 1 (cuts (n + 8) mtu)
+later_parts n mtu = drop 1 (cuts (n + UDP_HEADER) mtu)
 
 -- m is the number of the later parts, and a stretch of the datagram meets so many of them: c is their length
 pub record Counts (n mtu c m : ℕ) : Type 0 where
   pub parts : m ≡ length (later_parts n mtu)
-  pub counts : (at end : ℕ) → at < end → end ≤ 28 + n → sum_by (here at end) (later_parts n mtu) ≡ (end - 21) / c - ((at - 20) / c - 1)
+  pub counts : (at end : ℕ) → at < end → end ≤ IP_UDP_HEADERS + n → sum_by (here at end) (later_parts n mtu) ≡ (end - (IP_HEADER + 1)) / c - ((at - IP_HEADER) / c - 1)
 
 -- ---- packets
 
 -- an mbuf with a header at the front of its room
 abbrev pub head_entry : IpHead → Entry
-head_entry h = record { bytes = head_bytes h; start = 28; cluster = None }
+head_entry h = record { bytes = head_bytes h; start = PACKET_START; cluster = None }
 
 -- the packet of a later part
 abbrev pub later_item : ChainView → IpHead → Part → Item
@@ -67,4 +67,4 @@ pub record IsMoving (p : PoolView) (t u : TrainView) (q : PoolView) (t' u' : Tra
   pub owned : IsOwned q (numbers q t' ++ numbers q u')
   pub moves : Moves p (numbers p t ++ numbers p u) q (numbers q t' ++ numbers q u')
   pub items : packets q t' ++ packets q u' ≡ packets p t ++ packets p u
-  pub room : t'.len ≤ 50
+  pub room : t'.len ≤ OUTPUT_QUEUE_PACKETS

@@ -16,13 +16,10 @@ use chain_ops::theorems::copy_weight;
 use chain_ops::{Cursor, advance, copy_at, cursor_at, trim_back};
 use mbuf_chain::{Chain, Pool, Train};
 use mbuf_pool::NoBufs;
-use params::{FRAGMENT_UNIT, IP_HEADER, IP_MAX_DATA, MBUF_HEADER, MIN_MTU, PACKET_HEADER};
+use params::{FRAGMENT_UNIT, IP_HEADER, IP_MAX_DATA, MIN_MTU, PACKET_START};
 
 /// More bytes than any packet carries: what one carries that isn't cut.
 const UNCUT: u32 = 65_536;
-
-/// Where the data of a new mbuf with packet header begins: at the front of its room.
-const FRONT: u32 = MBUF_HEADER + PACKET_HEADER;
 
 /// How many bytes each packet but the last carries of `n` bytes, and how many packets there are.
 fn cut_of(n: u32, mtu: u32) -> (u32, u32)
@@ -62,7 +59,7 @@ fn header_mbuf(pool: &mut Pool, head: IpHead) -> Result<Chain, NoBufs>
     ensures err { OnErr result (held_mbufs pool.old ≡ pool.old.mbufs) }
     ensures same { OnErr result (pool.new ≡ pool.old) }
 {
-    let front = pool.new_plain(true, FRONT)?;
+    let front = pool.new_plain(true, PACKET_START)?;
     let at = pool.first(&front);
     let mut bytes = [0; IP_HEADER as usize];
     write_head(&mut bytes, head);

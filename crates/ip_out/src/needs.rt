@@ -18,10 +18,10 @@ const UNCUT: u32 = 131_072;
 /// How many fragments after the first, which begin at 20 + `chunk`, 20 + 2 `chunk` and so on, share a byte with
 /// the bytes of the packet from `at` up to `end`.
 fn later_met(chunk: u32, at: u32, end: u32) -> u32
-    requires chunk { 48 ≤ chunk }
+    requires chunk { MIN_MTU - IP_HEADER ≤ chunk }
     requires end { end ≤ UNCUT }
-    ensures value { result ≡ (end - 21) / chunk - ((at - 20) / chunk - 1) }
-    ensures most { result ≤ 2731 }
+    ensures value { result ≡ (end - (IP_HEADER + 1)) / chunk - ((at - IP_HEADER) / chunk - 1) }
+    ensures most { result ≤ UNCUT / (MIN_MTU - IP_HEADER) }
 {
     let last = end.saturating_sub(IP_HEADER + 1) / chunk;
     let before = (at.saturating_sub(IP_HEADER) / chunk).saturating_sub(1);
@@ -34,7 +34,7 @@ fn cut_of(n: u32, mtu: u32) -> (u32, u32)
     requires short { n ≤ UDP_MAX_DATA }
     requires least { MIN_MTU ≤ mtu }
     ensures counts { Counts n mtu result.0 result.1 }
-    ensures chunk { 48 ≤ result.0 }
+    ensures chunk { MIN_MTU - IP_HEADER ≤ result.0 }
     ensures most { result.1 ≤ 65536 }
 {
     if n + IP_UDP_HEADERS <= mtu {

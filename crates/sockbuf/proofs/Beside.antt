@@ -1,4 +1,4 @@
--- A queue under steps of others, and what its chains weigh.
+-- A queue under steps of others.
 use Rattle.std.proofs.Common.{◌≡◌, Err, ℕ, suc, ◌+◌, List, [], ◌∷◌, length, map, refl, sym, ap, ◌∙◌, subst, arith}
 use Rattle.std.specs.List.{AllByRecursion as Each}
 use Rattle.flat_model.specs.Amounts.Weight.{all_of, ◌⊕◌}
@@ -35,24 +35,6 @@ ready_same p q b s h = record {
   cc = h.cc ∙ ap bytes_queued (sym (datagrams_same p q b s));
   mbcnt = h.mbcnt ∙ ap memory_queued (sym (datagrams_same p q b s));
 }
-
--- ---- its chains weigh what its datagrams do
-weight_is : (es : List Entry) → Shape es → weight_of es ≡ (datagram_of es).item.weight
-weight_is es s =
-    ap weight_of s.is
-    ∙ ap (λ (e : Entry). weight_of (e ∷ s.rest)) s.address
-    ∙ (λ i. record { mbufs = one i; bag = (weight_of s.rest).bag })
-    ∙ ap (λ (l : List Entry). (datagram_of l).item.weight) (sym s.is)
-  where
-    one : suc (length s.rest) ≡ 1 + length s.rest
-    one = omega arith
-
-pub weight_of_chains : (p : PoolView) (b : SockBufView) → IsSockBuf p b → weight_owned p (chains_of p b) ≡ all_of (λ (d : Datagram). d.item.weight) (datagrams p b)
-weight_of_chains p b h = go (chains_of p b) h.each
-  where
-    go : (xs : List ℕ) → Each (λ (queued_packet : QueuedPacket). IsDatagram queued_packet.entries) (map (queued_packet_of p) xs) → weight_owned p xs ≡ all_of (λ (d : Datagram). d.item.weight) (datagrams_of (map (queued_packet_of p) xs))
-    go [] each = refl
-    go (x ∷ xs) each = (λ i. weight_is (chain_of p x).entries (shape (chain_of p x).entries each.0) i ⊕ go xs each.1 i)
 
 -- ---- a chain that is made, and one that is freed
 pub apart_made : {p q : PoolView} {c : ℕ} (xs : List ℕ) → Moves p [] q (c ∷ []) → IsOwned p xs → times c xs ≡ 0

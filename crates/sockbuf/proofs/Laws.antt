@@ -4,7 +4,5 @@
 pub use Rattle.sockbuf.proofs.Beside.{new_ready}
 -- A step of somebody else leaves a queue as it was.
 pub use Rattle.sockbuf.proofs.Beside.{chains_same, datagrams_same, ready_same}
--- Its chains weigh what its datagrams do.
-pub use Rattle.sockbuf.proofs.Beside.{weight_of_chains}
 -- What a refusal leaves, whichever it is.
 pub use Rattle.sockbuf.proofs.Beside.{refused}

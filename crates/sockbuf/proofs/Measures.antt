@@ -34,6 +34,3 @@ pub chain_few : (p : PoolView) (c : ℕ) → IsLive p c → IsBounded p → leng
 chain_few p c live b =
     let owned : IsOwned p (c ∷ []) = owned_more p c [] (λ k. omega arith) live refl in
     omega (arith, owned_held p (c ∷ []) owned, sum_by-cons (λ k. mbufs_of (chain_of p k)) c [], b.few, b.small)
-
-pub first_entry : (v : ChainView) (i : ℕ) (front : Entry) (rest : List Entry) → v.entries ≡ front ∷ rest → i ≡ 0 → entry_of v i ≡ front
-first_entry v i front rest e z = λ j. slice_index_or (e j) (z j) no_entry

@@ -49,9 +49,6 @@ pub shape : (es : List Entry) → IsDatagram es → Shape es
 shape [] h = absurd h
 shape (e ∷ es) h = record { front = e; rest = es; is = refl; address = h.0; some = h.1 }
 
-pub several : (es : List Entry) → Shape es → 1 < length es
-several es s = omega (arith, ap length s.is, s.some)
-
 -- ---- sums
 cc_of : (es : List Entry) → Shape es → (ds : List Datagram) → bytes_queued (datagram_of es ∷ ds) ≡ length (flat_bytes es) + bytes_queued ds
 cc_of es s ds =

@@ -2,6 +2,7 @@
 -- volume 2, chapter 16).
 use Rattle.std.specs.Prelude.{◌≡◌, ℕ, ◌+◌, ◌*◌, ◌<◌, true, false, List, [], ◌∷◌, ◌++◌, length, map, None, Result, Ok, Err}
 use Rattle.std.specs.List.{AllByRecursion as Each}
+use Rattle.params.specs.declared.TheConstants.{MCLBYTES, MSIZE, PACKET_START, SOCKADDR_BYTES}
 use Rattle.flat_model.specs.Amounts.Weight.{Weight, nothing, mbuf, ◌⊕◌}
 use Rattle.flat_model.specs.Packets.Header.{u16_at, u32_at, two_bytes, four_bytes}
 use Rattle.flat_model.specs.Machine.State.{Datagram}
@@ -29,7 +30,7 @@ no_datagrams = record { train = record { first = None; last = None; len = 0 }; c
 -- Sixteen bytes (`sockaddr_in` of volume 2, chapter 6): how many there are, 2 for the Internet's family, the port, the
 -- address, and eight zeros.
 abbrev pub sockaddr_bytes : Addr → List ℕ
-sockaddr_bytes a = 16 ∷ 2 ∷ two_bytes a.port ++ four_bytes a.ip ++ 0 ∷ 0 ∷ 0 ∷ 0 ∷ 0 ∷ 0 ∷ 0 ∷ 0 ∷ []
+sockaddr_bytes a = SOCKADDR_BYTES ∷ 2 ∷ two_bytes a.port ++ four_bytes a.ip ++ 0 ∷ 0 ∷ 0 ∷ 0 ∷ 0 ∷ 0 ∷ 0 ∷ 0 ∷ []
 
 -- what sixteen such bytes say
 abbrev pub sockaddr_in : List ℕ → Addr
@@ -37,7 +38,7 @@ sockaddr_in bytes = record { ip = u32_at 4 bytes; port = u16_at 2 bytes }
 
 -- the mbuf in front of a datagram
 abbrev pub address_entry : Addr → Entry
-address_entry a = record { bytes = sockaddr_bytes a; start = 28; cluster = None }
+address_entry a = record { bytes = sockaddr_bytes a; start = PACKET_START; cluster = None }
 
 -- ---- the datagrams of a queue
 
@@ -64,7 +65,7 @@ chains_of p b = numbers p b.train
 
 -- what its datagrams weigh, as `memory_queued` counts it: 128 bytes for each mbuf, 2048 for each reference to a cluster
 abbrev pub memory_of : Weight → ℕ
-memory_of w = 128 * w.mbufs + 2048 * length w.bag
+memory_of w = MSIZE * w.mbufs + MCLBYTES * length w.bag
 
 -- the queue and the pool fit together
 pub record IsSockBuf (p : PoolView) (b : SockBufView) : Type 0 where

@@ -8,28 +8,28 @@ ghost use Rattle.sockbuf.specs.SockBuf.{sockaddr_bytes, sockaddr_in, address_ent
 use byteorder::{BigEndian, ByteOrder};
 use flat_model::Addr;
 use mbuf_chain::{Chain, Pool};
-use params::{MBUF_HEADER, PACKET_HEADER};
+use params::{PACKET_START, SOCKADDR_BYTES};
 
-/// Where an mbuf with packet header begins, if nothing is to be put in front.
-const START: u32 = MBUF_HEADER + PACKET_HEADER;
+/// The bytes of an address begin with how many they are.
+const LENGTH: u8 = SOCKADDR_BYTES as u8;
 
 /// The family of the Internet's addresses, `AF_INET`.
 const FAMILY: u8 = 2;
 
 /// The bytes of a sender's address.
-fn sockaddr_bytes(sender: Addr) -> [u8; 16]
+fn sockaddr_bytes(sender: Addr) -> [u8; SOCKADDR_BYTES as usize]
     ensures { result ≡ sockaddr_bytes sender }
 {
     let port = sender.port.to_be_bytes();
     let ip = sender.ip.to_be_bytes();
     [
-        16, FAMILY, port[0], port[1], ip[0], ip[1], ip[2], ip[3], 0, 0, 0, 0, 0, 0, 0, 0,
+        LENGTH, FAMILY, port[0], port[1], ip[0], ip[1], ip[2], ip[3], 0, 0, 0, 0, 0, 0, 0, 0,
     ]
 }
 
 /// The address that such bytes say.
 pub(crate) fn sockaddr_in(bytes: &[u8]) -> Addr
-    requires { length bytes.now ≡ 16 }
+    requires { length bytes.now ≡ SOCKADDR_BYTES }
     ensures { result ≡ sockaddr_in bytes.now }
 {
     Addr {
@@ -57,7 +57,7 @@ pub(crate) fn with_address(
     ensures same { OnErr result (pool.new ≡ pool.old) }
     ensures back { IfErr result (λ back. back ≡ chain) }
 {
-    let front = match pool.new_plain(true, START) {
+    let front = match pool.new_plain(true, PACKET_START) {
         Ok(front) => front,
         Err(_) => return Err(chain),
     };

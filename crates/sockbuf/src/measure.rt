@@ -1,18 +1,18 @@
 //! What a chain weighs.
 
-ghost use Rattle.std.specs.Prelude.{◌≡◌, ◌+◌, ◌≤◌, length};
+ghost use Rattle.std.specs.Prelude.{◌≡◌, ◌+◌, ◌*◌, ◌≤◌, length};
 ghost use Rattle.mbuf_chain.specs.Chain.{IsLive, chain_of};
 ghost use Rattle.ledger.specs.Accounts.{weight_at};
 ghost use Rattle.sockbuf.specs.SockBuf.{memory_of};
 
 use mbuf_chain::{Chain, Pool};
-use params::{MCLBYTES, MSIZE};
+use params::{MAX_MBUFS, MCLBYTES, MSIZE};
 
 /// The memory that a chain takes, in bytes: 128 for each mbuf, and 2048 for each reference to a cluster.
 pub(crate) fn memory_of(pool: &Pool, chain: &Chain) -> u32
     requires { IsLive pool.now chain.now }
     ensures value { result ≡ memory_of (weight_at pool.now chain.now) }
-    ensures bound { result ≤ 142606160 }
+    ensures bound { result ≤ (MSIZE + MCLBYTES) * MAX_MBUFS }
 {
     let mbufs = pool.mbufs(chain);
     pool.laws();

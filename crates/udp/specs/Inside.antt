@@ -1,4 +1,4 @@
--- What the crate's own functions say of a header and of the blocks.
+-- What the crate's own functions say of a header and of the blocks (this project's own).
 use Rattle.std.specs.Prelude.{ℕ, ◌==◌, ◌||◌, Bool, ◌++◌, if◌then◌else◌, List, take}
 use Rattle.params.specs.declared.TheConstants.{LIMITED_BROADCAST}
 use Rattle.flat_model.specs.Packets.Checksum.{folded_sum}

@@ -27,6 +27,7 @@ pub enum Outcome {
         to: ArrayVec<u32, SOCKETS>,
         /// The sender.
         from: Addr,
+        /// What it carries, without the UDP header.
         chain: Chain,
     },
     /// It ended here, and its chain was freed.
