@@ -7,17 +7,13 @@ ghost use Rattle.chain_ops.specs.Copies.{copied_entry};
 
 use mbuf_chain::{Chain, Place, Pool};
 use mbuf_pool::NoBufs;
-use params::{MBUF_HEADER, PACKET_HEADER};
+use params::{MBUF_HEADER, PACKET_START};
 
 /// Where the room of a plain mbuf begins.
 pub(crate) fn room_low(header: bool) -> u32
     ensures { result ≡ room_low header }
 {
-    if header {
-        MBUF_HEADER + PACKET_HEADER
-    } else {
-        MBUF_HEADER
-    }
+    if header { PACKET_START } else { MBUF_HEADER }
 }
 
 /// A chain of one mbuf that has a copy of `n` bytes of another mbuf, after the first `skip`: a cluster is

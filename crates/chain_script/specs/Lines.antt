@@ -1,7 +1,8 @@
 -- The lines of the chain script, and what each asks for (this project's own).
-use Rattle.std.specs.Prelude.{◌≡◌, ℕ, suc, ℤ, pos, negsuc, ◌≤◌, List, [], ◌∷◌, ◌++◌, length, codes, decimal}
-use Rattle.params.specs.declared.TheConstants.{IP_MAX_PACKET}
+use Rattle.std.specs.Prelude.{◌≡◌, ℕ, suc, ℤ, pos, negsuc, ◌-◌, ◌≤◌, List, [], ◌∷◌, ◌++◌, length, codes, decimal}
+use Rattle.params.specs.declared.TheConstants.{IP_MAX_PACKET, LONGEST_REQUEST}
 use Rattle.flat_model.specs.Scripts.Grammar.{words, IsNumber, IsHex}
+use Rattle.chain_script.specs.declared.caller.TheConstants.{SLOTS}
 use Rattle.chain_ops.specs.declared.copym.Extent.{Extent}
 use Rattle.chain_ops.specs.declared.copym.Extent.TheVariants.{All, Part}
 
@@ -22,7 +23,7 @@ pub data Request : Type 0 where
   Ask_usage : Request  -- `mbstat`
 
 abbrev pub IsSlot : List ℕ → ℕ → Type 0
-IsSlot word slot = IsNumber 63 word slot
+IsSlot word slot = IsNumber (SLOTS - 1) word slot
 
 abbrev pub IsOffset : List ℕ → ℕ → Type 0
 IsOffset word n = IsNumber IP_MAX_PACKET word n
@@ -74,7 +75,7 @@ HasWords Ask_usage args = args ≡ []
 
 -- the line asks for the request
 pub record IsRequest (line : List ℕ) (request : Request) : Type 0 where
-  pub short : length line ≤ 131200
+  pub short : length line ≤ LONGEST_REQUEST
   pub args : List (List ℕ)
   pub words_are : words line ≡ keyword request ∷ args
   pub arguments : HasWords request args

@@ -13,6 +13,7 @@ use Rattle.chain_ops.specs.Pulls.{pull_need}
 use Rattle.chain_ops.specs.Prepends.{prepend_need}
 use Rattle.chain_ops.specs.Splits.{split_need}
 use Rattle.chain_ops.specs.Writes.{is_writable, copyback_need}
+use Rattle.chain_script.specs.declared.caller.TheConstants.{SLOTS}
 use Rattle.chain_script.specs.Lines.{Request, User, Wire, Copy, Prepend, Pull_up, Adjust, Split, Join, Write_over, Read_out, Show, Free, Ask_usage}
 
 -- a chain in a slot; it's in no train
@@ -27,7 +28,7 @@ pub record Machine : Type 0 where
 
 -- all slots are empty
 abbrev pub booted : ℕ → ℕ → Machine
-booted mbufs clusters = record { mbufs = mbufs; clusters = clusters; slots = replicate 64 None }
+booted mbufs clusters = record { mbufs = mbufs; clusters = clusters; slots = replicate SLOTS None }
 
 -- ---- the slots
 abbrev pub slot_at : Machine → ℕ → Option Slot

@@ -4,6 +4,7 @@ ghost use Rattle.mbuf_pool.specs.Store.{IsBad};
 ghost use Rattle.mbuf_pool.specs.declared.fault.BootFault.TheVariants as boot_fault;
 ghost use Rattle.mbuf_chain.specs.Owners.{IsAll};
 ghost use Rattle.params.specs.declared.TheConstants.{IP_MAX_PACKET};
+ghost use Rattle.chain_script.specs.declared.caller.TheConstants.{SLOTS};
 ghost use Rattle.chain_script.specs.Inside.Calls.{request_of, IsCall};
 ghost use Rattle.chain_script.specs.Inside.Slots.{machine_of, Fits};
 ghost use Rattle.chain_script.specs.Lines.{Read_out};
@@ -18,11 +19,11 @@ use crate::reply::{TEXT, put_done, put_held};
 use crate::show::{show, usage};
 use mbuf_chain::{Chain, Pool};
 use mbuf_pool::{BootFault, Sizes, Store};
-use script_loop::{Answers, Buffer, LineBuffers};
+use script_loop::{Answers, Buffer, HELD, LineBuffers};
 use std::alloc::{AllocError, Global};
 
 /// How many slots there are.
-const SLOTS: usize = 64;
+pub(crate) const SLOTS: usize = 64;
 
 /// Copies bytes out of a chain, and puts the line for them after the text.
 fn read_out(
@@ -41,7 +42,7 @@ fn read_out(
     requires digits { length digits.old ≡ 2 * IP_MAX_PACKET }
     requires off { off ≤ IP_MAX_PACKET }
     requires len { len ≤ IP_MAX_PACKET }
-    requires text { length text.old ≤ 65536 }
+    requires text { length text.old ≤ HELD }
     ensures { (reply : Reply)
         × Step (machine_of pool.now chains.now) (Read_out slot off len) reply (machine_of pool.now chains.now)
         × (text.new ≡ text.old ++ answer_text (Some reply)) }
@@ -59,12 +60,12 @@ fn make_call(
     call: Call,
     text: &mut Buffer<TEXT>,
 )
-    requires slots { length chains.old ≡ 64 }
+    requires slots { length chains.old ≡ SLOTS }
     requires fits { Fits pool.old chains.old }
     requires call { IsCall call }
-    requires text { length text.old ≤ 65536 }
+    requires text { length text.old ≤ HELD }
     ensures fits { Fits pool.new chains.new }
-    ensures slots { length chains.new ≡ 64 }
+    ensures slots { length chains.new ≡ SLOTS }
     ensures step { (reply : Reply)
         × Step (machine_of pool.old chains.old) (request_of call buffers.old.bytes.items) reply
         (machine_of pool.new chains.new)
@@ -120,11 +121,11 @@ fn put_answer(
     line: &[u8],
     text: &mut Buffer<TEXT>,
 )
-    requires slots { length chains.old ≡ 64 }
+    requires slots { length chains.old ≡ SLOTS }
     requires fits { Fits pool.old chains.old }
-    requires text { length text.old ≤ 65536 }
+    requires text { length text.old ≤ HELD }
     ensures fits { Fits pool.new chains.new }
-    ensures slots { length chains.new ≡ 64 }
+    ensures slots { length chains.new ≡ SLOTS }
     ensures says { (reply : List ℕ) × Says (machine_of pool.old chains.old) line.now reply (machine_of pool.new chains.new)
         × (text.new ≡ text.old ++ reply) }
 {
@@ -139,13 +140,13 @@ pub(crate) struct Caller {
     pool: Pool,
     chains: Vec<Option<Chain>>,
     buffers: LineBuffers,
-    ghost slots: { vec_len chains ≡ 64 },
+    ghost slots: { vec_len chains ≡ SLOTS },
     ghost fits: { Fits pool chains.items },
 }
 
 /// Slots that are all empty.
 fn empty_slots(alloc: Global) -> Result<Vec<Option<Chain>>, AllocError>
-    ensures items { IfOk result (λ chains. chains.items ≡ replicate 64 None) }
+    ensures items { IfOk result (λ chains. chains.items ≡ replicate SLOTS None) }
     ensures len { IfOk result (λ chains. vec_len chains ≡ 64) }
 {
     let mut chains = Vec::with_capacity(alloc, SLOTS)?;

@@ -1,6 +1,7 @@
 //! Laws of the script. Each is a function that does nothing, and its contract is the law.
 ghost use Rattle.std.specs.Prelude.{◌≡◌, ℕ, List, None, replicate};
 ghost use Rattle.script_loop.specs.Printed.{Prints};
+ghost use Rattle.chain_script.specs.declared.caller.TheConstants.{SLOTS};
 ghost use Rattle.chain_script.specs.Lines.{Request};
 ghost use Rattle.chain_script.specs.Machines.{Machine, booted};
 ghost use Rattle.chain_script.specs.Steps.{Reply, Step, Says};
@@ -10,7 +11,7 @@ ghost use Rattle.chain_script.specs.Strings.{strings_of, StringStep, StringSays}
 /// replies but those to `show`, of which the length does, and to `mbstat`: they are those of list operations on strings.
 pub fn strings_law()
     // At boot there are none.
-    ensures boot { (mbufs clusters : ℕ) → strings_of (booted mbufs clusters) ≡ replicate 64 None }
+    ensures boot { (mbufs clusters : ℕ) → strings_of (booted mbufs clusters) ≡ replicate SLOTS None }
     // A step of the machine is one of its strings, ..
     ensures step { (old new : Machine) (request : Request) (reply : Reply)
         → Step old request reply new → StringStep (strings_of old) request reply (strings_of new) }

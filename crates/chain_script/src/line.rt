@@ -5,12 +5,13 @@ ghost use Rattle.script_loop.specs.Left.{left};
 ghost use Rattle.chain_script.specs.Lines.{Request, IsRequest, IsExtentWords, IsSigned};
 ghost use Rattle.chain_script.specs.Inside.Calls.{request_of, IsCall, ReadsForm};
 
+use crate::caller::SLOTS;
 use chain_ops::Extent;
-use params::IP_MAX_PACKET;
-use script_loop::{LONGEST_REQUEST, bytes, first_word, is_end, number, one, three, two};
+use params::{IP_MAX_PACKET, LONGEST_REQUEST};
+use script_loop::{bytes, first_word, is_end, number, one, three, two};
 
 /// The last slot.
-const LAST_SLOT: u32 = 63;
+const LAST_SLOT: u32 = SLOTS as u32 - 1;
 
 /// The greatest offset, length and number of a line.
 const MOST: u32 = IP_MAX_PACKET;
@@ -198,7 +199,7 @@ pub(crate) fn call_of(line: &[u8], room: &mut [u8]) -> Option<Call>
         (λ call. IsRequest line.now (request_of call room.new)) }
     ensures fits { IfSome result (λ call. IsCall call) }
 {
-    if line.len() > LONGEST_REQUEST {
+    if line.len() > LONGEST_REQUEST as usize {
         return None;
     }
     let (name, rest) = first_word(line);

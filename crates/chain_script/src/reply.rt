@@ -7,14 +7,18 @@ ghost use Rattle.chain_script.specs.Inside.Replies.{fault_reply, done_reply, hel
 
 use crate::fault::Fault;
 use mbuf_chain::Usage;
+use params::MAX_MBUFS;
 use script_loop::{Buffer, HELD, put_hex, put_number};
 
-/// Room for the longest reply after those that are held: the layout of a chain of 65,535 mbufs, of which each takes 23
-/// bytes at most.
-pub(crate) const TEXT: usize = HELD + 1_507_328;
+/// The most bytes that the text of one mbuf takes: two letters, two numbers and a space.
+pub(crate) const MBUF_TEXT: usize = 23;
+
+/// Room for the longest reply after those that are held: the layout of a chain of all mbufs of the largest pool, and
+/// what stands beside it.
+pub(crate) const TEXT: usize = HELD + MBUF_TEXT * (MAX_MBUFS as usize + 1);
 
 fn put_fault(text: &mut Buffer<TEXT>, fault: Fault)
-    requires { length text.old + 8 ≤ 1572864 }
+    requires { length text.old + 8 ≤ TEXT }
     ensures items { text.new ≡ text.old ++ reply_text (fault_reply fault) }
     ensures len { length text.new ≤ length text.old + 8 }
 {
@@ -30,7 +34,7 @@ fn put_fault(text: &mut Buffer<TEXT>, fault: Fault)
 
 /// The line for a request that answers nothing else.
 pub(crate) fn put_done(text: &mut Buffer<TEXT>, outcome: Result<(), Fault>)
-    requires { length text.old ≤ 65536 }
+    requires { length text.old ≤ HELD }
     ensures { text.new ≡ text.old ++ answer_text (Some (done_reply outcome)) }
 {
     match outcome {
@@ -47,7 +51,7 @@ pub(crate) fn put_held(
     room: &[u8],
     outcome: Result<(), Fault>,
 )
-    requires text { length text.old ≤ 65536 }
+    requires text { length text.old ≤ HELD }
     requires room { length room.now ≤ IP_MAX_PACKET }
     requires digits { length digits.old ≡ 2 * IP_MAX_PACKET }
     ensures { text.new ≡ text.old ++ answer_text (Some (held_reply outcome room.now)) }
@@ -63,7 +67,7 @@ pub(crate) fn put_held(
 }
 
 fn put_share(text: &mut Buffer<TEXT>, free: u32, all: u32)
-    requires { length text.old + 21 ≤ 1572864 }
+    requires { length text.old + 21 ≤ TEXT }
     ensures items { text.new ≡ text.old ++ share_text free all }
     ensures len { length text.new ≤ length text.old + 21 }
 {
@@ -74,7 +78,7 @@ fn put_share(text: &mut Buffer<TEXT>, free: u32, all: u32)
 
 /// The line for how much of a pool is in use.
 pub(crate) fn put_usage(text: &mut Buffer<TEXT>, usage: Usage)
-    requires { length text.old ≤ 65536 }
+    requires { length text.old ≤ HELD }
     ensures { text.new ≡ text.old ++ answer_text (Some (Shown (record {
       free_mbufs = usage.free_mbufs;
       mbufs = usage.mbufs;
@@ -97,9 +101,9 @@ pub(crate) fn put_usage(text: &mut Buffer<TEXT>, usage: Usage)
 
 /// An mbuf of a layout: its length, and where it has a cluster the count of that.
 pub(crate) fn put_mbuf(text: &mut Buffer<TEXT>, len: u32, count: Option<u32>)
-    requires { length text.old + 23 ≤ 1572864 }
+    requires { length text.old + MBUF_TEXT ≤ TEXT }
     ensures items { text.new ≡ text.old ++ mbuf_text len count }
-    ensures len { length text.new ≤ length text.old + 23 }
+    ensures len { length text.new ≤ length text.old + MBUF_TEXT }
 {
     match count {
         None => {

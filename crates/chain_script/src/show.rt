@@ -6,9 +6,9 @@ ghost use Rattle.chain_script.specs.Steps.{Reply, Laid, Step, answer_text, shape
 ghost use Rattle.chain_script.specs.Inside.Slots.{machine_of, Fits};
 
 use crate::fault::Fault;
-use crate::reply::{TEXT, put_done, put_mbuf, put_usage};
+use crate::reply::{MBUF_TEXT, TEXT, put_done, put_mbuf, put_usage};
 use mbuf_chain::{Chain, Pool};
-use script_loop::{Buffer, put_number};
+use script_loop::{Buffer, HELD, put_number};
 
 /// The count of a cluster, where there is one.
 fn count_of(pool: &Pool, cluster: Option<u32>) -> Option<u32>
@@ -24,10 +24,10 @@ fn count_of(pool: &Pool, cluster: Option<u32>) -> Option<u32>
 /// All mbufs of a chain, in their order.
 fn put_mbufs(text: &mut Buffer<TEXT>, pool: &Pool, chain: &Chain)
     requires live { IsLive pool.now chain.now }
-    requires text { length text.old + 23 * length (chain_of pool.now chain.now).entries ≤ 1572864 }
+    requires text { length text.old + MBUF_TEXT * length (chain_of pool.now chain.now).entries ≤ TEXT }
     ensures items { text.new ≡ text.old
         ++ flat_map shape_text (shapes_of (references pool.now) (chain_of pool.now chain.now).entries) }
-    ensures len { length text.new ≤ length text.old + 23 * length (chain_of pool.now chain.now).entries }
+    ensures len { length text.new ≤ length text.old + MBUF_TEXT * length (chain_of pool.now chain.now).entries }
 {
     let mut at = pool.first(chain);
     'mbufs: loop {
@@ -43,7 +43,7 @@ fn put_mbufs(text: &mut Buffer<TEXT>, pool: &Pool, chain: &Chain)
 /// The line for the layout of a chain.
 fn put_layout(text: &mut Buffer<TEXT>, pool: &Pool, chain: &Chain)
     requires live { IsLive pool.now chain.now }
-    requires text { length text.old ≤ 65536 }
+    requires text { length text.old ≤ HELD }
     ensures { text.new ≡ text.old ++ answer_text (Some (Laid (length (string (chain_of pool.now chain.now)))
         (shapes_of (references pool.now) (chain_of pool.now chain.now).entries))) }
 {
@@ -58,7 +58,7 @@ fn put_layout(text: &mut Buffer<TEXT>, pool: &Pool, chain: &Chain)
 pub(crate) fn show(pool: &Pool, chains: &[Option<Chain>], slot: usize, text: &mut Buffer<TEXT>)
     requires slot { slot < length chains.now }
     requires fits { Fits pool.now chains.now }
-    requires text { length text.old ≤ 65536 }
+    requires text { length text.old ≤ HELD }
     ensures { (reply : Reply) × Step (machine_of pool.now chains.now) (Show slot) reply (machine_of pool.now chains.now)
         × (text.new ≡ text.old ++ answer_text (Some reply)) }
 {
@@ -71,7 +71,7 @@ pub(crate) fn show(pool: &Pool, chains: &[Option<Chain>], slot: usize, text: &mu
 /// Shows how much of the pool is in use.
 pub(crate) fn usage(pool: &Pool, chains: &[Option<Chain>], text: &mut Buffer<TEXT>)
     requires fits { Fits pool.now chains.now }
-    requires text { length text.old ≤ 65536 }
+    requires text { length text.old ≤ HELD }
     ensures { (reply : Reply) × Step (machine_of pool.now chains.now) Ask_usage reply (machine_of pool.now chains.now)
         × (text.new ≡ text.old ++ answer_text (Some reply)) }
 {

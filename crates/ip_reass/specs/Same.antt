@@ -2,6 +2,7 @@
 -- (this project's own).
 use Rattle.std.proofs.Common.{◌≡◌, ℕ, List, [], ◌∷◌, ◌++◌, length, map, refl, sym, ap, ◌∙◌, subst, arith}
 use Rattle.std.proofs.lemmas.List.{length-map}
+use Rattle.params.specs.declared.TheConstants.{IP_MAX_DATA}
 use Rattle.flat_model.specs.Amounts.Weight.{Weight, SameWeight, all_of, mbuf, ◌⊕◌}
 use Rattle.flat_model.specs.Machine.State.{Unfinished}
 use Rattle.flat_model.specs.Fragments.Whole.{weight_of_pieces}
@@ -31,7 +32,7 @@ length-unfinished p ds = length-map ds (unfinished_of p)
 queue_same : (p q : PoolView) (t : TrainView) → SameAt p q (numbers p t) → IsQueue p t → IsQueue q t
 queue_same p q t s is =
     let e : fragments q t ≡ fragments p t = ap (map fragment_in) (queued_packets_same p q t s) in
-    record { held = held_same p q t s is.held; apart = subst (Apart 0) (sym e) is.apart; small = subst (AllEnd 65515) (sym e) is.small }
+    record { held = held_same p q t s is.held; apart = subst (Apart 0) (sym e) is.apart; small = subst (AllEnd IP_MAX_DATA) (sym e) is.small }
 
 first_same : (p q : PoolView) (d : Datagram) (ds : List Datagram) → SameAt p q (held_all p (d ∷ ds)) → SameAt p q (held p d)
 first_same p q d ds s = same_part p q (held_all p (d ∷ ds)) (held p d) s (λ k. omega (arith, times-append k (held p d) (held_all p ds)))

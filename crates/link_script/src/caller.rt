@@ -1,5 +1,6 @@
 //! A machine whose calls are made by lines.
-ghost use Rattle.std.specs.Prelude.{◌≡◌, ◌≤◌, ◌++◌, List, ℕ, length, Some, Option};
+ghost use Rattle.std.specs.Prelude.{◌≡◌, ◌*◌, ◌≤◌, ◌++◌, List, ℕ, length, Some, Option};
+ghost use Rattle.params.specs.declared.TheConstants.{IP_MAX_PACKET};
 ghost use Rattle.flat_model.specs.Machine.Event.{Reply, Receive, Transmit};
 ghost use Rattle.flat_model.specs.Machine.State.{State};
 ghost use Rattle.flat_model.specs.Scripts.Texts.{answer_text};
@@ -11,7 +12,7 @@ use crate::reply::{
     TEXT, put_counters, put_done, put_given, put_opened, put_received, put_sent, put_usage,
 };
 use crate::request::{Request, request_of};
-use script_loop::{Answers, Buffer, LineBuffers};
+use script_loop::{Answers, Buffer, HELD, LineBuffers};
 
 /// Receives at most `most` bytes, and puts the reply after the text.
 fn receive<M: Machine>(
@@ -22,10 +23,10 @@ fn receive<M: Machine>(
     fd: u32,
     most: usize,
 )
-    requires text { length text.old ≤ 65536 }
-    requires most { most ≤ 65535 }
-    requires bytes { length bytes.old ≡ 65535 }
-    requires digits { length digits.old ≡ 131070 }
+    requires text { length text.old ≤ HELD }
+    requires most { most ≤ IP_MAX_PACKET }
+    requires bytes { length bytes.old ≡ IP_MAX_PACKET }
+    requires digits { length digits.old ≡ 2 * IP_MAX_PACKET }
     ensures { (reply : Reply)
         × M.may_step (M.state machine.old) (Receive fd most) reply (M.state machine.new)
         × (text.new ≡ text.old ++ answer_text (Some reply)) }
@@ -42,9 +43,9 @@ fn transmit<M: Machine>(
     bytes: &mut [u8],
     digits: &mut [u8],
 )
-    requires text { length text.old ≤ 65536 }
-    requires bytes { length bytes.old ≡ 65535 }
-    requires digits { length digits.old ≡ 131070 }
+    requires text { length text.old ≤ HELD }
+    requires bytes { length bytes.old ≡ IP_MAX_PACKET }
+    requires digits { length digits.old ≡ 2 * IP_MAX_PACKET }
     ensures { (reply : Reply)
         × M.may_step (M.state machine.old) Transmit reply (M.state machine.new)
         × (text.new ≡ text.old ++ answer_text (Some reply)) }
@@ -60,8 +61,8 @@ fn call<M: Machine>(
     request: Request,
     text: &mut Buffer<TEXT>,
 )
-    requires text { length text.old ≤ 65536 }
-    requires fits { room_of request ≤ 65535 }
+    requires text { length text.old ≤ HELD }
+    requires fits { room_of request ≤ IP_MAX_PACKET }
     ensures { (reply : Reply)
         × M.may_step (M.state machine.old) (event_of request buffers.old.bytes.items) reply (M.state machine.new)
         × (text.new ≡ text.old ++ answer_text (Some reply)) }
@@ -107,7 +108,7 @@ fn put_answer<M: Machine>(
     line: &[u8],
     text: &mut Buffer<TEXT>,
 )
-    requires { length text.old ≤ 65536 }
+    requires { length text.old ≤ HELD }
     ensures { (reply : List ℕ)
         × Says M.may_step (M.state machine.old) line.now reply (M.state machine.new)
         × (text.new ≡ text.old ++ reply) }

@@ -1,4 +1,5 @@
 ghost use Rattle.std.specs.Prelude.{◌≡◌, ◌<◌, ◌≤◌, ◌^◌, length, IfOk, IfSome, MatchResult};
+ghost use Rattle.params.specs.declared.TheConstants.{IP_MAX_PACKET, MAX_MTU};
 ghost use Rattle.flat_model.specs.Machine.Event.{Event, Reply, Open, Bind, Connect, Send, Receive, Close, Set_option, Comes, Transmit, Tick, Ask_counters, Ask_usage, Done, Counted, Shown};
 ghost use Rattle.flat_model.specs.Machine.State.{State};
 ghost use Rattle.flat_model.specs.Machine.State as flat;
@@ -75,13 +76,13 @@ pub trait Machine: Sized {
 
     /// Takes a packet from the wire.
     fn rx(&mut self, packet: &[u8])
-        requires { length packet.now < 2 ^ 16 }
+        requires { length packet.now ≤ IP_MAX_PACKET }
         ensures { may_step (state self.old) (Comes packet.now) Done (state self.new) };
 
     /// Puts the oldest packet that waits for the link in front of the room, and answers its length, or nothing where none
     /// waits.
     fn tx(&mut self, room: &mut [u8]) -> Option<usize>
-        requires { 4352 ≤ length room.old }
+        requires { MAX_MTU ≤ length room.old }
         ensures step { may_step (state self.old) Transmit (given_reply result room.new) (state self.new) }
         ensures fits { IfSome result (λ len. len ≤ length room.new) };
 

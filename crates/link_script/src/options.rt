@@ -18,6 +18,9 @@ use flat_model::Config;
 use script_loop::{RunFault, number};
 use std::alloc::{AllocError, Global};
 
+/// The greatest number of 16 bits.
+const U16_MAX: u32 = u16::MAX as u32;
+
 /// What the words ask for.
 #[derive(Clone, Copy)]
 pub(crate) enum Task {
@@ -53,10 +56,10 @@ fn config_of(found: &ArgMatches<'_>) -> Option<Config>
     ensures { MatchOption result ((c : Config) → Names defaults (first_value (found_of found.now)) c → ⊥)
         (Names defaults (first_value (found_of found.now))) }
 {
-    let mtu = number_or(found.get_str("mtu"), 65_535, u32::from(DEFAULTS.mtu))?;
+    let mtu = number_or(found.get_str("mtu"), U16_MAX, u32::from(DEFAULTS.mtu))?;
     let mbufs = number_or(found.get_str("mbufs"), u32::MAX, DEFAULTS.mbufs)?;
     let clusters = number_or(found.get_str("clusters"), u32::MAX, DEFAULTS.clusters)?;
-    let first_id = number_or(found.get_str("id"), 65_535, u32::from(DEFAULTS.first_id))?;
+    let first_id = number_or(found.get_str("id"), U16_MAX, u32::from(DEFAULTS.first_id))?;
     Some(Config {
         addr: address_or(found.get_str("addr"), DEFAULTS.addr),
         bcast: address_or(found.get_str("bcast"), DEFAULTS.bcast),

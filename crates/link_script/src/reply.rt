@@ -1,5 +1,6 @@
 //! The lines that replies are printed as.
 ghost use Rattle.std.specs.Prelude.{◌≡◌, ◌+◌, ◌*◌, ◌≤◌, ◌++◌, length, Some, codes, decimal, Option, Result, IfSome};
+ghost use Rattle.params.specs.declared.TheConstants.{IP_MAX_PACKET};
 ghost use Rattle.flat_model.specs.Machine.Count.{counter_name};
 ghost use Rattle.flat_model.specs.Machine.Event.{Counted, Shown};
 ghost use Rattle.flat_model.specs.Scripts.Grammar.{address_text};
@@ -7,13 +8,14 @@ ghost use Rattle.flat_model.specs.Scripts.Texts.{hex_text, refusal_text, lack_te
 ghost use Rattle.flat_model.specs.Machine.Replies.{opened_reply, done_reply, sent_reply, received_reply, given_reply, FitsRoom};
 
 use flat_model::{Addr, Counter, Counters, Errno, Mbstat};
+use params::LONGEST_REQUEST;
 use script_loop::{Buffer, HELD, put_hex, put_number};
 
 /// Room for the longest line of reply, after those that are held.
-pub(crate) const TEXT: usize = HELD + 131_200;
+pub(crate) const TEXT: usize = HELD + LONGEST_REQUEST as usize;
 
 fn put_address(text: &mut Buffer<TEXT>, ip: u32)
-    requires { length text.old + 43 ≤ 196736 }
+    requires { length text.old + 43 ≤ TEXT }
     ensures items { text.new ≡ text.old ++ address_text ip }
     ensures len { length text.new ≤ length text.old + 43 }
 {
@@ -28,7 +30,7 @@ fn put_address(text: &mut Buffer<TEXT>, ip: u32)
 
 /// What was lacking, after the name of a refusal.
 fn put_lack(text: &mut Buffer<TEXT>, errno: Errno)
-    requires { length text.old + 6 ≤ 196736 }
+    requires { length text.old + 6 ≤ TEXT }
     ensures items { text.new ≡ text.old ++ lack_text errno }
     ensures len { length text.new ≤ length text.old + 6 }
 {
@@ -39,7 +41,7 @@ fn put_lack(text: &mut Buffer<TEXT>, errno: Errno)
 }
 
 fn put_refusal(text: &mut Buffer<TEXT>, errno: Errno)
-    requires { length text.old + 40 ≤ 196736 }
+    requires { length text.old + 40 ≤ TEXT }
     ensures items { text.new ≡ text.old ++ refusal_text errno }
     ensures len { length text.new ≤ length text.old + 40 }
 {
@@ -52,7 +54,7 @@ fn put_refusal(text: &mut Buffer<TEXT>, errno: Errno)
 
 /// The line for a socket that was to be opened.
 pub(crate) fn put_opened(text: &mut Buffer<TEXT>, outcome: Result<u32, Errno>)
-    requires { length text.old ≤ 65536 }
+    requires { length text.old ≤ HELD }
     ensures { text.new ≡ text.old ++ answer_text (Some (opened_reply outcome)) }
 {
     match outcome {
@@ -67,7 +69,7 @@ pub(crate) fn put_opened(text: &mut Buffer<TEXT>, outcome: Result<u32, Errno>)
 
 /// The line for a call that answers nothing else.
 pub(crate) fn put_done(text: &mut Buffer<TEXT>, outcome: Result<(), Errno>)
-    requires { length text.old ≤ 65536 }
+    requires { length text.old ≤ HELD }
     ensures { text.new ≡ text.old ++ answer_text (Some (done_reply outcome)) }
 {
     match outcome {
@@ -84,10 +86,10 @@ pub(crate) fn put_received(
     room: &[u8],
     outcome: Result<(Addr, usize), Errno>,
 )
-    requires text { length text.old ≤ 65536 }
+    requires text { length text.old ≤ HELD }
     requires fits { FitsRoom outcome room.now }
-    requires within { length room.now ≤ 65535 }
-    requires digits { length digits.old ≡ 131070 }
+    requires within { length room.now ≤ IP_MAX_PACKET }
+    requires digits { length digits.old ≡ 2 * IP_MAX_PACKET }
     ensures { text.new ≡ text.old ++ answer_text (Some (received_reply outcome room.now)) }
 {
     match outcome {
@@ -106,7 +108,7 @@ pub(crate) fn put_received(
 
 /// Puts the digits of a number after the text, twenty of them at most.
 fn put_long(text: &mut Buffer<TEXT>, n: u64)
-    requires { length text.old + 20 ≤ 196736 }
+    requires { length text.old + 20 ≤ TEXT }
     ensures items { text.new ≡ text.old ++ decimal n }
     ensures len { length text.new ≤ length text.old + 20 }
 {
@@ -116,7 +118,7 @@ fn put_long(text: &mut Buffer<TEXT>, n: u64)
 
 /// The line for a send.
 pub(crate) fn put_sent(text: &mut Buffer<TEXT>, outcome: Result<usize, Errno>)
-    requires { length text.old ≤ 65536 }
+    requires { length text.old ≤ HELD }
     ensures { text.new ≡ text.old ++ answer_text (Some (sent_reply outcome)) }
 {
     match outcome {
@@ -136,10 +138,10 @@ pub(crate) fn put_given(
     room: &[u8],
     given: Option<usize>,
 )
-    requires text { length text.old ≤ 65536 }
+    requires text { length text.old ≤ HELD }
     requires fits { IfSome given (λ len. len ≤ length room.now) }
-    requires within { length room.now ≤ 65535 }
-    requires digits { length digits.old ≡ 131070 }
+    requires within { length room.now ≤ IP_MAX_PACKET }
+    requires digits { length digits.old ≡ 2 * IP_MAX_PACKET }
     ensures { text.new ≡ text.old ++ answer_text (Some (given_reply given room.now)) }
 {
     match given {
@@ -154,7 +156,7 @@ pub(crate) fn put_given(
 
 /// Puts a counter after the text, where it isn't 0.
 fn put_count(text: &mut Buffer<TEXT>, counter: Counter, value: u64)
-    requires { length text.old + 37 ≤ 196736 }
+    requires { length text.old + 37 ≤ TEXT }
     ensures items { text.new ≡ text.old ++ count_text (count (counter_name counter) value) }
     ensures len { length text.new ≤ length text.old + 37 }
 {
@@ -169,7 +171,7 @@ fn put_count(text: &mut Buffer<TEXT>, counter: Counter, value: u64)
 
 /// The line for the counters: those that aren't 0, in the order in which they're printed.
 pub(crate) fn put_counters(text: &mut Buffer<TEXT>, counters: &Counters)
-    requires { length text.old ≤ 65536 }
+    requires { length text.old ≤ HELD }
     ensures { text.new ≡ text.old ++ answer_text (Some (Counted counters.now)) }
 {
     text.append(b"stat");
@@ -181,7 +183,7 @@ pub(crate) fn put_counters(text: &mut Buffer<TEXT>, counters: &Counters)
 
 /// Puts what is free of all after the text.
 fn put_share(text: &mut Buffer<TEXT>, free: u32, all: u32)
-    requires { length text.old + 21 ≤ 196736 }
+    requires { length text.old + 21 ≤ TEXT }
     ensures items { text.new ≡ text.old ++ share_text free all }
     ensures len { length text.new ≤ length text.old + 21 }
 {
@@ -192,7 +194,7 @@ fn put_share(text: &mut Buffer<TEXT>, free: u32, all: u32)
 
 /// The line for how much of the pool is in use.
 pub(crate) fn put_usage(text: &mut Buffer<TEXT>, usage: Mbstat)
-    requires { length text.old ≤ 65536 }
+    requires { length text.old ≤ HELD }
     ensures { text.new ≡ text.old ++ answer_text (Some (Shown usage)) }
 {
     text.append(b"mbufs ");

@@ -12,7 +12,8 @@ ghost use Rattle.link_script.specs.Inside.Parts.{ReadsForm};
 use crate::address::address;
 use crate::keyword::{Keyword, keyword_of};
 use flat_model::{Addr, Opt};
-use script_loop::{LONGEST_REQUEST, bytes, first_word, is_end, number, one, three, two};
+use params::{IP_MAX_PACKET, LONGEST_REQUEST};
+use script_loop::{bytes, first_word, is_end, number, one, three, two};
 
 /// What a line asks for. The bytes of a packet or of a send stand in a room beside it.
 #[derive(Clone, Copy)]
@@ -39,7 +40,7 @@ fn end_of(ip: &[u8], port: &[u8]) -> Option<Addr>
         ⊥) (λ end. IsEnd ip.now port.now end) }
 {
     let ip = address(ip)?;
-    let port = number(port, 65535)?;
+    let port = number(port, u32::from(u16::MAX))?;
     Some(Addr {
         ip,
         port: port as u16,
@@ -77,7 +78,7 @@ fn alone(rest: Option<&[u8]>, request: Request) -> Option<Request>
 
 fn bind_of(rest: Option<&[u8]>) -> Option<Request>
     ensures form { (room : List ℕ) → ReadsForm line.Bind (left rest.entry) room result }
-    ensures fits { IfSome result (λ request. room_of request ≤ 65535) }
+    ensures fits { IfSome result (λ request. room_of request ≤ IP_MAX_PACKET) }
 {
     let (fd, ip, port) = three(rest)?;
     let fd = number(fd, u32::MAX)?;
@@ -87,7 +88,7 @@ fn bind_of(rest: Option<&[u8]>) -> Option<Request>
 
 fn connect_of(rest: Option<&[u8]>) -> Option<Request>
     ensures form { (room : List ℕ) → ReadsForm line.Connect (left rest.entry) room result }
-    ensures fits { IfSome result (λ request. room_of request ≤ 65535) }
+    ensures fits { IfSome result (λ request. room_of request ≤ IP_MAX_PACKET) }
 {
     let (fd, ip, port) = three(rest)?;
     let fd = number(fd, u32::MAX)?;
@@ -96,9 +97,9 @@ fn connect_of(rest: Option<&[u8]>) -> Option<Request>
 }
 
 fn sendto_of(rest: Option<&[u8]>, room: &mut [u8]) -> Option<Request>
-    requires { length room.old ≡ 65535 }
+    requires { length room.old ≡ IP_MAX_PACKET }
     ensures form { ReadsForm line.SendTo (left rest.entry) room.new result }
-    ensures fits { IfSome result (λ request. room_of request ≤ 65535) }
+    ensures fits { IfSome result (λ request. room_of request ≤ IP_MAX_PACKET) }
 {
     let (fd, rest) = first_word(rest?);
     let (ip, port, data) = three(rest)?;
@@ -109,9 +110,9 @@ fn sendto_of(rest: Option<&[u8]>, room: &mut [u8]) -> Option<Request>
 }
 
 fn send_of(rest: Option<&[u8]>, room: &mut [u8]) -> Option<Request>
-    requires { length room.old ≡ 65535 }
+    requires { length room.old ≡ IP_MAX_PACKET }
     ensures form { ReadsForm line.Send (left rest.entry) room.new result }
-    ensures fits { IfSome result (λ request. room_of request ≤ 65535) }
+    ensures fits { IfSome result (λ request. room_of request ≤ IP_MAX_PACKET) }
 {
     let (fd, data) = two(rest)?;
     let fd = number(fd, u32::MAX)?;
@@ -121,11 +122,11 @@ fn send_of(rest: Option<&[u8]>, room: &mut [u8]) -> Option<Request>
 
 fn receive_of(rest: Option<&[u8]>) -> Option<Request>
     ensures form { (room : List ℕ) → ReadsForm line.RecvFrom (left rest.entry) room result }
-    ensures fits { IfSome result (λ request. room_of request ≤ 65535) }
+    ensures fits { IfSome result (λ request. room_of request ≤ IP_MAX_PACKET) }
 {
     let (fd, most) = two(rest)?;
     let fd = number(fd, u32::MAX)?;
-    let most = number(most, 65535)?;
+    let most = number(most, IP_MAX_PACKET)?;
     if most == 0 {
         return None;
     }
@@ -134,7 +135,7 @@ fn receive_of(rest: Option<&[u8]>) -> Option<Request>
 
 fn close_of(rest: Option<&[u8]>) -> Option<Request>
     ensures form { (room : List ℕ) → ReadsForm line.Close (left rest.entry) room result }
-    ensures fits { IfSome result (λ request. room_of request ≤ 65535) }
+    ensures fits { IfSome result (λ request. room_of request ≤ IP_MAX_PACKET) }
 {
     let fd = number(one(rest)?, u32::MAX)?;
     Some(Request::Close(fd))
@@ -142,7 +143,7 @@ fn close_of(rest: Option<&[u8]>) -> Option<Request>
 
 fn set_option_of(rest: Option<&[u8]>) -> Option<Request>
     ensures form { (room : List ℕ) → ReadsForm line.SetSockOpt (left rest.entry) room result }
-    ensures fits { IfSome result (λ request. room_of request ≤ 65535) }
+    ensures fits { IfSome result (λ request. room_of request ≤ IP_MAX_PACKET) }
 {
     let (fd, option, on) = three(rest)?;
     let fd = number(fd, u32::MAX)?;
@@ -152,9 +153,9 @@ fn set_option_of(rest: Option<&[u8]>) -> Option<Request>
 }
 
 fn packet_of(rest: Option<&[u8]>, room: &mut [u8]) -> Option<Request>
-    requires { length room.old ≡ 65535 }
+    requires { length room.old ≡ IP_MAX_PACKET }
     ensures form { ReadsForm line.Rx (left rest.entry) room.new result }
-    ensures fits { IfSome result (λ request. room_of request ≤ 65535) }
+    ensures fits { IfSome result (λ request. room_of request ≤ IP_MAX_PACKET) }
 {
     let word = one(rest)?;
     let len = bytes(word, room)?;
@@ -163,9 +164,9 @@ fn packet_of(rest: Option<&[u8]>, room: &mut [u8]) -> Option<Request>
 
 /// What a keyword and the words after it ask for.
 fn form_of(word: Keyword, rest: Option<&[u8]>, room: &mut [u8]) -> Option<Request>
-    requires { length room.old ≡ 65535 }
+    requires { length room.old ≡ IP_MAX_PACKET }
     ensures form { ReadsForm word (left rest.entry) room.new result }
-    ensures fits { IfSome result (λ request. room_of request ≤ 65535) }
+    ensures fits { IfSome result (λ request. room_of request ≤ IP_MAX_PACKET) }
 {
     match word {
         Keyword::Socket => alone(rest, Request::Socket),
@@ -186,12 +187,12 @@ fn form_of(word: Keyword, rest: Option<&[u8]>, room: &mut [u8]) -> Option<Reques
 
 /// What the line asks for, where it is of a form.
 pub(crate) fn request_of(line: &[u8], room: &mut [u8]) -> Option<Request>
-    requires { length room.old ≡ 65535 }
+    requires { length room.old ≡ IP_MAX_PACKET }
     ensures event { MatchOption result ((event : Event) → Asks all_events line.now event → ⊥)
         (λ request. Asks all_events line.now (event_of request room.new)) }
-    ensures fits { IfSome result (λ request. room_of request ≤ 65535) }
+    ensures fits { IfSome result (λ request. room_of request ≤ IP_MAX_PACKET) }
 {
-    if line.len() > LONGEST_REQUEST {
+    if line.len() > LONGEST_REQUEST as usize {
         return None;
     }
     let (word, rest) = first_word(line);

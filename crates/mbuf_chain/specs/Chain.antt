@@ -6,7 +6,7 @@ use Rattle.std.specs.Option.{option_eq}
 use Rattle.std.specs.Ordering.{nat_cmp}
 use Rattle.std.specs.FinMap as finmap
 use Rattle.std.specs.FinMap.{FinMap}
-use Rattle.params.specs.declared.TheConstants.{MSIZE, MBUF_HEADER, PACKET_HEADER, MCLBYTES}
+use Rattle.params.specs.declared.TheConstants.{MBUF_HEADER, MCLBYTES, MSIZE, PACKET_START}
 use Rattle.mbuf_chain.specs.declared.place.Place.{Place}
 
 -- an entry: the bytes that an mbuf shows, where they begin in the mbuf or in its cluster, and its cluster
@@ -75,7 +75,7 @@ references_of c v = count_by (refers c) v.entries
 
 -- the first place of the room of entry i
 abbrev pub room_start : ChainView → ℕ → ℕ
-room_start v i = if is_some (entry_of v i).cluster then 0 else (if v.front.header then (if i == 0 then MBUF_HEADER + PACKET_HEADER else MBUF_HEADER) else MBUF_HEADER)
+room_start v i = if is_some (entry_of v i).cluster then 0 else (if v.front.header then (if i == 0 then PACKET_START else MBUF_HEADER) else MBUF_HEADER)
 
 -- the place after the room of an entry
 abbrev pub room_end : Entry → ℕ

@@ -9,10 +9,7 @@ use crate::cells::{bytes_from, count_from, free_from};
 use crate::edit::set_total;
 use crate::place::{Place, Segment};
 use mbuf_pool::{PacketHeader, Store};
-use params::{MBUF_HEADER, MSIZE, PACKET_HEADER};
-
-/// Where an mbuf with packet header begins to hold data.
-pub(crate) const PACKET_START: u32 = MBUF_HEADER + PACKET_HEADER;
+use params::{MBUF_HEADER, MSIZE, PACKET_START};
 
 /// How many bytes a chain has.
 pub(crate) fn bytes_of(store: &Store, first: u32) -> u32
@@ -138,7 +135,7 @@ pub(crate) fn segment(store: &Store, first: u32, at: Place) -> Segment
 
 /// Where an mbuf begins to hold data, with or without packet header.
 fn data_start(packet: Option<PacketHeader>) -> u32
-    ensures { result ≡ (if is_some packet then MBUF_HEADER + PACKET_HEADER else MBUF_HEADER) }
+    ensures { result ≡ (if is_some packet then PACKET_START else MBUF_HEADER) }
 {
     match packet {
         Some(_) => PACKET_START,

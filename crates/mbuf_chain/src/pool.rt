@@ -1,7 +1,7 @@
 //! The pool.
 ghost use Rattle.std.specs.Prelude.{◌≡◌, ◌≢◌, ℕ, ◌+◌, ◌-◌, ◌<◌, ◌≤◌, ◌⊎◌, true, None, Some, Bool, length, sum, fold, max, IfOk, OnOk, OnErr, IsSome, IfSome, MatchOption, if◌then◌else◌, take, drop};
 ghost use Rattle.std.specs.FinMap as finmap;
-ghost use Rattle.params.specs.declared.TheConstants.{MSIZE, MBUF_HEADER, PACKET_HEADER, MCLBYTES};
+ghost use Rattle.params.specs.declared.TheConstants.{MBUF_HEADER, MCLBYTES, MSIZE};
 ghost use Rattle.mbuf_pool.specs.Store.{mbufs_out, count_of};
 ghost use Rattle.mbuf_chain.specs.Chain.{IsLive, IsPlace, chain_of, with_chain, without, held_mbufs, references, counts, free_clusters, string, layout, entry_of, Adds, IsUnshared, room_start, room_end, leading_space, trailing_space, entry_in, HasLeadingSpace, HasTrailingSpace};
 ghost use Rattle.mbuf_chain.specs.Pieces.{pieces};
@@ -9,12 +9,12 @@ ghost use Rattle.mbuf_chain.specs.Steps.{one_mbuf, empty_entry, narrowed, with_e
 ghost use Rattle.mbuf_chain.specs.Frames.{IsBounded};
 
 use crate::chain::Chain;
-use crate::links::PACKET_START;
 use crate::pieces::{Entries, Pieces};
 use crate::place::{Place, Segment};
 use crate::usage::Usage;
 use crate::{data, edit, links, make, pieces};
 use mbuf_pool::{NoBufs, Store};
+use params::PACKET_START;
 use std::marker::Model;
 
 /// A pool of chains of mbufs, over a store that it hides.
@@ -108,7 +108,7 @@ impl Pool {
     /// changes nothing.
     pub fn new_chain(&mut self) -> Result<Chain, NoBufs>
         ensures ok { IfOk result (λ c. Adds self.old self.new c
-            (one_mbuf true (empty_entry (MBUF_HEADER + PACKET_HEADER) None) c)) }
+            (one_mbuf true (empty_entry PACKET_START None) c)) }
         ensures free { OnOk result (held_mbufs self.old < self.old.mbufs) }
         ensures err { OnErr result (held_mbufs self.old ≡ self.old.mbufs) }
         ensures same { OnErr result (self.new ≡ self.old) }
@@ -120,7 +120,7 @@ impl Pool {
     /// 28, or 20 without packet header, to 128. `NoBufs` comes exactly where no mbuf is free, and
     /// changes nothing.
     pub fn new_plain(&mut self, header: bool, start: u32) -> Result<Chain, NoBufs>
-        requires low { (if header then MBUF_HEADER + PACKET_HEADER else MBUF_HEADER) ≤ start }
+        requires low { (if header then PACKET_START else MBUF_HEADER) ≤ start }
         requires high { start ≤ MSIZE }
         ensures ok { IfOk result (λ c. Adds self.old self.new c
             (one_mbuf header (empty_entry start None) c)) }

@@ -1,5 +1,6 @@
 //! The calls that change all parts of the stack: a packet from the wire, and a send.
-ghost use Rattle.std.specs.Prelude.{◌≡◌, ◌<◌, ◌^◌, length, IfSome};
+ghost use Rattle.std.specs.Prelude.{◌≡◌, ◌≤◌, length, IfSome};
+ghost use Rattle.params.specs.declared.TheConstants.{IP_MAX_PACKET};
 ghost use Rattle.flat_model.specs.Machine.Event.{Comes, Done, IsAddr, Send};
 ghost use Rattle.flat_model.specs.Machine.Replies.{sent_reply};
 ghost use Rattle.flat_model.specs.Machine.Step.{Step};
@@ -29,7 +30,7 @@ impl Stack {
     /// Where the pool has too few buffers for the packet, all unfinished datagrams are dropped, and it's tested once more;
     /// where it has too few then, the packet is lost, counted as `Nobufs` and not as `IpTotal`.
     pub fn rx(&mut self, packet: &[u8])
-        requires { length packet.now < 2 ^ 16 }
+        requires { length packet.now ≤ IP_MAX_PACKET }
         ensures { Step (state_of self.old) (Comes packet.now) Done (state_of self.new) }
     {
         come_in(

@@ -20,6 +20,8 @@ pub const MINCLSIZE: u32 = MHLEN + MLEN;
 pub const MCLBYTES: u32 = 2048;
 /// Free bytes in front of what is sent from the first cluster, so that headers may be put there (this project's own).
 pub const CLUSTER_LEADING_SPACE: u32 = 56;
+/// Where the data of a plain mbuf with packet header begins, if no room is left in front of it: 28.
+pub const PACKET_START: u32 = MBUF_HEADER + PACKET_HEADER;
 /// So many bytes a new first mbuf takes in a pull-up, if there are as many: `max_protohdr` (volume 2, chapter 2).
 pub const MAX_PROTOCOL_HEADER: u32 = 40;
 /// The most mbufs of a pool (this project's own).
@@ -84,6 +86,10 @@ pub const UDP_RECEIVE_SPACE: u32 = 40 * (1024 + SOCKADDR_BYTES);
 pub const UDP_RECEIVE_MEMORY: u32 = 2 * UDP_RECEIVE_SPACE;
 /// Bytes of a sender's address in a receive queue, a `sockaddr_in` (volume 2, chapter 6).
 pub const SOCKADDR_BYTES: u32 = 16;
+
+/// The most bytes of a script's line that asks for something: two digits for each byte of the longest packet, and room
+/// for the words beside them (this project's own).
+pub const LONGEST_REQUEST: u32 = 131_200;
 
 // What the book's text and the RFCs give for those that are computed.
 const _: () = prove!(MLEN == 108 && MHLEN == 100 && MINCLSIZE == 208);

@@ -1,6 +1,6 @@
 -- What a contract sees of a region (this project's own layout; the sizes are those of a 32-bit 4.4BSD, TCP/IP Illustrated, volume 2, section 2.2).
 use Rattle.std.specs.Prelude.{◌≡◌, ℕ, ◌+◌, ◌*◌, ◌<◌, ◌≤◌, if◌then◌else◌, is_some, Some, None, Option, option_map, List, length, take, drop, replicate, slice_index_or, slice_set}
-use Rattle.params.specs.declared.TheConstants.{MSIZE, MBUF_HEADER, PACKET_HEADER, MCLBYTES, MAX_MBUFS, MAX_CLUSTERS}
+use Rattle.params.specs.declared.TheConstants.{MAX_CLUSTERS, MAX_MBUFS, MBUF_HEADER, MCLBYTES, MSIZE, PACKET_START}
 use Rattle.raw_cells.specs.Over.{over}
 use Rattle.raw_cells.specs.declared.head.Head.{Head}
 use Rattle.raw_cells.specs.declared.head.PacketHeader.{PacketHeader}
@@ -20,7 +20,7 @@ zero_head = record { next = Some 0; next_packet = Some 0; len = 0; start = 0; ki
 
 -- how many bytes of the mbuf the head takes. Its room is the rest
 abbrev pub head_size : Head → ℕ
-head_size h = if is_some h.cluster then 32 else (if is_some h.packet then MBUF_HEADER + PACKET_HEADER else MBUF_HEADER)
+head_size h = if is_some h.cluster then 32 else (if is_some h.packet then PACKET_START else MBUF_HEADER)
 
 -- the link can be told from the mark that stands for none
 abbrev pub IsLink : Option ℕ → Type 0

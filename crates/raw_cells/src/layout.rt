@@ -5,7 +5,7 @@ ghost use Rattle.raw_cells.specs.Inside.Layout.{head_in, link_of, packet_in, clu
 
 use crate::head::{Head, PacketHeader};
 use byteorder::{ByteOrder, LittleEndian};
-use params::{MBUF_HEADER, PACKET_HEADER};
+use params::{MBUF_HEADER, PACKET_START};
 
 /// In place of a number, that there is no such mbuf.
 const NO_MBUF: u32 = 0xffff_ffff;
@@ -87,7 +87,7 @@ pub(crate) fn head_len(head: &Head) -> usize
     if head.cluster.is_some() {
         32
     } else if head.packet.is_some() {
-        (MBUF_HEADER + PACKET_HEADER) as usize
+        PACKET_START as usize
     } else {
         MBUF_HEADER as usize
     }

@@ -18,7 +18,7 @@ pub use line_buffers::LineBuffers;
 pub use serve::{HELD, serve_script};
 pub use streams::{Silent, Sink, Source};
 pub use text::{put_hex, put_number};
-pub use words::{LONGEST_REQUEST, bytes, first_word, is_end, number, one, three, two};
+pub use words::{bytes, first_word, is_end, number, one, three, two};
 
 #[cfg(test)]
 mod tests;

@@ -1,9 +1,11 @@
-ghost use Rattle.std.specs.Prelude.{◌≡◌, vec_len, IfOk};
+ghost use Rattle.std.specs.Prelude.{◌≡◌, ◌*◌, vec_len, IfOk};
+ghost use Rattle.params.specs.declared.TheConstants.{IP_MAX_PACKET};
 
+use params::IP_MAX_PACKET;
 use std::alloc::{AllocError, Global};
 
-/// The most bytes that a line names.
-const MOST_BYTES: usize = 65_535;
+/// The most bytes that a line names: those of the longest packet.
+const MOST_BYTES: usize = IP_MAX_PACKET as usize;
 
 /// Memory for the work on one line, which is taken once for all lines.
 #[derive(Drop)]
@@ -12,8 +14,8 @@ pub struct LineBuffers {
     pub bytes: Vec<u8>,
     /// Room for their digits, two for each.
     pub digits: Vec<u8>,
-    ghost bytes_len: { vec_len bytes ≡ 65535 },
-    ghost digits_len: { vec_len digits ≡ 131070 },
+    ghost bytes_len: { vec_len bytes ≡ IP_MAX_PACKET },
+    ghost digits_len: { vec_len digits ≡ 2 * IP_MAX_PACKET },
 }
 
 /// Memory of this many bytes.

@@ -1,12 +1,10 @@
 //! The words of a line, and the numbers and bytes that they write.
 ghost use Rattle.std.specs.Prelude.{◌≡◌, ◌≤◌, ◌↔◌, ℕ, List, [], ◌∷◌, position, ◌==◌, length, take, IsTrue, MatchOption, IfSome};
+ghost use Rattle.params.specs.declared.TheConstants.{IP_MAX_PACKET};
 ghost use Rattle.flat_model.specs.Scripts.Grammar.{words, IsNumber, IsHex};
 ghost use Rattle.script_loop.specs.Left.{left};
 
 use std::str;
-
-/// The most bytes that a line may have to ask for something.
-pub const LONGEST_REQUEST: usize = 131_200;
 
 /// Where the first space is.
 fn space_at(text: &[u8]) -> Option<usize>
@@ -90,10 +88,10 @@ pub fn number(word: &[u8], most: u32) -> Option<u32>
 /// digits of either case for each of 1 to 65,535 bytes. Any other word is answered `None`, and what the room held may
 /// be lost then. The room has exactly 65,535 bytes.
 pub fn bytes(word: &[u8], room: &mut [u8]) -> Option<usize>
-    requires { length room.old ≡ 65535 }
+    requires { length room.old ≡ IP_MAX_PACKET }
     ensures bytes { MatchOption result ((xs : List ℕ) → IsHex word.now xs → ⊥)
         (λ n. IsHex word.now (take n room.new)) }
-    ensures fits { IfSome result (λ n. n ≤ 65535) }
+    ensures fits { IfSome result (λ n. n ≤ IP_MAX_PACKET) }
 {
     if word == b"-".as_slice() {
         return Some(0);

@@ -3,6 +3,7 @@
 use Rattle.std.specs.Prelude.{◌≡◌, ℕ, ◌<◌, ◌≤◌, List, take, Option, Some, None}
 use Rattle.params.specs.declared.TheConstants.{IP_MAX_PACKET}
 use Rattle.chain_script.specs.Lines as lines
+use Rattle.chain_script.specs.declared.caller.TheConstants.{SLOTS}
 use Rattle.chain_script.specs.declared.line.Call.{Call}
 use Rattle.chain_script.specs.declared.line.Call.TheVariants.{User, Wire, Copy, Prepend, PullUp, Adjust, Split, Join, WriteOver, ReadOut, Show, Free, Usage}
 
@@ -23,18 +24,18 @@ request_of Usage room = lines.Ask_usage
 
 -- its slots are slots, and its numbers are those of lines
 abbrev pub IsCall : Call → Type 0
-IsCall (User slot len) = (slot < 64) × (len ≤ IP_MAX_PACKET)
-IsCall (Wire slot len) = (slot < 64) × (len ≤ IP_MAX_PACKET)
-IsCall (Copy to slot extent) = (to < 64) × (slot < 64)
-IsCall (Prepend slot len) = (slot < 64) × (len ≤ IP_MAX_PACKET)
-IsCall (PullUp slot n) = slot < 64
-IsCall (Adjust slot n) = slot < 64
-IsCall (Split to slot at) = (to < 64) × (slot < 64)
-IsCall (Join slot other) = (slot < 64) × (other < 64)
-IsCall (WriteOver slot off len) = (slot < 64) × (off ≤ IP_MAX_PACKET) × (len ≤ IP_MAX_PACKET)
-IsCall (ReadOut slot off len) = (slot < 64) × (off ≤ IP_MAX_PACKET) × (len ≤ IP_MAX_PACKET)
-IsCall (Show slot) = slot < 64
-IsCall (Free slot) = slot < 64
+IsCall (User slot len) = (slot < SLOTS) × (len ≤ IP_MAX_PACKET)
+IsCall (Wire slot len) = (slot < SLOTS) × (len ≤ IP_MAX_PACKET)
+IsCall (Copy to slot extent) = (to < SLOTS) × (slot < SLOTS)
+IsCall (Prepend slot len) = (slot < SLOTS) × (len ≤ IP_MAX_PACKET)
+IsCall (PullUp slot n) = slot < SLOTS
+IsCall (Adjust slot n) = slot < SLOTS
+IsCall (Split to slot at) = (to < SLOTS) × (slot < SLOTS)
+IsCall (Join slot other) = (slot < SLOTS) × (other < SLOTS)
+IsCall (WriteOver slot off len) = (slot < SLOTS) × (off ≤ IP_MAX_PACKET) × (len ≤ IP_MAX_PACKET)
+IsCall (ReadOut slot off len) = (slot < SLOTS) × (off ≤ IP_MAX_PACKET) × (len ≤ IP_MAX_PACKET)
+IsCall (Show slot) = slot < SLOTS
+IsCall (Free slot) = slot < SLOTS
 IsCall Usage = Unit {0}
 
 -- the words after the keyword ask for the request

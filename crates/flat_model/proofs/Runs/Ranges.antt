@@ -1,7 +1,8 @@
 -- What a line asks for has numbers in their ranges.
-use Rattle.std.proofs.Common.{◌≡◌, ℕ, ◌<◌, ◌^◌, List, length, get_or, Some, None, inl, inr, arith, rules}
+use Rattle.std.proofs.Common.{◌≡◌, ℕ, ◌<◌, ◌≤◌, List, length, get_or, Some, None, inl, inr, arith, rules}
 use Rattle.std.proofs.lemmas.List.{get_or_default}
 use Rattle.hex.proofs.HexLemmas.{decode_of-ok}
+use Rattle.params.specs.declared.TheConstants.{IP_MAX_PACKET}
 use Rattle.flat_model.specs.declared.address.Addr.{Addr}
 use Rattle.flat_model.specs.Machine.Event.{Event, IsEvent, IsAddr, IsBytes, Open, Bind, Connect, Send, Receive, Close, Set_option, Comes, Transmit, Tick, Ask_counters, Ask_usage}
 use Rattle.flat_model.specs.Scripts.Grammar.{IsLine, IsEnd, IsHex}
@@ -9,7 +10,7 @@ use Rattle.flat_model.specs.Scripts.Grammar.{IsLine, IsEnd, IsHex}
 bytes-all : (xs : List ℕ) → ((i : ℕ) → get_or xs i 0 < 256) → IsBytes xs
 bytes-all xs small = λ k d below. let same : get_or xs k d ≡ get_or xs k 0 = get_or_default xs k d 0 below in rw same (small k)
 
-hex-bytes : (word bytes : List ℕ) → IsHex word bytes → IsBytes bytes × (length bytes < 2 ^ 16)
+hex-bytes : (word bytes : List ℕ) → IsHex word bytes → IsBytes bytes × (length bytes ≤ IP_MAX_PACKET)
 hex-bytes word bytes (inl dash) = rw dash.1 (search rules, omega arith)
 hex-bytes word bytes (inr some) = (bytes-all bytes (decode_of-ok word bytes some.2).3, omega (arith, some.1))
 

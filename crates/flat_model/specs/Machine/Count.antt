@@ -3,6 +3,7 @@
 use Rattle.std.specs.Prelude.{ℕ, ◌+◌, ◌-◌, ◌^◌, ◌==◌, if◌then◌else◌, min, List, [], ◌∷◌, map, replicate, slice_index, codes}
 use denote.Enum.Declared.{tag_of}
 use Rattle.flat_model.specs.contracts.counter.Counter.{the_type}
+use Rattle.flat_model.specs.declared.counter.TheConstants.{COUNTERS}
 use Rattle.flat_model.specs.declared.counter.Counter.{Counter}
 use Rattle.flat_model.specs.declared.counter.Counter.TheVariants.{IpTotal, IpToosmall, IpBadvers, IpBadhlen, IpOptions, IpBadsum, IpBadlen, IpTooshort, IpCantforward, IpBadfrag, IpFragments, IpFragdropped, IpFragtimeout, IpReclaimed, IpReassembled, IpNoproto, UdpHdrops, UdpBadlen, UdpBadsum, UdpNoport, UdpNoportbcast, UdpFullsock, IpLocalout, IpFragmented, OutDropped, Nobufs}
 use Rattle.flat_model.specs.declared.counters.Counters.{Counters}
@@ -66,7 +67,7 @@ counter_name = name_in named_counters
 
 -- nothing was counted
 abbrev pub no_counts : Counters
-no_counts = record { values = replicate 26 0 }
+no_counts = record { values = replicate COUNTERS 0 }
 
 -- what a counter has counted
 abbrev pub value_of : Counter → Counters → ℕ

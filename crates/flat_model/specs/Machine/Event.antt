@@ -1,6 +1,7 @@
 -- What may happen to the machine, and what it answers: the socket calls (volume 2, chapters 15, 16 and 22), the
 -- wire, the clock, and two questions (this project's own). Every socket call comes back at once.
-use Rattle.std.specs.Prelude.{ℕ, ◌<◌, ◌^◌, Bool, List, length, Option, All, ⊤, IfSome}
+use Rattle.std.specs.Prelude.{ℕ, ◌<◌, ◌≤◌, ◌^◌, Bool, List, length, Option, All, ⊤, IfSome}
+use Rattle.params.specs.declared.TheConstants.{IP_MAX_PACKET}
 use Rattle.flat_model.specs.declared.address.Addr.{Addr}
 use Rattle.flat_model.specs.declared.errno.Errno.{Errno}
 use Rattle.flat_model.specs.declared.option.Opt.{Opt}
@@ -43,10 +44,10 @@ pub record IsAddr (a : Addr) : Type 0 where
   pub ip : a.ip < 2 ^ 32
   pub port : a.port < 2 ^ 16
 
--- an event with numbers in their ranges; a packet has fewer than 65,536 bytes
+-- an event with numbers in their ranges; a packet is no longer than one may be
 abbrev pub IsEvent : Event → Type 0
 IsEvent (Bind fd address) = IsAddr address
 IsEvent (Connect fd address) = IsAddr address
 IsEvent (Send fd to bytes) = IfSome to IsAddr × IsBytes bytes
-IsEvent (Comes packet) = IsBytes packet × (length packet < 2 ^ 16)
+IsEvent (Comes packet) = IsBytes packet × (length packet ≤ IP_MAX_PACKET)
 IsEvent _ = ⊤

@@ -1,7 +1,7 @@
 -- What holds of every state that the machine reaches, so that its accounts are never overdrawn (this project's own).
-use Rattle.std.specs.Prelude.{◌≡◌, ℕ, ◌+◌, ◌-◌, ◌<◌, ◌≤◌, true, ◌==◌, length, count_by, Some, None}
+use Rattle.std.specs.Prelude.{◌≡◌, ℕ, ◌+◌, ◌-◌, ◌*◌, ◌/◌, ◌<◌, ◌≤◌, true, ◌==◌, length, count_by, Some, None}
 use Rattle.std.specs.List.{AllByRecursion as Each}
-use Rattle.params.specs.declared.TheConstants.{FIRST_DESCRIPTOR, MAX_SOCKETS, UDP_RECEIVE_SPACE, IP_MAX_DATA, FRAGMENT_TICKS, OUTPUT_QUEUE_PACKETS, FIRST_EPHEMERAL_PORT, LAST_EPHEMERAL_PORT}
+use Rattle.params.specs.declared.TheConstants.{FIRST_DESCRIPTOR, MAX_SOCKETS, MSIZE, UDP_RECEIVE_MEMORY, UDP_RECEIVE_SPACE, IP_MAX_DATA, FRAGMENT_TICKS, OUTPUT_QUEUE_PACKETS, FIRST_EPHEMERAL_PORT, LAST_EPHEMERAL_PORT}
 use Rattle.flat_model.specs.Amounts.Weight.{Weight, Item, Covers, mbuf, ◌⊕◌}
 use Rattle.flat_model.specs.Fragments.Overlay.{Map, Held}
 use Rattle.flat_model.specs.Sockets.Fits.{bytes_queued}
@@ -38,7 +38,7 @@ pub record IsSocket (c : Config) (socket : Socket) : Type 0 where
   pub unbound : socket.port ≡ None → (socket.local ≡ None) × (socket.peer ≡ None)
   pub queue : Each (IsQueued c) socket.queue
   pub queued_bytes : bytes_queued socket.queue ≤ UDP_RECEIVE_SPACE
-  pub queued : length socket.queue ≤ 325
+  pub queued : length socket.queue ≤ UDP_RECEIVE_MEMORY / (2 * MSIZE)
 
 -- What lies at an offset belongs to a piece without gaps from its first offset on, which has room for it.
 pub record IsPlace (c : Config) (bytes : Map) (offset : ℕ) (held : Held) : Type 0 where

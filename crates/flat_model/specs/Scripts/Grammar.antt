@@ -3,6 +3,7 @@ use Rattle.std.specs.Prelude.{◌≡◌, ℕ, ◌<◌, ◌≤◌, ◌^◌, ◌/�
 use Rattle.std.specs.List.{slice_split}
 use Rattle.std.specs.Net.Text.{dotted_text}
 use Rattle.hex.specs.Hex.{decode_of}
+use Rattle.params.specs.declared.TheConstants.{IP_MAX_PACKET, LONGEST_REQUEST}
 use Rattle.flat_model.specs.declared.address.Addr.{Addr}
 use Rattle.flat_model.specs.declared.option.Opt.{Opt}
 use Rattle.flat_model.specs.declared.option.Opt.TheVariants.{Broadcast, ReusePort}
@@ -34,7 +35,7 @@ IsAddress word ip = (ip < 2 ^ 32) × (word ≡ address_text ip)
 -- a dash for no bytes, or two hexadecimal digits of either case for each of 1 to 65,535 bytes
 abbrev pub IsHex : List ℕ → List ℕ → Type 0
 IsHex word bytes = ((word ≡ codes "-") × (bytes ≡ []))
-    ⊎ ((0 < length bytes) × (length bytes ≤ 65535) × (decode_of word ≡ Ok bytes))
+    ⊎ ((0 < length bytes) × (length bytes ≤ IP_MAX_PACKET) × (decode_of word ≡ Ok bytes))
 
 abbrev pub option_name : Opt → List ℕ
 option_name Broadcast = codes "broadcast"
@@ -77,7 +78,7 @@ HasArguments (Send fd (Some to) bytes) args =
     (f a p h : List ℕ) × (args ≡ f ∷ a ∷ p ∷ h ∷ []) × IsDescriptor f fd × IsEnd a p to × IsHex h bytes
 HasArguments (Send fd None bytes) args = (f h : List ℕ) × (args ≡ f ∷ h ∷ []) × IsDescriptor f fd × IsHex h bytes
 HasArguments (Receive fd most) args =
-    (f m : List ℕ) × (args ≡ f ∷ m ∷ []) × IsDescriptor f fd × IsNumber 65535 m most × (0 < most)
+    (f m : List ℕ) × (args ≡ f ∷ m ∷ []) × IsDescriptor f fd × IsNumber IP_MAX_PACKET m most × (0 < most)
 HasArguments (Close fd) args = (f : List ℕ) × (args ≡ f ∷ []) × IsDescriptor f fd
 HasArguments (Set_option fd option on) args =
     (f : List ℕ) × (args ≡ f ∷ option_name option ∷ switch_name on ∷ []) × IsDescriptor f fd
@@ -89,7 +90,7 @@ HasArguments Ask_usage args = args ≡ []
 
 -- the line asks for the event
 pub record IsLine (line : List ℕ) (event : Event) : Type 0 where
-  pub short : length line ≤ 131200
+  pub short : length line ≤ LONGEST_REQUEST
   pub args : List (List ℕ)
   pub words_are : words line ≡ keyword event ∷ args
   pub arguments : HasArguments event args

@@ -2,6 +2,7 @@
 use Rattle.std.proofs.Common.{◌≡◌, ℕ, zero, suc, ◌+◌, ◌<◌, ◌≤◌, List, [], ◌∷◌, map, filter_map, Some, refl, sym, ap, ◌∙◌, subst, inl, inr, arith}
 use Rattle.std.specs.List.{range_with_len, cons_option}
 use Rattle.std.proofs.lemmas.Bool.{cases_lt, eq-eqb, ne_eqb, cond-true, cond-false}
+use Rattle.params.specs.declared.TheConstants.{IP_MAX_DATA}
 use Rattle.flat_model.specs.Amounts.Weight.{Weight, all_of, ◌⊕◌}
 use Rattle.flat_model.specs.Fragments.Overlay.{Piece, Map}
 use Rattle.flat_model.specs.Fragments.Whole.{piece_at, pieces_below, pieces, weight_of_pieces}
@@ -46,13 +47,13 @@ unfolding pieces_below
 below_are most ps a e = firsts_are most 0 ps a (subst (λ (m : ℕ). AllEnd m ps) (omega arith) e)
 
 -- **the pieces of the map are the fragments**
-pub pieces_are : (ps : List Fragment) → Apart 0 ps → AllEnd 65515 ps → pieces (map_of ps) ≡ map piece_of ps
-pieces_are ps a e = below_are 65515 ps a e
+pub pieces_are : (ps : List Fragment) → Apart 0 ps → AllEnd IP_MAX_DATA ps → pieces (map_of ps) ≡ map piece_of ps
+pieces_are ps a e = below_are IP_MAX_DATA ps a e
 
 all-map : (ps : List Fragment) → all_of (λ (q : Piece). q.weight) (map piece_of ps) ≡ all_of (λ (p : Fragment). p.weight) ps
 all-map [] = refl
 all-map (p ∷ ps) = ap (λ (w : Weight). p.weight ⊕ w) (all-map ps)
 
 -- **they weigh what the fragments weigh**
-pub weight_is : (ps : List Fragment) → Apart 0 ps → AllEnd 65515 ps → weight_of_pieces (map_of ps) ≡ all_of (λ (p : Fragment). p.weight) ps
+pub weight_is : (ps : List Fragment) → Apart 0 ps → AllEnd IP_MAX_DATA ps → weight_of_pieces (map_of ps) ≡ all_of (λ (p : Fragment). p.weight) ps
 weight_is ps a e = ap (all_of (λ (q : Piece). q.weight)) (pieces_are ps a e) ∙ all-map ps

@@ -5,7 +5,7 @@ use Rattle.std.specs.FinMap as finmap
 use Rattle.std.specs.FinMap.{FinMap}
 use Rattle.std.specs.Option.{option_eq}
 use Rattle.std.specs.List.{AllByRecursion}
-use Rattle.params.specs.declared.TheConstants.{MSIZE, MBUF_HEADER, PACKET_HEADER, MCLBYTES}
+use Rattle.params.specs.declared.TheConstants.{MBUF_HEADER, MCLBYTES, MSIZE, PACKET_START}
 use Rattle.mbuf_pool.specs.Cells.{Head, PacketHeader, Buffer, Mbuf, Cluster, over}
 use Rattle.mbuf_chain.specs.declared.place.Place.{Place}
 use Rattle.mbuf_pool.specs.Store.{StoreView, is_out, mbuf_of, head_of, cluster_of, count_of, mbufs_out, with_mbuf, with_cluster, released, IsStore}
@@ -114,7 +114,7 @@ pool_of s = record { mbufs = length s.mbufs; clusters = length s.clusters; chain
 -- ---- what holds of the mbufs of a pool
 -- the first place of an mbuf's room, and the place after it
 abbrev pub room_low : Head → ℕ
-room_low h = if is_some h.cluster then 0 else (if is_some h.packet then MBUF_HEADER + PACKET_HEADER else MBUF_HEADER)
+room_low h = if is_some h.cluster then 0 else (if is_some h.packet then PACKET_START else MBUF_HEADER)
 
 abbrev pub room_high : Head → ℕ
 room_high h = if is_some h.cluster then MCLBYTES else MSIZE
@@ -198,7 +198,7 @@ head_for header start len cluster = record {
 
 -- where its room begins, if it is in no cluster
 abbrev pub start_of : Bool → ℕ
-start_of header = if header then MBUF_HEADER + PACKET_HEADER else MBUF_HEADER
+start_of header = if header then PACKET_START else MBUF_HEADER
 
 -- the mbuf i was free, and is handed out with a head. What its other bytes are is not said
 pub record Taken (s t : StoreView) (i : ℕ) (h : Head) : Type 0 where
