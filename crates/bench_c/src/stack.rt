@@ -3,11 +3,11 @@ ghost use Rattle.std.specs.Prelude.{◌≤◌};
 
 use flat_model::{Addr, Config};
 use net_stack::Stack;
-use params::MAX_MTU;
+use params::{MAX_MTU, UDP_HEADER};
 use std::alloc::Global;
 
-/// The most packets that a datagram makes here: 9,216 bytes on a link of 1,500.
-const PACKETS: u32 = 7;
+/// How many bytes a packet carries at most on a link of 1,500 bytes.
+const CHUNK: usize = 1480;
 
 /// The most bytes of a datagram.
 const MOST: usize = 9216;
@@ -53,9 +53,14 @@ fn listening(alloc: Global, config: Config) -> Option<Stack> {
 /// A packet on its way.
 type Packet = [u8; MAX_MTU as usize];
 
-/// Hands all packets that wait in one stack to another.
-fn carry(from: &mut Stack, to: &mut Stack, packet: &mut Packet) {
-    'packets: for _ in 0..PACKETS {
+/// How many packets a datagram of `len` bytes makes.
+fn packets_of(len: usize) -> usize {
+    len.saturating_add(UDP_HEADER as usize).div_ceil(CHUNK)
+}
+
+/// Hands so many packets that wait in one stack to another.
+fn carry(from: &mut Stack, to: &mut Stack, packet: &mut Packet, packets: usize) {
+    'packets: for _ in 0..packets {
         let Some(len) = from.tx(packet) else {
             break;
         };
@@ -77,10 +82,11 @@ fn exchange(sender: &mut Stack, hearer: &mut Stack, bytes: &[u8], times: u32) ->
 {
     let mut packet = [0; MAX_MTU as usize];
     let mut room = [0; MOST];
+    let packets = packets_of(bytes.len());
     let mut well = 0;
     'turns: for _ in 0..times {
         let sent = sender.sendto(SOCKET, Some(TO_HEARER), bytes);
-        carry(sender, hearer, &mut packet);
+        carry(sender, hearer, &mut packet, packets);
         if sent.is_ok() && heard(hearer, bytes.len(), &mut room) {
             well += 1;
         }
