@@ -19,16 +19,16 @@ use Rattle.pcb_table.specs.declared.block.Block.{Block}
 use Rattle.pcb_table.specs.declared.block.Connection.{Connection}
 use Rattle.pcb_table.specs.declared.interface.Interface.{Interface}
 use Rattle.pcb_table.specs.Table.{Queues, IsDescriptor, block_at, machine, packet_key, socket_with}
-use Rattle.pcb_table.specs.Found.{ChecksDestination, Finds, FindsAll, SendsFrom}
-use Rattle.pcb_table.specs.Inside.Search.{best_block, youngest_block, hearing_blocks, block_connect_faults, config_of}
+use Rattle.pcb_table.specs.Found.{ChecksDestination, EnsuresPort, Finds, FindsAll, SendsFrom}
+use Rattle.pcb_table.specs.Inside.Search.{best_block, youngest_block, hearing_blocks, block_connect_faults, config_of, GivesPort}
 use Rattle.pcb_table.specs.Apart.{does_match, plain, AreApart, has_fd}
-use Rattle.pcb_table.specs.Inside.Fields.{IsCached, IsLocated, IsLowestFree}
+use Rattle.pcb_table.specs.Inside.Fields.{IsCached, IsLowestFree}
 use Rattle.pcb_table.specs.Inside.Changed.{unbound_block}
 use Rattle.pcb_table.proofs.Descriptors.{named_times, up_to_few, filter_few}
 use Rattle.pcb_table.proofs.Keeping.{addr_same, cached_is_best}
 use Rattle.pcb_table.proofs.Lifted.{best-sockets, youngest-sockets, receivers-sockets, sockets-find}
-use Rattle.pcb_table.proofs.Places.{best_by_fd, found_by_fd, hearing_by_fd, hearing_range, located_found}
-use Rattle.pcb_table.proofs.Steps.{table_of, connect_faults-blocks}
+use Rattle.pcb_table.proofs.Places.{best_by_fd, found_by_fd, hearing_by_fd, hearing_range, only_changes}
+use Rattle.pcb_table.proofs.Steps.{table_of, changed, connect_faults-blocks, gets_port}
 
 -- ---- look-ups
 
@@ -70,10 +70,10 @@ cached_best bs cache k ip port source apart cached is e =
 
 -- ---- what an open descriptor's block answers
 
-module _ (i : Interface) (bs : List Block) (last : Option ℕ) (fd index : ℕ) (b : Block) (apart : AreApart bs) (at : IsLocated fd bs index b) where
+module _ (i : Interface) (bs : List Block) (last : Option ℕ) (fd : ℕ) (b : Block) (at : find (has_fd fd) bs ≡ Some b) where
   pub sends_from : (ip source : ℕ) → source ≡ source_for (config_of i) (plain b) ip → SendsFrom (table_of i bs last) fd ip source
   sends_from ip source e rest queues c found =
-      let same : b ≡ c = same_Some b c (sym (located_found bs fd index b apart at) ∙ found) in
+      let same : b ≡ c = same_Some b c (sym at ∙ found) in
       e ∙ ap (λ (d : Block). source_for (config_of i) (plain d) ip) same
 
   abbrev destination_faults : (a : Addr) (c : Block) → List (Bool × Errno)
@@ -82,7 +82,7 @@ module _ (i : Interface) (bs : List Block) (last : Option ℕ) (fd index : ℕ) 
   faults_are : (a : Addr) (rest : State) (queues : Queues) (c : Block) → block_at fd (table_of i bs last) ≡ Some c
       → first_fault (address_faults (machine rest queues (table_of i bs last)) (socket_with queues c) (Some a)) ≡ first_fault (destination_faults a b)
   faults_are a rest queues c found =
-      let same : c ≡ b = same_Some c b (sym found ∙ located_found bs fd index b apart at) in
+      let same : c ≡ b = same_Some c b (sym found ∙ at) in
       ap (λ (fs : List (Bool × Errno)). first_fault ((is_some c.peer, IsConnected) ∷ fs)) (connect_faults-blocks rest queues (table_of i bs last) c (read_addr (config_of i) a))
       ∙ ap (λ (d : Block). first_fault (destination_faults a d)) same
 
@@ -99,6 +99,19 @@ module _ (i : Interface) (bs : List Block) (last : Option ℕ) (fd index : ℕ) 
       → ChecksDestination (table_of i bs last) fd a (Ok to)
   checks_passed a to e is none rest queues c found =
       (faults_are a rest queues c found ∙ (λ j. cond (e j) (Some IsConnected) (none j)), is)
+
+  -- one that has a port keeps it, and the table is as it was
+  pub ensured_same : (port : ℕ) → AreApart bs → b.port ≡ Some port → EnsuresPort (table_of i bs last) fd port (table_of i bs last)
+  ensured_same port apart has = record {
+    last = last;
+    gets = λ rest queues c found.
+        let same : c ≡ b = same_Some c b (sym found ∙ at) in
+        gets_port rest queues (table_of i bs last) c.local c.port port last
+        (subst (λ (asked : Option ℕ). GivesPort bs last c.local asked port last) (sym (ap (λ (d : Block). d.port) same ∙ has)) (refl, refl));
+    changes = λ rest queues.
+        ap (λ (cs : List Block). machine rest queues (table_of i cs last)) (only_changes (has_fd fd) (λ c. record c { port = Some port }) bs b (λ k. record b { port = sym has k }) at (apart.fds fd))
+        ∙ changed rest queues (table_of i bs last) fd (λ c. record c { port = Some port }) (λ socket. record socket { port = Some port }) (λ c. refl);
+  }
 
 -- ---- a new socket
 

@@ -65,6 +65,18 @@ module _ (p : Block → Bool) where
         go rest true first = absurd (omega (arith, counted-cons p b bs, ap one_if first, counts_at bs k d (omega arith) met))
         go rest false other = ap (λ cs. b ∷ cs) (rest (omega (arith, counted-cons p b bs)))
 
+    -- a change that leaves it as it was
+    pub only_changes : (bs : List Block) (d : Block) → f d ≡ d → find p bs ≡ Some d → count_by p bs ≤ 1 → bs ≡ map (λ b. cond (p b) (f b) b) bs
+    only_changes [] d same e once = refl
+    only_changes (b ∷ bs) d same e once = go (only_changes bs d same) (p b) refl e
+      where
+        go : (find p bs ≡ Some d → count_by p bs ≤ 1 → bs ≡ map (λ c. cond (p c) (f c) c) bs) → (t : Bool) → p b ≡ t → cond t (Some b) (find p bs) ≡ Some d → b ∷ bs ≡ cond t (f b) b ∷ map (λ c. cond (p c) (f c) c) bs
+        go rest true met e =
+            let is : b ≡ d = same_Some b d e in
+            let kept : b ≡ f b = is ∙ sym same ∙ ap f (sym is) in
+            λ i. kept i ∷ changed_none bs (omega (arith, once, counted-cons p b bs, ap one_if met)) i
+        go rest false missed e = ap (λ cs. b ∷ cs) (rest e (omega (arith, once, counted-cons p b bs)))
+
   kept_all : (bs : List Block) → count_by p bs ≡ 0 → bs ≡ filter (λ b. not (p b)) bs
   kept_all [] e = refl
   kept_all (b ∷ bs) e = go (kept_all bs) (p b) refl

@@ -302,11 +302,19 @@ impl Pcbs {
         ensures { ChecksDestination self.now fd to result }
     {
         let block = located(self.blocks.as_slice(), fd).block;
+        self.check_destination_of(&block, to)
+    }
+
+    /// `check_destination` of the socket that has this block.
+    pub fn check_destination_of(&self, block: &Block, to: Addr) -> Result<Addr, Errno>
+        requires { block_at block.now.fd self.now ≡ Some block.now }
+        ensures { ChecksDestination self.now block.now.fd to result }
+    {
+        let to = self.interface.read(to);
         if block.peer.is_some() {
             return Err(Errno::IsConnected);
         }
-        let to = self.interface.read(to);
-        match destination_fault(self.blocks.as_slice(), self.interface, &block, to) {
+        match destination_fault(self.blocks.as_slice(), self.interface, block, to) {
             Some(errno) => Err(errno),
             None => Ok(to),
         }
@@ -319,7 +327,28 @@ impl Pcbs {
         ensures { SendsFrom self.now fd ip result }
     {
         let block = located(self.blocks.as_slice(), fd).block;
-        self.interface.source(&block, ip)
+        self.source_of(&block, ip)
+    }
+
+    /// `source_for` of the socket that has this block.
+    pub fn source_of(&self, block: &Block, ip: u32) -> u32
+        requires { block_at block.now.fd self.now ≡ Some block.now }
+        ensures { SendsFrom self.now block.now.fd ip result }
+    {
+        self.interface.source(block, ip)
+    }
+
+    /// `ensure_port` of the socket that has this block.
+    pub fn ensure_port_of(&mut self, block: &Block) -> u16
+        requires { block_at block.now.fd self.old ≡ Some block.now }
+        ensures port { EnsuresPort self.old block.now.fd result self.new }
+        ensures descriptors { KeepsOpen self.old self.new }
+    {
+        self.laws();
+        match block.port {
+            Some(port) => port,
+            None => self.ensure_port(block.fd),
+        }
     }
 
     /// The local port of an open socket. One without gets the next free ephemeral port, as at its first send.

@@ -1,7 +1,7 @@
 //! Where a send goes, and what it is refused for before its buffers are looked at.
 ghost use Rattle.std.specs.Prelude.{◌≡◌, ◌+◌, ◌≤◌, Some, IfNone, IfOk, OnOk, true};
 ghost use Rattle.flat_model.specs.Packets.Header.{first_fault};
-ghost use Rattle.pcb_table.specs.Table.{IsOpen, block_at};
+ghost use Rattle.pcb_table.specs.Table.{block_at};
 ghost use Rattle.sock_calls.specs.Inside.Destination.{early_faults, broadcast_faults, FindsTarget, ChecksSend};
 
 use flat_model::{Addr, Errno};
@@ -29,7 +29,7 @@ fn target_of(pcbs: &Pcbs, block: &Block, to: Option<Addr>) -> Result<Addr, Errno
 {
     match to {
         None => Ok(block.peer.unwrap_or(Addr { ip: 0, port: 0 })),
-        Some(address) => pcbs.check_destination(block.fd, address),
+        Some(address) => pcbs.check_destination_of(block, address),
     }
 }
 
@@ -48,29 +48,26 @@ fn broadcast_fault(to_all: bool, allowed: bool, mtu: u16, len: usize) -> Option<
     None
 }
 
-/// Where a send of `len` bytes by an open socket goes: to the address given, as it's read, or else to its peer.
+/// Where a send of `len` bytes by the socket of a block goes: to the address given, as it's read, or else to its peer.
 /// Refused, in this order: `DestinationRequired`, `MessageSize` above 9,216 bytes, `IsConnected`,
 /// `AddressNotAvailable`, `HostUnreachable`, `AddressInUse`, `Access` for the broadcast address without the option,
 /// `MessageSize` for a broadcast that is longer than the link's packets. It changes nothing (volume 2 chapters 16 and 23).
 pub(crate) fn send_target(
     pcbs: &Pcbs,
     mtu: u16,
-    fd: u32,
+    block: &Block,
     to: Option<Addr>,
     len: usize,
 ) -> Result<Addr, Errno>
-    requires open { IsOpen fd pcbs.now }
-    ensures target { ChecksSend pcbs.now mtu fd to len result }
+    requires { block_at block.now.fd pcbs.now ≡ Some block.now }
+    ensures target { ChecksSend pcbs.now mtu block.now.fd to len result }
     ensures few { OnOk result (len ≤ UDP_SEND_SPACE) }
     ensures uncut { IfOk result (λ a. a.ip ≡ pcbs.now.bcast → len + IP_UDP_HEADERS ≤ mtu) }
 {
-    let Some(block) = pcbs.block(fd) else {
-        return Err(Errno::BadDescriptor);
-    };
     if let Some(errno) = early_fault(to, block.peer, len) {
         return Err(errno);
     }
-    let target = target_of(pcbs, &block, to)?;
+    let target = target_of(pcbs, block, to)?;
     let to_all = target.ip == pcbs.bcast();
     if let Some(errno) = broadcast_fault(to_all, block.broadcast, mtu, len) {
         return Err(errno);

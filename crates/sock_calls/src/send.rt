@@ -1,7 +1,7 @@
 //! A send.
-ghost use Rattle.std.specs.Prelude.{◌≡◌, ◌+◌, ◌≤◌, length};
+ghost use Rattle.std.specs.Prelude.{◌≡◌, ◌+◌, ◌≤◌, length, Some};
 ghost use Rattle.ledger.specs.Reserve.{are_free};
-ghost use Rattle.pcb_table.specs.Table.{IsOpen};
+ghost use Rattle.pcb_table.specs.Table.{block_at};
 ghost use Rattle.ip_out.specs.Queues.{IsQueue};
 ghost use Rattle.sock_calls.specs.Outgoing.{sending, CanSend, IsSent};
 ghost use Rattle.sock_calls.specs.Inside.Putting.{config_of, counts_sent, IsFreeFor, IsPut, IsRouted};
@@ -14,7 +14,7 @@ use flat_model::{Addr, Counter, Counters, Errno, Lack, Need};
 use ip_out::Packets;
 use mbuf_chain::Pool;
 use params::{IP_UDP_HEADERS, UDP_SEND_SPACE};
-use pcb_table::Pcbs;
+use pcb_table::{Block, Pcbs};
 use sockbuf::SockBuf;
 use std::mem;
 
@@ -41,20 +41,27 @@ fn are_free(pool: &Pool, need: Need) -> bool
 }
 
 /// Sends a datagram, and answers whether a packet of it was lost at the output queue. Its buffers have to be free.
-fn put(pool: &mut Pool, pcbs: &mut Pcbs, net: &mut Net, fd: u32, to: Addr, bytes: &[u8]) -> bool
-    requires opened { IsOpen fd pcbs.old }
+fn put(
+    pool: &mut Pool,
+    pcbs: &mut Pcbs,
+    net: &mut Net,
+    block: &Block,
+    to: Addr,
+    bytes: &[u8],
+) -> bool
+    requires opened { block_at block.now.fd pcbs.old ≡ Some block.now }
     requires queue { IsQueue pool.old net.old.out }
     requires none { net.old.looped.len ≡ 0 }
     requires most { length bytes.now ≤ UDP_SEND_SPACE }
     requires routed { IsRouted (config_of pcbs.old net.old.mtu) }
     requires uncut { to.ip ≡ pcbs.old.bcast → length bytes.now + IP_UDP_HEADERS ≤ net.old.mtu }
     requires free { IsFreeFor pool.old (config_of pcbs.old net.old.mtu) to.ip (length bytes.now) }
-    ensures { IsPut fd to bytes.now pool.old pcbs.old net.old result pool.new pcbs.new net.new }
+    ensures { IsPut block.now.fd to bytes.now pool.old pcbs.old net.old result pool.new pcbs.new net.new }
 {
     let heading = Heading {
         id: net.next_id,
-        source: pcbs.source_for(fd, to.ip),
-        port: pcbs.ensure_port(fd),
+        source: pcbs.source_of(block, to.ip),
+        port: pcbs.ensure_port_of(block),
         to,
     };
     let Packets {
@@ -85,10 +92,10 @@ pub(crate) fn send(
         (sending pool.new (record { pcbs = pcbs.new; queues = from_three queues.now }) net.new) }
 {
     let _ = queues;
-    if pcbs.block(fd).is_none() {
+    let Some(block) = pcbs.block(fd) else {
         return Err(Errno::BadDescriptor);
-    }
-    let target = match send_target(pcbs, net.mtu, fd, to, bytes.len()) {
+    };
+    let target = match send_target(pcbs, net.mtu, &block, to, bytes.len()) {
         Ok(target) => target,
         Err(errno) => return Err(errno),
     };
@@ -96,7 +103,7 @@ pub(crate) fn send(
     if !are_free(pool, need) {
         return Err(Errno::NoBufs(Lack::Pool));
     }
-    let is_lost = put(pool, pcbs, net, fd, target, bytes);
+    let is_lost = put(pool, pcbs, net, &block, target, bytes);
     pcbs.laws();
     if is_lost {
         return Err(Errno::NoBufs(Lack::Queue));

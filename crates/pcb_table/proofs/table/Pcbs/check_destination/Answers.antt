@@ -1,45 +1,22 @@
-use Rattle.std.proofs.Common.{◌≡◌, Some, None, Ok, Err, sym, subst, ◌∙◌}
-use Rattle.flat_model.specs.Packets.Header.{first_fault}
-use Rattle.pcb_table.specs.Table.{Table}
-use Rattle.pcb_table.specs.Inside.Search.{block_connect_faults, config_of}
+use Rattle.std.proofs.Common.{◌≡◌, ℕ, find, Some, ap, subst, ◌∙◌}
+use Rattle.pcb_table.specs.Table.{Table, block_at}
+use Rattle.pcb_table.specs.Apart.{has_fd}
 use Rattle.pcb_table.specs.Inside.Fields.{IsLocated}
-use Rattle.flat_model.specs.Machine.Calls.{read_addr}
-use Rattle.flat_model.specs.declared.errno.Errno.TheVariants.{IsConnected}
 use Rattle.pcb_table.specs.Found.{ChecksDestination}
-use Rattle.pcb_table.proofs.Finding.{checks_connected, checks_passed, checks_refused}
+use Rattle.pcb_table.proofs.Places.{located_found}
 use Rattle.pcb_table.proofs.Steps.{located_in}
 use Rattle.pcb_table.proofs.table.Pcbs.check_destination.Goals as goal
 
-pub returns-then-is_some : goal.returns-then-is_some
-returns-then-is_some c =
-    let i = c.self.inside.interface in
+pub check_destination_of-requires : goal.check_destination_of-requires
+check_destination_of-requires c =
     let bs = c.self.inside.blocks.items in
-    let last = c.self.inside.last_port in
     let b = c.located.result.block in
     let at : IsLocated c.args.fd bs c.located.result.index b = located_in _ _ _ _ _ c.as_slice.ensures.value c.located.ensures in
-    subst (λ (t : Table). ChecksDestination t c.args.fd c.args.to (Err IsConnected)) c.self.view_is
-    (checks_connected i bs last c.args.fd c.located.result.index b c.self.invariant.0 at c.args.to (sym c.is_some.ensures ∙ c.if-is_some.true))
+    subst (λ (t : Table). block_at b.fd t ≡ Some b) c.self.view_is
+    (ap (λ (k : ℕ). find (has_fd k) bs) at.named ∙ located_found bs c.args.fd c.located.result.index b c.self.invariant.0 at)
 
-pub returns-in-Some : goal.returns-in-Some
-returns-in-Some c =
-    let i = c.self.inside.interface in
+pub returns : goal.returns
+returns c =
     let bs = c.self.inside.blocks.items in
-    let last = c.self.inside.last_port in
-    let b = c.located.result.block in
-    let at : IsLocated c.args.fd bs c.located.result.index b = located_in _ _ _ _ _ c.as_slice.ensures.value c.located.ensures in
-    let fault : first_fault (block_connect_faults (config_of i) bs b (read_addr (config_of i) c.args.to)) ≡ Some c.in-Some.errno =
-    (λ k. first_fault (block_connect_faults (config_of i) (sym c.as_slice-2.ensures.value k) b (sym c.read-to.ensures k))) ∙ sym c.destination_fault.ensures ∙ c.in-Some.is in
-    subst (λ (t : Table). ChecksDestination t c.args.fd c.args.to (Err c.in-Some.errno)) c.self.view_is
-    (checks_refused i bs last c.args.fd c.located.result.index b c.self.invariant.0 at c.args.to c.in-Some.errno (sym c.is_some.ensures ∙ c.if-is_some.false) fault)
-
-pub returns-in-None : goal.returns-in-None
-returns-in-None c =
-    let i = c.self.inside.interface in
-    let bs = c.self.inside.blocks.items in
-    let last = c.self.inside.last_port in
-    let b = c.located.result.block in
-    let at : IsLocated c.args.fd bs c.located.result.index b = located_in _ _ _ _ _ c.as_slice.ensures.value c.located.ensures in
-    let none : first_fault (block_connect_faults (config_of i) bs b (read_addr (config_of i) c.args.to)) ≡ None =
-    (λ k. first_fault (block_connect_faults (config_of i) (sym c.as_slice-2.ensures.value k) b (sym c.read-to.ensures k))) ∙ sym c.destination_fault.ensures ∙ c.in-None.is in
-    subst (λ (t : Table). ChecksDestination t c.args.fd c.args.to (Ok c.read-to.result)) c.self.view_is
-    (checks_passed i bs last c.args.fd c.located.result.index b c.self.invariant.0 at c.args.to c.read-to.result (sym c.is_some.ensures ∙ c.if-is_some.false) c.read-to.ensures none)
+    let at : IsLocated c.args.fd bs c.located.result.index c.located.result.block = located_in _ _ _ _ _ c.as_slice.ensures.value c.located.ensures in
+    subst (λ (k : ℕ). ChecksDestination c.args.self.now k c.args.to c.check_destination_of.result) at.named c.check_destination_of.ensures
