@@ -24,6 +24,8 @@ pub(crate) fn at_end(header: bool, n: u32) -> u32
 /// small at the end of a new first mbuf, which takes over the packet header and gives the chain its number. A
 /// cluster is never written to. `NoBufs` comes exactly where an mbuf is needed and none is free, and changes nothing
 /// (TCP/IP Illustrated, volume 2, chapter 2).
+// Inlined, since a caller knows how many bytes there are.
+#[inline(always)]
 pub fn m_prepend(pool: &mut Pool, chain: &mut Chain, bytes: &[u8]) -> Result<(), NoBufs>
     requires live { IsLive pool.old chain.old }
     requires some { 0 < length bytes.now }

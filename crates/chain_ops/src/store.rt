@@ -16,6 +16,7 @@ use params::{
 };
 
 /// A chain of one mbuf with bytes in a cluster of its own, from `start` on.
+#[inline(always)]
 fn new_cluster(pool: &mut Pool, header: bool, start: u32, bytes: &[u8]) -> Result<Chain, NoBufs>
     requires { start + length bytes.now ≤ MCLBYTES }
     ensures ok { IfOk result (λ c. (k : ℕ) × (k < pool.old.clusters) × (references pool.old k ≡ 0)
@@ -31,6 +32,7 @@ fn new_cluster(pool: &mut Pool, header: bool, start: u32, bytes: &[u8]) -> Resul
 }
 
 /// A chain of one plain mbuf with bytes, from `start` on.
+#[inline(always)]
 fn new_plain(pool: &mut Pool, header: bool, start: u32, bytes: &[u8]) -> Result<Chain, NoBufs>
     requires low { room_low header ≤ start }
     requires high { start + length bytes.now ≤ MSIZE }
@@ -72,6 +74,8 @@ fn first_start(ends: bool, n: usize) -> u32
 }
 
 /// A chain of one mbuf with bytes: in a cluster from `large` on, or in its own room from `plain` on.
+// Inlined with these two, since a first mbuf has a packet header and no later one does.
+#[inline(always)]
 fn new_stored(
     pool: &mut Pool,
     header: bool,

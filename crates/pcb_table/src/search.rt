@@ -117,6 +117,8 @@ pub(crate) fn best(blocks: &[Block], key: LookupKey) -> Option<&Block>
 }
 
 /// The youngest of the blocks that meet the key without a wildcard.
+// Inlined, as `best` is.
+#[inline(always)]
 pub(crate) fn exact(blocks: &[Block], key: LookupKey) -> Option<&Block>
     ensures { option_copied result ≡ youngest_block 0 key blocks.now }
 {
