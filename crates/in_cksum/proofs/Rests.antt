@@ -1,5 +1,5 @@
 -- The words of few bytes, taken 8, 4, 2 and 1 at a time.
-use Rattle.std.proofs.Common.{◌≡◌, ℕ, ◌+◌, ◌-◌, ◌*◌, ◌/◌, ◌<◌, ◌≤◌, List, [], ◌∷◌, length, get_or, slice_index_or, take, take_all, drop, bit_and, Fits, w8, w16, w32, w64, ap, ◌∙◌, arith, inl, inr}
+use Rattle.std.proofs.Common.{◌≡◌, ℕ, ◌+◌, ◌-◌, ◌*◌, ◌/◌, ◌<◌, ◌≤◌, List, [], ◌∷◌, length, get_or, slice_index_or, take, take_all, drop, bit_and, Fits, w8, w16, w32, w64, sym, ap, ◌∙◌, arith, inl, inr}
 use Rattle.std.proofs.lemmas.Nat.{and_mask}
 use Rattle.std.specs.Int.{from_le_bytes}
 use Rattle.flat_model.specs.Packets.Checksum.{fold16}
@@ -102,3 +102,9 @@ counts_folded value total n c =
     let parts : n + value ≡ 65536 * c.often + (n + c.once) = omega (arith, c.value_is) in
     let back : c.often + (n + c.once) ≡ n + total = omega (arith, c.total_is) in
     ap fold16 parts ∙ fold16-high c.often (n + c.once) ∙ ap fold16 back
+
+pub counts_alone : (value total : ℕ) → CountsAs value total → fold16 value ≡ fold16 total
+counts_alone value total c =
+    let n : 0 + value ≡ value = omega arith in
+    let m : 0 + total ≡ total = omega arith in
+    sym (ap fold16 n) ∙ counts_folded value total 0 c ∙ ap fold16 m

@@ -69,7 +69,7 @@ fn add_four(sum: u64, bytes: &[u8]) -> (u64, &[u8])
 
 // The words of fewer bytes than a block has. No loop, since headers are so short that one costs more.
 #[inline(always)]
-fn sum_rest(bytes: &[u8]) -> u64
+pub(crate) fn sum_rest(bytes: &[u8]) -> u64
     requires { length bytes.now < BLOCK_LEN }
     ensures { CountsAs result (swapped_sum bytes.now) }
 {

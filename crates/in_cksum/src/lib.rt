@@ -5,7 +5,7 @@
 //! complement of that. An IPv4 header with its checksum in place has the folded sum 65,535.
 #![tactic(auto)]
 
-ghost use Rattle.std.specs.Prelude.{◌≡◌, ℕ, ◌+◌, ◌++◌, if◌then◌else◌, List, []};
+ghost use Rattle.std.specs.Prelude.{◌≡◌, ℕ, ◌+◌, ◌++◌, if◌then◌else◌, false, List, []};
 ghost use Rattle.std.specs.Int.{w16, swap_bytes};
 ghost use Rattle.flat_model.specs.Packets.Checksum.{checksum, fold16, folded_sum};
 ghost use Rattle.in_cksum.specs.Partial.{Partial, sum_of};
@@ -16,7 +16,8 @@ mod chain;
 mod lanes;
 
 pub use chain::cksum_chain;
-use lanes::{PART_LEN, sum_part};
+use lanes::{PART_LEN, sum_part, sum_rest};
+use params::IP_HEADER;
 
 // 65,536 counts as 1, so what is left is a remainder by 65,535: 1 to 65,535, and 0 of 0 alone.
 #[inline(always)]
@@ -45,6 +46,16 @@ pub fn sum_slice(bytes: &[u8]) -> u16
         rest = after;
     }
     fold(total as u64 + sum_part(rest)).swap_bytes()
+}
+
+/// The folded sum of the words of an IPv4 header without options: 65,535 where its checksum is right.
+///
+/// Its length is known, so it takes no test of it (RFC 791, section 3.1).
+#[inline(always)]
+pub fn sum_head(bytes: &[u8; IP_HEADER as usize]) -> u16
+    ensures { result ≡ folded_sum bytes.now }
+{
+    fold(sum_rest(bytes)).swap_bytes()
 }
 
 // A piece's sum as it counts after an even or an odd number of bytes: after an odd number each of its
@@ -77,8 +88,18 @@ impl Sum {
     pub fn new() -> Self
         ensures { result ≡ sum_of [] }
     {
+        Self::of_words(0)
+    }
+
+    /// The sum of bytes, an even number of them, that are known as numbers: `words` is what their words of 16 bits
+    /// add up to. A number of 32 bits may be added whole, since 65,536 counts as 1.
+    // Inlined, so that numbers are added where they are.
+    #[inline(always)]
+    pub fn of_words(words: u64) -> Self
+        ensures { result ≡ record { total = fold16 words; is_odd = false } }
+    {
         Sum {
-            total: 0,
+            total: fold(words),
             is_odd: false,
         }
     }
@@ -115,7 +136,7 @@ impl Default for Sum {
 
 #[cfg(test)]
 mod tests {
-    use super::{Sum, sum_slice};
+    use super::{Sum, sum_head, sum_slice};
     use flat_model::fold;
     use std::alloc::AllocError;
 
@@ -157,11 +178,15 @@ mod tests {
             0x00, 0x01, 0xc0, 0xa8, 0x00, 0xc7,
         ];
         assert_eq!(rt; sum_slice(&header), 0xffff);
+        assert_eq!(rt; sum_head(&header), 0xffff);
         header[10] = 0;
         header[11] = 0;
         let mut sum = Sum::default();
         sum.add(&header);
         assert_eq!(rt; sum.finish(), 0xb861);
+        // Its addresses are 192.168.0.1 and 192.168.0.199.
+        let words = 0x4500 + 0x73 + 0x4000 + 0x4011 + 0xc0a8_0001 + 0xc0a8_00c7;
+        assert_eq!(rt; Sum::of_words(words).finish(), 0xb861);
     }
 
     #[test]

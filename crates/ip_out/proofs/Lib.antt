@@ -1,6 +1,7 @@
 mod Counting
 mod Later
 mod Outputs
+mod Sums
 mod Firsts
 mod Queues
 mod Sends

@@ -1,13 +1,14 @@
 //! IP headers: what they say, and their bytes.
 ghost use Rattle.std.specs.Prelude.{◌≡◌, ℕ, List, [], ◌∷◌, ◌+◌, ◌%◌, ◌≤◌, length, take, IfOk, IfErr, Some, None};
+ghost use Rattle.flat_model.specs.Packets.Checksum.{checksum};
 ghost use Rattle.flat_model.specs.Packets.Header.{u16_at, u32_at, two_bytes, four_bytes, head_fault};
 ghost use Rattle.mbuf_chain.specs.Chain.{IsLive, chain_of, string};
-ghost use Rattle.ip_out.specs.Headings.{flags_of, written, blank_bytes, head_bytes, head_in};
+ghost use Rattle.ip_out.specs.Headings.{flags_of, written, blank_bytes, bytes_with, head_bytes, head_in};
 
 use byteorder::{BigEndian, ByteOrder};
 use chain_ops::m_copydata;
 use flat_model::Why;
-use in_cksum::sum_slice;
+use in_cksum::{Sum, sum_head};
 use mbuf_chain::{Chain, Pool};
 use params::{FRAGMENT_UNIT, IP_HEADER};
 
@@ -55,7 +56,7 @@ pub struct IpHead {
 }
 
 /// The field of flags and offset.
-#[inline]
+#[inline(always)]
 fn flags_of(head: &IpHead) -> u16
     requires { head.now.offset ≤ MAX_OFFSET }
     ensures { result ≡ flags_of head.now }
@@ -96,12 +97,25 @@ fn put_u32(bytes: &mut [u8], at: usize, n: u32)
     BigEndian::write_u32(&mut bytes[at..at + 4], n);
 }
 
-/// Writes a header with 0 in place of its checksum.
+/// The checksum of a header, of its numbers.
 #[inline(always)]
-fn write_blank(bytes: &mut [u8], head: &IpHead)
+fn checksum_of(head: &IpHead) -> u16
+    requires { head.now.offset ≤ MAX_OFFSET }
+    ensures { result ≡ checksum (blank_bytes head.now) }
+{
+    let front = u16::from_be_bytes([VERSION_AND_LENGTH, head.tos]);
+    let middle = u64::from(head.total) + u64::from(head.id) + u64::from(flags_of(head));
+    let carried = u16::from_be_bytes([head.ttl, head.proto]);
+    let addresses = u64::from(head.src) + u64::from(head.dst);
+    Sum::of_words(u64::from(front) + middle + u64::from(carried) + addresses).finish()
+}
+
+/// Writes a header with a number in place of its checksum.
+#[inline(always)]
+fn write_with(bytes: &mut [u8], head: &IpHead, sum: u16)
     requires len { length bytes.old ≡ IP_HEADER }
     requires offset { head.now.offset ≤ MAX_OFFSET }
-    ensures { bytes.new ≡ blank_bytes head.now }
+    ensures { bytes.new ≡ bytes_with head.now sum }
 {
     put_u8(bytes, 0, VERSION_AND_LENGTH);
     put_u8(bytes, 1, head.tos);
@@ -110,7 +124,7 @@ fn write_blank(bytes: &mut [u8], head: &IpHead)
     put_u16(bytes, 6, flags_of(head));
     put_u8(bytes, 8, head.ttl);
     put_u8(bytes, 9, head.proto);
-    put_u16(bytes, 10, 0);
+    put_u16(bytes, 10, sum);
     put_u32(bytes, 12, head.src);
     put_u32(bytes, 16, head.dst);
 }
@@ -123,9 +137,8 @@ pub fn write_head(bytes: &mut [u8], head: IpHead)
     requires unit { head.offset % FRAGMENT_UNIT ≡ 0 }
     ensures { bytes.new ≡ head_bytes head }
 {
-    write_blank(bytes, &head);
-    let sum = !sum_slice(bytes);
-    put_u16(bytes, 10, sum);
+    let sum = checksum_of(&head);
+    write_with(bytes, &head, sum);
 }
 
 /// The number of 16 bits in the bytes from a place on.
@@ -167,8 +180,7 @@ fn head_in(bytes: &[u8]) -> IpHead
 }
 
 /// The first test that a packet of `len` bytes fails, of which these are the first 20.
-fn fault_in(bytes: &[u8], len: u32) -> Option<Why>
-    requires front { length bytes.now ≡ IP_HEADER }
+fn fault_in(bytes: &[u8; IP_HEADER as usize], len: u32) -> Option<Why>
     requires few { IP_HEADER ≤ len }
     ensures { (packet : List ℕ) → length packet ≡ len → bytes.now ≡ take IP_HEADER packet
         → result ≡ head_fault packet }
@@ -183,7 +195,7 @@ fn fault_in(bytes: &[u8], len: u32) -> Option<Why>
     if words > HEADER_WORDS {
         return Some(Why::Options);
     }
-    if sum_slice(bytes) != u16::MAX {
+    if sum_head(bytes) != u16::MAX {
         return Some(Why::BadSum);
     }
     let total = u32::from(u16_at(bytes, 2));

@@ -5,7 +5,7 @@ ghost use Rattle.mbuf_chain.specs.Chain.{IsLive, chain_of, entry_of, string, wit
 ghost use Rattle.udp.specs.Datagrams.{built};
 
 use crate::header::{Header, to_bytes};
-use crate::sums::pseudo_sum;
+use crate::sums::headers_sum;
 use in_cksum::cksum_chain;
 use mbuf_chain::{Chain, Pool};
 use params::{IP_HEADER, IP_MAX_PACKET, IP_UDP_HEADERS, UDP_HEADER};
@@ -34,8 +34,7 @@ pub fn build(pool: &mut Pool, chain: &Chain, src: u32, dst: u32, sport: u16, dpo
         len,
         sum: 0,
     };
-    let mut covered = pseudo_sum(src, dst, len);
-    covered.add(&to_bytes(blank));
+    let covered = headers_sum(src, dst, blank);
     let data = len as u32 - UDP_HEADER;
     let computed = cksum_chain(pool, chain, IP_UDP_HEADERS, data, covered);
     let sum = if computed == 0 { u16::MAX } else { computed };

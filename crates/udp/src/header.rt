@@ -1,19 +1,16 @@
 //! The 8 bytes in front of a datagram.
 ghost use Rattle.std.specs.Prelude.{◌≡◌, ◌+◌, ◌≤◌, ◌++◌, length, drop};
-ghost use Rattle.flat_model.specs.Packets.Header.{address_bytes, pseudo_header, two_bytes, u16_at};
+ghost use Rattle.flat_model.specs.Packets.Header.{two_bytes, u16_at};
 ghost use Rattle.mbuf_chain.specs.Chain.{IsLive, chain_of, string};
 ghost use Rattle.udp.specs.Inside.{header_bytes, header_in};
 
 use byteorder::{BigEndian, ByteOrder};
 use chain_ops::m_copydata;
 use mbuf_chain::{Chain, Pool};
-use params::{PROTOCOL_UDP, PSEUDO_HEADER, UDP_HEADER};
+use params::UDP_HEADER;
 
 /// Bytes of a header.
 pub(crate) const HEADER: usize = UDP_HEADER as usize;
-
-/// Bytes of a pseudo header.
-const PSEUDO: usize = PSEUDO_HEADER as usize;
 
 /// A header as numbers (RFC 768).
 #[derive(Clone, Copy, Debug, PartialEq, Eq)]
@@ -58,15 +55,6 @@ fn put_pair(bytes: &mut [u8], first: u16, second: u16)
     BigEndian::write_u16(&mut bytes[2..], second);
 }
 
-// Writes two addresses, one after the other.
-fn put_addresses(bytes: &mut [u8], source: u32, destination: u32)
-    requires { 8 ≤ length bytes.old }
-    ensures { bytes.new ≡ address_bytes source destination ++ drop 8 bytes.old }
-{
-    BigEndian::write_u32(bytes, source);
-    BigEndian::write_u32(&mut bytes[4..], destination);
-}
-
 /// The bytes of a header.
 pub(crate) fn to_bytes(header: Header) -> [u8; 8]
     ensures { result ≡ header_bytes header }
@@ -74,15 +62,5 @@ pub(crate) fn to_bytes(header: Header) -> [u8; 8]
     let mut bytes = [0; HEADER];
     put_pair(&mut bytes, header.source, header.destination);
     put_pair(&mut bytes[4..], header.len, header.sum);
-    bytes
-}
-
-/// What the checksum covers in front of the header, of a datagram of `len` bytes (RFC 768).
-pub(crate) fn pseudo(src: u32, dst: u32, len: u16) -> [u8; 12]
-    ensures { result ≡ pseudo_header src dst len }
-{
-    let mut bytes = [0; PSEUDO];
-    put_addresses(&mut bytes, src, dst);
-    put_pair(&mut bytes[8..], PROTOCOL_UDP as u16, len);
     bytes
 }

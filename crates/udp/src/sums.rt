@@ -1,23 +1,40 @@
 //! The checksum of a datagram (RFC 768; RFC 1071).
-ghost use Rattle.std.specs.Prelude.{◌≡◌, ◌≤◌, if◌then◌else◌, None, Some, length};
+ghost use Rattle.std.specs.Prelude.{◌≡◌, ◌+◌, ◌≤◌, ◌++◌, if◌then◌else◌, None, Some, length};
 ghost use Rattle.flat_model.specs.Packets.Header.{pseudo_header, u16_at, udp_fault};
 ghost use Rattle.flat_model.specs.declared.counters.Why.TheVariants.{UdpBadSum};
 ghost use Rattle.mbuf_chain.specs.Chain.{IsLive, chain_of, string};
 ghost use Rattle.in_cksum.specs.Partial.{sum_of};
-ghost use Rattle.udp.specs.Inside.{header_in, has_right_sum};
+ghost use Rattle.udp.specs.Inside.{header_bytes, header_in, has_right_sum};
 
-use crate::header::{Header, pseudo, read_header};
+use crate::header::{Header, read_header};
 use in_cksum::{Sum, cksum_chain};
 use mbuf_chain::{Chain, Pool};
-use params::UDP_HEADER;
+use params::{PROTOCOL_UDP, UDP_HEADER};
+
+/// What the words of the pseudo header of a datagram of `len` bytes add up to, with each address as one number.
+#[inline(always)]
+fn pseudo_words(src: u32, dst: u32, len: u16) -> u64
+    ensures { result ≡ src + dst + PROTOCOL_UDP + len }
+{
+    u64::from(src) + u64::from(dst) + u64::from(PROTOCOL_UDP) + u64::from(len)
+}
 
 /// The sum of the pseudo header of a datagram of `len` bytes.
-pub(crate) fn pseudo_sum(src: u32, dst: u32, len: u16) -> Sum
+#[inline(always)]
+fn pseudo_sum(src: u32, dst: u32, len: u16) -> Sum
     ensures { result ≡ sum_of (pseudo_header src dst len) }
 {
-    let mut sum = Sum::new();
-    sum.add(&pseudo(src, dst, len));
-    sum
+    Sum::of_words(pseudo_words(src, dst, len))
+}
+
+/// The sum of the pseudo header of a datagram and of its header.
+#[inline(always)]
+pub(crate) fn headers_sum(src: u32, dst: u32, header: Header) -> Sum
+    ensures { result ≡ sum_of (pseudo_header src dst header.len ++ header_bytes header) }
+{
+    let ports = u64::from(header.source) + u64::from(header.destination);
+    let rest = u64::from(header.len) + u64::from(header.sum);
+    Sum::of_words(pseudo_words(src, dst, header.len) + ports + rest)
 }
 
 /// Whether a datagram with this header has no checksum or the right one.

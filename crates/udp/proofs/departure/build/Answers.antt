@@ -21,14 +21,14 @@ chain_is c =
     let long : 28 ≤ length (string v) = long_string v 28 c.requires.headers in
     let most : take (len - 8) s ≡ s = take_all (len - 8) s (omega (arith, length-drop 28 (string v))) in
     let computed : c.cksum_chain-computed.result ≡ checksum (pseudo_header c.args.src c.args.dst len ++ header_bytes (record { source = c.args.sport; destination = c.args.dport; len = len; sum = 0 }) ++ s) =
-    c.cksum_chain-computed.ensures (pseudo_header c.args.src c.args.dst len ++ c.to_bytes.result) (c.add.ensures (pseudo_header c.args.src c.args.dst len) c.pseudo_sum-covered.ensures)
-    ∙ (λ j. checksum (pseudo_header c.args.src c.args.dst len ++ c.to_bytes.ensures j ++ most j)) in
+    c.cksum_chain-computed.ensures (pseudo_header c.args.src c.args.dst len ++ header_bytes (record { source = c.args.sport; destination = c.args.dport; len = len; sum = 0 })) c.headers_sum-covered.ensures
+    ∙ (λ j. checksum (pseudo_header c.args.src c.args.dst len ++ header_bytes (record { source = c.args.sport; destination = c.args.dport; len = len; sum = 0 }) ++ most j)) in
     let sum_is : c.if-computed-eq0.sum ≡ not_zero c.cksum_chain-computed.result = elim c.if-computed-eq0.branch [
       | then-computed-eq0 w ↦ grind (arith, common_steps)
       | else-computed-eq0 w ↦ grind (arith, common_steps)
     ] in
-    let bytes : c.to_bytes-2.result ≡ take 8 (udp c.args.src c.args.dst c.args.sport c.args.dport s) =
-    c.to_bytes-2.ensures ∙ written c.args.src c.args.dst c.args.sport c.args.dport s len c.if-computed-eq0.sum c.cksum_chain-computed.result (omega (arith, length-drop 28 (string v))) sum_is computed in
+    let bytes : c.to_bytes.result ≡ take 8 (udp c.args.src c.args.dst c.args.sport c.args.dport s) =
+    c.to_bytes.ensures ∙ written c.args.src c.args.dst c.args.sport c.args.dport s len c.if-computed-eq0.sum c.cksum_chain-computed.result (omega (arith, length-drop 28 (string v))) sum_is computed in
     c.overwrite.ensures ∙ (λ j. with_chain c.args.pool.now c.args.chain.now (with_entry v (at j) (overwritten (entry_of v (at j)) 20 (bytes j))))
 
 pub returns-clause-chain : goal.returns-clause-chain
