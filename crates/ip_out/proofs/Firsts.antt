@@ -1,9 +1,10 @@
 -- The first packet: the chain itself, trimmed, with its header written over its first bytes.
-use Rattle.std.proofs.Common.{◌≡◌, ℕ, zero, suc, ◌+◌, ◌-◌, ◌<◌, ◌≤◌, min, List, [], ◌∷◌, ◌++◌, length, take, drop, map, refl, sym, ap, ◌∙◌, subst, arith, None}
+use Rattle.std.proofs.Common.{◌≡◌, ℕ, zero, suc, ◌+◌, ◌-◌, ◌*◌, ◌<◌, ◌≤◌, min, false, List, [], ◌∷◌, ◌++◌, length, take, drop, map, refl, sym, ap, ◌∙◌, subst, arith, None}
 use Rattle.std.specs.List.{insert, cons_option}
 use Rattle.std.specs.Prelude.{slice_set, slice_index_or, sum_by}
 use Rattle.std.proofs.lemmas.List.Sums.{sum_by-cons}
-use Rattle.std.proofs.lemmas.List.{length-take, length-append, append_assoc}
+use Rattle.std.proofs.lemmas.Bool.{le-ltb}
+use Rattle.std.proofs.lemmas.List.{length-take, length-append, append_assoc, take_all}
 use Rattle.flat_model.specs.Amounts.Weight.{Item}
 use Rattle.flat_model.specs.Fragments.Cuts.{Part, part, cuts}
 use Rattle.flat_model.specs.Amounts.Layout.{weight_of}
@@ -13,10 +14,11 @@ use Rattle.mbuf_chain.specs.Chain.{Entry, ChainView, PoolView, IsLive, chain_of,
 use Rattle.mbuf_chain.specs.Steps.{narrowed, overwritten, with_entry, with_entry_in}
 use Rattle.mbuf_chain.specs.Owners.{Moves, times, IsOwned}
 use Rattle.mbuf_chain.specs.Train.{TrainView, QueuedPacket, queued_packets, numbers, IsHeld}
-use Rattle.mbuf_chain.proofs.Laws.Owners.{owned_more, moves_trans, moves_beside, times_same, moves_within, live_at_most, live_one, shown_with}
+use Rattle.mbuf_chain.proofs.Laws.Maps.{insert_same}
+use Rattle.mbuf_chain.proofs.Laws.Owners.{owned_more, moves_none, moves_trans, moves_beside, times_same, moves_within, live_at_most, live_one, shown_with}
 use Rattle.mbuf_chain.proofs.Laws.Steps.{live_shown}
 use Rattle.mbuf_chain.proofs.Laws.Accounts.{held_moves}
-use Rattle.mbuf_chain.proofs.Laws.Trains.{Beside, beside_with}
+use Rattle.mbuf_chain.proofs.Laws.Trains.{Beside, beside_with, held_none}
 use Rattle.chain_ops.specs.Weights.{laid}
 use Rattle.chain_ops.specs.Trims.{only_first}
 use Rattle.chain_ops.proofs.Laws.Strings.{only_first_bytes}
@@ -112,6 +114,45 @@ written {p} {q} {r} {s} {t} c k at hdr m held live is_r index is_s =
       apart = ap (times c) same ∙ apart;
       moves = subst (λ (xs : List ℕ). Moves p (c ∷ []) s (c ∷ xs)) (sym same) (moves_trans first (moves_trans then_r then_s));
     }
+
+-- ---- a chain that isn't cut
+with_same : (p : PoolView) (c : ℕ) → IsLive p c → with_chain p c (chain_of p c) ≡ p
+with_same p c live = λ j. record { mbufs = p.mbufs; clusters = p.clusters; chains = insert_same p.chains c (chain_of p c) live j }
+
+all_stay : (n : ℕ) (es : List Entry) → length (flat_bytes es) ≤ n → only_first n es ≡ es
+all_stay n [] le = refl
+all_stay n (e ∷ es) le =
+    let both : length (e.bytes ++ flat_bytes es) ≡ length e.bytes + length (flat_bytes es) = length-append e.bytes (flat_bytes es) in
+    λ j. record { bytes = take_all (min n (length e.bytes)) e.bytes (omega arith) j; start = from_start e.start j; cluster = e.cluster }
+    ∷ all_stay (n - length e.bytes) es (omega arith) j
+  where
+    from_start : (k : ℕ) → k + 0 ≡ k
+    from_start k = omega arith
+
+-- its header is written, and a train without chains is beside it
+pub written_whole : {p s : PoolView} (t : TrainView) (c k : ℕ) (at : Place) (hdr : List ℕ) → t ≡ record { first = None; last = None; len = 0 } → IsLive p c → k ≡ length (string (chain_of p c))
+    → at.index ≡ 0 → s ≡ with_entry_in p c at (overwritten (entry_in p c at) 0 hdr) → Written p p s t c k hdr
+written_whole {p} {s} t c k at hdr none live long index is =
+    let v : ChainView = chain_of p c in
+    let same : p ≡ with_chain p c (trimmed v k) =
+    sym (with_same p c live) ∙ ap (λ (es : List Entry). with_chain p c (record v { entries = es })) (sym (all_stay k v.entries (omega (arith, long)))) in
+    let moves : Moves p [] p (numbers p t) = subst (λ (u : TrainView). Moves p [] p (numbers p u)) (sym none) (moves_none p []) in
+    written c k at hdr moves (held_none p t none) live same index is
+
+pub later_none : {p : PoolView} (t : TrainView) (v : ChainView) (h : IpHead) (n size : ℕ) → t ≡ record { first = None; last = None; len = 0 } → IsLater p p t v h (parts_to n size 1)
+later_none {p} t v h n size none = subst (λ (u : TrainView). IsLater p p u v h (parts_to n size 1)) (sym none) (record {
+  held = held_none p (record { first = None; last = None; len = 0 }) refl;
+  moves = moves_none p [];
+  items = refl;
+  plain = tt;
+})
+
+pub head_whole : (h h0 : IpHead) (n : ℕ) → n ≤ 65515 → h0 ≡ record h { total = 20 + n; more = false; offset = 0 } → h0 ≡ head_for h (part n 65528 0)
+head_whole h h0 n short is =
+    let total : 20 + n ≡ 20 + (part n 65528 0).size = omega arith in
+    let more : false ≡ (part n 65528 0).more = sym (le-ltb ((0 + 1) * 65528) n (omega arith)) in
+    let offset : 0 ≡ (part n 65528 0).offset = omega arith in
+    is ∙ (λ j. record h { total = total j; more = more j; offset = offset j })
 
 -- ---- all packets
 pub packets_are : {p q s : PoolView} {t : TrainView} (z : PoolView) (u : TrainView) (c n size k count mtu : ℕ) (h h0 : IpHead) (hdr : List ℕ) → IsDatagram (chain_of p c) → n + 20 ≡ length (string (chain_of p c)) → IsCut n mtu size count

@@ -37,7 +37,7 @@ chunk_unit c k e = omega (arith, e)
 abbrev same_parts : List Part → List Part → Type 0
 same_parts xs ys = xs ≡ ys
 
-pub cut_none : (n mtu : ℕ) → n ≤ 65515 → 20 + n ≤ mtu → IsCut n mtu 65536 1
+pub cut_none : (n mtu : ℕ) → n ≤ 65515 → 20 + n ≤ mtu → IsCut n mtu 65528 1
 unfolding cuts
 cut_none n mtu short h = record {
   some = omega arith;
@@ -45,8 +45,8 @@ cut_none n mtu short h = record {
   most = omega arith;
   unit = refl;
   parts = cond-true {A = List Part} (nat_le (20 + n) mtu) _ _ (le-leb (20 + n) mtu h)
-      ∙ (let off : 0 ≡ 0 * 65536 = omega arith in let size : n ≡ min 65536 (n - 0 * 65536) = omega arith in
-      let more : false ≡ nat_lt ((0 + 1) * 65536) n = sym (le-ltb ((0 + 1) * 65536) n (omega arith)) in
+      ∙ (let off : 0 ≡ 0 * 65528 = omega arith in let size : n ≡ min 65528 (n - 0 * 65528) = omega arith in
+      let more : false ≡ nat_lt ((0 + 1) * 65528) n = sym (le-ltb ((0 + 1) * 65528) n (omega arith)) in
       one_part off size more);
   inside = λ i some lt. absurd (omega arith);
 }
@@ -58,7 +58,7 @@ pub cut_some : (n mtu c : ℕ) → 68 ≤ mtu → mtu ≤ 65535 → mtu < 20 + n
 unfolding cuts
 cut_some n mtu c least top h e =
     let big : 48 ≤ c = omega (arith, e) in
-    let wide : c ≤ 65536 = omega (arith, e) in
+    let wide : c ≤ 65535 = omega (arith, e) in
     let k : ℕ = (n + (c - 1)) / c in
     let some : 0 < k = elim (div_cases (n + (c - 1)) c 1 (omega (arith, big))) [
       | inl lt ↦ absurd (omega (arith, lt.0, h, least))

@@ -1,7 +1,7 @@
 -- How packets are counted and made, one after another (this project's own). No caller reads it.
 use Rattle.std.specs.Prelude.{◌≡◌, ℕ, ◌+◌, ◌-◌, ◌*◌, ◌/◌, ◌%◌, ◌<◌, ◌≤◌, min, max, nat_lt, if◌then◌else◌, List, [], ◌∷◌, ◌++◌, length, map, drop, sum_by, None}
 use Rattle.std.specs.List.{range_with_len}
-use Rattle.params.specs.declared.TheConstants.{FRAGMENT_UNIT, IP_HEADER, IP_UDP_HEADERS, OUTPUT_QUEUE_PACKETS, PACKET_START, UDP_HEADER}
+use Rattle.params.specs.declared.TheConstants.{FRAGMENT_UNIT, IP_HEADER, IP_MAX_PACKET, IP_UDP_HEADERS, OUTPUT_QUEUE_PACKETS, PACKET_START, UDP_HEADER}
 use Rattle.flat_model.specs.Amounts.Weight.{Item}
 use Rattle.flat_model.specs.Fragments.Cuts.{Part, cuts, part}
 use Rattle.flat_model.specs.Machine.Sending.{later_weight}
@@ -53,7 +53,7 @@ pub record IsLater (p q : PoolView) (t : TrainView) (v : ChainView) (h : IpHead)
 pub record IsCut (n mtu c k : ℕ) : Type 0 where
   pub some : 0 < k
   pub least : 0 < c
-  pub most : c ≤ 65536
+  pub most : c ≤ IP_MAX_PACKET
   pub unit : c % FRAGMENT_UNIT ≡ 0
   pub parts : cuts n mtu ≡ part n c 0 ∷ parts_to n c k
   pub inside : (i : ℕ) → 0 < i → i < k → i * c < n

@@ -16,21 +16,17 @@ use chain_ops::theorems::copy_weight;
 use chain_ops::{Cursor, advance, copy_at, cursor_at, trim_back};
 use mbuf_chain::{Chain, Pool, Train};
 use mbuf_pool::NoBufs;
-use params::{FRAGMENT_UNIT, IP_HEADER, IP_MAX_DATA, MIN_MTU, PACKET_START};
+use params::{FRAGMENT_UNIT, IP_HEADER, IP_MAX_DATA, IP_MAX_PACKET, MIN_MTU, PACKET_START};
 
-/// More bytes than any packet carries: what one carries that isn't cut.
-const UNCUT: u32 = 65_536;
-
-/// How many bytes each packet but the last carries of `n` bytes, and how many packets there are.
+/// How many bytes each packet but the last carries of `n` bytes, which are too many for one, and how many packets
+/// there are.
 fn cut_of(n: u32, mtu: u32) -> (u32, u32)
+    requires long { mtu < IP_HEADER + n }
     requires short { n ≤ IP_MAX_DATA }
     requires least { MIN_MTU ≤ mtu }
     requires most { mtu ≤ 65535 }
     ensures { IsCut n mtu result.0 result.1 }
 {
-    if IP_HEADER + n <= mtu {
-        return (UNCUT, 1);
-    }
     let chunk = (mtu - IP_HEADER) / FRAGMENT_UNIT * FRAGMENT_UNIT;
     (chunk, (n + (chunk - 1)) / chunk)
 }
@@ -38,7 +34,7 @@ fn cut_of(n: u32, mtu: u32) -> (u32, u32)
 /// The header of the packet that carries part `i` of `n` bytes in chunks.
 fn head_of(head: IpHead, n: u32, chunk: u32, i: u32) -> IpHead
     requires short { n ≤ IP_MAX_DATA }
-    requires chunk { chunk ≤ UNCUT }
+    requires chunk { chunk ≤ IP_MAX_PACKET }
     requires some { i * chunk ≤ n }
     ensures { result ≡ head_for head (part n chunk i) }
 {
@@ -114,7 +110,7 @@ fn later(
     requires datagram { IsDatagram (chain_of pool.old chain.now) }
     requires len { n + IP_HEADER ≡ length (string (chain_of pool.old chain.now)) }
     requires chunk { 0 < chunk }
-    requires wide { chunk ≤ UNCUT }
+    requires wide { chunk ≤ IP_MAX_PACKET }
     requires unit { chunk % FRAGMENT_UNIT ≡ 0 }
     requires count { 0 < count }
     requires inside { (i : ℕ) → 0 < i → i < count → i * chunk < n }
@@ -144,6 +140,75 @@ fn later(
     Ok(train)
 }
 
+/// The packet of a datagram that isn't cut: the chain itself, of `len` bytes, with its header written over its first
+/// bytes.
+fn one_packet(pool: &mut Pool, chain: Chain, head: IpHead, len: u32) -> Train
+    requires live { IsLive pool.old chain }
+    requires datagram { IsDatagram (chain_of pool.old chain) }
+    requires len { len ≡ length (string (chain_of pool.old chain)) }
+    ensures held { IsHeld pool.new result }
+    ensures packets { (mtu : ℕ) → len ≤ mtu
+        → packets pool.new result ≡ packets_of (chain_of pool.old chain) head mtu }
+    ensures plain { BeginPlain pool.new result }
+    ensures moves { Moves pool.old (chain ∷ []) pool.new (numbers pool.new result) }
+    ensures count { (mtu : ℕ) → len ≤ mtu
+        → held_mbufs pool.new ≡ held_mbufs pool.old + later_need (chain_of pool.old chain) mtu }
+    ensures enough { (mtu : ℕ) → len ≤ mtu → HasMbufs pool.old (later_need (chain_of pool.old chain) mtu) }
+{
+    let whole = IpHead {
+        total: len as u16,
+        more: false,
+        offset: 0,
+        ..head
+    };
+    let mut bytes = [0; IP_HEADER as usize];
+    write_head(&mut bytes, whole);
+    let at = pool.first(&chain);
+    pool.overwrite(&chain, at, 0, &bytes);
+    let mut train = Train::new();
+    train.insert(pool, 0, chain, 0);
+    pool.laws();
+    train
+}
+
+/// The packets of a datagram of `len` bytes, its header included, which are too many for one packet: see `fragments`.
+fn cut_packets(
+    pool: &mut Pool,
+    chain: Chain,
+    head: IpHead,
+    len: u32,
+    mtu: u16,
+) -> Result<Train, NoBufs>
+    requires len { len ≡ length (string (chain_of pool.old chain)) }
+    requires long { mtu < len }
+    requires live { IsLive pool.old chain }
+    requires datagram { IsDatagram (chain_of pool.old chain) }
+    requires least { MIN_MTU ≤ mtu }
+    ensures held { IfOk result (IsHeld pool.new) }
+    ensures packets { IfOk result (λ t. packets pool.new t ≡ packets_of (chain_of pool.old chain) head mtu) }
+    ensures plain { IfOk result (BeginPlain pool.new) }
+    ensures moves { IfOk result (λ t. Moves pool.old (chain ∷ []) pool.new (numbers pool.new t)) }
+    ensures count { OnOk result
+        (held_mbufs pool.new ≡ held_mbufs pool.old + later_need (chain_of pool.old chain) mtu) }
+    ensures enough { OnOk result (HasMbufs pool.old (later_need (chain_of pool.old chain) mtu)) }
+    ensures err { OnErr result (LacksMbufs pool.old (later_need (chain_of pool.old chain) mtu)) }
+    ensures freed { OnErr result (pool.new ≡ without pool.old chain) }
+{
+    let n = len - IP_HEADER;
+    let (chunk, count) = cut_of(n, mtu as u32);
+    let Ok(mut train) = later(pool, &chain, head, n, chunk, count) else {
+        pool.free_chain(chain);
+        return Err(NoBufs);
+    };
+    trim_back(pool, &chain, IP_HEADER + chunk.min(n));
+    let at = pool.first(&chain);
+    let mut bytes = [0; IP_HEADER as usize];
+    write_head(&mut bytes, head_of(head, n, chunk, 0));
+    pool.overwrite(&chain, at, 0, &bytes);
+    train.insert(pool, 0, chain, 0);
+    Ok(train)
+}
+
 /// Cuts a datagram, which lies in a chain after 20 bytes for its header, into the packets for a link that takes
 /// packets of `mtu` bytes. The first is the chain itself, trimmed at its end; each other has an mbuf for its header, and
 /// after it a copy that shares clusters. All are made, or none: `NoBufs` comes exactly where fewer mbufs are free
@@ -167,17 +232,9 @@ pub(crate) fn fragments(
     ensures err { OnErr result (LacksMbufs pool.old (later_need (chain_of pool.old chain) mtu)) }
     ensures freed { OnErr result (pool.new ≡ without pool.old chain) }
 {
-    let n = pool.len(&chain) - IP_HEADER;
-    let (chunk, count) = cut_of(n, mtu as u32);
-    let Ok(mut train) = later(pool, &chain, head, n, chunk, count) else {
-        pool.free_chain(chain);
-        return Err(NoBufs);
-    };
-    trim_back(pool, &chain, IP_HEADER + chunk.min(n));
-    let at = pool.first(&chain);
-    let mut bytes = [0; IP_HEADER as usize];
-    write_head(&mut bytes, head_of(head, n, chunk, 0));
-    pool.overwrite(&chain, at, 0, &bytes);
-    train.insert(pool, 0, chain, 0);
-    Ok(train)
+    let len = pool.len(&chain);
+    if len > mtu as u32 {
+        return cut_packets(pool, chain, head, len, mtu);
+    }
+    Ok(one_packet(pool, chain, head, len))
 }
