@@ -208,6 +208,22 @@ fn fault_in(bytes: &[u8; IP_HEADER as usize], len: u32) -> Option<Why>
     None
 }
 
+/// The first 20 bytes of a packet, which has so many: those of its first mbuf, where they all lie there.
+#[inline(always)]
+fn front_of(pool: &Pool, chain: &Chain) -> [u8; IP_HEADER as usize]
+    requires live { IsLive pool.now chain.now }
+    requires long { IP_HEADER ≤ length (string (chain_of pool.now chain.now)) }
+    ensures { result ≡ take IP_HEADER (string (chain_of pool.now chain.now)) }
+{
+    let first = pool.bytes(chain, pool.first(chain));
+    if let Some((bytes, _)) = first.split_first_chunk() {
+        return *bytes;
+    }
+    let mut bytes = [0; IP_HEADER as usize];
+    m_copydata(pool, chain, 0, &mut bytes);
+    bytes
+}
+
 /// What the header of a packet says. The packet is a chain whatever its cut; it isn't changed.
 ///
 /// Refused is the first test that fails, in this order: fewer than 20 bytes, `TooSmall`; a version other than 4,
@@ -225,8 +241,7 @@ pub fn read_head(pool: &Pool, chain: &Chain) -> Result<IpHead, Why>
     if len < IP_HEADER {
         return Err(Why::TooSmall);
     }
-    let mut bytes = [0; IP_HEADER as usize];
-    m_copydata(pool, chain, 0, &mut bytes);
+    let bytes = front_of(pool, chain);
     match fault_in(&bytes, len) {
         Some(why) => Err(why),
         None => Ok(head_in(&bytes)),

@@ -1,5 +1,5 @@
 //! The 8 bytes in front of a datagram.
-ghost use Rattle.std.specs.Prelude.{◌≡◌, ◌+◌, ◌≤◌, ◌++◌, length, drop};
+ghost use Rattle.std.specs.Prelude.{◌≡◌, ◌+◌, ◌≤◌, ◌++◌, length, take, drop};
 ghost use Rattle.flat_model.specs.Packets.Header.{two_bytes, u16_at};
 ghost use Rattle.mbuf_chain.specs.Chain.{IsLive, chain_of, string};
 ghost use Rattle.udp.specs.Inside.{header_bytes, header_in};
@@ -30,14 +30,29 @@ fn field(bytes: &[u8], at: usize) -> u16
     BigEndian::read_u16(&bytes[at..])
 }
 
+/// The first 8 bytes of a chain, which has so many: those of its first mbuf, where they all lie there.
+#[inline(always)]
+fn front_of(pool: &Pool, chain: &Chain) -> [u8; HEADER]
+    requires live { IsLive pool.now chain.now }
+    requires header { UDP_HEADER ≤ length (string (chain_of pool.now chain.now)) }
+    ensures { result ≡ take UDP_HEADER (string (chain_of pool.now chain.now)) }
+{
+    let first = pool.bytes(chain, pool.first(chain));
+    if let Some((bytes, _)) = first.split_first_chunk() {
+        return *bytes;
+    }
+    let mut bytes = [0; HEADER];
+    m_copydata(pool, chain, 0, &mut bytes);
+    bytes
+}
+
 /// What the first 8 bytes of a chain say.
 pub(crate) fn read_header(pool: &Pool, chain: &Chain) -> Header
     requires live { IsLive pool.now chain.now }
     requires header { UDP_HEADER ≤ length (string (chain_of pool.now chain.now)) }
     ensures { result ≡ header_in (string (chain_of pool.now chain.now)) }
 {
-    let mut bytes = [0; HEADER];
-    m_copydata(pool, chain, 0, &mut bytes);
+    let bytes = front_of(pool, chain);
     Header {
         source: field(&bytes, 0),
         destination: field(&bytes, 2),

@@ -1,0 +1,11 @@
+use Rattle.std.proofs.Common.{ℕ, ◌≤◌, length, take, arith, ap, ◌∙◌}
+use Rattle.mbuf_chain.specs.Chain.{ChainView, chain_of, entry_of}
+use Rattle.ip_out.proofs.Firsts.{first_bytes}
+use Rattle.ip_out.proofs.head.front_of.Goals as goal
+
+pub returns-in-Some : goal.returns-in-Some
+returns-in-Some c =
+    let v : ChainView = chain_of c.args.pool.now c.args.chain.now in
+    let at = c.first.ensures.index in
+    let long : 20 ≤ length (entry_of v 0).bytes = omega (arith, c.in-Some.ensures.cases.2, c.bytes-first.ensures.len, ap (λ (i : ℕ). length (entry_of v i).bytes) at) in
+    c.in-Some.ensures.cases.0 ∙ ap (take 20) (c.bytes-first.ensures.value ∙ ap (λ (i : ℕ). (entry_of v i).bytes) at) ∙ first_bytes 20 v long
