@@ -9,7 +9,8 @@ use ip_out::Queue;
 use mbuf_chain::Pool;
 
 /// Takes the packet that has waited longest, puts its bytes in front of the room, and frees its buffers. It answers how
-/// many bytes they are, or `None` where none waits. The rest of the room stays as it was. The room has a place for each byte of any packet that waits.
+/// many bytes they are, or `None` where none waits. The rest of the room stays as it was. The room has a place for each
+/// byte of any packet that waits.
 pub(crate) fn take_packet(pool: &mut Pool, out: &mut Queue, room: &mut [u8]) -> Option<usize>
     requires queue { IsQueue pool.old out.old }
     requires within { AreWithin pool.old out.old (length room.old) }
