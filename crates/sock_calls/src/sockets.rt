@@ -17,12 +17,13 @@ use crate::input::input;
 use crate::net::Net;
 use crate::receive::{flush_at, take_at};
 use crate::send::send;
+use arrayvec::ArrayVec;
 use flat_model::{Addr, Counters, Errno, Opt};
 use ip_out::IpHead;
 use ledger::Waiting;
 use mbuf_chain::{Chain, Pool};
 use params::{FIRST_DESCRIPTOR, IP_MAX_PACKET, MAX_SOCKETS};
-use pcb_table::Pcbs;
+use pcb_table::{Pcbs, SOCKETS};
 use sockbuf::SockBuf;
 use std::array;
 use std::marker::Model;
@@ -56,6 +57,8 @@ pub struct Socks {
     pcbs: Pcbs,
     // by descriptor, from 3 on
     queues: [SockBuf; QUEUES],
+    // room for the descriptors of those who hear a datagram, so that it isn't made for each one
+    hearers: ArrayVec<u32, SOCKETS>,
 }
 
 impl Model for Socks {
@@ -75,6 +78,7 @@ impl Socks {
         Socks {
             pcbs: Pcbs::new(addr, bcast),
             queues: no_queues(),
+            hearers: ArrayVec::new(),
         }
     }
 
@@ -232,6 +236,7 @@ impl Socks {
             counters,
             chain,
             head,
+            &mut self.hearers,
         );
     }
 
@@ -243,6 +248,7 @@ impl Socks {
         let Socks {
             pcbs: _,
             mut queues,
+            hearers: _,
         } = self;
         flush_all(pool, &mut queues);
         end_empty(queues);

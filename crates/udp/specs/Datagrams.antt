@@ -71,12 +71,12 @@ pub record IsDropped (p : PoolView) (c : ℕ) (h : IpHead) (t : Table) (q : Pool
   pub cause : (fault_of h (string (chain_of p c)) ≡ Some why) ⊎ IsUnheard h t (string (chain_of p c)) why
   pub freed : q ≡ without p c
 
--- what becomes of a datagram
-abbrev pub IsInput : PoolView → ℕ → IpHead → Table → PoolView → Outcome → Type 0
-IsInput p c h t q (Deliver to from chain) = IsDelivered p c h t q to.items from chain
-IsInput p c h t q (Drop why) = IsDropped p c h t q why
+-- what becomes of a datagram, and the descriptors of those who get it
+abbrev pub IsInput : PoolView → ℕ → IpHead → Table → PoolView → List ℕ → Outcome → Type 0
+IsInput p c h t q to (Deliver from chain) = IsDelivered p c h t q to from chain
+IsInput p c h t q to (Drop why) = (to ≡ []) × IsDropped p c h t q why
 
 -- the chains in hand then
 abbrev pub chains_of : Outcome → List ℕ
-chains_of (Deliver to from chain) = chain ∷ []
+chains_of (Deliver from chain) = chain ∷ []
 chains_of (Drop why) = []

@@ -1,10 +1,10 @@
 //! A datagram that came.
-ghost use Rattle.std.specs.Prelude.{◌≡◌, ◌≤◌, ◌∷◌, [], IfErr, IfOk, All, None, Some, length};
+ghost use Rattle.std.specs.Prelude.{◌≡◌, ◌≤◌, ◌∷◌, [], IfErr, IfOk, None, Some, length};
 ghost use Rattle.flat_model.specs.Packets.Header.{udp_fault};
 ghost use Rattle.flat_model.specs.Machine.Arrival as flat;
 ghost use Rattle.mbuf_chain.specs.Chain.{IsLive, chain_of, string, with_chain, without};
 ghost use Rattle.mbuf_chain.specs.Owners.{Moves};
-ghost use Rattle.pcb_table.specs.Table.{IsDescriptor, packet_key};
+ghost use Rattle.pcb_table.specs.Table.{packet_key};
 ghost use Rattle.udp.specs.Datagrams.{AreHearers, IsInput, chains_of, without_header};
 ghost use Rattle.udp.specs.Inside.{broadcasts, cut_to, header_in, unheard};
 
@@ -20,11 +20,9 @@ use pcb_table::{Pcbs, SOCKETS};
 
 /// What becomes of a datagram. It holds a chain, and so must be spent.
 pub enum Outcome {
-    /// These sockets get it, one or more. The chain has its data, after the UDP header and no longer than its length
-    /// says.
+    /// Sockets get it, one or more: those that `input` found. The chain has its data, after the UDP header and no longer
+    /// than its length says.
     Deliver {
-        /// Their descriptors, the youngest socket first.
-        to: ArrayVec<u32, SOCKETS>,
         /// The sender.
         from: Addr,
         /// What it carries, without the UDP header.
@@ -62,20 +60,25 @@ fn is_broadcast(pcbs: &Pcbs, ip: u32) -> bool
     ip == pcbs.bcast() || ip == LIMITED_BROADCAST
 }
 
-// Who hears a datagram: many for a broadcast, else the best match.
-fn hearers(pcbs: &mut Pcbs, destination: u32, port: u16, source: Addr) -> ArrayVec<u32, SOCKETS>
-    ensures found { AreHearers pcbs.old destination (packet_key destination port source) result.items }
-    ensures range { All IsDescriptor result.items }
+// Puts into `to` who hears a datagram: many for a broadcast, else the best match.
+fn find_hearers(
+    pcbs: &mut Pcbs,
+    destination: u32,
+    port: u16,
+    source: Addr,
+    to: &mut ArrayVec<u32, SOCKETS>,
+)
+    requires { to.old.items ≡ [] }
+    ensures found { AreHearers pcbs.old destination (packet_key destination port source) to.new.items }
     ensures blocks { pcbs.new ≡ pcbs.old }
 {
     if is_broadcast(pcbs, destination) {
-        return pcbs.receivers(destination, port, source);
+        *to = pcbs.receivers(destination, port, source);
+        return;
     }
-    let mut to = ArrayVec::new();
     if let Some(fd) = pcbs.lookup(destination, port, source) {
         to.push(fd);
     }
-    to
 }
 
 // Takes off what stands after the first `len` bytes.
@@ -113,13 +116,23 @@ fn trim(pool: &mut Pool, chain: &Chain, len: u16)
 /// Else it goes to the socket that the look-up finds, or for those two addresses to all that hear it. Bytes after the
 /// UDP length and the header are taken off by `m_adj`: the chain keeps its number, its mbufs and its clusters. No
 /// control block changes.
-pub fn input(pool: &mut Pool, chain: Chain, head: IpHead, pcbs: &mut Pcbs) -> Outcome
+///
+/// The descriptors of those who get it are left in `to`, the youngest socket first; what was there goes. It's empty
+/// where the datagram was dropped.
+pub fn input(
+    pool: &mut Pool,
+    chain: Chain,
+    head: IpHead,
+    pcbs: &mut Pcbs,
+    to: &mut ArrayVec<u32, SOCKETS>,
+) -> Outcome
     requires live { IsLive pool.old chain }
     requires most { length (string (chain_of pool.old chain)) ≤ IP_MAX_PACKET }
-    ensures answer { IsInput pool.old chain head pcbs.old pool.new result }
+    ensures answer { IsInput pool.old chain head pcbs.old pool.new to.new.items result }
     ensures moves { Moves pool.old (chain ∷ []) pool.new (chains_of result) }
     ensures blocks { pcbs.new ≡ pcbs.old }
 {
+    to.clear();
     if head.proto != PROTOCOL_UDP {
         return drop_for(pool, chain, Why::NoProtocol);
     }
@@ -131,13 +144,13 @@ pub fn input(pool: &mut Pool, chain: Chain, head: IpHead, pcbs: &mut Pcbs) -> Ou
         ip: head.src,
         port: header.source,
     };
-    let to = hearers(pcbs, head.dst, header.destination, from);
+    find_hearers(pcbs, head.dst, header.destination, from, to);
     if to.is_empty() {
         let why = no_port(pcbs, head.dst);
         return drop_for(pool, chain, why);
     }
     trim(pool, &chain, header.len);
-    Outcome::Deliver { to, from, chain }
+    Outcome::Deliver { from, chain }
 }
 
 // Frees a chain that ends here.

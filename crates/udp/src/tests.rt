@@ -5,6 +5,7 @@ ghost use Rattle.mbuf_chain.specs.Steps.{one_mbuf};
 
 use crate::header::read_header;
 use crate::{Outcome, build, check, input};
+use arrayvec::ArrayVec;
 use chain_ops::{m_adj, m_copydata};
 use flat_model::{Addr, Opt, Why};
 use ip_out::IpHead;
@@ -118,9 +119,10 @@ fn handed_over(
 ) -> Fate {
     let chain = chain_of(rt, pool, first, others);
     assert!(rt; pool.len(&chain) <= 65_535);
-    match input(pool, chain, head, pcbs) {
+    let mut to = ArrayVec::new();
+    match input(pool, chain, head, pcbs, &mut to) {
         Outcome::Drop(why) => Fate::Dropped(why),
-        Outcome::Deliver { to, from, chain } => {
+        Outcome::Deliver { from, chain } => {
             let is_right = has_bytes(rt, pool, &chain, data);
             pool.free_chain(chain);
             assert!(rt; is_right, "the data are {data:?}");

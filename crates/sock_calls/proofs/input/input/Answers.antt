@@ -19,7 +19,7 @@ deliver_all-requires-clause-socks g c =
 pub deliver_all-requires-clause-opened : goal.deliver_all-requires-clause-opened
 deliver_all-requires-clause-opened g c =
     subst (λ (l : List ℕ). All (λ (fd : ℕ). IsOpen fd c.input.new.pcbs) l) (sym c.as_slice.ensures.value)
-    (subst (λ (t : Table). All (λ (fd : ℕ). IsOpen fd t) c.in-Deliver.to.items) (sym c.input.ensures.blocks) (all_open c.args.pcbs.now _ _ c.in-Deliver.to.items c.in-Deliver.ensures.answer.heard))
+    (subst (λ (t : Table). All (λ (fd : ℕ). IsOpen fd t) c.input.new.to.items) (sym c.input.ensures.blocks) (all_open c.args.pcbs.now _ _ c.input.new.to.items c.in-Deliver.ensures.answer.heard))
 
 pub deliver_all-requires-clause-distinct : goal.deliver_all-requires-clause-distinct
 deliver_all-requires-clause-distinct g c =
@@ -57,12 +57,12 @@ returns-in-Drop-clause-input g c =
     let p = c.args.pool.now in
     let q = c.input.new.pool in
     let w = c.args.waiting.now in
-    dropped_to {h = c.args.head} c.in-Drop.why c.requires.socks c.requires.owned c.in-Drop.ensures.answer (λ s. g.met.R.Waiting.unfinished_same p q w s) (λ s. g.met.R.Reclaim.owned_same p q w s) c.input.ensures.blocks c.count_ended.ensures
+    dropped_to {h = c.args.head} c.in-Drop.why c.requires.socks c.requires.owned c.in-Drop.ensures.answer.1 (λ s. g.met.R.Waiting.unfinished_same p q w s) (λ s. g.met.R.Reclaim.owned_same p q w s) c.input.ensures.blocks c.count_ended.ensures
 
 pub returns-in-Drop-clause-waits : goal.returns-in-Drop-clause-waits
 returns-in-Drop-clause-waits g c =
     let p = c.args.pool.now in
     let q = c.input.new.pool in
     let w = c.args.waiting.now in
-    let gone = freed p q c.args.chain (g.R.Reclaim.owned p w) _ c.requires.owned c.requires.socks c.in-Drop.ensures.answer.freed in
+    let gone = freed p q c.args.chain (g.R.Reclaim.owned p w) _ c.requires.owned c.requires.socks c.in-Drop.ensures.answer.1.freed in
     g.met.R.Reclaim.ready_same p q w gone.same c.requires.waits
