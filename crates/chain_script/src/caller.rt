@@ -147,7 +147,7 @@ pub(crate) struct Caller {
 /// Slots that are all empty.
 fn empty_slots(alloc: Global) -> Result<Vec<Option<Chain>>, AllocError>
     ensures items { IfOk result (λ chains. chains.items ≡ replicate SLOTS None) }
-    ensures len { IfOk result (λ chains. vec_len chains ≡ 64) }
+    ensures len { IfOk result (λ chains. vec_len chains ≡ SLOTS) }
 {
     let mut chains = Vec::with_capacity(alloc, SLOTS)?;
     'slots: for _ in 0..SLOTS {
