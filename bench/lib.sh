@@ -1,18 +1,26 @@
 # What bench/run.sh does for a subject. CC and CFLAGS name another compiler and its flags, RT another `rt`.
 
 bench="$(cd "$(dirname "${BASH_SOURCE[0]}")" && pwd)"
-crate="$bench/../crates/bench_c"
+crates="$bench/../crates"
 kit="$(dirname "$("${RT:-rt}" doc)")" # its C archive has the functions that ask malloc and free
 
-# Proves and builds the static library.
-build_library() { # WORK
-    (cd "$crate" && "${RT:-rt}" lib > "$1/lib.log" 2>&1) || { cat "$1/lib.log" >&2; return 1; }
+# The crate whose static library has a subject: its own where there is one.
+crate_of() { # SUBJECT
+    if [ -d "$crates/bench_$1" ]; then echo "bench_$1"; else echo bench_c; fi
 }
 
-# Builds a subject's program, WORK/bench.
+# Proves and builds a static library.
+build_library() { # WORK CRATE
+    (cd "$crates/$2" && "${RT:-rt}" lib > "$1/lib.log" 2>&1) || { cat "$1/lib.log" >&2; return 1; }
+}
+
+# Builds a subject's program, WORK/bench, and its library.
 build_bench() { # WORK SUBJECT
+    local crate
+    crate="$(crate_of "$2")"
+    build_library "$1" "$crate"
     "${CC:-gcc}" ${CFLAGS:--O3} -Wall -Wextra -I "$bench" -o "$1/bench" "$bench/$2/bench.c" \
-        "$crate/out/libbench_c.a" "$kit/c/liblibc_c.a"
+        "$crates/$crate/out/lib$crate.a" "$kit/c/liblibc_c.a"
 }
 
 # The instructions of so many turns, and of what is made once.

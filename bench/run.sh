@@ -6,7 +6,6 @@ set -euo pipefail
 
 work="$(mktemp -d)"
 trap 'rm -rf "$work"' EXIT
-build_library "$work"
 
 subjects=("$@")
 if [ $# = 0 ]; then

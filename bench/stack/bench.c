@@ -6,7 +6,7 @@
 
 enum { MOST = 9000 };
 
-/* crates/bench_c/src/stack.rt */
+/* crates/bench_stack/src/lib.rt */
 uint32_t bsdudp_send_and_receive(const uint8_t *bytes, size_t len, uint32_t times);
 uint32_t bsdudp_send_to_itself(const uint8_t *bytes, size_t len, uint32_t times);
 

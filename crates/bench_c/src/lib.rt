@@ -12,5 +12,4 @@ mod pcb;
 mod pool;
 mod reass;
 mod receive_queue;
-mod stack;
 mod udp_header;
