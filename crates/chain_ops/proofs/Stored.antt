@@ -2,8 +2,8 @@
 use Rattle.std.proofs.Common.{◌≡◌, ℕ, zero, suc, ◌+◌, ◌-◌, ◌<◌, ◌≤◌, min, cond, Bool, true, false, List, [], ◌∷◌, ◌++◌, length, take, drop, count_by, nat_eq, Option, None, Some, refl, sym, ap, ◌∙◌, subst, arith, inl, inr, append_assoc, append-nil}
 use Rattle.std.specs.Prelude.{nat_le, option_to_list}
 use Rattle.std.specs.List.{AllByRecursion}
-use Rattle.std.proofs.lemmas.Bool.{cases_eq}
-use Rattle.std.proofs.lemmas.List.{length-drop, length-take, take-append-drop}
+use Rattle.std.proofs.lemmas.Bool.{cases_eq, lt-leb}
+use Rattle.std.proofs.lemmas.List.{length-drop, length-take, take_all, take-append-drop}
 use Rattle.std.proofs.lemmas.List.Sums.{sum_by-cons}
 use Rattle.mbuf_chain.specs.Chain.{Entry, flat_bytes, ChainView, PoolView, IsLive, chain_of, with_chain, references, references_of, refers, free_clusters}
 use Rattle.mbuf_chain.specs.Steps.{one_mbuf, joined}
@@ -13,7 +13,7 @@ use Rattle.mbuf_chain.proofs.Laws.Accounts.{references-with, free-same, free-tak
 use Rattle.flat_model.specs.Amounts.Layout as flat
 use Rattle.flat_model.specs.Amounts.Layout.{Room, Plain, Cluster, filled, or_empty, is_cluster, next_room, size_of, laid_on, user, wire}
 use Rattle.chain_ops.specs.Weights.{laid}
-use Rattle.chain_ops.proofs.Laws.Rooms.{next_some, next_most, rest_rooms, rooms_step}
+use Rattle.chain_ops.proofs.Laws.Rooms.{next_some, next_most, rest_rooms, rest_none, rooms_step}
 use Rattle.chain_ops.specs.Stored.{AreFree, IsTaken, stored, stored_first, first_start, rooms_for}
 
 -- ---- the entry of a room
@@ -136,6 +136,24 @@ start_is large m ends false e =
     let most = small_most (2048 - large) m e in
     let same : min (size_of (next_room (2048 - large) 100 m)) 100 ≡ size_of (next_room (2048 - large) 100 m) = omega (arith, most) in
     ap (first_start ends) same
+
+-- few bytes take one plain mbuf
+pub few_rooms : (large m : ℕ) → large ≤ 56 → m ≤ 100 → rooms_for large m ≡ Plain m ∷ []
+few_rooms large m h few =
+    let all : min m 100 ≡ m = omega arith in
+    let none : m - m ≡ 0 = omega arith in
+    let room : next_room (2048 - large) 100 m ≡ Plain m =
+    ap (λ (b : Bool). cond b (Cluster (min m (2048 - large))) (Plain (min m 100))) (lt-leb 208 m (omega arith)) ∙ ap {B = Room} Plain all in
+    rooms_begin large m h ∙ ap (λ (r : Room). r ∷ rest_rooms (m - size_of r)) room ∙ ap (λ (k : ℕ). Plain m ∷ rest_rooms k) none ∙ ap (λ (rs : List Room). Plain m ∷ rs) rest_none
+
+pub few_stored : (large : ℕ) (ends : Bool) (start : ℕ) (xs : List ℕ) → large ≤ 56 → length xs ≤ 100 → start ≡ first_start ends (min (length xs) 100)
+    → record { bytes = xs; start = start; cluster = None } ∷ [] ≡ stored_first large ends [] (rooms_for large (length xs)) xs
+few_stored large ends start xs h few is =
+    let all : min (length xs) 100 ≡ length xs = omega arith in
+    let at : start ≡ first_start ends (length xs) = is ∙ ap (first_start ends) all in
+    let here : record { bytes = xs; start = start; cluster = None } ≡ record { bytes = take (length xs) xs; start = first_start ends (length xs); cluster = None } =
+    λ j. record { bytes = sym (take_all (length xs) xs (omega arith)) j; start = at j; cluster = None } in
+    ap (λ (e : Entry). e ∷ []) here ∙ ap (λ (rooms : List Room). stored_first large ends [] rooms xs) (sym (few_rooms large (length xs) h few))
 
 -- the first mbuf was made
 pub begin_all : (p : PoolView) (large : ℕ) (ends : Bool) (o : Option ℕ) (m : ℕ) (xs : List ℕ) (b : Bool) (len start : ℕ) (piece rest : List ℕ) (done : List Entry) → large ≤ 56 → nat_le 208 m ≡ b → IsTaken p b o

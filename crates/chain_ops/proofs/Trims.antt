@@ -1,9 +1,9 @@
 -- Entries of one chain changed one after another.
-use Rattle.std.proofs.Common.{◌≡◌, ℕ, ◌+◌, ◌-◌, min, List, [], ◌∷◌, ◌++◌, length, take, drop, refl, sym, ap, ◌∙◌, arith, append-nil}
+use Rattle.std.proofs.Common.{◌≡◌, ℕ, ◌+◌, ◌-◌, ◌≤◌, min, List, [], ◌∷◌, ◌++◌, length, take, drop, refl, sym, ap, ◌∙◌, arith, append-nil}
 use Rattle.std.specs.Prelude.{slice_set}
-use Rattle.std.proofs.lemmas.List.{take_all, length-set}
+use Rattle.std.proofs.lemmas.List.{take_all, take-append-drop, length-append, length-set}
 use Rattle.mbuf_chain.specs.declared.place.Place.{Place}
-use Rattle.mbuf_chain.specs.Chain.{Entry, ChainView, PoolView, chain_of, entry_of, IsLive, IsPlace, with_chain}
+use Rattle.mbuf_chain.specs.Chain.{Entry, ChainView, PoolView, chain_of, entry_of, flat_bytes, IsLive, IsPlace, with_chain}
 use Rattle.mbuf_chain.specs.Steps.{with_entry, narrowed}
 use Rattle.mbuf_chain.proofs.Laws.Maps.{insert-insert, insert_same}
 use Rattle.mbuf_chain.proofs.Laws.Owners.{shown_with}
@@ -108,3 +108,27 @@ keep_all q r c at left kept len next place is cut step nx =
 
 pub changed_step : (p q r : PoolView) (c i : ℕ) (e : Entry) → q ≡ changed p c (chain_of q c).entries → r ≡ with_chain q c (with_entry (chain_of q c) i e) → r ≡ changed p c (chain_of r c).entries
 changed_step p q r c i e was is = changed_entry p q r c i e was is ∙ ap (changed p c) (sym (entries_now q r c i e is))
+
+-- the first mbuf has all that goes
+pub trim_first : (p q : PoolView) (c : ℕ) (at : Place) (n len : ℕ) → IsLive p c → IsPlace (chain_of p c) at → at.index ≡ 0 → len ≡ length (entry_of (chain_of p c) at.index).bytes → n ≤ len
+    → q ≡ with_chain p c (with_entry (chain_of p c) at.index (narrowed (entry_of (chain_of p c) at.index) n (len - n))) → q ≡ changed p c (without_first n (chain_of p c).entries)
+trim_first p q c at n len live place first is within step =
+    let es : List Entry = (chain_of q c).entries in
+    let i : ℕ = at.index + 1 in
+    let none : n - n ≡ 0 = omega arith in
+    let same : take i es ++ without_first (n - n) (drop i es) ≡ es =
+    ap (λ (k : ℕ). take i es ++ without_first k (drop i es)) none ∙ ap (λ (xs : List Entry). take i es ++ xs) (trim_nothing (drop i es)) ∙ take-append-drop i es in
+    let all = trim_all p q c at n n len i place is (omega arith) step refl in
+    changed_step p p q c at.index (narrowed (entry_of (chain_of p c) at.index) n (len - n)) (changed_none p c live) step
+    ∙ ap (changed p c) (sym same ∙ all ∙ ap (λ (k : ℕ). take k (chain_of p c).entries ++ without_first n (drop k (chain_of p c).entries)) first)
+
+-- all bytes stay where there are no more
+pub keep_enough : (n : ℕ) (es : List Entry) → length (flat_bytes es) ≤ n → only_first n es ≡ es
+keep_enough n [] le = refl
+keep_enough n (e ∷ es) le =
+    let both = length-append e.bytes (flat_bytes es) in
+    λ j. record { bytes = take_all (min n (length e.bytes)) e.bytes (omega (arith, both)) j; start = from_start e.start j; cluster = e.cluster }
+    ∷ keep_enough (n - length e.bytes) es (omega (arith, both)) j
+  where
+    from_start : (k : ℕ) → k + 0 ≡ k
+    from_start k = omega arith

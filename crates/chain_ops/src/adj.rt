@@ -5,9 +5,8 @@ ghost use Rattle.chain_ops.specs.Trims.{without_first, only_first, adjusted, adj
 
 use mbuf_chain::{Chain, Pool};
 
-/// Takes the first `n` bytes off a chain, or all where it has fewer: the half of `m_adj` that works at the front
-/// (TCP/IP Illustrated, volume 2, chapter 2), as a call of this project's own.
-pub fn trim_front(pool: &mut Pool, chain: &Chain, n: u32)
+/// Takes the first `n` bytes off a chain that has a longer first mbuf or not: see `trim_front`.
+fn trim_walk(pool: &mut Pool, chain: &Chain, n: u32)
     requires { IsLive pool.old chain.now }
     ensures { pool.new ≡ with_chain pool.old chain.now (record (chain_of pool.old chain.now) {
       entries = without_first n (chain_of pool.old chain.now).entries;
@@ -27,9 +26,27 @@ pub fn trim_front(pool: &mut Pool, chain: &Chain, n: u32)
     }
 }
 
-/// Leaves the first `keep` bytes of a chain, or all where it has fewer: the half of `m_adj` that works at the end
-/// (TCP/IP Illustrated, volume 2, chapter 2), as a call of this project's own, which is told what stays.
-pub fn trim_back(pool: &mut Pool, chain: &Chain, keep: u32)
+/// Takes the first `n` bytes off a chain, or all where it has fewer: the half of `m_adj` that works at the front
+/// (TCP/IP Illustrated, volume 2, chapter 2), as a call of this project's own.
+// A header mostly lies in the first mbuf, which is narrowed without a walk; inlined, since its length is known then.
+#[inline(always)]
+pub fn trim_front(pool: &mut Pool, chain: &Chain, n: u32)
+    requires { IsLive pool.old chain.now }
+    ensures { pool.new ≡ with_chain pool.old chain.now (record (chain_of pool.old chain.now) {
+      entries = without_first n (chain_of pool.old chain.now).entries;
+    }) }
+{
+    let first = pool.first(chain);
+    let len = pool.segment(chain, first).len;
+    if n <= len {
+        pool.narrow(chain, first, n, len - n);
+    } else {
+        trim_walk(pool, chain, n);
+    }
+}
+
+/// Leaves the first `keep` bytes of a chain, or all where it has fewer: see `trim_back`.
+fn keep_walk(pool: &mut Pool, chain: &Chain, keep: u32)
     requires { IsLive pool.old chain.now }
     ensures { pool.new ≡ with_chain pool.old chain.now (record (chain_of pool.old chain.now) {
       entries = only_first keep (chain_of pool.old chain.now).entries;
@@ -49,10 +66,27 @@ pub fn trim_back(pool: &mut Pool, chain: &Chain, keep: u32)
     }
 }
 
+/// Leaves the first `keep` bytes of a chain, or all where it has fewer: the half of `m_adj` that works at the end
+/// (TCP/IP Illustrated, volume 2, chapter 2), as a call of this project's own, which is told what stays.
+// Mostly nothing goes, and then no mbuf is looked at but the first, which has the packet length.
+#[inline(always)]
+pub fn trim_back(pool: &mut Pool, chain: &Chain, keep: u32)
+    requires { IsLive pool.old chain.now }
+    ensures { pool.new ≡ with_chain pool.old chain.now (record (chain_of pool.old chain.now) {
+      entries = only_first keep (chain_of pool.old chain.now).entries;
+    }) }
+{
+    if keep < pool.len(chain) {
+        keep_walk(pool, chain, keep);
+    }
+}
+
 /// Takes the first `n` bytes off a chain, or where `n` is below 0 the last ones; all where it has fewer. No
 /// mbuf is freed: one that loses bytes at its front begins that much later, also where all go. It takes one step
 /// for each mbuf in front of the bytes that stay, or for each of the chain where bytes go after (TCP/IP
 /// Illustrated, volume 2, chapter 2).
+// Inlined, since a caller knows the sign.
+#[inline(always)]
 pub fn m_adj(pool: &mut Pool, chain: &Chain, n: i32)
     requires { IsLive pool.old chain.now }
     ensures change { pool.new ≡ with_chain pool.old chain.now (record (chain_of pool.old chain.now) {

@@ -4,10 +4,9 @@ ghost use Rattle.mbuf_chain.specs.Chain.{IsLive, chain_of, string};
 
 use mbuf_chain::{Chain, Pool};
 
-/// Copies bytes of a chain out, from `off` on: as many as `to` has, which must lie in the chain (TCP/IP
-/// Illustrated, volume 2, chapter 2).
+/// Copies bytes of a chain out, mbuf by mbuf: see `m_copydata`.
 #[tactic(auto, using(mbuf_chain::proofs::Laws::Iterators::concat_pieces))]
-pub fn m_copydata(pool: &Pool, chain: &Chain, off: usize, to: &mut [u8])
+fn copy_pieces(pool: &Pool, chain: &Chain, off: usize, to: &mut [u8])
     requires live { IsLive pool.now chain.now }
     requires within { off + length to.old ≤ length (string (chain_of pool.now chain.now)) }
     ensures { to.new ≡ take (length to.old) (drop off (string (chain_of pool.now chain.now))) }
@@ -26,5 +25,22 @@ pub fn m_copydata(pool: &Pool, chain: &Chain, off: usize, to: &mut [u8])
         } else {
             skip -= piece.len();
         }
+    }
+}
+
+/// Copies bytes of a chain out, from `off` on: as many as `to` has, which must lie in the chain (TCP/IP
+/// Illustrated, volume 2, chapter 2).
+// Where they lie in the first mbuf they're one piece, and no other is looked for.
+#[inline(always)]
+pub fn m_copydata(pool: &Pool, chain: &Chain, off: usize, to: &mut [u8])
+    requires live { IsLive pool.now chain.now }
+    requires within { off + length to.old ≤ length (string (chain_of pool.now chain.now)) }
+    ensures { to.new ≡ take (length to.old) (drop off (string (chain_of pool.now chain.now))) }
+{
+    let first = pool.bytes(chain, pool.first(chain));
+    if off <= first.len() && to.len() <= first.len() - off {
+        to.copy_from_slice(&first[off..off + to.len()]);
+    } else {
+        copy_pieces(pool, chain, off, to);
     }
 }

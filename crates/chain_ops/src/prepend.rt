@@ -12,6 +12,7 @@ use params::{MHLEN, MSIZE};
 use std::mem;
 
 /// Where `n` bytes begin that are put at the end of a plain mbuf's room.
+#[inline(always)]
 pub(crate) fn at_end(header: bool, n: u32) -> u32
     requires { n ≤ MHLEN }
     ensures { result ≡ at_end header n }
@@ -49,10 +50,9 @@ pub fn m_prepend(pool: &mut Pool, chain: &mut Chain, bytes: &[u8]) -> Result<(),
         return Ok(());
     }
     let header = pool.has_header(chain);
-    let new = pool.new_plain(header, at_end(header, len))?;
+    let new = pool.new_plain_with(header, at_end(header, len), bytes)?;
     pool.laws();
     let at = pool.first(&new);
-    pool.put_back(&new, at, bytes);
     let old = mem::replace(chain, new);
     pool.link(chain, at, old);
     Ok(())

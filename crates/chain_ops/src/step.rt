@@ -10,6 +10,7 @@ use mbuf_pool::NoBufs;
 use params::{MBUF_HEADER, PACKET_START};
 
 /// Where the room of a plain mbuf begins.
+#[inline(always)]
 pub(crate) fn room_low(header: bool) -> u32
     ensures { result ≡ room_low header }
 {

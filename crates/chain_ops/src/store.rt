@@ -31,22 +31,6 @@ fn new_cluster(pool: &mut Pool, header: bool, start: u32, bytes: &[u8]) -> Resul
     Ok(chain)
 }
 
-/// A chain of one plain mbuf with bytes, from `start` on.
-#[inline(always)]
-fn new_plain(pool: &mut Pool, header: bool, start: u32, bytes: &[u8]) -> Result<Chain, NoBufs>
-    requires low { room_low header ≤ start }
-    requires high { start + length bytes.now ≤ MSIZE }
-    ensures ok { IfOk result (λ c. Adds pool.old pool.new c
-        (one_mbuf header (record { bytes = bytes.now; start = start; cluster = None }) c)) }
-    ensures err { OnErr result (held_mbufs pool.old ≡ pool.old.mbufs) }
-    ensures same { OnErr result (pool.new ≡ pool.old) }
-{
-    let chain = pool.new_plain(header, start)?;
-    let at = pool.first(&chain);
-    pool.put_back(&chain, at, bytes);
-    Ok(chain)
-}
-
 /// How many bytes go into the next mbuf, of those left: `large` at most into a cluster, `small` at most into
 /// a plain one.
 fn room_len(large: usize, small: usize, left: usize) -> usize
@@ -60,6 +44,7 @@ fn room_len(large: usize, small: usize, left: usize) -> usize
 }
 
 /// Where `n` bytes begin in a first plain mbuf: at its end or at its front.
+#[inline(always)]
 fn first_start(ends: bool, n: usize) -> u32
     requires { n ≤ MCLBYTES }
     ensures value { result ≡ first_start ends (min n MHLEN) }
@@ -74,7 +59,7 @@ fn first_start(ends: bool, n: usize) -> u32
 }
 
 /// A chain of one mbuf with bytes: in a cluster from `large` on, or in its own room from `plain` on.
-// Inlined with these two, since a first mbuf has a packet header and no later one does.
+// Inlined with what it calls, since a first mbuf has a packet header and no later one does.
 #[inline(always)]
 fn new_stored(
     pool: &mut Pool,
@@ -100,13 +85,12 @@ fn new_stored(
     if is_large {
         new_cluster(pool, header, large, bytes)
     } else {
-        new_plain(pool, header, plain, bytes)
+        pool.new_plain_with(header, plain, bytes)
     }
 }
 
-/// A chain with packet header of these bytes. In a first cluster they begin at `large`, and in a first plain
-/// mbuf at its end or at its front.
-fn store(pool: &mut Pool, bytes: &[u8], large: u32, ends: bool) -> Result<Chain, NoBufs>
+/// A chain with packet header of these bytes, mbuf by mbuf: see `store`.
+fn store_rooms(pool: &mut Pool, bytes: &[u8], large: u32, ends: bool) -> Result<Chain, NoBufs>
     requires large { large ≤ CLUSTER_LEADING_SPACE }
     requires most { length bytes.now ≤ IP_MAX_PACKET }
     ensures ok { IfOk result (λ d. (cs : List ℕ) × AreFree pool.old cs
@@ -150,10 +134,34 @@ fn store(pool: &mut Pool, bytes: &[u8], large: u32, ends: bool) -> Result<Chain,
     Ok(chain)
 }
 
+/// A chain with packet header of these bytes. In a first cluster they begin at `large`, and in a first plain
+/// mbuf at its end or at its front.
+// Inlined, since a caller knows where they begin. Few bytes need one plain mbuf, and no walk over rooms.
+#[inline(always)]
+fn store(pool: &mut Pool, bytes: &[u8], large: u32, ends: bool) -> Result<Chain, NoBufs>
+    requires large { large ≤ CLUSTER_LEADING_SPACE }
+    requires most { length bytes.now ≤ IP_MAX_PACKET }
+    ensures ok { IfOk result (λ d. (cs : List ℕ) × AreFree pool.old cs
+        × (length cs ≡ count_by is_cluster (rooms_for large (length bytes.now)))
+        × Makes pool.old pool.new d (alone true)
+        (stored_first large ends cs (rooms_for large (length bytes.now)) bytes.now)) }
+    ensures enough { OnOk result (Has pool.old (rooms_for large (length bytes.now))) }
+    ensures err { OnErr result (Lacks pool.old (rooms_for large (length bytes.now))) }
+    ensures same { OnErr result (pool.new ≡ pool.old) }
+{
+    if bytes.len() <= MHLEN as usize {
+        let start = first_start(ends, bytes.len());
+        pool.new_plain_with(true, start, bytes)
+    } else {
+        store_rooms(pool, bytes, large, ends)
+    }
+}
+
 /// A chain with packet header of bytes to send, at most 65,535: clusters as long as 208 bytes or more are left,
 /// then plain mbufs. 56 bytes are left free in front of a first cluster, and a first plain mbuf is filled at its
 /// end. `NoBufs` comes exactly where fewer mbufs or clusters are free than that takes, and changes nothing. Which free
 /// clusters are taken isn't said (sosend; TCP/IP Illustrated, volume 2, chapter 16).
+#[inline(always)]
 pub fn from_user(pool: &mut Pool, bytes: &[u8]) -> Result<Chain, NoBufs>
     requires { length bytes.now ≤ IP_MAX_PACKET }
     ensures ok { IfOk result (λ d. (cs : List ℕ) × AreFree pool.old cs
@@ -172,6 +180,7 @@ pub fn from_user(pool: &mut Pool, bytes: &[u8]) -> Result<Chain, NoBufs>
 /// or more are left, then plain mbufs, all filled at the front. `NoBufs` comes exactly where fewer mbufs or clusters
 /// are free than that takes, and changes nothing. Which free clusters are taken isn't said (m_devget; TCP/IP
 /// Illustrated, volume 2, chapter 2).
+#[inline(always)]
 pub fn from_wire(pool: &mut Pool, bytes: &[u8]) -> Result<Chain, NoBufs>
     requires { length bytes.now ≤ IP_MAX_PACKET }
     ensures ok { IfOk result (λ d. (cs : List ℕ) × AreFree pool.old cs

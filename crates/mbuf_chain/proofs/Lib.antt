@@ -20,3 +20,4 @@ mod Grows
 mod Cuts
 mod Ends
 mod Reading
+mod Filled

@@ -106,16 +106,17 @@ pub low_for : (header : Bool) (start len : ℕ) → room_low (head_for header st
 low_for true start len = refl
 low_for false start len = refl
 
--- an empty plain mbuf alone
-pub plain_made : (s t : StoreView) (i : ℕ) (header : Bool) (start : ℕ) → IsPool s → Taken s t i (head_for header start 0 None) → IsStore t → start_of header ≤ start → start ≤ 128 → IsMade s t i (one_mbuf header (empty_entry start None) i)
-plain_made s t i header start pool got store low high =
-    let h = head_for header start 0 None in
+-- a plain mbuf alone, that shows so many of its bytes
+pub plain_made : (s t : StoreView) (i : ℕ) (header : Bool) (start len : ℕ) → IsPool s → Taken s t i (head_for header start len None) → IsStore t → start_of header ≤ start → start + len ≤ 128
+    → IsMade s t i (one_mbuf header (record { bytes = take len (drop start (mbuf_of t i).bytes); start = start; cluster = None }) i)
+plain_made s t i header start len pool got store low high =
+    let h = head_for header start len None in
     let n = new_plain s t i h got refl store in
-    subst (λ (f : Front). IsMade s t i (record { front = f; entries = empty_entry start None ∷ []; cells = i ∷ [] })) (front_for header start 0 None)
-    (subst (λ (e : Entry). IsMade s t i (record { front = front_of (head_for header start 0 None); entries = e ∷ []; cells = i ∷ [] })) (entry n.head)
-    (added s t i h pool n refl (record { low = omega (arith, low_for header start 0); high = omega arith; kind = refl }) (total_for header start 0 None)))
+    subst (λ (f : Front). IsMade s t i (record { front = f; entries = record { bytes = take len (drop start (mbuf_of t i).bytes); start = start; cluster = None } ∷ []; cells = i ∷ [] })) (front_for header start len None)
+    (subst (λ (e : Entry). IsMade s t i (record { front = front_of (head_for header start len None); entries = e ∷ []; cells = i ∷ [] })) (entry n.head)
+    (added s t i h pool n refl (record { low = omega (arith, low_for header start len); high = omega arith; kind = refl }) (total_for header start len None)))
   where
-    entry : head_of t i ≡ head_for header start 0 None → entry_at t i ≡ empty_entry start None
+    entry : head_of t i ≡ head_for header start len None → entry_at t i ≡ record { bytes = take len (drop start (mbuf_of t i).bytes); start = start; cluster = None }
     entry e = ap (entry_from t i) e
 
 -- no mbuf is free where all are held

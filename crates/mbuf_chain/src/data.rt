@@ -12,6 +12,7 @@ use crate::place::Place;
 use mbuf_pool::{Buffer, Part, Store};
 
 /// The mbuf or cluster in which an mbuf's bytes lie.
+#[inline(always)]
 pub(crate) fn buffer_of(cell: u32, cluster: Option<u32>) -> Buffer
     ensures { result ≡ buffer_of cell cluster }
 {
@@ -22,6 +23,8 @@ pub(crate) fn buffer_of(cell: u32, cluster: Option<u32>) -> Buffer
 }
 
 /// Writes bytes into a buffer, from a place on.
+// Inlined with the calls that lead here, so that a caller that knows the length writes by stores.
+#[inline(always)]
 fn write(store: &mut Store, buffer: Buffer, start: u32, bytes: &[u8])
     requires room { IsRoom store.old buffer start (length bytes.now) }
     requires few { length bytes.now ≤ MCLBYTES }
@@ -37,19 +40,27 @@ fn write(store: &mut Store, buffer: Buffer, start: u32, bytes: &[u8])
     store.bytes_mut(part).copy_from_slice(bytes);
 }
 
-/// Writes bytes into an mbuf's place, which no other mbuf shares.
-fn write_in(store: &mut Store, first: u32, at: Place, start: u32, bytes: &[u8])
+/// Writes bytes into an mbuf's place, which no other mbuf shares. `cluster` is the cluster of its head.
+#[inline(always)]
+pub(crate) fn write_in(
+    store: &mut Store,
+    first: u32,
+    at: Place,
+    cluster: Option<u32>,
+    start: u32,
+    bytes: &[u8],
+)
     requires pool { IsPool store.old }
     requires live { IsLive (pool_of store.old) first }
     requires place { IsPlace (chain_of (pool_of store.old) first) at }
     requires unshared { IsUnshared (pool_of store.old) (entry_in (pool_of store.old) first at) }
+    requires cluster { cluster ≡ (head_of store.old at.cell).cluster }
     requires low { room_low (head_of store.old at.cell) ≤ start }
     requires high { start + length bytes.now ≤ room_high (head_of store.old at.cell) }
     ensures pool { IsPool store.new }
     ensures writes { WritesPlace store.old store.new first at start bytes.now }
 {
-    let head = store.head(at.cell);
-    write(store, buffer_of(at.cell, head.cluster), start, bytes);
+    write(store, buffer_of(at.cell, cluster), start, bytes);
 }
 
 /// Copies bytes of an mbuf, `count` of them after the first `skip`, into another's place, which no
@@ -93,6 +104,7 @@ fn copy_in(
 }
 
 /// Puts bytes after those of an mbuf, into its room.
+#[inline(always)]
 pub(crate) fn put_back(store: &mut Store, first: u32, at: Place, bytes: &[u8])
     requires pool { IsPool store.old }
     requires live { IsLive (pool_of store.old) first }
@@ -105,11 +117,13 @@ pub(crate) fn put_back(store: &mut Store, first: u32, at: Place, bytes: &[u8])
         (with_back (entry_in (pool_of store.old) first at) bytes.now) }
 {
     let head = store.head(at.cell);
-    write_in(store, first, at, head.start + head.len, bytes);
+    let end = head.start + head.len;
+    write_in(store, first, at, head.cluster, end, bytes);
     resize(store, first, at, head.start, head.len + bytes.len() as u32);
 }
 
 /// Puts bytes in front of those of an mbuf, into its room.
+#[inline(always)]
 pub(crate) fn put_front(store: &mut Store, first: u32, at: Place, bytes: &[u8])
     requires pool { IsPool store.old }
     requires live { IsLive (pool_of store.old) first }
@@ -124,11 +138,12 @@ pub(crate) fn put_front(store: &mut Store, first: u32, at: Place, bytes: &[u8])
     let head = store.head(at.cell);
     let added = bytes.len() as u32;
     let start = head.start - added;
-    write_in(store, first, at, start, bytes);
+    write_in(store, first, at, head.cluster, start, bytes);
     resize(store, first, at, start, head.len + added);
 }
 
 /// Writes bytes over those of an mbuf, from `offset` on.
+#[inline(always)]
 pub(crate) fn overwrite(store: &mut Store, first: u32, at: Place, offset: u32, bytes: &[u8])
     requires pool { IsPool store.old }
     requires live { IsLive (pool_of store.old) first }
@@ -141,7 +156,7 @@ pub(crate) fn overwrite(store: &mut Store, first: u32, at: Place, offset: u32, b
         (overwritten (entry_in (pool_of store.old) first at) offset bytes.now) }
 {
     let head = store.head(at.cell);
-    write_in(store, first, at, head.start + offset, bytes);
+    write_in(store, first, at, head.cluster, head.start + offset, bytes);
 }
 
 /// Puts bytes of an mbuf, `count` of them after the first `skip`, after those of another.
@@ -183,6 +198,7 @@ pub(crate) fn append(
 }
 
 /// The bytes of an mbuf, lent.
+#[inline(always)]
 pub(crate) fn bytes(store: &Store, first: u32, at: Place) -> &[u8]
     requires pool { IsPool store.now }
     requires live { IsLive (pool_of store.now) first }

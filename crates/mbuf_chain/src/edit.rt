@@ -10,6 +10,7 @@ use crate::place::Place;
 use mbuf_pool::Store;
 
 /// Puts a chain's packet length right, where it has one and so many bytes came in and went.
+#[inline(always)]
 pub(crate) fn set_total(store: &mut Store, first: u32, added: u32, removed: u32)
     requires off { IsOff store.old first added removed }
     requires live { IsLive (pool_of store.old) first }
@@ -25,6 +26,7 @@ pub(crate) fn set_total(store: &mut Store, first: u32, added: u32, removed: u32)
 }
 
 /// Lets an mbuf show the `len` bytes of its room from `start` on.
+#[inline(always)]
 pub(crate) fn resize(store: &mut Store, first: u32, at: Place, start: u32, len: u32)
     requires pool { IsPool store.old }
     requires live { IsLive (pool_of store.old) first }
@@ -42,6 +44,7 @@ pub(crate) fn resize(store: &mut Store, first: u32, at: Place, start: u32, len: 
 }
 
 /// Lets an mbuf show only `keep` of its bytes, after the first `skip`.
+#[inline(always)]
 pub(crate) fn narrow(store: &mut Store, first: u32, at: Place, skip: u32, keep: u32)
     requires pool { IsPool store.old }
     requires live { IsLive (pool_of store.old) first }

@@ -12,6 +12,7 @@ use mbuf_pool::{PacketHeader, Store};
 use params::{MBUF_HEADER, MSIZE, PACKET_START};
 
 /// How many bytes a chain has.
+#[inline(always)]
 pub(crate) fn bytes_of(store: &Store, first: u32) -> u32
     requires pool { IsPool store.now }
     requires live { IsLive (pool_of store.now) first }
@@ -33,6 +34,7 @@ pub(crate) fn mbufs_of(store: &Store, first: u32) -> u32
 }
 
 /// Whether a chain has a packet header.
+#[inline(always)]
 pub(crate) fn has_header(store: &Store, first: u32) -> bool
     requires pool { IsPool store.now }
     requires live { IsLive (pool_of store.now) first }
@@ -63,6 +65,7 @@ pub(crate) fn tag(store: &Store, first: u32) -> u32
 }
 
 /// The place of a chain's first mbuf.
+#[inline(always)]
 pub(crate) fn first(store: &Store, first: u32) -> Place
     requires pool { IsPool store.now }
     requires live { IsLive (pool_of store.now) first }
@@ -111,6 +114,7 @@ pub(crate) fn last(store: &Store, start: u32) -> Place
 }
 
 /// Where the bytes of an mbuf lie.
+#[inline(always)]
 pub(crate) fn segment(store: &Store, first: u32, at: Place) -> Segment
     requires pool { IsPool store.now }
     requires live { IsLive (pool_of store.now) first }
@@ -134,6 +138,7 @@ pub(crate) fn segment(store: &Store, first: u32, at: Place) -> Segment
 }
 
 /// Where an mbuf begins to hold data, with or without packet header.
+#[inline(always)]
 fn data_start(packet: Option<PacketHeader>) -> u32
     ensures { result ≡ (if is_some packet then PACKET_START else MBUF_HEADER) }
 {
@@ -144,6 +149,7 @@ fn data_start(packet: Option<PacketHeader>) -> u32
 }
 
 /// How many places are free in front of an mbuf's bytes.
+#[inline(always)]
 pub(crate) fn leading_space(store: &Store, first: u32, at: Place) -> u32
     requires pool { IsPool store.now }
     requires live { IsLive (pool_of store.now) first }

@@ -7,6 +7,7 @@ ghost use Rattle.mbuf_chain.specs.Chain.{IsLive, IsPlace, chain_of, entry_of, Ad
 ghost use Rattle.mbuf_chain.specs.Steps.{one_mbuf, empty_entry, narrowed};
 ghost use Rattle.mbuf_chain.specs.Inside.Cells.{IsPool, pool_of, Taken, start_of, head_for};
 
+use crate::data::write_in;
 use crate::place::Place;
 use mbuf_pool::{Head, NoBufs, PacketHeader, Store};
 
@@ -14,6 +15,7 @@ use mbuf_pool::{Head, NoBufs, PacketHeader, Store};
 const KIND: u16 = 1;
 
 /// The head of the only mbuf of a chain.
+#[inline(always)]
 fn head_for(header: bool, start: u32, len: u32, cluster: Option<u32>) -> Head
     ensures { result ≡ head_for header start len cluster }
 {
@@ -34,6 +36,7 @@ fn head_for(header: bool, start: u32, len: u32, cluster: Option<u32>) -> Head
 }
 
 /// Takes an mbuf, with a head.
+#[inline(always)]
 fn take(store: &mut Store, head: Head) -> Result<u32, NoBufs>
     requires { IsHead head }
     ensures ok { IfOk result (λ i. Taken store.old store.new i head) }
@@ -48,6 +51,7 @@ fn take(store: &mut Store, head: Head) -> Result<u32, NoBufs>
 }
 
 /// A chain of one empty mbuf without cluster.
+#[inline(always)]
 pub(crate) fn plain(store: &mut Store, header: bool, start: u32) -> Result<u32, NoBufs>
     requires pool { IsPool store.old }
     requires low { start_of header ≤ start }
@@ -61,6 +65,34 @@ pub(crate) fn plain(store: &mut Store, header: bool, start: u32) -> Result<u32, 
 {
     match take(store, head_for(header, start, 0, None)) {
         Ok(cell) => Ok(cell),
+        Err(refusal) => Err(refusal),
+    }
+}
+
+/// A chain of one mbuf without cluster, with bytes.
+// The head is written once, with the length that it's to have; the bytes that it shows are written after it.
+#[inline(always)]
+pub(crate) fn plain_with(
+    store: &mut Store,
+    header: bool,
+    start: u32,
+    bytes: &[u8],
+) -> Result<u32, NoBufs>
+    requires pool { IsPool store.old }
+    requires low { start_of header ≤ start }
+    requires high { start + length bytes.now ≤ MSIZE }
+    ensures pool { IsPool store.new }
+    ensures ok { IfOk result (λ c. Adds (pool_of store.old) (pool_of store.new) c
+        (one_mbuf header (record { bytes = bytes.now; start = start; cluster = None }) c)) }
+    ensures free { OnOk result (held_mbufs (pool_of store.old) < length store.old.mbufs) }
+    ensures err { OnErr result (held_mbufs (pool_of store.old) ≡ length store.old.mbufs) }
+    ensures same { OnErr result (store.new ≡ store.old) }
+{
+    match take(store, head_for(header, start, bytes.len() as u32, None)) {
+        Ok(cell) => {
+            write_in(store, cell, Place { index: 0, cell }, None, start, bytes);
+            Ok(cell)
+        }
         Err(refusal) => Err(refusal),
     }
 }

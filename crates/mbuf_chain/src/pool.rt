@@ -119,6 +119,7 @@ impl Pool {
     /// A chain of one empty mbuf, with or without packet header, that begins at `start`: a place from
     /// 28, or 20 without packet header, to 128. `NoBufs` comes exactly where no mbuf is free, and
     /// changes nothing.
+    #[inline(always)]
     pub fn new_plain(&mut self, header: bool, start: u32) -> Result<Chain, NoBufs>
         requires low { (if header then PACKET_START else MBUF_HEADER) ≤ start }
         requires high { start ≤ MSIZE }
@@ -129,6 +130,30 @@ impl Pool {
         ensures same { OnErr result (self.new ≡ self.old) }
     {
         match make::plain(&mut self.store, header, start) {
+            Ok(first) => Ok(Chain { first }),
+            Err(refusal) => Err(refusal),
+        }
+    }
+
+    /// A chain of one mbuf with bytes, with or without packet header. They begin at `start`, a place from 28, or 20
+    /// without packet header, and must end at 128 or before. It's `new_plain` and `put_back` in one, and writes the
+    /// head once. `NoBufs` comes exactly where no mbuf is free, and changes nothing.
+    #[inline(always)]
+    pub fn new_plain_with(
+        &mut self,
+        header: bool,
+        start: u32,
+        bytes: &[u8],
+    ) -> Result<Chain, NoBufs>
+        requires low { (if header then PACKET_START else MBUF_HEADER) ≤ start }
+        requires high { start + length bytes.now ≤ MSIZE }
+        ensures ok { IfOk result (λ c. Adds self.old self.new c
+            (one_mbuf header (record { bytes = bytes.now; start = start; cluster = None }) c)) }
+        ensures free { OnOk result (held_mbufs self.old < self.old.mbufs) }
+        ensures err { OnErr result (held_mbufs self.old ≡ self.old.mbufs) }
+        ensures same { OnErr result (self.new ≡ self.old) }
+    {
+        match make::plain_with(&mut self.store, header, start, bytes) {
             Ok(first) => Ok(Chain { first }),
             Err(refusal) => Err(refusal),
         }
@@ -146,6 +171,7 @@ impl Pool {
 
     /// How many bytes a chain has. It takes one step where the chain has a packet header, else one for
     /// each mbuf.
+    #[inline(always)]
     pub fn len(&self, chain: &Chain) -> u32
         requires { IsLive self.now chain.now }
         ensures { result ≡ length (string (chain_of self.now chain.now)) }
@@ -162,6 +188,7 @@ impl Pool {
     }
 
     /// Whether a chain has a packet header.
+    #[inline(always)]
     pub fn has_header(&self, chain: &Chain) -> bool
         requires { IsLive self.now chain.now }
         ensures { result ≡ (chain_of self.now chain.now).front.header }
@@ -187,6 +214,7 @@ impl Pool {
     }
 
     /// The place of a chain's first mbuf.
+    #[inline(always)]
     pub fn first(&self, chain: &Chain) -> Place
         requires { IsLive self.now chain.now }
         ensures place { IsPlace (chain_of self.now chain.now) result }
@@ -216,6 +244,7 @@ impl Pool {
     }
 
     /// Where the bytes of an mbuf lie, and how many they are.
+    #[inline(always)]
     pub fn segment(&self, chain: &Chain, at: Place) -> Segment
         requires live { IsLive self.now chain.now }
         requires place { IsPlace (chain_of self.now chain.now) at }
@@ -233,6 +262,7 @@ impl Pool {
     }
 
     /// Leaves `keep` of an mbuf's bytes, after the first `skip`: it must have so many. An emptied mbuf stays.
+    #[inline(always)]
     pub fn narrow(&mut self, chain: &Chain, at: Place, skip: u32, keep: u32)
         requires live { IsLive self.old chain.now }
         requires place { IsPlace (chain_of self.old chain.now) at }
@@ -244,6 +274,7 @@ impl Pool {
     }
 
     /// How many places are free in front of an mbuf's bytes. None are where they lie in a cluster.
+    #[inline(always)]
     pub fn leading_space(&self, chain: &Chain, at: Place) -> u32
         requires live { IsLive self.now chain.now }
         requires place { IsPlace (chain_of self.now chain.now) at }
@@ -264,6 +295,7 @@ impl Pool {
     }
 
     /// The bytes of an mbuf, lent.
+    #[inline(always)]
     pub fn bytes(&self, chain: &Chain, at: Place) -> &[u8]
         requires live { IsLive self.now chain.now }
         requires place { IsPlace (chain_of self.now chain.now) at }
@@ -275,6 +307,8 @@ impl Pool {
 
     /// Puts bytes in front of those of an mbuf, into its room: its own after its head, or the whole of its
     /// cluster, which no other mbuf may share. They must fit there.
+    // Inlined, as the other calls that write, so that a caller that knows the length writes by stores.
+    #[inline(always)]
     pub fn put_front(&mut self, chain: &Chain, at: Place, bytes: &[u8])
         requires live { IsLive self.old chain.now }
         requires place { IsPlace (chain_of self.old chain.now) at }
@@ -288,6 +322,7 @@ impl Pool {
 
     /// Puts bytes after those of an mbuf, into its room: its own, or the whole of its cluster, which no other
     /// mbuf may share. They must fit there.
+    #[inline(always)]
     pub fn put_back(&mut self, chain: &Chain, at: Place, bytes: &[u8])
         requires live { IsLive self.old chain.now }
         requires place { IsPlace (chain_of self.old chain.now) at }
@@ -301,6 +336,7 @@ impl Pool {
 
     /// Writes bytes over those of an mbuf, from `offset` on. It must have so many, and no other mbuf may share
     /// its cluster.
+    #[inline(always)]
     pub fn overwrite(&mut self, chain: &Chain, at: Place, offset: u32, bytes: &[u8])
         requires live { IsLive self.old chain.now }
         requires place { IsPlace (chain_of self.old chain.now) at }

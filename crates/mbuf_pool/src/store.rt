@@ -114,6 +114,8 @@ impl Store {
 
     /// An mbuf that was free, by its number, with the head `given`, whose links must be below 0xffff_ffff. What its
     /// other bytes hold is not said. `NoBufs` comes exactly where no mbuf is free, and changes nothing.
+    // Inlined, so that a head of which a caller knows the fields is a few stores.
+    #[inline(always)]
     pub fn get_with(&mut self, given: Head) -> Result<u32, NoBufs>
         requires { IsHead given }
         ensures ok { IfOk result (λ i. TakesWith self.old self.new i given) }
@@ -262,6 +264,7 @@ impl Store {
     /// Makes `head` the head of an mbuf, which must be handed out. A link must be below 0xffff_ffff.
     /// It writes the first 20 bytes of the mbuf, 28 where the head has a packet header, 32 where it
     /// has a cluster, and leaves all other bytes.
+    #[inline(always)]
     pub fn set_head(&mut self, index: u32, head: Head)
         requires out { IsTrue (is_out self.old index) }
         requires links { IsHead head }
@@ -295,6 +298,7 @@ impl Store {
 
     /// Lets the data of an mbuf, which must be handed out, be the `len` bytes from `start` on, and leaves all else of
     /// its head.
+    #[inline(always)]
     pub fn set_data(&mut self, index: u32, start: u32, len: u32)
         requires { IsTrue (is_out self.old index) }
         ensures change { SetsHead self.old self.new index (record (head_of self.old index) { len = len; start = start }) }
@@ -305,6 +309,7 @@ impl Store {
 
     /// Makes `len` the packet length of an mbuf, which must be handed out and have a packet header, and leaves all
     /// else of its head.
+    #[inline(always)]
     pub fn set_packet_len(&mut self, index: u32, len: u32)
         requires out { IsTrue (is_out self.old index) }
         requires packet { IsSome (head_of self.old index).packet }
@@ -337,6 +342,7 @@ impl Store {
 
     /// The bytes of a part, without copying. The part must lie in a cluster that is counted above 0,
     /// or after the head of an mbuf that is handed out and refers to no cluster.
+    #[inline(always)]
     pub fn bytes(&self, part: Part) -> &[u8]
         requires { IsPart self.now part }
         ensures value { result.now ≡ read self.now part }
@@ -347,6 +353,8 @@ impl Store {
 
     /// The bytes of a part, as of `bytes`, to write to. What stands in them at the end is written, and
     /// nothing else.
+    // Inlined, so that a caller that knows the length writes by stores.
+    #[inline(always)]
     pub fn bytes_mut(&mut self, part: Part) -> &mut [u8]
         requires { IsPart self.old part }
         ensures* writes_back { sem 𝓛 (LendsPart self.entry part result) }

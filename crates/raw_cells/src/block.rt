@@ -59,6 +59,7 @@ impl Block {
         })
     }
 
+    #[inline(always)]
     pub(crate) fn len(&self) -> usize
         ensures { result ≡ length self.now }
     {
@@ -66,6 +67,7 @@ impl Block {
     }
 
     /// The `len` bytes from the index `at` on.
+    #[inline(always)]
     pub(crate) fn slice(&self, at: usize, len: usize) -> &[u8]
         requires { at + len ≤ length self.now }
         ensures value { result.now ≡ take len (drop at self.now) }
@@ -75,6 +77,7 @@ impl Block {
     }
 
     /// The `len` bytes from the index `at` on, to write to.
+    #[inline(always)]
     pub(crate) fn slice_mut(&mut self, at: usize, len: usize) -> &mut [u8]
         requires { at + len ≤ length self.old }
         ensures* writes_back { sem 𝓛 (LendsBytes self.entry at len result) }

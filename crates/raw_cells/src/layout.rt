@@ -81,6 +81,7 @@ pub(crate) fn read_head(bytes: &[u8], at: usize) -> Head
 }
 
 /// How many bytes of the mbuf the head takes.
+#[inline(always)]
 pub(crate) fn head_len(head: &Head) -> usize
     ensures { result ≡ head_size head.now }
 {
@@ -93,6 +94,7 @@ pub(crate) fn head_len(head: &Head) -> usize
     }
 }
 
+#[inline(always)]
 fn bytes_u16(x: u16) -> [u8; 2]
     ensures { u16_at result 0 ≡ x }
 {
@@ -101,6 +103,7 @@ fn bytes_u16(x: u16) -> [u8; 2]
     bytes
 }
 
+#[inline(always)]
 fn bytes_u32(x: u32) -> [u8; 4]
     ensures { u32_at result 0 ≡ x }
 {
@@ -109,6 +112,7 @@ fn bytes_u32(x: u32) -> [u8; 4]
     bytes
 }
 
+#[inline(always)]
 fn bytes_link(link: Option<u32>) -> [u8; 4]
     requires { IsLink link }
     ensures { link_of (u32_at result 0) ≡ link }
@@ -117,6 +121,7 @@ fn bytes_link(link: Option<u32>) -> [u8; 4]
 }
 
 /// Writes a number over four bytes.
+#[inline(always)]
 pub(crate) fn put_u32(bytes: &mut [u8], x: u32)
     requires { length bytes.old ≡ 4 }
     ensures value { u32_at bytes.new 0 ≡ x }
@@ -136,6 +141,7 @@ pub(crate) fn put_link(bytes: &mut [u8], link: Option<u32>)
 }
 
 /// Writes the length of an mbuf's data and its start over eight bytes.
+#[inline(always)]
 pub(crate) fn put_data(bytes: &mut [u8], len: u32, start: u32)
     requires { length bytes.old ≡ 8 }
     ensures len { u32_at bytes.new 0 ≡ len }
@@ -157,6 +163,7 @@ pub(crate) fn clear_packet(bytes: &mut [u8])
     LittleEndian::write_u16(bytes, flags % 2);
 }
 
+#[inline(always)]
 fn flags(head: &Head) -> u16
     ensures { result ≡ flags_of head.now }
 {
@@ -164,6 +171,7 @@ fn flags(head: &Head) -> u16
 }
 
 /// The bytes of a head, and zeros for the fields that it has not.
+#[inline(always)]
 pub(crate) fn encode(head: &Head) -> [u8; 32]
     requires { IsHead head.now }
     ensures decoded { head_in result 0 ≡ head.now }

@@ -90,6 +90,7 @@ impl Bytes {
     }
 
     /// The `len` bytes from the index `from` on.
+    #[inline(always)]
     pub(crate) fn slice(&self, address: Address, from: usize, len: usize) -> &[u8]
         requires { (address.ptr ≡ self.now.at) × (from + len ≤ length self.now.written) }
         ensures { result.now ≡ take len (drop from self.now.written) }
@@ -98,6 +99,7 @@ impl Bytes {
     }
 
     /// The `len` bytes from the index `from` on, to write to.
+    #[inline(always)]
     pub(crate) fn slice_mut(&mut self, address: Address, from: usize, len: usize) -> &mut [u8]
         requires { (address.ptr ≡ self.old.at) × (from + len ≤ length self.old.written) }
         ensures* writes_back { sem 𝓛 (LendsRun self.entry from len result) }

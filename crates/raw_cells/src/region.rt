@@ -78,6 +78,8 @@ impl Region {
     /// Makes `head`, whose links are below 0xffff_ffff, the head of the mbuf `index`, one that the region
     /// has. It writes the first 20 bytes of the mbuf, 28 where the head has a packet header, 32 where it
     /// has a cluster, and leaves all other bytes.
+    // Inlined, so that a head of which a caller knows the fields is a few stores.
+    #[inline(always)]
     pub fn set_head(&mut self, index: u32, head: Head)
         requires index { index < length self.old.heads }
         requires links { IsHead head }
@@ -118,6 +120,7 @@ impl Region {
 
     /// Lets the data of the mbuf `index`, one that the region has, be the `len` bytes from `start` on, and leaves
     /// all else of its head.
+    #[inline(always)]
     pub fn set_data(&mut self, index: u32, start: u32, len: u32)
         requires { index < length self.old.heads }
         ensures change { SetsHead self.old self.new index (record (head_of self.old index) { len = len; start = start }) }
@@ -132,6 +135,7 @@ impl Region {
 
     /// Makes `len` the packet length of the mbuf `index`, one that the region has and that has a packet header,
     /// and leaves all else of its head.
+    #[inline(always)]
     pub fn set_packet_len(&mut self, index: u32, len: u32)
         requires index { index < length self.old.heads }
         requires packet { IsSome (head_of self.old index).packet }
@@ -166,6 +170,7 @@ impl Region {
     }
 
     // Where the part begins in the block.
+    #[inline(always)]
     fn start(&self, part: Part) -> usize
         requires { IsPart self.now part }
         ensures at { result ≡ place self.now part }
@@ -182,6 +187,7 @@ impl Region {
 
     /// The bytes of a part, without copying. A part of an mbuf lies after its head, and the mbuf
     /// refers to no cluster.
+    #[inline(always)]
     pub fn bytes(&self, part: Part) -> &[u8]
         requires { IsPart self.now part }
         ensures value { result.now ≡ read self.now part }
@@ -193,6 +199,8 @@ impl Region {
     }
 
     /// The bytes of a part, to write to. What stands in them at the end is written, and nothing else.
+    // Inlined, so that a caller that knows the length writes by stores.
+    #[inline(always)]
     pub fn bytes_mut(&mut self, part: Part) -> &mut [u8]
         requires { IsPart self.old part }
         ensures* writes_back { sem 𝓛 (LendsPart self.entry part result) }

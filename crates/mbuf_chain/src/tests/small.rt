@@ -77,3 +77,22 @@ fn room_of_an_mbuf(rt: HostRuntime) -> Result<(), Fail> {
     pool.free_chain(chain);
     Ok(())
 }
+
+#[test]
+#[tactic(auto, using(crate::proofs::Maps::map_steps))]
+fn bytes_of_a_new_mbuf(rt: HostRuntime) -> Result<(), Fail> {
+    let mut pool = booted(rt.alloc(), 1, 0)?;
+    let chain = pool
+        .new_plain_with(true, 32, b"datagram")
+        .expect(&rt, "the mbuf is free");
+    assert_eq!(rt; pool.len(&chain), 8);
+    let at = pool.first(&chain);
+    assert_eq!(rt; pool.bytes(&chain, at), b"datagram".as_slice());
+    let rooms = (
+        pool.leading_space(&chain, at),
+        pool.trailing_space(&chain, at),
+    );
+    assert_eq!(rt; rooms, (4, 88));
+    pool.free_chain(chain);
+    Ok(())
+}

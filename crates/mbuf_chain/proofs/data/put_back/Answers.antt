@@ -6,8 +6,8 @@ use Rattle.mbuf_chain.proofs.data.put_back.Goals as goal
 pub head-head-requires : goal.head-head-requires
 head-head-requires c = (shown_at _ _ _ c.requires.pool c.requires.live c.requires.place).out
 
-pub overflow_add-head : goal.overflow_add-head
-overflow_add-head c = omega (arith, (fits_after c.args.store.now c.args.first (length c.args.bytes.now) c.args.at c.head-head.result c.requires.pool c.requires.live c.requires.place c.head-head.ensures.value c.requires.fits).high, (fits_after c.args.store.now c.args.first (length c.args.bytes.now) c.args.at c.head-head.result c.requires.pool c.requires.live c.requires.place c.head-head.ensures.value c.requires.fits).small)
+pub overflow_add-end : goal.overflow_add-end
+overflow_add-end c = omega (arith, (fits_after c.args.store.now c.args.first (length c.args.bytes.now) c.args.at c.head-head.result c.requires.pool c.requires.live c.requires.place c.head-head.ensures.value c.requires.fits).high, (fits_after c.args.store.now c.args.first (length c.args.bytes.now) c.args.at c.head-head.result c.requires.pool c.requires.live c.requires.place c.head-head.ensures.value c.requires.fits).small)
 
 pub write_in-requires-clause-low : goal.write_in-requires-clause-low
 write_in-requires-clause-low c = (fits_after c.args.store.now c.args.first (length c.args.bytes.now) c.args.at c.head-head.result c.requires.pool c.requires.live c.requires.place c.head-head.ensures.value c.requires.fits).low
@@ -15,8 +15,8 @@ write_in-requires-clause-low c = (fits_after c.args.store.now c.args.first (leng
 pub write_in-requires-clause-high : goal.write_in-requires-clause-high
 write_in-requires-clause-high c = (fits_after c.args.store.now c.args.first (length c.args.bytes.now) c.args.at c.head-head.result c.requires.pool c.requires.live c.requires.place c.head-head.ensures.value c.requires.fits).high
 
-pub overflow_add-head-2 : goal.overflow_add-head-2
-overflow_add-head-2 c = omega (arith, (fits_after c.args.store.now c.args.first (length c.args.bytes.now) c.args.at c.head-head.result c.requires.pool c.requires.live c.requires.place c.head-head.ensures.value c.requires.fits).high, (fits_after c.args.store.now c.args.first (length c.args.bytes.now) c.args.at c.head-head.result c.requires.pool c.requires.live c.requires.place c.head-head.ensures.value c.requires.fits).small)
+pub overflow_add-head : goal.overflow_add-head
+overflow_add-head c = omega (arith, (fits_after c.args.store.now c.args.first (length c.args.bytes.now) c.args.at c.head-head.result c.requires.pool c.requires.live c.requires.place c.head-head.ensures.value c.requires.fits).high, (fits_after c.args.store.now c.args.first (length c.args.bytes.now) c.args.at c.head-head.result c.requires.pool c.requires.live c.requires.place c.head-head.ensures.value c.requires.fits).small)
 
 pub resize-requires-clause-live : goal.resize-requires-clause-live
 resize-requires-clause-live c = (ready_after c.args.store.now c.write_in.new.store c.args.first (length c.args.bytes.now) c.args.at c.head-head.result c.args.bytes.now c.requires.pool c.requires.live c.requires.place c.head-head.ensures.value c.requires.fits refl c.write_in.ensures.writes).live

@@ -1,7 +1,7 @@
 use Rattle.std.proofs.Common.{◌≡◌, ◌-◌, ◌++◌, length, take, drop}
 use Rattle.mbuf_chain.specs.Chain.{IsPlace, chain_of, with_chain}
 use Rattle.chain_ops.specs.Trims.{only_first}
-use Rattle.chain_ops.proofs.adj.trim_back.Given as goal
+use Rattle.chain_ops.proofs.adj.keep_walk.Given as goal
 
 abbrev pub invariant-mbufs : goal.invariant-mbufs
 invariant-mbufs l = record {

@@ -5,7 +5,7 @@ use Rattle.flat_model.specs.Amounts.Layout.{is_cluster}
 use Rattle.chain_ops.specs.Makes.{Makes}
 use Rattle.chain_ops.specs.Stored.{AreFree, stored, stored_first, rooms_for}
 use Rattle.chain_ops.proofs.Laws.Rooms.{rest_rooms}
-use Rattle.chain_ops.proofs.store.store.Given as goal
+use Rattle.chain_ops.proofs.store.store_rooms.Given as goal
 
 abbrev pub invariant-rooms : goal.invariant-rooms
 invariant-rooms l = record {
