@@ -18,5 +18,6 @@ mod Runs
 mod Trains
 mod Grows
 mod Cuts
+mod Drops
 mod Ends
 mod Reading
