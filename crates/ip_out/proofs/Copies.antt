@@ -6,7 +6,7 @@ use Rattle.flat_model.specs.Amounts.Weight.{Item}
 use Rattle.flat_model.specs.Fragments.Cuts.{Part, cuts}
 use Rattle.flat_model.specs.Amounts.Layout as flat
 use Rattle.flat_model.specs.Amounts.Layout.{entries_met}
-use Rattle.flat_model.specs.Machine.Sending.{items, later_weight}
+use Rattle.flat_model.specs.Machine.Sending.{items}
 use Rattle.std.proofs.lemmas.List.{length-map}
 use Rattle.mbuf_chain.specs.Chain.{Entry, ChainView, PoolView, IsLive, chain_of, no_chain, no_entry, flat_bytes, string, alone, held_mbufs, with_chain, without}
 use Rattle.mbuf_chain.specs.Owners.{Moves, IsOwned, times}
@@ -24,6 +24,7 @@ use Rattle.chain_ops.proofs.Laws.Weights.{copied_all-laid}
 use Rattle.ledger.specs.Accounts.{item_of}
 use Rattle.ip_out.specs.declared.head.IpHead.{IpHead}
 use Rattle.ip_out.specs.Packets.{IsDatagram, packets, packets_of, parts_of, part_bytes, later_need}
+use Rattle.ip_out.proofs.Outputs.{items_length}
 use Rattle.ip_out.proofs.Sends.{aside_gone}
 
 -- ---- the copy
@@ -144,14 +145,6 @@ gone_whole {p} {s} c m live =
     moves_nothing (moves_trans (moves_adds (adds_in_place p p c (chain_of p c) whole)) m)
 
 -- ---- how many packets
-items_length : (es : List flat.Entry) (f : Part → List ℕ) (ps : List Part) → length {A = Item} (items es f ps) ≡ length ps
-items_length es f [] = refl
-items_length es f (p ∷ ps) = ap suc (go ps)
-  where
-    go : (qs : List Part) → length {A = Item} (map (λ (q : Part). record { bytes = f q; weight = later_weight es q }) qs) ≡ length qs
-    go [] = refl
-    go (q ∷ qs) = ap suc (go qs)
-
 pub is_cut : (p : PoolView) (t : TrainView) (v : ChainView) (h : IpHead) (mtu : ℕ) → IsHeld p t → packets p t ≡ packets_of v h mtu → nat_lt 1 t.len ≡ nat_lt 1 (length (parts_of v mtu))
 is_cut p t v h mtu held is =
     let n : t.len ≡ length (parts_of v mtu) =

@@ -4,7 +4,8 @@ use Rattle.std.specs.List.{insert, cons_option}
 use Rattle.std.specs.Prelude.{slice_set, slice_index_or, sum_by}
 use Rattle.std.proofs.lemmas.List.Sums.{sum_by-cons}
 use Rattle.std.proofs.lemmas.Bool.{le-ltb}
-use Rattle.std.proofs.lemmas.List.{length-take, length-append, append_assoc, take_all, take-append-le}
+use Rattle.std.proofs.lemmas.List.{length-take, length-append, append_assoc, take_all, take-append-le, map-append}
+use Rattle.std.proofs.lemmas.List.Edits.{insert_end}
 use Rattle.flat_model.specs.Amounts.Weight.{Item}
 use Rattle.flat_model.specs.Fragments.Cuts.{Part, part, cuts}
 use Rattle.flat_model.specs.Amounts.Layout.{weight_of}
@@ -14,11 +15,10 @@ use Rattle.mbuf_chain.specs.Chain.{Entry, ChainView, PoolView, IsLive, chain_of,
 use Rattle.mbuf_chain.specs.Steps.{narrowed, overwritten, with_entry, with_entry_in}
 use Rattle.mbuf_chain.specs.Owners.{Moves, times, IsOwned}
 use Rattle.mbuf_chain.specs.Train.{TrainView, QueuedPacket, queued_packets, numbers, IsHeld}
-use Rattle.mbuf_chain.proofs.Laws.Maps.{insert_same}
-use Rattle.mbuf_chain.proofs.Laws.Owners.{owned_more, moves_none, moves_trans, moves_beside, times_same, moves_within, live_at_most, live_one, shown_with}
+use Rattle.mbuf_chain.proofs.Laws.Owners.{owned_more, moves_trans, moves_beside, times_same, moves_within, live_at_most, live_one, shown_with}
 use Rattle.mbuf_chain.proofs.Laws.Steps.{live_shown}
 use Rattle.mbuf_chain.proofs.Laws.Accounts.{held_moves}
-use Rattle.mbuf_chain.proofs.Laws.Trains.{Beside, beside_with, held_none}
+use Rattle.mbuf_chain.proofs.Laws.Trains.{Beside, beside_with, length-queued_packets}
 use Rattle.chain_ops.specs.Weights.{laid}
 use Rattle.chain_ops.specs.Trims.{only_first}
 use Rattle.chain_ops.proofs.Laws.Strings.{only_first_bytes}
@@ -28,7 +28,8 @@ use Rattle.ip_out.specs.declared.head.IpHead.{IpHead}
 use Rattle.ip_out.specs.Headings.{head_bytes}
 use Rattle.ip_out.specs.Packets.{packets, packets_of, parts_of, part_need, later_need, head_for, part_bytes, AreBegunPlain, BeginPlain, IsDatagram}
 use Rattle.ip_out.specs.Inside.{later_item, parts_to, IsLater, IsCut}
-use Rattle.ip_out.proofs.Outputs.{kept_moves, weight-laid, weigh_numbers, weigh_parts, length-laid}
+use Rattle.ip_out.proofs.Later.{length_head}
+use Rattle.ip_out.proofs.Outputs.{cut_none, kept_moves, plain_more, weight-laid, weigh_numbers, weigh_parts, length-laid}
 
 -- ---- bytes and weight
 only_weight : (k : ℕ) (es : List Entry) → ledger.weight_of (only_first k es) ≡ ledger.weight_of es
@@ -116,9 +117,6 @@ written {p} {q} {r} {s} {t} c k at hdr m held live is_r index is_s =
     }
 
 -- ---- a chain that isn't cut
-with_same : (p : PoolView) (c : ℕ) → IsLive p c → with_chain p c (chain_of p c) ≡ p
-with_same p c live = λ j. record { mbufs = p.mbufs; clusters = p.clusters; chains = insert_same p.chains c (chain_of p c) live j }
-
 all_stay : (n : ℕ) (es : List Entry) → length (flat_bytes es) ≤ n → only_first n es ≡ es
 all_stay n [] le = refl
 all_stay n (e ∷ es) le =
@@ -129,23 +127,29 @@ all_stay n (e ∷ es) le =
     from_start : (k : ℕ) → k + 0 ≡ k
     from_start k = omega arith
 
--- its header is written, and a train without chains is beside it
-pub written_whole : {p s : PoolView} (t : TrainView) (c k : ℕ) (at : Place) (hdr : List ℕ) → t ≡ record { first = None; last = None; len = 0 } → IsLive p c → k ≡ length (string (chain_of p c))
-    → at.index ≡ 0 → s ≡ with_entry_in p c at (overwritten (entry_in p c at) 0 hdr) → Written p p s t c k hdr
-written_whole {p} {s} t c k at hdr none live long index is =
-    let v : ChainView = chain_of p c in
-    let same : p ≡ with_chain p c (trimmed v k) =
-    sym (with_same p c live) ∙ ap (λ (es : List Entry). with_chain p c (record v { entries = es })) (sym (all_stay k v.entries (omega (arith, long)))) in
-    let moves : Moves p [] p (numbers p t) = subst (λ (u : TrainView). Moves p [] p (numbers p u)) (sym none) (moves_none p []) in
-    written c k at hdr moves (held_none p t none) live same index is
+-- its header is written, and a train stands beside it
+pub record IsHeaded (p s : PoolView) (t : TrainView) (c k : ℕ) (hdr : List ℕ) : Type 0 where
+  pub live : IsLive s c
+  pub shown : chain_of s c ≡ with_entry (trimmed (chain_of p c) k) 0 (overwritten (entry_of (trimmed (chain_of p c) k) 0) 0 hdr)
+  pub beside : Beside p s t
+  pub apart : times c (numbers s t) ≡ 0
+  pub moves : Moves p (c ∷ numbers p t) s (c ∷ numbers s t)
 
-pub later_none : {p : PoolView} (t : TrainView) (v : ChainView) (h : IpHead) (n size : ℕ) → t ≡ record { first = None; last = None; len = 0 } → IsLater p p t v h (parts_to n size 1)
-later_none {p} t v h n size none = subst (λ (u : TrainView). IsLater p p u v h (parts_to n size 1)) (sym none) (record {
-  held = held_none p (record { first = None; last = None; len = 0 }) refl;
-  moves = moves_none p [];
-  items = refl;
-  plain = tt;
-})
+pub headed_whole : {p s : PoolView} (t : TrainView) (c k : ℕ) (at : Place) (hdr : List ℕ) → IsHeld p t → times c (numbers p t) ≡ 0 → IsLive p c → k ≡ length (string (chain_of p c))
+    → at.index ≡ 0 → s ≡ with_entry_in p c at (overwritten (entry_in p c at) 0 hdr) → IsHeaded p s t c k hdr
+headed_whole {p} {s} t c k at hdr held apart live long index is =
+    let v : ChainView = chain_of p c in
+    let w : ChainView = with_entry v at.index (overwritten (entry_in p c at) 0 hdr) in
+    let b : Beside p s t = beside_with p s c w t is apart held in
+    let stays : v ≡ trimmed v k = ap (λ (es : List Entry). record v { entries = es }) (sym (all_stay k v.entries (omega (arith, long)))) in
+    let within : Moves p (c ∷ numbers p t) s (c ∷ numbers p t) = moves_within p s c w (c ∷ numbers p t) live (omega (arith, times_same c (numbers p t))) is in
+    record {
+      live = live_shown p s c w is;
+      shown = shown_with p s c w is ∙ (λ i. with_entry (stays i) (index i) (overwritten (entry_of (stays i) (index i)) 0 hdr));
+      beside = b;
+      apart = ap (times c) b.numbers ∙ apart;
+      moves = subst (λ (xs : List ℕ). Moves p (c ∷ numbers p t) s (c ∷ xs)) (sym b.numbers) within;
+    }
 
 pub head_whole : (h h0 : IpHead) (n : ℕ) → n ≤ 65515 → h0 ≡ record h { total = 20 + n; more = false; offset = 0 } → h0 ≡ head_for h (part n 65528 0)
 head_whole h h0 n short is =
@@ -155,23 +159,31 @@ head_whole h h0 n short is =
     is ∙ (λ j. record h { total = total j; more = more j; offset = offset j })
 
 -- ---- all packets
-pub packets_are : {p q s : PoolView} {t : TrainView} (z : PoolView) (u : TrainView) (c n size k count mtu : ℕ) (h h0 : IpHead) (hdr : List ℕ) → IsDatagram (chain_of p c) → n + 20 ≡ length (string (chain_of p c)) → IsCut n mtu size count
-    → IsLater p q t (chain_of p c) h (parts_to n size count) → k ≡ 20 + min size n → h0 ≡ head_for h (part n size 0) → hdr ≡ head_bytes h0 → length hdr ≡ 20 → Written p q s t c k hdr
-    → queued_packets z u ≡ insert (queued_packets s t) 0 (record { number = c; entries = (chain_of s c).entries; tag = 0 }) → packets z u ≡ packets_of (chain_of p c) h mtu
-packets_are {p} {q} {s} {t} z u c n size k count mtu h h0 hdr d len is_cut l ek eh eb el w in_queued_packets =
+-- the first, before those of the later parts
+pub packets_from : (p s : PoolView) (c n size k count mtu : ℕ) (h h0 : IpHead) (hdr : List ℕ) → IsDatagram (chain_of p c) → n + 20 ≡ length (string (chain_of p c)) → IsCut n mtu size count
+    → k ≡ 20 + min size n → h0 ≡ head_for h (part n size 0) → hdr ≡ head_bytes h0 → length hdr ≡ 20
+    → chain_of s c ≡ with_entry (trimmed (chain_of p c) k) 0 (overwritten (entry_of (trimmed (chain_of p c) k) 0) 0 hdr)
+    → item_of (chain_of s c).entries ∷ map (later_item (chain_of p c) h) (parts_to n size count) ≡ packets_of (chain_of p c) h mtu
+packets_from p s c n size k count mtu h h0 hdr d len is_cut ek eh eb el shown =
     let v : ChainView = chain_of p c in
-    let f : QueuedPacket → Item = λ queued_packet. item_of queued_packet.entries in
-    let x : QueuedPacket = record { number = c; entries = (chain_of s c).entries; tag = 0 } in
-    let all : packets z u ≡ f x ∷ packets q t = ap (map f) in_queued_packets ∙ ap (λ (xs : List QueuedPacket). f x ∷ map f xs) w.beside.queued_packets in
     let fits : min size n ≡ (part n size 0).size = omega arith in
-    let first : f x ≡ record { bytes = hdr ++ take (min size n) (drop 20 (string v)); weight = weight_of (laid v.entries) } =
-    ap (λ (y : ChainView). item_of y.entries) w.shown ∙ first_is v.entries k (min size n) hdr d.room ek el in
+    let first : item_of (chain_of s c).entries ≡ record { bytes = hdr ++ take (min size n) (drop 20 (string v)); weight = weight_of (laid v.entries) } =
+    ap (λ (y : ChainView). item_of y.entries) shown ∙ first_is v.entries k (min size n) hdr d.room ek el in
     let off : 0 ≡ (part n size 0).offset = omega arith in
     let bytes : hdr ++ take (min size n) (drop 20 (string v)) ≡ part_bytes h (drop 20 (string v)) (part n size 0) =
     (λ i. (eb ∙ ap head_bytes eh) i ++ take (fits i) (drop (off i) (drop 20 (string v)))) in
     let whole : items (laid v.entries) (part_bytes h (drop 20 (string v))) (part n size 0 ∷ parts_to n size count) ≡ packets_of v h mtu =
     ap (items (laid v.entries) (part_bytes h (drop 20 (string v)))) (sym is_cut.parts) ∙ (let e : n ≡ length (string v) - 20 = omega (arith, len) in ap (λ (m : ℕ). items (laid v.entries) (part_bytes h (drop 20 (string v))) (cuts m mtu)) e) in
-    all ∙ (λ i. first i ∷ l.items i) ∙ ap (λ (xs : List ℕ). record { bytes = xs; weight = weight_of (laid v.entries) } ∷ map (later_item v h) (parts_to n size count)) bytes ∙ whole
+    (λ i. first i ∷ map (later_item v h) (parts_to n size count)) ∙ ap (λ (xs : List ℕ). record { bytes = xs; weight = weight_of (laid v.entries) } ∷ map (later_item v h) (parts_to n size count)) bytes ∙ whole
+
+pub packets_are : {p q s : PoolView} {t : TrainView} (z : PoolView) (u : TrainView) (c n size k count mtu : ℕ) (h h0 : IpHead) (hdr : List ℕ) → IsDatagram (chain_of p c) → n + 20 ≡ length (string (chain_of p c)) → IsCut n mtu size count
+    → IsLater p q t (chain_of p c) h (parts_to n size count) → k ≡ 20 + min size n → h0 ≡ head_for h (part n size 0) → hdr ≡ head_bytes h0 → length hdr ≡ 20 → Written p q s t c k hdr
+    → queued_packets z u ≡ insert (queued_packets s t) 0 (record { number = c; entries = (chain_of s c).entries; tag = 0 }) → packets z u ≡ packets_of (chain_of p c) h mtu
+packets_are {p} {q} {s} {t} z u c n size k count mtu h h0 hdr d len is_cut l ek eh eb el w in_queued_packets =
+    let f : QueuedPacket → Item = λ queued_packet. item_of queued_packet.entries in
+    let x : QueuedPacket = record { number = c; entries = (chain_of s c).entries; tag = 0 } in
+    let all : packets z u ≡ f x ∷ packets q t = ap (map f) in_queued_packets ∙ ap (λ (xs : List QueuedPacket). f x ∷ map f xs) w.beside.queued_packets in
+    all ∙ (λ i. f x ∷ l.items i) ∙ packets_from p s c n size k count mtu h h0 hdr d len is_cut ek eh eb el w.shown
 
 -- it begins in a plain mbuf, as do the others
 cluster_written : (es : List Entry) (k : ℕ) (hdr : List ℕ) → (slice_index_or es 0 no_entry).cluster ≡ None
@@ -189,6 +201,38 @@ begun_plain {p} {q} {s} {t} z u c k hdr d later w in_queued_packets =
 pub string_long : (es : List Entry) → 20 ≤ length (slice_index_or es 0 no_entry).bytes → 20 ≤ length (flat_bytes es)
 string_long [] h = absurd (omega arith)
 string_long (e ∷ es) h = omega (arith, length-append e.bytes (flat_bytes es), h)
+
+-- a chain that isn't cut, after the packets of a train
+last_in : {p s : PoolView} {t : TrainView} (z : PoolView) (u : TrainView) {c k : ℕ} {hdr : List ℕ} → IsHeaded p s t c k hdr
+    → queued_packets z u ≡ insert (queued_packets s t) t.len (record { number = c; entries = (chain_of s c).entries; tag = 0 })
+    → queued_packets z u ≡ queued_packets p t ++ record { number = c; entries = (chain_of s c).entries; tag = 0 } ∷ []
+last_in {p} {s} {t} z u {c} w in_queued_packets =
+    let x : QueuedPacket = record { number = c; entries = (chain_of s c).entries; tag = 0 } in
+    in_queued_packets ∙ ap (λ (k : ℕ). insert (queued_packets s t) k x) (sym (length-queued_packets s t w.beside.held)) ∙ insert_end (queued_packets s t) x
+    ∙ ap (λ (xs : List QueuedPacket). xs ++ x ∷ []) w.beside.queued_packets
+
+pub whole_added : {p s : PoolView} {t : TrainView} (z : PoolView) (u : TrainView) (c k mtu : ℕ) (h : IpHead) (hdr : List ℕ) → IsDatagram (chain_of p c) → k ≡ length (string (chain_of p c)) → k ≤ mtu
+    → hdr ≡ head_bytes (record h { total = k; more = false; offset = 0 }) → IsHeaded p s t c k hdr
+    → queued_packets z u ≡ insert (queued_packets s t) t.len (record { number = c; entries = (chain_of s c).entries; tag = 0 }) → packets z u ≡ packets p t ++ packets_of (chain_of p c) h mtu
+whole_added {p} {s} {t} z u c k mtu h hdr d is fits eb w in_queued_packets =
+    let f : QueuedPacket → Item = λ queued_packet. item_of queued_packet.entries in
+    let x : QueuedPacket = record { number = c; entries = (chain_of s c).entries; tag = 0 } in
+    let h0 : IpHead = record h { total = k; more = false; offset = 0 } in
+    let n : ℕ = k - 20 in
+    let long : 20 ≤ length (string (chain_of p c)) = string_long (chain_of p c).entries d.room in
+    let short : n ≤ 65515 = omega (arith, is, d.most) in
+    let total : k ≡ 20 + n = omega (arith, is, long) in
+    let one : f x ∷ [] ≡ packets_of (chain_of p c) h mtu =
+    packets_from p s c n 65528 k 1 mtu h h0 hdr d (omega (arith, is, long)) (cut_none n mtu short (omega (arith, fits, total))) (omega (arith, total, short))
+    (head_whole h h0 n short (λ j. record h { total = total j; more = false; offset = 0 })) eb (ap (λ (xs : List ℕ). length xs) eb ∙ length_head h0) w.shown in
+    ap (map f) (last_in z u w in_queued_packets) ∙ map-append f (queued_packets p t) (x ∷ []) ∙ ap (λ (xs : List Item). packets p t ++ xs) one
+
+pub plain_added : {p s : PoolView} {t : TrainView} (z : PoolView) (u : TrainView) (c k : ℕ) (hdr : List ℕ) → IsDatagram (chain_of p c) → IsHeaded p s t c k hdr
+    → queued_packets z u ≡ insert (queued_packets s t) t.len (record { number = c; entries = (chain_of s c).entries; tag = 0 }) → BeginPlain p t → BeginPlain z u
+plain_added {p} {s} {t} z u c k hdr d w in_queued_packets before =
+    let x : QueuedPacket = record { number = c; entries = (chain_of s c).entries; tag = 0 } in
+    subst AreBegunPlain (sym (last_in z u w in_queued_packets))
+    (plain_more (queued_packets p t) x before (ap (λ (v : ChainView). (entry_of v 0).cluster) w.shown ∙ cluster_written (chain_of p c).entries k hdr d.plain))
 
 -- how many mbufs they take beyond the chain's own
 pub held_packets : {p z : PoolView} (t : TrainView) (c n size k mtu : ℕ) (h : IpHead) → Moves p (c ∷ []) z (numbers z t) → IsLive p c → IsCut n mtu size k → n + 20 ≡ length (string (chain_of p c))

@@ -12,6 +12,7 @@ use Rattle.flat_model.specs.Amounts.Weight.{Weight, Item, mbuf, ◌⊕◌}
 use Rattle.flat_model.specs.Fragments.Cuts.{Part, part, cuts, chunk}
 use Rattle.flat_model.specs.Amounts.Layout as flat
 use Rattle.flat_model.specs.Amounts.Layout.{weight_of, entries_met}
+use Rattle.flat_model.specs.Machine.Sending.{items, later_weight}
 use Rattle.mbuf_chain.specs.Chain.{Entry, ChainView, PoolView, IsLive, chain_of, no_chain, no_entry, flat_bytes, string, alone, held_mbufs, mbufs_of}
 use Rattle.mbuf_chain.specs.Owners.{Moves}
 use Rattle.mbuf_chain.specs.Train.{TrainView, QueuedPacket, queued_packet_of, queued_packets, numbers, IsHeld}
@@ -152,7 +153,7 @@ held_later {p} {q} {t} {v} {h} {ps} l =
     omega (arith, held_moves l.moves (λ k. omega arith), weigh_numbers q (numbers q t), ap (sum_by (λ (it : Item). it.weight.mbufs)) l.items, weigh_parts v h ps)
 
 -- ---- the train grows
-plain_more : (cs : List QueuedPacket) (c : QueuedPacket) → AreBegunPlain cs → (slice_index_or c.entries 0 no_entry).cluster ≡ None → AreBegunPlain (cs ++ c ∷ [])
+pub plain_more : (cs : List QueuedPacket) (c : QueuedPacket) → AreBegunPlain cs → (slice_index_or c.entries 0 no_entry).cluster ≡ None → AreBegunPlain (cs ++ c ∷ [])
 plain_more [] c all one = (one, tt)
 plain_more (x ∷ cs) c all one = (all.0, plain_more cs c all.1 one)
 
@@ -193,3 +194,12 @@ offset_unit zero c h = omega arith
 offset_unit (suc i) c h =
     let more : suc i * c ≡ i * c + c = omega arith in
     omega (arith, offset_unit i c h, more)
+
+-- ---- how many packets
+pub items_length : (es : List flat.Entry) (f : Part → List ℕ) (ps : List Part) → length {A = Item} (items es f ps) ≡ length ps
+items_length es f [] = refl
+items_length es f (p ∷ ps) = ap suc (go ps)
+  where
+    go : (qs : List Part) → length {A = Item} (map (λ (q : Part). record { bytes = f q; weight = later_weight es q }) qs) ≡ length qs
+    go [] = refl
+    go (q ∷ qs) = ap suc (go qs)

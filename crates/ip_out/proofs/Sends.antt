@@ -1,16 +1,23 @@
 -- The packets of a datagram beside the output queue.
-use Rattle.std.proofs.Common.{◌≡◌, ℕ, false, List, [], ◌∷◌, ◌++◌, length, take, map, ap, ◌∙◌, subst, arith, append-nil}
+use Rattle.std.proofs.Common.{◌≡◌, ℕ, ◌+◌, ◌-◌, ◌<◌, ◌≤◌, Bool, true, false, List, [], ◌∷◌, ◌++◌, length, take, drop, map, sym, ap, ◌∙◌, subst, arith, append-nil, inr}
 use Rattle.std.specs.Prelude.{nat_lt}
-use Rattle.std.proofs.lemmas.Bool.{ltb-false}
-use Rattle.std.proofs.lemmas.List.{take_all}
+use Rattle.std.proofs.lemmas.Bool.{lt-ltb, le-ltb, ltb-false}
+use Rattle.std.proofs.lemmas.List.{length-append, take_all}
 use Rattle.flat_model.specs.Amounts.Weight.{Item}
-use Rattle.mbuf_chain.specs.Chain.{PoolView, IsLive, without}
+use Rattle.flat_model.specs.Fragments.Cuts.{Part, part}
+use Rattle.mbuf_chain.specs.Chain.{ChainView, PoolView, IsLive, string, without}
 use Rattle.mbuf_chain.specs.Owners.{Moves, IsOwned, times}
-use Rattle.mbuf_chain.specs.Train.{TrainView, QueuedPacket, numbers, IsHeld}
-use Rattle.mbuf_chain.proofs.Laws.Owners.{times-append, moves_beside, moves_without, owned_more, owned_beside}
+use Rattle.mbuf_chain.specs.Train.{TrainView, QueuedPacket, queued_packets, numbers, IsHeld}
+use Rattle.mbuf_chain.proofs.Laws.Owners.{times-append, moves_beside, moves_trans, moves_without, owned_more, owned_beside}
 use Rattle.mbuf_chain.proofs.Laws.Trains.{Beside, beside_moves}
+use Rattle.chain_ops.specs.Weights.{laid}
 use Rattle.ledger.specs.Accounts.{item_of}
-use Rattle.ip_out.specs.Packets.{packets}
+use Rattle.ip_out.specs.declared.head.IpHead.{IpHead}
+use Rattle.ip_out.specs.Packets.{IsDatagram, packets, packets_of, part_bytes, parts_of}
+use Rattle.ip_out.specs.Queues.{IsQueue}
+use Rattle.ip_out.proofs.Firsts.{string_long}
+use Rattle.ip_out.proofs.Outputs.{cut_none, items_length}
+use Rattle.ip_out.proofs.Queues.{packets_len, taken_50}
 
 -- a chain c became other chains, and a train stands beside them
 pub record IsAside (p q : PoolView) (c : ℕ) (ys : List ℕ) (t : TrainView) : Type 0 where
@@ -45,3 +52,67 @@ aside_gone {p} {q} c t is live held apart =
 -- all found room
 pub all_fit : (items : List Item) → nat_lt 50 (length items) ≡ false → take 50 items ≡ items
 all_fit items h = take_all 50 items (ltb-false 50 (length items) h)
+
+-- ---- a datagram that isn't cut
+-- it has one part
+pub one_part : (v : ChainView) (k mtu : ℕ) → IsDatagram v → k ≡ length (string v) → k ≤ mtu → parts_of v mtu ≡ part (length (string v) - 20) 65528 0 ∷ []
+one_part v k mtu d is fits =
+    let long : 20 ≤ length (string v) = string_long v.entries d.room in
+    (cut_none (length (string v) - 20) mtu (omega (arith, d.most)) (omega (arith, is, fits, long))).parts
+
+-- and one packet
+pub one_packet : (v : ChainView) (h : IpHead) (k mtu : ℕ) → IsDatagram v → k ≡ length (string v) → k ≤ mtu → length (packets_of v h mtu) ≡ 1
+one_packet v h k mtu d is fits =
+    items_length (laid v.entries) (part_bytes h (drop 20 (string v))) (parts_of v mtu) ∙ ap (λ (ps : List Part). length ps) (one_part v k mtu d is fits)
+
+-- a queue takes that packet, or is full
+pub record TakesOne (p q : PoolView) (t u : TrainView) (lost : Bool) (ys : List Item) : Type 0 where
+  pub items : packets q u ≡ take 50 (packets p t ++ ys)
+  pub is_lost : lost ≡ nat_lt 50 (length (packets p t ++ ys))
+
+pub no_room : (p q : PoolView) (t : TrainView) (ys : List Item) → IsQueue p t → 50 ≤ t.len → length ys ≡ 1 → packets q t ≡ packets p t → TakesOne p q t t true ys
+no_room p q t ys is full one same = record {
+  items = same ∙ sym (taken_50 (packets p t) ys (omega (arith, packets_len p t is.held, is.room)) (inr (omega (arith, packets_len p t is.held, is.room, full))));
+  is_lost = sym (lt-ltb 50 (length (packets p t ++ ys)) (omega (arith, length-append (packets p t) ys, packets_len p t is.held, full, one)));
+}
+
+pub room : (p q : PoolView) (t u : TrainView) (ys : List Item) → IsQueue p t → t.len < 50 → length ys ≡ 1 → packets q u ≡ packets p t ++ ys → TakesOne p q t u false ys
+room p q t u ys is few one more =
+    let fits : length (packets p t ++ ys) ≤ 50 = omega (arith, length-append (packets p t) ys, packets_len p t is.held, few, one) in
+    record { items = more ∙ sym (take_all 50 (packets p t ++ ys) fits); is_lost = sym (le-ltb 50 (length (packets p t ++ ys)) fits) }
+
+-- ---- the packets of a datagram, the queue, and what comes back
+pub record IsSentOut (p q r : PoolView) (c : ℕ) (o looped : TrainView) (o' : TrainView) : Type 0 where
+  pub held : IsHeld r looped
+  pub same_packets : packets r looped ≡ packets q looped
+  pub same_queued : queued_packets r looped ≡ queued_packets q looped
+  pub moves : Moves p (c ∷ numbers p o) r (numbers r looped ++ numbers r o')
+
+-- those for the link stand beside the queue
+pub link_owned : {p q : PoolView} {c : ℕ} (o link looped : TrainView) → IsAside p q c (numbers q link ++ numbers q looped) o → IsOwned q (numbers q o ++ numbers q link)
+link_owned {p} {q} o link looped a = λ k. omega (
+  arith,
+  a.owned k,
+  times-append k (numbers q o) (numbers q link ++ numbers q looped),
+  times-append k (numbers q o) (numbers q link),
+  times-append k (numbers q link) (numbers q looped),
+)
+
+pub sent_out : {p q r : PoolView} {c : ℕ} (o link looped o' : TrainView) → IsAside p q c (numbers q link ++ numbers q looped) o → IsHeld q looped → Moves q (numbers q o ++ numbers q link) r (numbers r o') → IsSentOut p q r c o looped o'
+sent_out {p} {q} {r} {c} o link looped o' a held m =
+    let sums : (k : ℕ) → times k (numbers q o ++ (numbers q link ++ numbers q looped)) ≡ times k (numbers q looped) + times k (numbers q o ++ numbers q link) =
+    λ k. omega (
+      arith,
+      times-append k (numbers q o) (numbers q link ++ numbers q looped),
+      times-append k (numbers q o) (numbers q link),
+      times-append k (numbers q link) (numbers q looped),
+    ) in
+    let owned : IsOwned q (numbers q looped ++ (numbers q o ++ numbers q link)) = λ k. omega (arith, a.owned k, sums k, times-append k (numbers q looped) (numbers q o ++ numbers q link)) in
+    let b : Beside q r looped = beside_moves looped m owned held in
+    record {
+      held = b.held;
+      same_packets = ap (map (λ (queued_packet : QueuedPacket). item_of queued_packet.entries)) b.queued_packets;
+      same_queued = b.queued_packets;
+      moves = moves_trans a.moves (moves_beside (numbers q o ++ (numbers q link ++ numbers q looped)) (numbers r looped ++ numbers r o') (numbers q looped) m sums
+          (λ k. omega (arith, ap (times k) b.numbers, times-append k (numbers r looped) (numbers r o'))));
+    }

@@ -1,9 +1,9 @@
 //! The packets of a datagram: the chain itself, trimmed, and copies that share its clusters.
-ghost use Rattle.std.specs.Prelude.{◌≡◌, ℕ, ◌+◌, ◌*◌, ◌%◌, ◌<◌, ◌≤◌, [], ◌∷◌, true, false, length, sum_by, IfOk, OnOk, OnErr};
+ghost use Rattle.std.specs.Prelude.{◌≡◌, ℕ, ◌+◌, ◌*◌, ◌%◌, ◌<◌, ◌≤◌, [], ◌∷◌, ◌++◌, true, false, length, sum_by, IfOk, OnOk, OnErr};
 ghost use Rattle.flat_model.specs.Fragments.Cuts.{part};
 ghost use Rattle.mbuf_chain.specs.Chain.{IsLive, chain_of, string, alone, held_mbufs, without, Adds};
 ghost use Rattle.mbuf_chain.specs.Steps.{one_mbuf};
-ghost use Rattle.mbuf_chain.specs.Owners.{Moves};
+ghost use Rattle.mbuf_chain.specs.Owners.{Moves, times};
 ghost use Rattle.mbuf_chain.specs.Train.{IsHeld, numbers};
 ghost use Rattle.chain_ops.specs.Makes.{Makes, HasMbufs, LacksMbufs};
 ghost use Rattle.chain_ops.specs.Copies.{copied};
@@ -140,8 +140,37 @@ fn later(
     Ok(train)
 }
 
-/// The packet of a datagram that isn't cut: the chain itself, of `len` bytes, with its header written over its first
-/// bytes.
+/// Puts the packet of a datagram that isn't cut at the end of a train: the chain itself, of `len` bytes, with its header
+/// written over its first bytes.
+#[inline(always)]
+pub(crate) fn add_whole(pool: &mut Pool, train: &mut Train, chain: Chain, head: IpHead, len: u32)
+    requires live { IsLive pool.old chain }
+    requires datagram { IsDatagram (chain_of pool.old chain) }
+    requires len { len ≡ length (string (chain_of pool.old chain)) }
+    requires held { IsHeld pool.old train.old }
+    requires apart { times chain (numbers pool.old train.old) ≡ 0 }
+    ensures held { IsHeld pool.new train.new }
+    ensures len { train.new.len ≡ train.old.len + 1 }
+    ensures packets { (mtu : ℕ) → len ≤ mtu → packets pool.new train.new
+        ≡ packets pool.old train.old ++ packets_of (chain_of pool.old chain) head mtu }
+    ensures plain { BeginPlain pool.old train.old → BeginPlain pool.new train.new }
+    ensures moves { Moves pool.old (chain ∷ numbers pool.old train.old) pool.new (numbers pool.new train.new) }
+{
+    let whole = IpHead {
+        total: len as u16,
+        more: false,
+        offset: 0,
+        ..head
+    };
+    let mut bytes = [0; IP_HEADER as usize];
+    write_head(&mut bytes, whole);
+    let at = pool.first(&chain);
+    pool.overwrite(&chain, at, 0, &bytes);
+    let end = train.len();
+    train.insert(pool, end, chain, 0);
+}
+
+/// The packet of a datagram of `len` bytes that isn't cut: see `add_whole`.
 fn one_packet(pool: &mut Pool, chain: Chain, head: IpHead, len: u32) -> Train
     requires live { IsLive pool.old chain }
     requires datagram { IsDatagram (chain_of pool.old chain) }
@@ -155,18 +184,8 @@ fn one_packet(pool: &mut Pool, chain: Chain, head: IpHead, len: u32) -> Train
         → held_mbufs pool.new ≡ held_mbufs pool.old + later_need (chain_of pool.old chain) mtu }
     ensures enough { (mtu : ℕ) → len ≤ mtu → HasMbufs pool.old (later_need (chain_of pool.old chain) mtu) }
 {
-    let whole = IpHead {
-        total: len as u16,
-        more: false,
-        offset: 0,
-        ..head
-    };
-    let mut bytes = [0; IP_HEADER as usize];
-    write_head(&mut bytes, whole);
-    let at = pool.first(&chain);
-    pool.overwrite(&chain, at, 0, &bytes);
     let mut train = Train::new();
-    train.insert(pool, 0, chain, 0);
+    add_whole(pool, &mut train, chain, head, len);
     pool.laws();
     train
 }

@@ -131,6 +131,7 @@ fn write_with(bytes: &mut [u8], head: &IpHead, sum: u16)
 
 /// Writes a header of 20 bytes, its checksum among them. Conditions: there are 20 bytes; the offset is a multiple
 /// of 8, up to 65,528 (RFC 791, section 3.1).
+#[inline(always)]
 pub fn write_head(bytes: &mut [u8], head: IpHead)
     requires len { length bytes.old ≡ IP_HEADER }
     requires offset { head.offset ≤ MAX_OFFSET }

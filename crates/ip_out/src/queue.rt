@@ -1,12 +1,14 @@
 //! The output queue.
-ghost use Rattle.std.specs.Prelude.{◌≡◌, ◌+◌, ◌<◌, ◌≤◌, ◌==◌, ◌++◌, [], ◌∷◌, true, None, IfSome, MatchOption, take, length, nat_lt};
-ghost use Rattle.mbuf_chain.specs.Chain.{PoolView, IsLive, chain_of, alone};
+ghost use Rattle.std.specs.Prelude.{◌≡◌, ℕ, ◌+◌, ◌<◌, ◌≤◌, ◌==◌, ◌++◌, [], ◌∷◌, true, None, IfSome, MatchOption, take, length, nat_lt};
+ghost use Rattle.mbuf_chain.specs.Chain.{PoolView, IsLive, chain_of, string, alone};
 ghost use Rattle.mbuf_chain.specs.Owners.{Moves, IsOwned, times};
 ghost use Rattle.mbuf_chain.specs.Train.{IsHeld, numbers};
 ghost use Rattle.ledger.specs.Accounts.{item_at};
-ghost use Rattle.ip_out.specs.Packets.{packets};
+ghost use Rattle.ip_out.specs.Packets.{IsDatagram, packets, packets_of};
 ghost use Rattle.ip_out.specs.Queues.{IsQueue};
 
+use crate::fragments::add_whole;
+use crate::head::IpHead;
 use mbuf_chain::{Chain, Pool, Train};
 use params::OUTPUT_QUEUE_PACKETS;
 use std::marker::Model;
@@ -92,6 +94,36 @@ impl Queue {
     {
         let end = self.len();
         self.train.insert(pool, end, packet, 0);
+    }
+
+    /// Puts a datagram of `len` bytes that isn't cut at the end, as one packet, or frees it where there is no room.
+    /// Answers whether there was none.
+    #[inline(always)]
+    pub(crate) fn push_whole(
+        &mut self,
+        pool: &mut Pool,
+        chain: Chain,
+        head: IpHead,
+        len: u32,
+    ) -> bool
+        requires queue { IsQueue pool.old self.old }
+        requires live { IsLive pool.old chain }
+        requires datagram { IsDatagram (chain_of pool.old chain) }
+        requires len { len ≡ length (string (chain_of pool.old chain)) }
+        requires apart { times chain (numbers pool.old self.old) ≡ 0 }
+        ensures packets { (mtu : ℕ) → len ≤ mtu → packets pool.new self.new ≡ take OUTPUT_QUEUE_PACKETS
+            (packets pool.old self.old ++ packets_of (chain_of pool.old chain) head mtu) }
+        ensures lost { (mtu : ℕ) → len ≤ mtu → result ≡ nat_lt OUTPUT_QUEUE_PACKETS
+            (length (packets pool.old self.old ++ packets_of (chain_of pool.old chain) head mtu)) }
+        ensures queue { IsQueue pool.new self.new }
+        ensures moves { Moves pool.old (chain ∷ numbers pool.old self.old) pool.new (numbers pool.new self.new) }
+    {
+        if self.len() >= OUTPUT_QUEUE_PACKETS {
+            pool.free_chain(chain);
+            return true;
+        }
+        add_whole(pool, &mut self.train, chain, head, len);
+        false
     }
 
     /// Takes the packet that has waited longest, or answers `None` where none waits. It takes a number of steps that

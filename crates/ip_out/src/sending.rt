@@ -1,18 +1,21 @@
 //! Output: the packets of a datagram, and where they go.
-ghost use Rattle.std.specs.Prelude.{◌≡◌, ◌≤◌, ◌∷◌, ◌++◌, OnOk, IfErr};
-ghost use Rattle.mbuf_chain.specs.Chain.{IsLive, chain_of};
+ghost use Rattle.std.specs.Prelude.{◌≡◌, ◌≤◌, ◌∷◌, ◌++◌, length, take, nat_lt, IfOk, OnOk, OnErr, IfErr};
+ghost use Rattle.mbuf_chain.specs.Chain.{IsLive, chain_of, without};
 ghost use Rattle.mbuf_chain.specs.Owners.{Moves, times};
-ghost use Rattle.mbuf_chain.specs.Train.{numbers};
-ghost use Rattle.chain_ops.specs.Makes.{HasMbufs};
-ghost use Rattle.ip_out.specs.Packets.{IsDatagram, later_need, packets, packets_of};
+ghost use Rattle.mbuf_chain.specs.Train.{IsHeld, numbers};
+ghost use Rattle.chain_ops.specs.Makes.{HasMbufs, LacksMbufs};
+ghost use Rattle.ip_out.specs.Packets.{BeginPlain, IsDatagram, later_need, packets, packets_of, parts_of};
 ghost use Rattle.ip_out.specs.Queues.{IsQueue, IsRefused};
+ghost use Rattle.ip_out.specs.Ways.{to_link, to_self, way_need};
 
 use crate::fragments::fragments;
 use crate::head::IpHead;
 use crate::queue::Queue;
+use crate::ways::{Packets, Way, make_packets};
 use flat_model::Lack;
-use mbuf_chain::{Chain, Pool};
-use params::MIN_MTU;
+use mbuf_chain::{Chain, Pool, Train};
+use mbuf_pool::NoBufs;
+use params::{MIN_MTU, OUTPUT_QUEUE_PACKETS};
 
 /// Sends a datagram: cuts it into packets of at most `mtu` bytes, which is at least 68, writes their headers, and puts
 /// them into the output queue. The chain is spent on each answer.
@@ -55,4 +58,79 @@ pub fn output(
         return Err(Lack::Queue);
     }
     Ok(())
+}
+
+/// What came of the packets of a datagram. The train must be spent.
+pub struct Sent {
+    /// Those that come back.
+    pub looped: Train,
+    /// Whether the datagram was cut into more than one packet.
+    pub is_cut: bool,
+    /// Whether the output queue had no room for all that go to the link.
+    pub is_lost: bool,
+}
+
+/// Makes the packets of a datagram as `make_packets` does, puts those for the link into the output queue as
+/// `Queue::push_all` does, and answers those that come back. The chain is spent on each answer.
+///
+/// `NoBufs` comes exactly where fewer mbufs are free than copy and later packets take; nothing is queued then, and the
+/// chain is freed. Packets for which the queue has no room are freed, and that's no refusal (`ip_output`, `looutput` and
+/// `ether_output` of TCP/IP Illustrated volume 2, chapters 8, 5 and 4).
+#[inline(always)]
+pub fn send_packets(
+    pool: &mut Pool,
+    chain: Chain,
+    head: IpHead,
+    mtu: u16,
+    way: Way,
+    queue: &mut Queue,
+) -> Result<Sent, NoBufs>
+    requires live { IsLive pool.old chain }
+    requires datagram { IsDatagram (chain_of pool.old chain) }
+    requires least { MIN_MTU ≤ mtu }
+    requires queue { IsQueue pool.old queue.old }
+    requires apart { times chain (numbers pool.old queue.old) ≡ 0 }
+    ensures link { OnOk result (packets pool.new queue.new ≡ take OUTPUT_QUEUE_PACKETS
+        (packets pool.old queue.old ++ to_link way (packets_of (chain_of pool.old chain) head mtu))) }
+    ensures lost { IfOk result (λ s. s.is_lost ≡ nat_lt OUTPUT_QUEUE_PACKETS (length
+        (packets pool.old queue.old ++ to_link way (packets_of (chain_of pool.old chain) head mtu)))) }
+    ensures looped { IfOk result
+        (λ s. packets pool.new s.looped ≡ to_self way (packets_of (chain_of pool.old chain) head mtu)) }
+    ensures cut { IfOk result (λ s. s.is_cut ≡ nat_lt 1 (length (parts_of (chain_of pool.old chain) mtu))) }
+    ensures held { IfOk result (λ s. IsHeld pool.new s.looped) }
+    ensures plain { IfOk result (λ s. BeginPlain pool.new s.looped) }
+    ensures queue { IsQueue pool.new queue.new }
+    ensures moves { IfOk result (λ s. Moves pool.old (chain ∷ numbers pool.old queue.old)
+        pool.new (numbers pool.new s.looped ++ numbers pool.new queue.new)) }
+    ensures enough { OnOk result (HasMbufs pool.old (way_need way (chain_of pool.old chain) mtu)) }
+    ensures err { OnErr result (LacksMbufs pool.old (way_need way (chain_of pool.old chain) mtu)) }
+    ensures freed { OnErr result (pool.new ≡ without pool.old chain) }
+    ensures same { OnErr result (queue.new ≡ queue.old) }
+{
+    let len = pool.len(&chain);
+    match way {
+        // Most datagrams: one packet, for which no train is made.
+        Way::Link if len <= mtu as u32 => {
+            pool.laws();
+            let is_lost = queue.push_whole(pool, chain, head, len);
+            Ok(Sent {
+                looped: Train::new(),
+                is_cut: false,
+                is_lost,
+            })
+        }
+        _ => {
+            let Packets {
+                link,
+                looped,
+                is_cut,
+            } = make_packets(pool, chain, head, mtu, way)?;
+            let is_lost = queue.push_all(pool, link);
+            Ok(Sent {
+                looped,
+                is_cut,
+                is_lost,
+            })
+        }
+    }
 }

@@ -1,5 +1,5 @@
 -- The packets of a send.
-use Rattle.std.proofs.Common.{◌≡◌, ℕ, ◌+◌, ◌-◌, ◌≤◌, Bool, true, false, cond, List, [], ◌∷◌, ◌++◌, length, refl, sym, ap, ◌∙◌, arith}
+use Rattle.std.proofs.Common.{◌≡◌, ℕ, ◌+◌, ◌-◌, ◌≤◌, Bool, true, false, cond, List, [], ◌∷◌, ◌++◌, length, map, take, refl, sym, ap, ◌∙◌, arith}
 use Rattle.std.specs.Prelude.{◌==◌, ◌||◌, nat_lt}
 use Rattle.std.proofs.lemmas.List.{length-drop}
 use Rattle.flat_model.specs.Amounts.Weight.{Item}
@@ -10,14 +10,17 @@ use Rattle.flat_model.specs.Machine.Sending.{is_looped, mtu_to}
 use Rattle.flat_model.specs.declared.config.Config.{Config}
 use Rattle.mbuf_chain.specs.Chain.{PoolView, ChainView, chain_of, string}
 use Rattle.mbuf_chain.specs.Owners.{Moves}
-use Rattle.mbuf_chain.specs.Train.{IsHeld, numbers}
-use Rattle.mbuf_chain.proofs.Laws.Owners.{moves_trans, moves_adds}
+use Rattle.mbuf_chain.specs.Train.{TrainView, QueuedPacket, IsHeld, numbers}
+use Rattle.mbuf_chain.proofs.Laws.Owners.{moves_trans}
+use Rattle.mbuf_chain.proofs.Laws.Trains.{Beside, beside_adds, moves_new}
 use Rattle.chain_ops.specs.Makes.{Makes, LacksMbufs}
 use Rattle.chain_ops.proofs.Laws.Makes.{makes_mbufs}
 use Rattle.ip_out.specs.declared.head.IpHead.{IpHead}
-use Rattle.ip_out.specs.declared.ways.Packets.{Packets}
+use Rattle.ip_out.specs.declared.sending.Sent.{Sent}
 use Rattle.ip_out.specs.declared.ways.Way.{Way}
+use Rattle.ledger.specs.Accounts.{item_of}
 use Rattle.ip_out.specs.Packets.{packets, packets_of, parts_of, BeginPlain}
+use Rattle.ip_out.specs.Queues.{IsQueue}
 use Rattle.ip_out.specs.Ways as ways
 use Rattle.ip_out.specs.Ways.{way_need}
 use Rattle.ip_out.proofs.Laws.{packets_sent, sending_head}
@@ -50,24 +53,30 @@ back_is c ip items = go (is_looped c ip) (ip == c.bcast)
     go false true = refl
     go false false = refl
 
-pub packets_made : {p q r : PoolView} {chain mtu : ℕ} {way : Way} {head : IpHead} {made : Packets} (c : Config) (x : sending.Sending) → IsBuilt p x q chain → way ≡ way_of c x.to.ip → mtu ≡ mtu_to c x.to.ip → head ≡ sending_head x
-    → packets r made.link ≡ ways.to_link way (packets_of (chain_of q chain) head mtu) → packets r made.looped ≡ ways.to_self way (packets_of (chain_of q chain) head mtu)
-    → made.is_cut ≡ nat_lt 1 (length (parts_of (chain_of q chain) mtu)) → IsHeld r made.link × IsHeld r made.looped → BeginPlain r made.looped → Moves q (chain ∷ []) r (numbers r made.link ++ numbers r made.looped)
-    → AreMade p c x r made
-packets_made {p} {q} {r} {chain} {mtu} {way} {head} {made} c x b way_is mtu_is head_is link back cut held plain moves =
+pub packets_made : {p q r : PoolView} {chain mtu : ℕ} {way : Way} {head : IpHead} {o u : TrainView} {made : Sent} (c : Config) (x : sending.Sending) → IsBuilt p x q chain → way ≡ way_of c x.to.ip → mtu ≡ mtu_to c x.to.ip → head ≡ sending_head x
+    → IsHeld p o → packets r u ≡ take 50 (packets q o ++ ways.to_link way (packets_of (chain_of q chain) head mtu)) → made.is_lost ≡ nat_lt 50 (length (packets q o ++ ways.to_link way (packets_of (chain_of q chain) head mtu)))
+    → packets r made.looped ≡ ways.to_self way (packets_of (chain_of q chain) head mtu) → made.is_cut ≡ nat_lt 1 (length (parts_of (chain_of q chain) mtu)) → IsHeld r made.looped → BeginPlain r made.looped
+    → IsQueue r u → Moves q (chain ∷ numbers q o) r (numbers r made.looped ++ numbers r u) → AreMade p c x o r made u
+packets_made {p} {q} {r} {chain} {mtu} {way} {head} {o} {u} {made} c x b way_is mtu_is head_is waits out lost back cut held plain queue moves =
     let v : ChainView = chain_of q chain in
     let items_are : packets_of v head mtu ≡ sending.packets c b.clusters x =
     (λ i. packets_of v (head_is i) (mtu_is i)) ∙ packets_sent c b.clusters x v b.lies.laid (omega (arith, b.lies.size)) b.datagram in
     let size : length (string v) - 20 ≡ length (sending.datagram x) = omega (arith, length-drop 20 (string v), ap (λ (xs : List ℕ). length xs) b.datagram) in
+    let beside : Beside p q o = beside_adds o b.lies.made waits in
+    let before : packets q o ≡ packets p o = ap (map (λ (queued_packet : QueuedPacket). item_of queued_packet.entries)) beside.queued_packets in
+    let linked : ways.to_link way (packets_of v head mtu) ≡ to_link c x.to.ip (sending.packets c b.clusters x) =
+    (λ i. ways.to_link (way_is i) (items_are i)) ∙ link_is c x.to.ip (sending.packets c b.clusters x) in
+    let all : packets q o ++ ways.to_link way (packets_of v head mtu) ≡ packets p o ++ to_link c x.to.ip (sending.packets c b.clusters x) = λ i. before i ++ linked i in
     record {
       clusters = b.clusters;
       number = b.lies.number ∙ sym (need_clusters c x.to.ip (length x.bytes));
       free = b.lies.free;
-      link = link ∙ (λ i. ways.to_link (way_is i) (items_are i)) ∙ link_is c x.to.ip (sending.packets c b.clusters x);
+      out = out ∙ ap (take 50) all;
       back = back ∙ (λ i. ways.to_self (way_is i) (items_are i)) ∙ back_is c x.to.ip (sending.packets c b.clusters x);
       is_cut = cut ∙ (λ i. nat_lt 1 (length (cuts (size i) (mtu_is i))));
-      held_link = held.0;
-      held_back = held.1;
+      is_lost = lost ∙ ap (λ (l : List Item). nat_lt 50 (length l)) all;
+      queue = queue;
+      held = held;
       plain = plain;
-      moves = moves_trans (moves_adds b.lies.made) moves;
+      moves = moves_trans (moves_new o b.lies.made waits) moves;
     }

@@ -4,12 +4,13 @@ ghost use Rattle.flat_model.specs.Amounts.Layout.{sent};
 ghost use Rattle.flat_model.specs.Machine.Send.{need_to};
 ghost use Rattle.flat_model.specs.Machine.Sending.{is_looped, mtu_to};
 ghost use Rattle.chain_ops.specs.Stored.{Has};
+ghost use Rattle.ip_out.specs.Queues.{IsQueue};
 ghost use Rattle.sock_calls.specs.Inside.Putting.{config_of, head_as, sent_as, AreMade, IsBuilt, IsFreeFor, IsRouted, IsStored, way_of};
 
 use chain_ops::theorems::sent_layout;
 use chain_ops::{from_user, m_prepend};
 use flat_model::{Addr, Need};
-use ip_out::{IpHead, Packets, Way, make_packets, need, need_bcast};
+use ip_out::{IpHead, Queue, Sent, Way, need, need_bcast, send_packets};
 use mbuf_chain::{Chain, Pool};
 use params::{
     IP_DEFAULT_TTL, IP_UDP_HEADERS, LOOPBACK, LOOPBACK_MTU, MIN_MTU, PROTOCOL_UDP, UDP_SEND_SPACE,
@@ -95,6 +96,7 @@ fn datagram(pool: &mut Pool, heading: Heading, bytes: &[u8]) -> Chain
 }
 
 /// The IP header of all its packets, but for their lengths and offsets.
+#[inline(always)]
 fn ip_head(heading: Heading) -> IpHead
     ensures { result ≡ head_as heading }
 {
@@ -112,24 +114,27 @@ fn ip_head(heading: Heading) -> IpHead
     }
 }
 
-/// The packets of a send, whose buffers have to be free. A broadcast isn't cut.
-pub(crate) fn packets(
+/// Puts the packets of a send into the output queue, but for those that come back. Its buffers have to be free. A
+/// broadcast isn't cut.
+pub(crate) fn put_packets(
     pool: &mut Pool,
     pcbs: &Pcbs,
     mtu: u16,
     heading: Heading,
     bytes: &[u8],
-) -> Packets
+    queue: &mut Queue,
+) -> Sent
     requires most { length bytes.now ≤ UDP_SEND_SPACE }
     requires routed { IsRouted (config_of pcbs.now mtu) }
     requires uncut { heading.to.ip ≡ pcbs.now.bcast → length bytes.now + IP_UDP_HEADERS ≤ mtu }
     requires free { IsFreeFor pool.old (config_of pcbs.now mtu) heading.to.ip (length bytes.now) }
-    ensures { AreMade pool.old (config_of pcbs.now mtu) (sent_as heading bytes.now) pool.new result }
+    requires queue { IsQueue pool.old queue.old }
+    ensures { AreMade pool.old (config_of pcbs.now mtu) (sent_as heading bytes.now) queue.old pool.new result queue.new }
 {
     let chain = datagram(pool, heading, bytes);
     let (way, mtu) = way_to(pcbs, mtu, heading.to.ip);
-    match make_packets(pool, chain, ip_head(heading), mtu, way) {
-        Ok(packets) => packets,
+    match send_packets(pool, chain, ip_head(heading), mtu, way, queue) {
+        Ok(sent) => sent,
         Err(_) => unreachable!(),
     }
 }

@@ -9,9 +9,9 @@ ghost use Rattle.sock_calls.specs.Sockets.{from_three};
 
 use crate::destination::send_target;
 use crate::net::Net;
-use crate::packets::{Heading, need_to, packets};
+use crate::packets::{Heading, need_to, put_packets};
 use flat_model::{Addr, Counter, Counters, Errno, Lack, Need};
-use ip_out::Packets;
+use ip_out::Sent;
 use mbuf_chain::Pool;
 use params::{IP_UDP_HEADERS, UDP_SEND_SPACE};
 use pcb_table::{Block, Pcbs};
@@ -64,13 +64,12 @@ fn put(
         port: pcbs.ensure_port_of(block),
         to,
     };
-    let Packets {
-        link,
+    let Sent {
         looped,
         is_cut,
-    } = packets(pool, pcbs, net.mtu, heading, bytes);
+        is_lost,
+    } = put_packets(pool, pcbs, net.mtu, heading, bytes, &mut net.out);
     net.next_id = net.next_id.wrapping_add(1);
-    let is_lost = net.out.push_all(pool, link);
     count_send(&mut net.counters, is_cut, is_lost);
     mem::replace(&mut net.looped, looped).end_empty();
     is_lost

@@ -1,5 +1,5 @@
 -- A send step by step: its packets, and what is put where (this project's own).
-use Rattle.std.specs.Prelude.{◌≡◌, ◌≢◌, ℕ, ◌+◌, ◌≤◌, ◌%◌, ◌==◌, nat_lt, Bool, true, false, if◌then◌else◌, List, [], ◌++◌, length, take, drop, count_by}
+use Rattle.std.specs.Prelude.{◌≡◌, ◌≢◌, ℕ, ◌+◌, ◌≤◌, ◌%◌, ◌==◌, nat_lt, Bool, true, false, if◌then◌else◌, List, ◌++◌, length, take, drop, count_by}
 use Rattle.params.specs.declared.TheConstants.{MIN_MTU, LOOPBACK, IP_HEADER, IP_UDP_HEADERS, OUTPUT_QUEUE_PACKETS, IP_DEFAULT_TTL, PROTOCOL_UDP}
 use Rattle.flat_model.specs.Machine.Count.{counts_more}
 use Rattle.flat_model.specs.Amounts.Layout.{sent, laid_on, is_cluster}
@@ -11,13 +11,13 @@ use Rattle.flat_model.specs.declared.counter.Counter.TheVariants.{IpLocalout, Ip
 use Rattle.flat_model.specs.declared.counters.Counters.{Counters}
 use Rattle.mbuf_chain.specs.Chain.{PoolView, Adds, chain_of, held_mbufs, string}
 use Rattle.mbuf_chain.specs.Owners.{Moves}
-use Rattle.mbuf_chain.specs.Train.{IsHeld, numbers}
+use Rattle.mbuf_chain.specs.Train.{TrainView, IsHeld, numbers}
 use Rattle.chain_ops.specs.Stored.{AreFree}
 use Rattle.chain_ops.specs.Weights.{laid}
 use Rattle.ip_out.specs.Packets.{packets, BeginPlain}
 use Rattle.ip_out.specs.Queues.{IsQueue}
 use Rattle.ip_out.specs.declared.head.IpHead.{IpHead}
-use Rattle.ip_out.specs.declared.ways.Packets.{Packets}
+use Rattle.ip_out.specs.declared.sending.Sent.{Sent}
 use Rattle.ip_out.specs.declared.ways.Way.{Way}
 use Rattle.ip_out.specs.declared.ways.Way.TheVariants.{Link, Loopback, Both}
 use Rattle.pcb_table.specs.Table.{Table, KeepsOpen}
@@ -74,18 +74,19 @@ pub record IsBuilt (p : PoolView) (x : flat.Sending) (q : PoolView) (c : ℕ) : 
   pub lies : IsLaidOut p (length x.bytes) clusters q c
   pub datagram : drop IP_HEADER (string (chain_of q c)) ≡ flat.datagram x
 
--- From p to q the packets of a send came: what goes to the link, and what comes back.
-pub record AreMade (p : PoolView) (c : Config) (x : flat.Sending) (q : PoolView) (made : Packets) : Type 0 where
+-- From p and o to q and u the packets of a send came: what the output queue took, and what comes back.
+pub record AreMade (p : PoolView) (c : Config) (x : flat.Sending) (o : TrainView) (q : PoolView) (made : Sent) (u : TrainView) : Type 0 where
   pub clusters : List ℕ
   pub number : length clusters ≡ (need_to c x.to.ip (length x.bytes)).clusters
   pub free : AreFree p clusters
-  pub link : packets q made.link ≡ to_link c x.to.ip (flat.packets c clusters x)
+  pub out : packets q u ≡ take OUTPUT_QUEUE_PACKETS (packets p o ++ to_link c x.to.ip (flat.packets c clusters x))
   pub back : packets q made.looped ≡ to_self c x.to.ip (flat.packets c clusters x)
   pub is_cut : made.is_cut ≡ nat_lt 1 (length (flat.parts_of c x))
-  pub held_link : IsHeld q made.link
-  pub held_back : IsHeld q made.looped
+  pub is_lost : made.is_lost ≡ nat_lt OUTPUT_QUEUE_PACKETS (length (packets p o ++ to_link c x.to.ip (flat.packets c clusters x)))
+  pub queue : IsQueue q u
+  pub held : IsHeld q made.looped
   pub plain : BeginPlain q made.looped
-  pub moves : Moves p [] q (numbers q made.link ++ numbers q made.looped)
+  pub moves : Moves p (numbers p o) q (numbers q made.looped ++ numbers q u)
 
 -- the counters of a send: whether it was cut, and whether a packet of it was lost
 abbrev pub counts_sent : Bool → Bool → Counters → Counters

@@ -1,0 +1,30 @@
+use Rattle.std.proofs.Common.{◌++◌, ap, ◌∙◌, arith}
+use Rattle.mbuf_chain.specs.Chain.{chain_of}
+use Rattle.mbuf_chain.proofs.Laws.Owners.{moves_without}
+use Rattle.mbuf_chain.specs.Train.{TrainView}
+use Rattle.ip_out.specs.Packets.{packets, packets_of}
+use Rattle.ip_out.proofs.Sends.{aside, aside_gone, no_room, one_packet, room}
+use Rattle.ip_out.proofs.queue.Queue.push_whole.Goals as goal
+
+pub returns-then-len-ge-OUTPUT_QUEUE_PACKETS-clause-packets : goal.returns-then-len-ge-OUTPUT_QUEUE_PACKETS-clause-packets
+returns-then-len-ge-OUTPUT_QUEUE_PACKETS-clause-packets c mtu fits =
+    let a = aside c.args.chain c.args.self.now (moves_without c.args.pool.now c.free_chain.new.self c.args.chain c.requires.live c.free_chain.ensures) c.requires.live c.requires.queue.held c.requires.apart in
+    (no_room c.args.pool.now c.free_chain.new.self c.args.self.now (packets_of (chain_of c.args.pool.now c.args.chain) c.args.head mtu) c.requires.queue (omega (arith, c.len.ensures, c.if-len-ge-OUTPUT_QUEUE_PACKETS.true)) (one_packet (chain_of c.args.pool.now c.args.chain) c.args.head c.args.len mtu c.requires.datagram c.requires.len fits) a.same_packets).items
+
+pub returns-then-len-ge-OUTPUT_QUEUE_PACKETS-clause-lost : goal.returns-then-len-ge-OUTPUT_QUEUE_PACKETS-clause-lost
+returns-then-len-ge-OUTPUT_QUEUE_PACKETS-clause-lost c mtu fits =
+    let a = aside c.args.chain c.args.self.now (moves_without c.args.pool.now c.free_chain.new.self c.args.chain c.requires.live c.free_chain.ensures) c.requires.live c.requires.queue.held c.requires.apart in
+    (no_room c.args.pool.now c.free_chain.new.self c.args.self.now (packets_of (chain_of c.args.pool.now c.args.chain) c.args.head mtu) c.requires.queue (omega (arith, c.len.ensures, c.if-len-ge-OUTPUT_QUEUE_PACKETS.true)) (one_packet (chain_of c.args.pool.now c.args.chain) c.args.head c.args.len mtu c.requires.datagram c.requires.len fits) a.same_packets).is_lost
+
+pub returns-then-len-ge-OUTPUT_QUEUE_PACKETS-clause-queue : goal.returns-then-len-ge-OUTPUT_QUEUE_PACKETS-clause-queue
+returns-then-len-ge-OUTPUT_QUEUE_PACKETS-clause-queue c = record {
+  held = (aside_gone c.args.chain c.args.self.now c.free_chain.ensures c.requires.live c.requires.queue.held c.requires.apart).0;
+  room = c.requires.queue.room;
+}
+
+pub returns-then-len-ge-OUTPUT_QUEUE_PACKETS-clause-moves : goal.returns-then-len-ge-OUTPUT_QUEUE_PACKETS-clause-moves
+returns-then-len-ge-OUTPUT_QUEUE_PACKETS-clause-moves c = (aside_gone c.args.chain c.args.self.now c.free_chain.ensures c.requires.live c.requires.queue.held c.requires.apart).1
+
+pub returns-clause-packets : goal.returns-clause-packets
+returns-clause-packets c mtu fits =
+    (room c.args.pool.now c.add_whole.new.pool c.args.self.now c.add_whole.new.train (packets_of (chain_of c.args.pool.now c.args.chain) c.args.head mtu) c.requires.queue (omega (arith, c.len.ensures, c.if-len-ge-OUTPUT_QUEUE_PACKETS.false)) (one_packet (chain_of c.args.pool.now c.args.chain) c.args.head c.args.len mtu c.requires.datagram c.requires.len fits) (c.add_whole.ensures.packets mtu fits ∙ ap (λ (t : TrainView). packets c.args.pool.now t ++ packets_of (chain_of c.args.pool.now c.args.chain) c.args.head mtu) c.self.view_is)).items
