@@ -1,7 +1,8 @@
 -- Ranges of bytes that lie in pieces.
-use Rattle.std.proofs.Common.{◌≡◌, ℕ, zero, suc, ◌-◌, ◌≤◌, min, List, [], ◌∷◌, ◌++◌, length, take, drop, refl, sym, ap, ◌∙◌, arith, inl, inr, take_all}
-use Rattle.std.proofs.lemmas.List.{length-drop, drop-append-le}
+use Rattle.std.proofs.Common.{◌≡◌, ℕ, zero, suc, ◌+◌, ◌-◌, ◌≤◌, min, List, [], ◌∷◌, ◌++◌, length, slice_index_or, take, drop, refl, sym, ap, ◌∙◌, arith, inl, inr, take_all}
+use Rattle.std.proofs.lemmas.List.{length-drop, drop-append-le, take-append-le}
 use Rattle.std.proofs.lemmas.Bool.{cases_lt}
+use Rattle.mbuf_chain.specs.Chain.{ChainView, Entry, entry_of, flat_bytes, no_entry, string}
 
 take_over : (m : ℕ) (xs ys : List ℕ) → take m (xs ++ ys) ≡ take m xs ++ take (m - length xs) ys
 take_over zero [] ys = refl
@@ -36,3 +37,16 @@ piece_taken piece rest skip k want inside is =
     ap (take want) (drop-append-le skip piece rest inside) ∙ take_over want p rest
     ∙ (λ j. take_least want p j ++ take (less j) rest)
     ∙ ap (λ (n : ℕ). take n p ++ take (want - k) rest) k'
+
+-- a range that lies in the first mbuf
+pub first_range : (off len : ℕ) (v : ChainView) → off + len ≤ length (entry_of v 0).bytes → take (off + len - off) (drop off (entry_of v 0).bytes) ≡ take len (drop off (string v))
+first_range off len v inside =
+    let count : off + len - off ≡ len = omega arith in
+    ap (λ (n : ℕ). take n (drop off (entry_of v 0).bytes)) count ∙ go v.entries inside
+  where
+    go : (es : List Entry) → off + len ≤ length (slice_index_or es 0 no_entry).bytes → take len (drop off (slice_index_or es 0 no_entry).bytes) ≡ take len (drop off (flat_bytes es))
+    go [] within = refl
+    go (e ∷ es) within =
+        let p : List ℕ = drop off e.bytes in
+        let long : len ≤ length p = omega (arith, length-drop off e.bytes) in
+        sym (ap (take len) (drop-append-le off e.bytes (flat_bytes es) (omega arith)) ∙ take-append-le len p (flat_bytes es) long)

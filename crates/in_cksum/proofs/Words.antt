@@ -117,18 +117,34 @@ odd-add m n =
       ]
     ]
 
-folded_sum-append : (s t : List ℕ) → folded_sum (s ++ t) ≡ fold16 (folded_sum s + cond (nat_eq (length s % 2) 1) (swap_bytes w16 (folded_sum t)) (folded_sum t))
-folded_sum-append s t =
+-- sums of which each may be folded first
+same_sums : (a b c d : ℕ) → fold16 a ≡ fold16 c → fold16 b ≡ fold16 d → fold16 (a + b) ≡ fold16 (c + d)
+same_sums a b c d e f =
+    sym (fold16-add_second a b) ∙ sym (fold16-add_first a (fold16 b)) ∙ (λ j. fold16 (e j + f j)) ∙ fold16-add_first c (fold16 d) ∙ fold16-add_second c d
+
+-- a sum in the order of memory, shifted by 8 bits
+shifted_back : (s : List ℕ) (raw : ℕ) → fold16 raw ≡ fold16 (swapped_sum s) → fold16 (256 * raw) ≡ fold16 (word_sum s)
+shifted_back s raw is = sym (fold16-shift raw) ∙ ap (λ n. fold16 (256 * n)) is ∙ fold16-shift (swapped_sum s) ∙ shift-swapped_sum s
+
+folded_sum-append : (s t : List ℕ) (sum raw : ℕ) → fold16 sum ≡ folded_sum s → fold16 raw ≡ fold16 (swapped_sum t)
+    → fold16 (sum + cond (nat_eq (length s % 2) 1) raw (256 * raw)) ≡ folded_sum (s ++ t)
+folded_sum-append s t sum raw sum_is raw_is =
     elim (parity (length s)) [
-      | inl even ↦ rw even (ap fold16 (word_sum-append_even s t even) ∙ sym (fold16-add_second (word_sum s) (word_sum t)) ∙ sym (fold16-add_first (word_sum s) (folded_sum t)))
-      | inr odd ↦
-          rw (odd, swap-folded_sum t) (ap fold16 (word_sum-append_odd s t odd) ∙ sym (fold16-add_second (word_sum s) (swapped_sum t)) ∙ sym (fold16-add_first (word_sum s) (fold16 (swapped_sum t))))
+      | inl even ↦ rw even (same_sums sum (256 * raw) (word_sum s) (word_sum t) sum_is (shifted_back t raw raw_is) ∙ sym (ap fold16 (word_sum-append_even s t even)))
+      | inr odd ↦ rw odd (same_sums sum raw (word_sum s) (swapped_sum t) sum_is raw_is ∙ sym (ap fold16 (word_sum-append_odd s t odd)))
     ]
 
 abbrev pair : ℕ → Bool → Partial
 pair n b = record { total = n; is_odd = b }
 
 -- one piece more
-pub sum_of-append : (s t : List ℕ) (p : Partial) → p ≡ sum_of s → sum_of (s ++ t) ≡ record { total = fold16 (p.total + cond p.is_odd (swap_bytes w16 (folded_sum t)) (folded_sum t)); is_odd = not (beq p.is_odd (nat_eq (length t % 2) 1)) }
-sum_of-append s t p known =
-    rw known (ap₂ pair (folded_sum-append s t) (ap (λ n. nat_eq (n % 2) 1) (length-append s t) ∙ sym (odd-add (length s) (length t))))
+pub sum_of-append : (s t : List ℕ) (sum raw new : ℕ) (odd : Bool) → record { total = fold16 sum; is_odd = odd } ≡ sum_of s → fold16 raw ≡ fold16 (swapped_sum t)
+    → fold16 new ≡ fold16 (sum + cond odd raw (256 * raw))
+    → record { total = fold16 new; is_odd = not (beq odd (nat_eq (length t % 2) 1)) } ≡ sum_of (s ++ t)
+sum_of-append s t sum raw new odd known raw_is new_is =
+    let parity_is : odd ≡ nat_eq (length s % 2) 1 = ap (λ (p : Partial). p.is_odd) known in
+    let folded : fold16 new ≡ folded_sum (s ++ t) =
+    new_is ∙ ap (λ b. fold16 (sum + cond b raw (256 * raw))) parity_is ∙ folded_sum-append s t sum raw (ap (λ (p : Partial). p.total) known) raw_is in
+    let is_odd : not (beq odd (nat_eq (length t % 2) 1)) ≡ nat_eq (length (s ++ t) % 2) 1 =
+    ap (λ b. not (beq b (nat_eq (length t % 2) 1))) parity_is ∙ odd-add (length s) (length t) ∙ sym (ap (λ n. nat_eq (n % 2) 1) (length-append s t)) in
+    ap₂ pair folded is_odd

@@ -4,8 +4,8 @@ ghost use Rattle.in_cksum.specs.Inside.{CountsAs, IsAdded, IsLeft, lanes_total, 
 
 use std::simd::prelude::*;
 
-// How many bytes are added at a time.
-const BLOCK_LEN: usize = 32;
+/// How many bytes are added at a time.
+pub(crate) const BLOCK_LEN: usize = 32;
 
 /// How many bytes are added up at most before their sum is folded: whole blocks, whose words add up to
 /// less than 2^32.
@@ -67,11 +67,12 @@ fn add_four(sum: u64, bytes: &[u8]) -> (u64, &[u8])
     }
 }
 
-// The words of fewer bytes than a block has. No loop, since headers are so short that one costs more.
+/// The words of fewer bytes than a block has. No loop, since headers are so short that one costs more.
 #[inline(always)]
 pub(crate) fn sum_rest(bytes: &[u8]) -> u64
     requires { length bytes.now < BLOCK_LEN }
-    ensures { CountsAs result (swapped_sum bytes.now) }
+    ensures counts { CountsAs result (swapped_sum bytes.now) }
+    ensures small { result < 2 ^ 50 }
 {
     let (sum, rest) = add_eight(0, bytes);
     let (sum, rest) = add_eight(sum, rest);

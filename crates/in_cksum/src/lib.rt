@@ -5,9 +5,9 @@
 //! complement of that. An IPv4 header with its checksum in place has the folded sum 65,535.
 #![tactic(auto)]
 
-ghost use Rattle.std.specs.Prelude.{◌≡◌, ℕ, ◌+◌, ◌++◌, if◌then◌else◌, false, List, []};
-ghost use Rattle.std.specs.Int.{w16, swap_bytes};
+ghost use Rattle.std.specs.Prelude.{◌≡◌, ℕ, ◌+◌, ◌*◌, ◌^◌, ◌<◌, ◌++◌, if◌then◌else◌, false, List, []};
 ghost use Rattle.flat_model.specs.Packets.Checksum.{checksum, fold16, folded_sum};
+ghost use Rattle.in_cksum.specs.Inside.{swapped_sum};
 ghost use Rattle.in_cksum.specs.Partial.{Partial, sum_of};
 
 use std::marker::Model;
@@ -16,7 +16,7 @@ mod chain;
 mod lanes;
 
 pub use chain::cksum_chain;
-use lanes::{PART_LEN, sum_part, sum_rest};
+use lanes::{BLOCK_LEN, PART_LEN, sum_part, sum_rest};
 use params::IP_HEADER;
 
 // 65,536 counts as 1, so what is left is a remainder by 65,535: 1 to 65,535, and 0 of 0 alone.
@@ -38,6 +38,14 @@ fn fold(sum: u64) -> u16
 pub fn sum_slice(bytes: &[u8]) -> u16
     ensures { result ≡ folded_sum bytes.now }
 {
+    fold(sum_swapped(bytes)).swap_bytes()
+}
+
+// The sum of the words as they lie in memory, but for what a fold makes the same.
+fn sum_long(bytes: &[u8]) -> u64
+    ensures folded { fold16 result ≡ fold16 (swapped_sum bytes.now) }
+    ensures small { result < 2 ^ 51 }
+{
     let mut total = 0u16;
     let mut rest = bytes;
     while rest.len() > PART_LEN {
@@ -45,7 +53,20 @@ pub fn sum_slice(bytes: &[u8]) -> u16
         total = fold(total as u64 + sum_part(part));
         rest = after;
     }
-    fold(total as u64 + sum_part(rest)).swap_bytes()
+    total as u64 + sum_part(rest)
+}
+
+// The same, without a call where the bytes are fewer than a block has: those of most headers.
+#[inline(always)]
+fn sum_swapped(bytes: &[u8]) -> u64
+    ensures folded { fold16 result ≡ fold16 (swapped_sum bytes.now) }
+    ensures small { result < 2 ^ 51 }
+{
+    if bytes.len() < BLOCK_LEN {
+        sum_rest(bytes)
+    } else {
+        sum_long(bytes)
+    }
 }
 
 /// The folded sum of the words of an IPv4 header without options: 65,535 where its checksum is right.
@@ -58,13 +79,24 @@ pub fn sum_head(bytes: &[u8; IP_HEADER as usize]) -> u16
     fold(sum_rest(bytes)).swap_bytes()
 }
 
-// A piece's sum as it counts after an even or an odd number of bytes: after an odd number each of its
-// bytes stands in the other half of its word.
+// A piece's sum as it counts after an even or an odd number of bytes: after an even number each byte, as it lies in
+// memory, stands in the other half of its word, and a shift by 8 bits turns the words round.
 #[inline(always)]
-fn turned(sum: u16, is_odd: bool) -> u16
-    ensures { result ≡ (if is_odd then swap_bytes w16 sum else sum) }
+fn turned(sum: u64, is_odd: bool) -> u64
+    requires { sum < 2 ^ 51 }
+    ensures { result ≡ (if is_odd then sum else 256 * sum) }
 {
-    if is_odd { sum.swap_bytes() } else { sum }
+    if is_odd { sum } else { 256 * sum }
+}
+
+// The sum of two, with the carry out of 64 bits added at the low end: 2^64 counts as 1, as 65,536 does
+// ("end-around carry", RFC 1071 section 1).
+#[inline(always)]
+fn add_around(a: u64, b: u64) -> u64
+    ensures { fold16 result ≡ fold16 (a + b) }
+{
+    let (sum, carry) = a.overflowing_add(b);
+    sum + u64::from(carry)
 }
 
 /// The checksum of bytes that are added piece by piece.
@@ -73,14 +105,15 @@ fn turned(sum: u16, is_odd: bool) -> u16
 /// ends a piece has its low half at the head of the next.
 #[derive(Clone, Debug, Drop)]
 pub struct Sum {
-    total: u16,
+    // not folded yet
+    total: u64,
     is_odd: bool,
 }
 
 impl Model for Sum {
     ghost Value = { Partial };
 
-    ghost view = { λ s. record { total = s.total; is_odd = s.is_odd } };
+    ghost view = { λ s. record { total = fold16 s.total; is_odd = s.is_odd } };
 }
 
 impl Sum {
@@ -99,7 +132,7 @@ impl Sum {
         ensures { result ≡ record { total = fold16 words; is_odd = false } }
     {
         Sum {
-            total: fold(words),
+            total: words,
             is_odd: false,
         }
     }
@@ -110,8 +143,8 @@ impl Sum {
     pub fn add(&mut self, bytes: &[u8])
         ensures { (before : List ℕ) → self.old ≡ sum_of before → self.new ≡ sum_of (before ++ bytes.now) }
     {
-        let sum = turned(sum_slice(bytes), self.is_odd);
-        self.total = fold(self.total as u64 + sum as u64);
+        let sum = turned(sum_swapped(bytes), self.is_odd);
+        self.total = add_around(self.total, sum);
         self.is_odd ^= bytes.len() % 2 == 1;
     }
 
@@ -122,7 +155,7 @@ impl Sum {
     pub fn finish(self) -> u16
         ensures { (bytes : List ℕ) → self ≡ sum_of bytes → result ≡ checksum bytes }
     {
-        !self.total
+        !fold(self.total)
     }
 }
 

@@ -209,20 +209,33 @@ fn fault_in(bytes: &[u8; IP_HEADER as usize], len: u32) -> Option<Why>
     None
 }
 
-/// The first 20 bytes of a packet, which has so many: those of its first mbuf, where they all lie there.
+/// What the first 20 bytes of a packet of `len` bytes say, or the first test that it fails.
 #[inline(always)]
-fn front_of(pool: &Pool, chain: &Chain) -> [u8; IP_HEADER as usize]
-    requires live { IsLive pool.now chain.now }
-    requires long { IP_HEADER ≤ length (string (chain_of pool.now chain.now)) }
-    ensures { result ≡ take IP_HEADER (string (chain_of pool.now chain.now)) }
+fn head_or_fault(bytes: &[u8; IP_HEADER as usize], len: u32) -> Result<IpHead, Why>
+    requires few { IP_HEADER ≤ len }
+    ensures ok { (packet : List ℕ) → length packet ≡ len → bytes.now ≡ take IP_HEADER packet
+        → IfOk result (λ head. (head_fault packet ≡ None) × (head ≡ head_in packet)) }
+    ensures err { (packet : List ℕ) → length packet ≡ len → bytes.now ≡ take IP_HEADER packet
+        → IfErr result (λ why. head_fault packet ≡ Some why) }
 {
-    let first = pool.bytes(chain, pool.first(chain));
-    if let Some((bytes, _)) = first.split_first_chunk() {
-        return *bytes;
+    match fault_in(bytes, len) {
+        Some(why) => Err(why),
+        None => Ok(head_in(bytes)),
     }
+}
+
+/// `read_head` of a packet of `len` bytes whose header lies in more than one mbuf.
+fn read_cut(pool: &Pool, chain: &Chain, len: u32) -> Result<IpHead, Why>
+    requires live { IsLive pool.now chain.now }
+    requires len { len ≡ length (string (chain_of pool.now chain.now)) }
+    requires few { IP_HEADER ≤ len }
+    ensures ok { IfOk result (λ head. (head_fault (string (chain_of pool.now chain.now)) ≡ None)
+        × (head ≡ head_in (string (chain_of pool.now chain.now)))) }
+    ensures err { IfErr result (λ why. head_fault (string (chain_of pool.now chain.now)) ≡ Some why) }
+{
     let mut bytes = [0; IP_HEADER as usize];
     m_copydata(pool, chain, 0, &mut bytes);
-    bytes
+    head_or_fault(&bytes, len)
 }
 
 /// What the header of a packet says. The packet is a chain whatever its cut; it isn't changed.
@@ -232,6 +245,8 @@ fn front_of(pool: &Pool, chain: &Chain) -> [u8; IP_HEADER as usize]
 /// whose folded sum isn't 65,535, `BadSum`; a total length below 20, `BadLength`, or above that of the chain,
 /// `TooShort`. A chain may be longer than the total length (`ipintr` of TCP/IP Illustrated volume 2, chapter 8;
 /// RFC 791, section 3.1; that options are refused is this project's own).
+// Inlined, so that no field is moved through memory.
+#[inline(always)]
 pub fn read_head(pool: &Pool, chain: &Chain) -> Result<IpHead, Why>
     requires { IsLive pool.now chain.now }
     ensures ok { IfOk result (λ head. (head_fault (string (chain_of pool.now chain.now)) ≡ None)
@@ -242,9 +257,10 @@ pub fn read_head(pool: &Pool, chain: &Chain) -> Result<IpHead, Why>
     if len < IP_HEADER {
         return Err(Why::TooSmall);
     }
-    let bytes = front_of(pool, chain);
-    match fault_in(&bytes, len) {
-        Some(why) => Err(why),
-        None => Ok(head_in(&bytes)),
+    // Mostly it lies in the first mbuf, and is read there.
+    let first = pool.bytes(chain, pool.first(chain));
+    match first.split_first_chunk() {
+        Some((bytes, _)) => head_or_fault(bytes, len),
+        None => read_cut(pool, chain, len),
     }
 }

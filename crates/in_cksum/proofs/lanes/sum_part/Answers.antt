@@ -17,15 +17,15 @@ sum_lanes-requires c =
 
 pub returns-then-bytes-lt-BLOCK_LEN-clause-small : goal.returns-then-bytes-lt-BLOCK_LEN-clause-small
 returns-then-bytes-lt-BLOCK_LEN-clause-small c =
-    omega (arith, counts_below _ _ c.sum_rest.ensures, swapped_sum_bound c.args.bytes.now c.type_inv.bytes, c.requires)
+    omega (arith, counts_below _ _ c.sum_rest.ensures.counts, swapped_sum_bound c.args.bytes.now c.type_inv.bytes, c.requires)
 
 pub overflow_add-result : goal.overflow_add-result
 overflow_add-result c =
-    record { fits = omega (arith, c.sum_lanes.ensures, counts_below _ _ c.sum_rest-2.ensures, c.loop-rest.invariant, swapped_sum_bound c.args.bytes.now c.type_inv.bytes, c.requires) }
+    record { fits = omega (arith, c.sum_lanes.ensures, counts_below _ _ c.sum_rest-2.ensures.counts, c.loop-rest.invariant, swapped_sum_bound c.args.bytes.now c.type_inv.bytes, c.requires) }
 
 pub returns-clause-counts : goal.returns-clause-counts
-returns-clause-counts c = counts_more _ _ _ _ (omega (arith, c.sum_lanes.ensures, c.loop-rest.invariant)) c.sum_rest-2.ensures
+returns-clause-counts c = counts_more _ _ _ _ (omega (arith, c.sum_lanes.ensures, c.loop-rest.invariant)) c.sum_rest-2.ensures.counts
 
 pub returns-clause-small : goal.returns-clause-small
 returns-clause-small c =
-    omega (arith, c.sum_lanes.ensures, counts_below _ _ c.sum_rest-2.ensures, c.loop-rest.invariant, swapped_sum_bound c.args.bytes.now c.type_inv.bytes, c.requires)
+    omega (arith, c.sum_lanes.ensures, counts_below _ _ c.sum_rest-2.ensures.counts, c.loop-rest.invariant, swapped_sum_bound c.args.bytes.now c.type_inv.bytes, c.requires)

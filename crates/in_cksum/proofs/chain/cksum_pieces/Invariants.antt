@@ -2,7 +2,7 @@ use Rattle.std.proofs.Common.{◌≡◌, ℕ, List, ◌++◌, take, drop}
 use Rattle.std.specs.List.{concat}
 use Rattle.mbuf_chain.specs.Chain.{chain_of, string}
 use Rattle.in_cksum.specs.Partial.{sum_of}
-use Rattle.in_cksum.proofs.chain.cksum_chain.Given as goal
+use Rattle.in_cksum.proofs.chain.cksum_pieces.Given as goal
 
 abbrev pub invariant-mbufs : goal.invariant-mbufs
 invariant-mbufs l = record {
