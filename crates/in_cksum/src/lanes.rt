@@ -88,7 +88,8 @@ pub(crate) fn sum_rest(bytes: &[u8]) -> u64
 
 /// The sum of the words as they lie in memory, an odd last byte being the low half of one, but for what a fold
 /// makes the same.
-#[inline(always)]
+// Never inlined: its loop takes four blocks at a time only where it stands alone.
+#[inline(never)]
 pub(crate) fn sum_part(bytes: &[u8]) -> u64
     requires { length bytes.now ≤ PART_LEN }
     ensures counts { CountsAs result (swapped_sum bytes.now) }
