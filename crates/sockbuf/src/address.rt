@@ -20,11 +20,12 @@ const FAMILY: u8 = 2;
 fn sockaddr_bytes(sender: Addr) -> [u8; SOCKADDR_BYTES as usize]
     ensures { result ≡ sockaddr_bytes sender }
 {
-    let port = sender.port.to_be_bytes();
-    let ip = sender.ip.to_be_bytes();
-    [
-        LENGTH, FAMILY, port[0], port[1], ip[0], ip[1], ip[2], ip[3], 0, 0, 0, 0, 0, 0, 0, 0,
-    ]
+    let mut bytes = [0; SOCKADDR_BYTES as usize];
+    bytes[0] = LENGTH;
+    bytes[1] = FAMILY;
+    BigEndian::write_u16(&mut bytes[2..], sender.port);
+    BigEndian::write_u32(&mut bytes[4..], sender.ip);
+    bytes
 }
 
 /// The address that such bytes say.
