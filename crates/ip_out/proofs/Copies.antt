@@ -4,7 +4,6 @@ use Rattle.std.specs.Prelude.{nat_lt, slice_index_or, sum_by}
 use Rattle.std.specs.FinMap as finmap
 use Rattle.flat_model.specs.Amounts.Weight.{Item}
 use Rattle.flat_model.specs.Fragments.Cuts.{Part, cuts}
-use Rattle.flat_model.specs.Amounts.Layout as flat
 use Rattle.flat_model.specs.Amounts.Layout.{entries_met}
 use Rattle.flat_model.specs.Machine.Sending.{items}
 use Rattle.std.proofs.lemmas.List.{length-map}

@@ -220,3 +220,9 @@ long_clusters n mtu h = sym (ap (count_by is_cluster) (sent_long n h))
 
 pub need_whole : (n : ℕ) → n ≤ 65507 → (need n 65535).mbufs ≡ length (sent n)
 need_whole n h = need_is n 65535 0 (sent n) refl (sym (ap (λ (xs : List Part). length xs) (cut_short n 65535 (omega arith)))) ∙ omega (arith, ap (over (sent n) 0) (cut_short n 65535 (omega arith)))
+
+-- a short datagram that isn't cut is one mbuf
+pub need_one : (n mtu : ℕ) → n ≤ 72 → n + 28 ≤ mtu → need n mtu ≡ record { mbufs = 1; clusters = 0 }
+need_one n mtu short fits =
+    let later : later_parts n mtu ≡ [] = cut_short n mtu fits in
+    λ i. record { mbufs = length (sent_short n short i) + sum_by (need_of_part (sent_short n short i)) (later i); clusters = count_by is_cluster (sent_short n short i) }

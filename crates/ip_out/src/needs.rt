@@ -90,6 +90,13 @@ pub fn need(n: u32, mtu: u16) -> Need
     requires least { MIN_MTU ≤ mtu }
     ensures { result ≡ need n mtu }
 {
+    // A short datagram is one mbuf and one packet, and nothing has to be counted.
+    if n <= MAX_SHARED && n + IP_UDP_HEADERS <= mtu as u32 {
+        return Need {
+            mbufs: 1,
+            clusters: 0,
+        };
+    }
     count(n, mtu as u32)
 }
 

@@ -41,6 +41,7 @@ fn are_free(pool: &Pool, need: Need) -> bool
 }
 
 /// Sends a datagram, and answers whether a packet of it was lost at the output queue. Its buffers have to be free.
+#[inline(always)]
 fn put(
     pool: &mut Pool,
     pcbs: &mut Pcbs,
@@ -76,6 +77,7 @@ fn put(
 }
 
 /// See `Socks::sendto`. The queues aren't touched.
+#[inline(always)]
 pub(crate) fn send(
     pool: &mut Pool,
     pcbs: &mut Pcbs,

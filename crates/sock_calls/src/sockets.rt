@@ -151,6 +151,7 @@ impl Socks {
     /// Else a missing port is chosen, the identification is spent, and the send is counted; `NoBufs` of the queue says
     /// that the output queue had no room for all packets: the first of them wait for the link, and what comes back does
     /// come (`sosend`, `udp_output` and `ip_output` of volume 2, chapters 16, 23 and 8).
+    #[inline(always)]
     pub fn sendto(
         &mut self,
         pool: &mut Pool,

@@ -1,4 +1,4 @@
-use Rattle.std.proofs.Common.{◌≡◌, ℕ, false, List, length, arith, ap, ◌∙◌}
+use Rattle.std.proofs.Common.{ℕ, false, List, length, arith, ap, ◌∙◌}
 use Rattle.std.specs.List.{insert}
 use Rattle.mbuf_chain.specs.Chain.{ChainView, chain_of, entry_of, entry_in}
 use Rattle.mbuf_chain.specs.Train.{QueuedPacket, queued_packets}

@@ -1,8 +1,8 @@
-use Rattle.std.proofs.Common.{◌≡◌, ◌+◌, ◌++◌, List, length, take, drop, arith, ap, sym, ◌∙◌, subst}
+use Rattle.std.proofs.Common.{◌≡◌, ◌++◌, List, length, take, drop, arith, ap, sym, ◌∙◌, subst}
 use Rattle.std.specs.Prelude.{nat_lt, sum_by}
 use Rattle.flat_model.specs.Amounts.Weight.{Item}
 use Rattle.flat_model.specs.Fragments.Cuts.{Part}
-use Rattle.mbuf_chain.specs.Chain.{chain_of, held_mbufs}
+use Rattle.mbuf_chain.specs.Chain.{chain_of}
 use Rattle.ip_out.specs.declared.ways.Way.{Way}
 use Rattle.ip_out.specs.Packets.{packets, packets_of, part_need, AreBegunPlain}
 use Rattle.ip_out.specs.Ways.{to_link, way_need}
