@@ -2,7 +2,7 @@
 use Rattle.std.proofs.Common.{◌≡◌, ◌⊎◌, ℕ, zero, suc, ◌+◌, ◌-◌, ◌<◌, ◌≤◌, min, max, Bool, true, false, cond, List, [], ◌∷◌, ◌++◌, length, Option, None, Some, is_some, refl, sym, ap, ◌∙◌, subst, arith, inl, inr}
 use Rattle.std.specs.Prelude.{◌==◌, count_by, nat_le, slice_index_or}
 use Rattle.std.specs.List.{AllByRecursion as Each}
-use Rattle.std.proofs.lemmas.Bool.{true≢false, cases_lt}
+use Rattle.std.proofs.lemmas.Bool.{true≢false, cases_lt, leb-true}
 use Rattle.std.proofs.lemmas.List.{length-take}
 use Rattle.std.proofs.lemmas.List.Elements.{All-from_recursion}
 use Rattle.flat_model.specs.Amounts.Weight.{Weight, Item, nothing, ◌⊕◌, times as bag_times}
@@ -69,6 +69,31 @@ next_is small left size cluster s l is_size is_one =
     at_most : (b : Bool) → cond {A = ℕ} b 1 0 ≤ 1
     at_most true = omega arith
     at_most false = omega arith
+
+small_room : (n : ℕ) → n ≤ 100 → next_room 2048 100 n ≡ Plain n
+small_room n few = go (nat_le 208 n) refl
+  where
+    go : (b : Bool) → nat_le 208 n ≡ b → cond b (Cluster (min n 2048)) (Plain (min n 100)) ≡ Plain n
+    go true e = let large : 208 ≤ n = leb-true 208 n e in absurd (omega arith)
+    go false e = let all : min n 100 ≡ n = omega arith in ap Plain all
+
+-- a short packet
+pub small_need : (n : ℕ) → n ≤ 100 → need_of (wire n) ≡ record { mbufs = 1; clusters = 0 }
+small_need zero few = need_is zero ∙ ap (λ (rooms : List Room). record { mbufs = max (length rooms) 1; clusters = count_by is_cluster rooms }) (none_left 100)
+small_need (suc n) few =
+    let room : next_room 2048 100 (suc n) ≡ Plain (suc n) = small_room (suc n) few in
+    let next : IsNext 100 (suc n) (suc n) 0 = next_is 100 (suc n) (suc n) 0 (omega arith) (omega arith) (sym (ap size_of room)) (sym (ap (λ (r : Room). cond {A = ℕ} (is_cluster r) 1 0) room)) in
+    let left : suc n - suc n ≡ 0 = omega arith in
+    let none : filled (suc n - suc n) 2048 108 (suc n - suc n) ≡ [] = ap (λ (k : ℕ). filled k 2048 108 k) left ∙ none_left 108 in
+    let mbufs : max (length (filled (suc n) 2048 100 (suc n))) 1 ≡ 1 = omega (arith, next.mbufs, ap (λ (rooms : List Room). length rooms) none) in
+    let clusters : count_by is_cluster (filled (suc n) 2048 100 (suc n)) ≡ 0 = omega (arith, next.clusters, ap (count_by is_cluster) none) in
+    need_is (suc n) ∙ (λ i. record { mbufs = mbufs i; clusters = clusters i })
+
+-- a longer one takes one mbuf at least
+pub some_mbuf : (n : ℕ) → 0 < n → 0 < length (filled n 2048 100 n)
+some_mbuf n some =
+    let next : IsNext 100 n (size_of (next_room 2048 100 n)) (cond (is_cluster (next_room 2048 100 n)) 1 0) = next_is 100 n _ _ (omega arith) some refl refl in
+    omega (arith, next.mbufs)
 
 -- ---- how it came shows in its first mbuf
 

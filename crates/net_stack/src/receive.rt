@@ -1,5 +1,5 @@
 //! A packet from the wire.
-ghost use Rattle.std.specs.Prelude.{◌≡◌, ◌<◌, ◌≤◌, ◌++◌, length, max, if◌then◌else◌};
+ghost use Rattle.std.specs.Prelude.{◌≡◌, ◌<◌, ◌≤◌, ◌++◌, length, if◌then◌else◌};
 ghost use Rattle.flat_model.specs.Amounts.Layout.{is_cluster, need_of, next_room, size_of, wire};
 ghost use Rattle.mbuf_chain.specs.Owners.{IsOwned};
 ghost use Rattle.chain_ops.specs.Stored.{Has};
@@ -30,18 +30,18 @@ fn next_mbuf(small: u32, left: u32) -> (u32, u32)
     }
 }
 
-/// The number, or 1 in place of 0.
-fn at_least_one(n: u32) -> u32
-    ensures { result ≡ max n 1 }
-{
-    if n == 0 { 1 } else { n }
-}
-
 /// How many free mbufs and clusters a packet of `n` bytes from the wire takes. It takes one step for each mbuf.
 fn wire_need(n: u32) -> Need
     requires { n ≤ IP_MAX_PACKET }
     ensures { result ≡ need_of (wire n) }
 {
+    // A short one takes one mbuf, and so does an empty one.
+    if n <= MHLEN {
+        return Need {
+            mbufs: 1,
+            clusters: 0,
+        };
+    }
     let mut mbufs = 0;
     let mut clusters = 0;
     let mut small = MHLEN;
@@ -53,10 +53,7 @@ fn wire_need(n: u32) -> Need
         small = MLEN;
         left -= size;
     }
-    Need {
-        mbufs: at_least_one(mbufs),
-        clusters,
-    }
+    Need { mbufs, clusters }
 }
 
 /// Puts a packet into a chain of its own. Its buffers have to be free.

@@ -32,7 +32,7 @@ pub struct Pcbs {
     blocks: ArrayVec<Block, SOCKETS>,
     // the last ephemeral port chosen
     last_port: Option<u16>,
-    // the last block that a packet's look-up found, where it has all four values set
+    // the last block with all four values set that a packet's look-up found
     cache: Option<Connection>,
 }
 
@@ -130,7 +130,11 @@ impl Pcbs {
         match best(self.blocks.as_slice(), key_of_packet(local, source)) {
             None => None,
             Some(block) => {
-                self.cache = block.connection();
+                // What is remembered stays where the block isn't connected.
+                let Some(connection) = block.connection() else {
+                    return Some(block.fd);
+                };
+                self.cache = Some(connection);
                 Some(block.fd)
             }
         }

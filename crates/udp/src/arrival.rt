@@ -11,7 +11,7 @@ ghost use Rattle.udp.specs.Inside.{broadcasts, cut_to, header_in, unheard};
 use crate::header::{Header, read_header};
 use crate::sums::is_right;
 use arrayvec::ArrayVec;
-use chain_ops::m_adj;
+use chain_ops::{m_adj, trim_front};
 use flat_model::{Addr, Why};
 use ip_out::IpHead;
 use mbuf_chain::{Chain, Pool};
@@ -102,7 +102,7 @@ fn trim(pool: &mut Pool, chain: &Chain, len: u16)
     ensures { pool.new ≡ with_chain pool.old chain.now (without_header len (chain_of pool.old chain.now)) }
 {
     drop_excess(pool, chain, len);
-    m_adj(pool, chain, UDP_HEADER as i32);
+    trim_front(pool, chain, UDP_HEADER);
 }
 
 /// What becomes of a whole datagram without its IP header, which said `head` (`udp_input` of volume 2, chapter 23).

@@ -1,5 +1,5 @@
 //! The 8 bytes in front of a datagram.
-ghost use Rattle.std.specs.Prelude.{◌≡◌, ◌+◌, ◌≤◌, ◌++◌, length, take, drop};
+ghost use Rattle.std.specs.Prelude.{◌≡◌, ℕ, List, ◌+◌, ◌≤◌, ◌++◌, length, take, drop};
 ghost use Rattle.flat_model.specs.Packets.Header.{two_bytes, u16_at};
 ghost use Rattle.mbuf_chain.specs.Chain.{IsLive, chain_of, string};
 ghost use Rattle.udp.specs.Inside.{header_bytes, header_in};
@@ -23,6 +23,7 @@ pub(crate) struct Header {
     pub(crate) sum: u16,
 }
 
+#[inline(always)]
 fn field(bytes: &[u8], at: usize) -> u16
     requires { at + 2 ≤ length bytes.now }
     ensures { result ≡ u16_at at bytes.now }
@@ -30,34 +31,42 @@ fn field(bytes: &[u8], at: usize) -> u16
     BigEndian::read_u16(&bytes[at..])
 }
 
-/// The first 8 bytes of a chain, which has so many: those of its first mbuf, where they all lie there.
+/// What the first 8 bytes of a string say.
 #[inline(always)]
-fn front_of(pool: &Pool, chain: &Chain) -> [u8; HEADER]
+fn header_of(bytes: &[u8; HEADER]) -> Header
+    ensures { (s : List ℕ) → bytes.now ≡ take UDP_HEADER s → result ≡ header_in s }
+{
+    Header {
+        source: field(bytes, 0),
+        destination: field(bytes, 2),
+        len: field(bytes, 4),
+        sum: field(bytes, 6),
+    }
+}
+
+/// What the first 8 bytes of a chain say, which lie in more than one mbuf.
+fn read_cut(pool: &Pool, chain: &Chain) -> Header
     requires live { IsLive pool.now chain.now }
     requires header { UDP_HEADER ≤ length (string (chain_of pool.now chain.now)) }
-    ensures { result ≡ take UDP_HEADER (string (chain_of pool.now chain.now)) }
+    ensures { result ≡ header_in (string (chain_of pool.now chain.now)) }
 {
-    let first = pool.bytes(chain, pool.first(chain));
-    if let Some((bytes, _)) = first.split_first_chunk() {
-        return *bytes;
-    }
     let mut bytes = [0; HEADER];
     m_copydata(pool, chain, 0, &mut bytes);
-    bytes
+    header_of(&bytes)
 }
 
 /// What the first 8 bytes of a chain say.
+#[inline(always)]
 pub(crate) fn read_header(pool: &Pool, chain: &Chain) -> Header
     requires live { IsLive pool.now chain.now }
     requires header { UDP_HEADER ≤ length (string (chain_of pool.now chain.now)) }
     ensures { result ≡ header_in (string (chain_of pool.now chain.now)) }
 {
-    let bytes = front_of(pool, chain);
-    Header {
-        source: field(&bytes, 0),
-        destination: field(&bytes, 2),
-        len: field(&bytes, 4),
-        sum: field(&bytes, 6),
+    // Mostly they lie in the first mbuf, and are read there.
+    let first = pool.bytes(chain, pool.first(chain));
+    match first.split_first_chunk() {
+        Some((bytes, _)) => header_of(bytes),
+        None => read_cut(pool, chain),
     }
 }
 

@@ -1,8 +1,11 @@
 use Rattle.std.proofs.Common.{◌≡◌, ℕ, max, List, [], length, sym, ap, ◌∙◌, arith}
 use Rattle.std.specs.Prelude.{count_by}
 use Rattle.flat_model.specs.Amounts.Layout.{Room, filled, is_cluster}
-use Rattle.net_stack.proofs.Coming.{none_left, need_is, next_is}
+use Rattle.net_stack.proofs.Coming.{none_left, need_is, next_is, small_need, some_mbuf}
 use Rattle.net_stack.proofs.receive.wire_need.Goals as goal
+
+pub returns-then-n-le-MHLEN : goal.returns-then-n-le-MHLEN
+returns-then-n-le-MHLEN c = sym (small_need c.args.n (omega arith))
 
 pub rooms-preserved : goal.rooms-preserved
 rooms-preserved c =
@@ -22,6 +25,6 @@ returns c =
     let z : c.rooms.left ≡ 0 = omega arith in
     let none : filled c.rooms.left 2048 c.rooms.small c.rooms.left ≡ [] = ap (λ (k : ℕ). filled k 2048 c.rooms.small k) z ∙ none_left c.rooms.small in
     let all : c.rooms.mbufs ≡ length (filled c.args.n 2048 100 c.args.n) = omega (arith, inv.mbufs, ap (λ (rooms : List Room). length rooms) none) in
-    let mbufs : c.at_least_one.result ≡ max (length (filled c.args.n 2048 100 c.args.n)) 1 = c.at_least_one.ensures ∙ ap (λ (k : ℕ). max k 1) all in
+    let mbufs : c.rooms.mbufs ≡ max (length (filled c.args.n 2048 100 c.args.n)) 1 = omega (arith, all, some_mbuf c.args.n (omega arith)) in
     let clusters : c.rooms.clusters ≡ count_by is_cluster (filled c.args.n 2048 100 c.args.n) = omega (arith, inv.clusters, ap (count_by is_cluster) none) in
     (λ i. record { mbufs = mbufs i; clusters = clusters i }) ∙ sym (need_is c.args.n)

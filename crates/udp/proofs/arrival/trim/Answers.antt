@@ -6,13 +6,13 @@ use Rattle.udp.specs.Inside.{cut_to}
 use Rattle.udp.proofs.Cutting.{with_twice}
 use Rattle.udp.proofs.arrival.trim.Goals as goal
 
-pub m_adj-requires : goal.m_adj-requires
-m_adj-requires c = live_with _ _ _ _ _ c.drop_excess.ensures c.requires.live
+pub trim_front-requires : goal.trim_front-requires
+trim_front-requires c = live_with _ _ _ _ _ c.drop_excess.ensures c.requires.live
 
 pub returns : goal.returns
 returns c =
     let p = c.args.pool.now in
     let k = c.args.chain.now in
     let v : ChainView = cut_to c.args.len (chain_of p k) in
-    with_twice p c.drop_excess.new.pool c.m_adj.new.pool k v _ c.drop_excess.ensures c.m_adj.ensures.change
+    with_twice p c.drop_excess.new.pool c.trim_front.new.pool k v _ c.drop_excess.ensures c.trim_front.ensures
     ∙ ap (λ (w : ChainView). with_chain p k (record w { entries = without_first 8 w.entries })) (shown_with p c.drop_excess.new.pool k v c.drop_excess.ensures)
