@@ -154,8 +154,6 @@ impl Pcbs {
 
     /// Who hears a broadcast (volume 2 chapter 23, and this project's own reading of SO_REUSEPORT): the blocks that
     /// meet its four values, the youngest first, up to and with the first one without the reuse-port option.
-    // Never inlined: a caller that also looks up one receiver would blank the array before it knows which it needs.
-    #[inline(never)]
     pub fn receivers(&self, destination: u32, port: u16, source: Addr) -> ArrayVec<u32, SOCKETS>
         ensures found { FindsAll (flat.receivers (packet_key destination port source)) self.now result.items }
         ensures range { All IsDescriptor result.items }
