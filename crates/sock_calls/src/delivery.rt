@@ -32,6 +32,8 @@ fn fits_at(pool: &Pool, queues: &[SockBuf], fd: u32, len: u32) -> bool
 }
 
 /// Puts a datagram of `len` bytes at the end of a descriptor's queue. It has to fit, and an mbuf has to be free.
+// Inlined, as `deliver` is.
+#[inline(always)]
 fn append_at(pool: &mut Pool, queues: &mut [SockBuf], fd: u32, sender: Addr, chain: Chain, len: u32)
     requires each { (k : ℕ) → IsSockBuf pool.old (queue_at (from_three queues.old) k) }
     requires descriptor { IsDescriptor fd }
@@ -49,6 +51,8 @@ fn append_at(pool: &mut Pool, queues: &mut [SockBuf], fd: u32, sender: Addr, cha
 
 /// Puts a datagram into the queue of an open socket, with an mbuf for the sender's address, where both fit; else it's
 /// freed and counted, as one at a full queue or as one that lacks buffers (volume 2, chapter 16).
+// Inlined, since most datagrams have one receiver.
+#[inline(always)]
 fn deliver<R: Waiting>(
     pool: &mut Pool,
     pcbs: &Pcbs,
