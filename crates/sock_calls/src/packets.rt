@@ -39,7 +39,7 @@ fn is_looped(pcbs: &Pcbs, ip: u32) -> bool
 }
 
 /// Where packets to an address go, and how long the longest of them is.
-fn way_to(pcbs: &Pcbs, mtu: u16, ip: u32) -> (Way, u16)
+pub(crate) fn way_to(pcbs: &Pcbs, mtu: u16, ip: u32) -> (Way, u16)
     ensures way { result.0 ≡ way_of (config_of pcbs.now mtu) ip }
     ensures mtu { result.1 ≡ mtu_to (config_of pcbs.now mtu) ip }
 {
@@ -114,26 +114,31 @@ fn ip_head(heading: Heading) -> IpHead
     }
 }
 
-/// Puts the packets of a send into the output queue, but for those that come back. Its buffers have to be free. A
-/// broadcast isn't cut.
+/// Puts the packets of a send into the output queue, but for those that come back. They go by this route, and its buffers
+/// have to be free. A broadcast isn't cut.
 pub(crate) fn put_packets(
     pool: &mut Pool,
     pcbs: &Pcbs,
     mtu: u16,
+    route: (Way, u16),
     heading: Heading,
     bytes: &[u8],
     queue: &mut Queue,
 ) -> Sent
     requires most { length bytes.now ≤ UDP_SEND_SPACE }
     requires routed { IsRouted (config_of pcbs.now mtu) }
+    requires way { route.0 ≡ way_of (config_of pcbs.now mtu) heading.to.ip }
+    requires longest { route.1 ≡ mtu_to (config_of pcbs.now mtu) heading.to.ip }
     requires uncut { heading.to.ip ≡ pcbs.now.bcast → length bytes.now + IP_UDP_HEADERS ≤ mtu }
     requires free { IsFreeFor pool.old (config_of pcbs.now mtu) heading.to.ip (length bytes.now) }
     requires queue { IsQueue pool.old queue.old }
     ensures { AreMade pool.old (config_of pcbs.now mtu) (sent_as heading bytes.now) queue.old pool.new result queue.new }
 {
+    let _ = pcbs;
+    let _ = mtu;
+    let (way, longest) = route;
     let chain = datagram(pool, heading, bytes);
-    let (way, mtu) = way_to(pcbs, mtu, heading.to.ip);
-    match send_packets(pool, chain, ip_head(heading), mtu, way, queue) {
+    match send_packets(pool, chain, ip_head(heading), longest, way, queue) {
         Ok(sent) => sent,
         Err(_) => unreachable!(),
     }

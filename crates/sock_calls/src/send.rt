@@ -1,17 +1,18 @@
 //! A send.
 ghost use Rattle.std.specs.Prelude.{◌≡◌, ◌+◌, ◌≤◌, length, Some};
+ghost use Rattle.flat_model.specs.Machine.Sending.{mtu_to};
 ghost use Rattle.ledger.specs.Reserve.{are_free};
 ghost use Rattle.pcb_table.specs.Table.{block_at};
 ghost use Rattle.ip_out.specs.Queues.{IsQueue};
 ghost use Rattle.sock_calls.specs.Outgoing.{sending, CanSend, IsSent};
-ghost use Rattle.sock_calls.specs.Inside.Putting.{config_of, counts_sent, IsFreeFor, IsPut, IsRouted};
+ghost use Rattle.sock_calls.specs.Inside.Putting.{config_of, counts_sent, way_of, IsFreeFor, IsPut, IsRouted};
 ghost use Rattle.sock_calls.specs.Sockets.{from_three};
 
 use crate::destination::send_target;
 use crate::net::Net;
-use crate::packets::{Heading, need_to, put_packets};
+use crate::packets::{Heading, need_to, put_packets, way_to};
 use flat_model::{Addr, Counter, Counters, Errno, Lack, Need};
-use ip_out::Sent;
+use ip_out::{Sent, Way};
 use mbuf_chain::Pool;
 use params::{IP_UDP_HEADERS, UDP_SEND_SPACE};
 use pcb_table::{Block, Pcbs};
@@ -40,7 +41,8 @@ fn are_free(pool: &Pool, need: Need) -> bool
     need.mbufs <= mbufs && need.clusters <= clusters
 }
 
-/// Sends a datagram, and answers whether a packet of it was lost at the output queue. Its buffers have to be free.
+/// Sends a datagram by its route, and answers whether a packet of it was lost at the output queue. Its buffers have to be
+/// free.
 #[inline(always)]
 fn put(
     pool: &mut Pool,
@@ -48,6 +50,7 @@ fn put(
     net: &mut Net,
     block: &Block,
     to: Addr,
+    route: (Way, u16),
     bytes: &[u8],
 ) -> bool
     requires opened { block_at block.now.fd pcbs.old ≡ Some block.now }
@@ -55,6 +58,8 @@ fn put(
     requires none { net.old.looped.len ≡ 0 }
     requires most { length bytes.now ≤ UDP_SEND_SPACE }
     requires routed { IsRouted (config_of pcbs.old net.old.mtu) }
+    requires way { route.0 ≡ way_of (config_of pcbs.old net.old.mtu) to.ip }
+    requires longest { route.1 ≡ mtu_to (config_of pcbs.old net.old.mtu) to.ip }
     requires uncut { to.ip ≡ pcbs.old.bcast → length bytes.now + IP_UDP_HEADERS ≤ net.old.mtu }
     requires free { IsFreeFor pool.old (config_of pcbs.old net.old.mtu) to.ip (length bytes.now) }
     ensures { IsPut block.now.fd to bytes.now pool.old pcbs.old net.old result pool.new pcbs.new net.new }
@@ -69,7 +74,7 @@ fn put(
         looped,
         is_cut,
         is_lost,
-    } = put_packets(pool, pcbs, net.mtu, heading, bytes, &mut net.out);
+    } = put_packets(pool, pcbs, net.mtu, route, heading, bytes, &mut net.out);
     net.next_id = net.next_id.wrapping_add(1);
     count_send(&mut net.counters, is_cut, is_lost);
     mem::replace(&mut net.looped, looped).end_empty();
@@ -100,11 +105,12 @@ pub(crate) fn send(
         Ok(target) => target,
         Err(errno) => return Err(errno),
     };
+    let route = way_to(pcbs, net.mtu, target.ip);
     let need = need_to(pcbs, net.mtu, target.ip, bytes.len() as u32);
     if !are_free(pool, need) {
         return Err(Errno::NoBufs(Lack::Pool));
     }
-    let is_lost = put(pool, pcbs, net, &block, target, bytes);
+    let is_lost = put(pool, pcbs, net, &block, target, route, bytes);
     pcbs.laws();
     if is_lost {
         return Err(Errno::NoBufs(Lack::Queue));

@@ -18,9 +18,9 @@ send_packets-requires-clause-apart c = apart_adds c.args.queue.now c.datagram-ch
 
 pub unreachable-requires : goal.unreachable-requires
 unreachable-requires c =
-    packets_fit (config_of c.args.pcbs.now c.args.mtu) (sent_as c.args.heading c.args.bytes.now) c.requires.routed c.requires.uncut c.requires.free c.datagram-chain.ensures c.way_to-way.ensures.way c.way_to-way.ensures.mtu c.in-Err.ensures.err
+    packets_fit (config_of c.args.pcbs.now c.args.mtu) (sent_as c.args.heading c.args.bytes.now) c.requires.routed c.requires.uncut c.requires.free c.datagram-chain.ensures c.requires.way c.requires.longest c.in-Err.ensures.err
 
 pub returns : goal.returns
 returns c =
-    packets_made (config_of c.args.pcbs.now c.args.mtu) (sent_as c.args.heading c.args.bytes.now) c.datagram-chain.ensures c.way_to-way.ensures.way c.way_to-way.ensures.mtu c.ip_head.ensures c.requires.queue.held
+    packets_made (config_of c.args.pcbs.now c.args.mtu) (sent_as c.args.heading c.args.bytes.now) c.datagram-chain.ensures c.requires.way c.requires.longest c.ip_head.ensures c.requires.queue.held
     c.in-Ok.ensures.link c.in-Ok.ensures.lost c.in-Ok.ensures.looped c.in-Ok.ensures.cut c.in-Ok.ensures.held c.in-Ok.ensures.plain c.in-Ok.ensures.queue c.in-Ok.ensures.moves
