@@ -1,5 +1,5 @@
 //! A datagram that came.
-ghost use Rattle.std.specs.Prelude.{◌≡◌, ◌≤◌, ◌∷◌, [], IfErr, IfOk, None, Some, length};
+ghost use Rattle.std.specs.Prelude.{◌≡◌, ◌≤◌, ◌∷◌, [], IfErr, IfOk, None, Some, length, true};
 ghost use Rattle.flat_model.specs.Packets.Header.{udp_fault};
 ghost use Rattle.flat_model.specs.Machine.Arrival as flat;
 ghost use Rattle.mbuf_chain.specs.Chain.{IsLive, chain_of, string, with_chain, without};
@@ -60,6 +60,16 @@ fn is_broadcast(pcbs: &Pcbs, ip: u32) -> bool
     ip == pcbs.bcast() || ip == LIMITED_BROADCAST
 }
 
+// Puts into `to` all who hear a broadcast. It stands apart, since a function pays for the room of its values whenever
+// it's called, and here that is a whole array.
+#[inline(never)]
+fn find_all(pcbs: &Pcbs, destination: u32, port: u16, source: Addr, to: &mut ArrayVec<u32, SOCKETS>)
+    requires { broadcasts pcbs.now destination ≡ true }
+    ensures { AreHearers pcbs.now destination (packet_key destination port source) to.new.items }
+{
+    *to = pcbs.receivers(destination, port, source);
+}
+
 // Puts into `to` who hears a datagram: many for a broadcast, else the best match.
 fn find_hearers(
     pcbs: &mut Pcbs,
@@ -73,7 +83,7 @@ fn find_hearers(
     ensures blocks { pcbs.new ≡ pcbs.old }
 {
     if is_broadcast(pcbs, destination) {
-        *to = pcbs.receivers(destination, port, source);
+        find_all(pcbs, destination, port, source, to);
         return;
     }
     if let Some(fd) = pcbs.lookup(destination, port, source) {
@@ -132,6 +142,8 @@ pub fn input(
     ensures moves { Moves pool.old (chain ∷ []) pool.new (chains_of result) }
     ensures blocks { pcbs.new ≡ pcbs.old }
 {
+    // Mostly one stands there, and to pop it takes fewer steps than to clear an array.
+    let _ = to.pop();
     to.clear();
     if head.proto != PROTOCOL_UDP {
         return drop_for(pool, chain, Why::NoProtocol);
