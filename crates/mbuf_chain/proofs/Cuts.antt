@@ -84,7 +84,7 @@ pub record IsCut (s t : StoreView) (a b keep kept whole : ℕ) : Type 0 where
   pub few : whole ≤ 134215680
   pub adds : Adds (with_chain (pool_of s) a (first_part keep (chain_of (pool_of s) a))) (pool_of t) b (second_part keep (chain_of (pool_of s) a))
 
-bare_front : (h : Head) → IsFollower h → front_of h ≡ alone false
+pub bare_front : (h : Head) → IsFollower h → front_of h ≡ alone false
 bare_front h f = λ i. record { header = is_some (f.packet i); after = f.after i; tag = arrival_of (f.packet i) }
 
 pub cut_made : (s t : StoreView) (a b keep x kept whole : ℕ) → IsPool s → IsLive (pool_of s) a → 0 < keep → keep < length (chain_of (pool_of s) a).entries → x ≡ last_of (take keep (cells_from s (Some a))) → kept ≡ weigh (len_at s) (take keep (cells_from s (Some a))) → whole ≡ packet_len (head_of s a)

@@ -18,6 +18,7 @@ mod Runs
 mod Trains
 mod Grows
 mod Cuts
+mod Drops
 mod Ends
 mod Reading
 mod Filled

@@ -52,7 +52,7 @@ fn release(store: &mut Store, cluster: Option<u32>)
 }
 
 /// Gives an mbuf back, with its reference, and answers which one was after it.
-fn free_mbuf(store: &mut Store, cell: u32) -> Option<u32>
+pub(crate) fn free_mbuf(store: &mut Store, cell: u32) -> Option<u32>
     requires out { is_out store.old cell ≡ true }
     requires known { (c : ℕ) → (head_of store.old cell).cluster ≡ Some c → 0 < count_of store.old c }
     ensures next { result ≡ (head_of store.old cell).next }

@@ -5,7 +5,7 @@ ghost use Rattle.mbuf_chain.specs.Chain.{IsLive, IsPlace, chain_of, with_chain, 
 ghost use Rattle.mbuf_chain.specs.Steps.{headless, joined, first_part, second_part};
 ghost use Rattle.mbuf_chain.specs.Inside.Cells.{IsPool, IsWhole, pool_of, cells_from, weigh, one, len_at, last_of, packet_len};
 
-use crate::cells::{bytes_from, count_from, free_from};
+use crate::cells::{bytes_from, count_from, free_from, free_mbuf};
 use crate::edit::set_total;
 use crate::place::{Place, Segment};
 use mbuf_pool::{PacketHeader, Store};
@@ -189,6 +189,18 @@ pub(crate) fn free_chain(store: &mut Store, first: u32)
     ensures change { pool_of store.new ≡ without (pool_of store.old) first }
 {
     free_from(store, first);
+}
+
+/// Gives the first mbuf of a chain of several back, with its reference, and answers the number of the rest.
+pub(crate) fn free_first(store: &mut Store, first: u32) -> u32
+    requires pool { IsPool store.old }
+    requires live { IsLive (pool_of store.old) first }
+    requires several { 1 < length (chain_of (pool_of store.old) first).entries }
+    ensures pool { IsPool store.new }
+    ensures change { Adds (without (pool_of store.old) first) (pool_of store.new) result
+        (second_part 1 (chain_of (pool_of store.old) first)) }
+{
+    free_mbuf(store, first).unwrap()
 }
 
 /// Takes the packet header from a chain, and its place in a train.

@@ -169,6 +169,20 @@ impl Pool {
         links::free_chain(&mut self.store, first);
     }
 
+    /// Gives the first mbuf of a chain of several back, with its reference, and answers the chain of the
+    /// others, which has no packet header. It does what `cut` after that mbuf and `free_chain` do, in one
+    /// step (`m_free` of TCP/IP Illustrated, volume 2, chapter 2).
+    pub fn free_first(&mut self, chain: Chain) -> Chain
+        requires live { IsLive self.old chain }
+        requires several { 1 < length (chain_of self.old chain).entries }
+        ensures { Adds (without self.old chain) self.new result
+            (second_part 1 (chain_of self.old chain)) }
+    {
+        let Chain { first } = chain;
+        let rest = links::free_first(&mut self.store, first);
+        Chain { first: rest }
+    }
+
     /// How many bytes a chain has. It takes one step where the chain has a packet header, else one for
     /// each mbuf.
     #[inline(always)]

@@ -62,6 +62,8 @@ impl Train {
     /// Puts a chain in at a place, with a tag. The place is at most the number of chains, and the chain must
     /// have a packet header. At the front and at the end this takes a number of steps that doesn't depend on
     /// the train, elsewhere one for each chain in front.
+    // Inlined, so that a caller at the front or at the end takes these few steps alone.
+    #[inline(always)]
     pub fn insert(&mut self, pool: &mut Pool, i: u32, chain: Chain, tag: u32)
         requires place { i ≤ self.old.len }
         requires live { IsLive pool.old chain }

@@ -1,6 +1,6 @@
 -- Copies for those who hear a datagram, and the loop over them.
 use Rattle.std.proofs.Common.{◌≡◌, ℕ, zero, suc, ◌<◌, ◌≤◌, Bool, true, false, cond, List, [], ◌∷◌, ◌++◌, length, drop, take, Option, Some, None, refl, sym, ap, ◌∙◌, subst, arith}
-use Rattle.std.specs.Prelude.{slice_index_or, unwrap_or, find, ◌==◌}
+use Rattle.std.specs.Prelude.{slice_index_or, unwrap_or, find, count_by, is_some, ◌==◌}
 use Rattle.std.specs.Option.{IsSome}
 use Rattle.std.proofs.Math.Seq.{take-length}
 use Rattle.std.proofs.lemmas.Bool.{eqb-true, false≢true}
@@ -22,8 +22,8 @@ use Rattle.mbuf_chain.specs.Frames.{SameAt}
 use Rattle.mbuf_chain.proofs.Laws.Owners.{times_same, times-append, live_at_most, moves_trans, moves_beside, owned_after, same_beside, chain_same}
 use Rattle.chain_ops.specs.Copies.{copied_all}
 use Rattle.pcb_table.specs.declared.block.Block.{Block}
-use Rattle.pcb_table.specs.Apart.{has_fd}
-use Rattle.pcb_table.specs.Table.{Table, Queues, block_at, socket_with}
+use Rattle.pcb_table.specs.Apart.{AreApart, has_fd}
+use Rattle.pcb_table.specs.Table.{Table, Queues, IsDescriptor, IsOpen, block_at, socket_with}
 use Rattle.ledger.specs.Accounts.{item_of, item_at, weight_of, weight_at, IsAccounted}
 use Rattle.ledger.proofs.Laws.{accounted_after}
 use Rattle.sockbuf.specs.SockBuf.{SockBufView}
@@ -210,6 +210,20 @@ find_named fd (x ∷ bs) b e = go (find_named fd bs b) (x.fd == fd) refl e
 
 pub named_at : (t : Table) (fd : ℕ) (b : Block) → block_at fd t ≡ Some b → b.fd ≡ fd
 named_at t fd b e = find_named fd t.blocks b e
+
+-- an open descriptor is one of those that there are
+pub descriptor_of : (t : Table) (fd : ℕ) → AreApart t.blocks → IsOpen fd t → IsDescriptor fd
+descriptor_of t fd apart is_open =
+    let some : 0 < count_by (has_fd fd) t.blocks = counted_open t.blocks is_open in
+    record { least = apart.least fd some; most = omega (arith, apart.most fd some) }
+  where
+    counted_open : (bs : List Block) → is_some (find (has_fd fd) bs) ≡ true → 0 < count_by (has_fd fd) bs
+    counted_open [] found = absurd (false≢true found)
+    counted_open (b ∷ bs) found = go (b.fd == fd) refl found (counted_open bs)
+      where
+        go : (same : Bool) → (b.fd == fd) ≡ same → is_some (cond same (Some b) (find (has_fd fd) bs)) ≡ true → (is_some (find (has_fd fd) bs) ≡ true → 0 < count_by (has_fd fd) bs) → 0 < count_by (has_fd fd) (b ∷ bs)
+        go true e here rest = omega (arith, sum_by-cons (λ (x : Block). cond {A = ℕ} (has_fd fd x) 1 0) b bs, ap (λ (u : Bool). cond {A = ℕ} u 1 0) e)
+        go false e later rest = omega (arith, sum_by-cons (λ (x : Block). cond {A = ℕ} (has_fd fd x) 1 0) b bs, rest later)
 
 -- one more receiver in front
 more_delivers : (held : Weight) (sender : Addr) (item : Item) (f : Queues) (t : Table) (fd : ℕ) (later : List ℕ) (old after new : State) → 0 < length later

@@ -1,8 +1,8 @@
 -- What a receive makes of the machine.
-use Rattle.std.proofs.Common.{◌≡◌, ℕ, true, false, List, [], ◌∷◌, take, Option, None, Some, is_some, refl, sym, ap, ◌∙◌, subst, inl, inr}
+use Rattle.std.proofs.Common.{◌≡◌, ℕ, cond, List, [], ◌∷◌, length, take, Option, None, Some, is_some, refl, sym, ap, ◌∙◌, subst, arith, inl, inr}
 use Rattle.std.specs.Prelude.{MatchOption}
-use Rattle.std.specs.Option.{IfSome, ok_or}
-use Rattle.std.proofs.lemmas.Bool.{cases_eq, true≢false}
+use Rattle.std.specs.Option.{ok_or}
+use Rattle.std.proofs.lemmas.Bool.{cases_eq}
 use Rattle.flat_model.specs.Machine.State.{State, Socket, Datagram}
 use Rattle.flat_model.specs.Machine.Event.{Received, Refused, Receive}
 use Rattle.flat_model.specs.Machine.Calls.{Receives}
@@ -11,8 +11,11 @@ use Rattle.flat_model.specs.Machine.Step.{Step}
 use Rattle.flat_model.specs.declared.address.Addr.{Addr}
 use Rattle.flat_model.specs.declared.errno.Errno.TheVariants.{BadDescriptor, WouldBlock}
 use Rattle.pcb_table.specs.declared.block.Block.{Block}
-use Rattle.pcb_table.specs.Table.{Table, Queues, block_at, machine}
+use Rattle.flat_model.specs.declared.errno.Errno.{Errno}
+use Rattle.pcb_table.specs.Apart.{AreApart}
+use Rattle.pcb_table.specs.Table.{Table, Queues, IsDescriptor, block_at, machine}
 use Rattle.pcb_table.proofs.Laws.{on_open, not_open, same_machine, queue_changed}
+use Rattle.sock_calls.proofs.Hearing.{named_at, descriptor_of}
 
 -- what was taken of a queue, and how it was copied
 abbrev pub TookOf : List Datagram → List Datagram → ℕ → Option (Addr × ℕ) → List ℕ → Type 0
@@ -43,19 +46,43 @@ receives f g t fd most b None room opened named took others rest =
       ]),
     ))
 
--- the block that was found, or none
+-- the block of an open socket
 pub record Found (fd : ℕ) (t : Table) : Type 0 where
   pub block : Block
   pub at : block_at fd t ≡ Some block
   pub named : block.fd ≡ fd
 
-pub found_block : (fd : ℕ) (t : Table) (r : Option Block) → is_some r ≡ true → r ≡ block_at fd t → IfSome r (λ b. b.fd ≡ fd) → Found fd t
-found_block fd t None some is named = absurd (true≢false (sym some))
-found_block fd t (Some b) some is named = record { block = b; at = sym is; named = named }
+-- where a datagram waits, the socket is open
+pub waits_open : (f : Queues) (t : Table) (fd : ℕ) (d : Datagram) (ds : List Datagram) → (block_at fd t ≡ None → f fd ≡ []) → f fd ≡ d ∷ ds → Found fd t
+waits_open f t fd d ds closed waits = go (block_at fd t) refl
+  where
+    go : (o : Option Block) → block_at fd t ≡ o → Found fd t
+    go None none = absurd (omega (arith, ap length (sym (closed none) ∙ waits)))
+    go (Some b) is = record { block = b; at = is; named = named_at t fd b is }
 
-pub no_block : (fd : ℕ) (t : Table) (r : Option Block) → is_some r ≡ false → r ≡ block_at fd t → block_at fd t ≡ None
-no_block fd t None none is = sym is
-no_block fd t (Some b) none is = absurd (true≢false none)
+-- a number that no descriptor has
+pub not_descriptor : (t : Table) (fd : ℕ) → AreApart t.blocks → (IsDescriptor fd → ⊥) → block_at fd t ≡ None
+not_descriptor t fd apart past = go (block_at fd t) refl
+  where
+    go : (o : Option Block) → block_at fd t ≡ o → block_at fd t ≡ None
+    go None none = none
+    go (Some b) is = absurd (past (descriptor_of t fd apart (ap is_some is)))
 
 pub not_open_receives : (f : Queues) (t : Table) (fd most : ℕ) → block_at fd t ≡ None → (rest : State) → Step (machine rest f t) (Receive fd most) (Refused BadDescriptor) (machine rest f t)
 not_open_receives f t fd most none rest = not_open rest f t fd (λ (me : Socket). Receives fd most me.queue (machine rest f t) (Refused BadDescriptor) (machine rest f t)) none
+
+-- a receive where no datagram waits
+pub receives_none : (f g : Queues) (t : Table) (fd most : ℕ) (errno : Errno) → errno ≡ cond (is_some (block_at fd t)) WouldBlock BadDescriptor → (f fd ≡ []) × (g fd ≡ []) → ((k : ℕ) → (k ≡ fd → ⊥) → g k ≡ f k)
+    → (rest : State) → Step (machine rest f t) (Receive fd most) (Refused errno) (machine rest g t)
+receives_none f g t fd most errno is_errno none others rest = go (block_at fd t) refl
+  where
+    go : (o : Option Block) → block_at fd t ≡ o → Step (machine rest f t) (Receive fd most) (Refused errno) (machine rest g t)
+    go None is =
+        subst (λ (e : Errno). Step (machine rest f t) (Receive fd most) (Refused e) (machine rest g t)) (sym (is_errno ∙ ap (λ (o : Option Block). cond (is_some o) WouldBlock BadDescriptor) is))
+        (subst (λ (s : State). Step (machine rest f t) (Receive fd most) (Refused BadDescriptor) s) (same_machine f g t rest (λ k at. elim (cases_eq k fd) [
+          | inl e ↦ ap f e ∙ (none.0 ∙ sym none.1) ∙ ap g (sym e)
+          | inr ne ↦ sym (others k ne)
+        ])) (not_open_receives f t fd most is rest))
+    go (Some b) is =
+        subst (λ (e : Errno). Step (machine rest f t) (Receive fd most) (Refused e) (machine rest g t)) (sym (is_errno ∙ ap (λ (o : Option Block). cond (is_some o) WouldBlock BadDescriptor) is))
+        (receives f g t fd most b None [] is (named_at t fd b is) none others rest)

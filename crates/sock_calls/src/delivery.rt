@@ -7,7 +7,7 @@ ghost use Rattle.flat_model.specs.Amounts.Weight.{times};
 ghost use Rattle.chain_ops.specs.Makes.{HasMbufs};
 ghost use Rattle.pcb_table.specs.Table.{IsDescriptor, IsOpen};
 ghost use Rattle.ledger.specs.Accounts.{item_at};
-ghost use Rattle.sockbuf.specs.SockBuf.{IsSockBuf, chains_of, datagram_from, datagrams};
+ghost use Rattle.sockbuf.specs.SockBuf.{IsSockBuf, datagram_from};
 ghost use Rattle.sock_calls.specs.Sockets.{IsSocks, StepsAt, from_three, queue_at, queues_of, queued_chains};
 ghost use Rattle.sock_calls.specs.Delivery.{seen, IsAppended, IsOffered, IsDelivered};
 
@@ -31,36 +31,20 @@ fn fits_at(pool: &Pool, queues: &[SockBuf], fd: u32, len: u32) -> bool
     queues[place_of(fd)].fits(len)
 }
 
-/// Puts a datagram at the end of a descriptor's queue. It has to fit, and an mbuf has to be free.
-fn append_at(pool: &mut Pool, queues: &mut [SockBuf], fd: u32, sender: Addr, chain: Chain)
+/// Puts a datagram of `len` bytes at the end of a descriptor's queue. It has to fit, and an mbuf has to be free.
+fn append_at(pool: &mut Pool, queues: &mut [SockBuf], fd: u32, sender: Addr, chain: Chain, len: u32)
     requires each { (k : ℕ) → IsSockBuf pool.old (queue_at (from_three queues.old) k) }
     requires descriptor { IsDescriptor fd }
     requires places { length queues.old ≡ MAX_SOCKETS }
     requires owned { IsOwned pool.old (chain ∷ queued_chains pool.old (from_three queues.old)) }
     requires free { held_mbufs pool.old < pool.old.mbufs }
-    requires fits { flat.fits (queues_of pool.old (from_three queues.old) fd) (length (string (chain_of pool.old chain))) ≡ true }
+    requires len { len ≡ length (string (chain_of pool.old chain)) }
+    requires fits { flat.fits (queues_of pool.old (from_three queues.old) fd) len ≡ true }
     ensures steps { StepsAt pool.old (chain ∷ []) (from_three queues.old) fd pool.new [] (from_three queues.new) }
     ensures here { queues_of pool.new (from_three queues.new) fd ≡ queues_of pool.old (from_three queues.old) fd
         ++ datagram_from sender pool.old chain ∷ [] }
 {
-    append(pool, &mut queues[place_of(fd)], sender, chain);
-}
-
-/// Puts a datagram at the end of a queue. It has to fit, and an mbuf has to be free.
-fn append(pool: &mut Pool, queue: &mut SockBuf, sender: Addr, chain: Chain)
-    requires ready { IsSockBuf pool.old queue.old }
-    requires owned { IsOwned pool.old (chain ∷ chains_of pool.old queue.old) }
-    requires free { held_mbufs pool.old < pool.old.mbufs }
-    requires fits { flat.fits (datagrams pool.old queue.old) (length (string (chain_of pool.old chain))) ≡ true }
-    ensures datagrams { datagrams pool.new queue.new ≡ datagrams pool.old queue.old
-        ++ datagram_from sender pool.old chain ∷ [] }
-    ensures ready { IsSockBuf pool.new queue.new }
-    ensures moves { Moves pool.old (chain ∷ chains_of pool.old queue.old) pool.new (chains_of pool.new queue.new) }
-{
-    match queue.append_addr(pool, sender, chain) {
-        Ok(()) => {}
-        Err(_) => unreachable!(),
-    }
+    queues[place_of(fd)].append_fitting(pool, sender, chain, len);
 }
 
 /// Puts a datagram into the queue of an open socket, with an mbuf for the sender's address, where both fit; else it's
@@ -85,7 +69,7 @@ fn deliver<R: Waiting>(
         (seen pool.new (record { pcbs = pcbs.now; queues = from_three queues.new }) (R.unfinished pool.new waiting.new) (R.owned pool.new waiting.new) counters.new) }
     ensures waits { R.is_ready pool.new waiting.new }
 {
-    let _ = pcbs.block(fd);
+    let _ = pcbs;
     let len = pool.len(&chain);
     if !fits_at(pool, queues, fd, len) {
         pool.free_chain(chain);
@@ -98,7 +82,7 @@ fn deliver<R: Waiting>(
         return;
     }
     pool.laws();
-    append_at(pool, queues, fd, sender, chain);
+    append_at(pool, queues, fd, sender, chain, len);
 }
 
 /// A copy of a chain, which shares its clusters. So many mbufs have to be free.

@@ -1,13 +1,16 @@
 //! The oldest datagram of a receive queue, copied out.
-ghost use Rattle.std.specs.Prelude.{◌≡◌, ◌<◌, ◌≤◌, ◌∷◌, [], drop, length, take, IfNone, IfSome, MatchOption, ℕ};
+ghost use Rattle.std.specs.Prelude.{◌≡◌, ◌<◌, ◌≤◌, ◌∷◌, [], drop, length, take, is_some, if◌then◌else◌, IfNone, IfSome, MatchOption, ℕ};
 ghost use Rattle.flat_model.specs.Machine.State.{Datagram};
+ghost use Rattle.flat_model.specs.declared.errno.Errno.TheVariants.{BadDescriptor, WouldBlock};
 ghost use Rattle.mbuf_chain.specs.Owners.{IsOwned, Moves};
+ghost use Rattle.pcb_table.specs.Table.{block_at};
 ghost use Rattle.sockbuf.specs.SockBuf.{IsSockBuf, chains_of, datagrams};
 ghost use Rattle.sock_calls.specs.Sockets.{TakesAt, queue_at, queues_of, queued_chains};
 
 use chain_ops::m_copydata;
-use flat_model::Addr;
+use flat_model::{Addr, Errno};
 use mbuf_chain::Pool;
+use pcb_table::Pcbs;
 use sockbuf::SockBuf;
 
 /// Takes the oldest datagram of a queue, and copies as many of its bytes as there is room for; the others are lost. It
@@ -49,6 +52,17 @@ pub(crate) fn take_at(
     ensures rest { IfSome result (λ found. drop found.1 room.new ≡ drop found.1 room.old) }
 {
     take_oldest(pool, &mut queues[place], room)
+}
+
+/// Why nothing is received of a descriptor in whose queue no datagram waits.
+pub(crate) fn refusal(pcbs: &Pcbs, fd: u32) -> Errno
+    ensures { result ≡ (if is_some (block_at fd pcbs.now) then WouldBlock else BadDescriptor) }
+{
+    if pcbs.block(fd).is_some() {
+        Errno::WouldBlock
+    } else {
+        Errno::BadDescriptor
+    }
 }
 
 /// Frees all that waits in the queue at a place.

@@ -15,7 +15,7 @@ ghost use Rattle.sock_calls.specs.Sockets.{IsSocks, IsCalled, queue_at, queued_c
 use crate::ending::{end_empty, flush_all};
 use crate::input::input;
 use crate::net::Net;
-use crate::receive::{flush_at, take_at};
+use crate::receive::{flush_at, refusal, take_at};
 use crate::send::send;
 use arrayvec::ArrayVec;
 use flat_model::{Addr, Counters, Errno, Opt};
@@ -184,10 +184,14 @@ impl Socks {
         ensures moves { Moves pool.old (queued_chains pool.old self.old.queues) pool.new (queued_chains pool.new self.new.queues) }
     {
         self.pcbs.laws();
-        if self.pcbs.block(fd).is_none() {
+        if fd < FIRST_DESCRIPTOR || fd >= FIRST_DESCRIPTOR + MAX_SOCKETS {
             return Err(Errno::BadDescriptor);
         }
-        take_at(pool, &mut self.queues, place_of(fd), room).ok_or(Errno::WouldBlock)
+        // a datagram waits only where a socket is open, so that is asked only where none does
+        match take_at(pool, &mut self.queues, place_of(fd), room) {
+            Some(taken) => Ok(taken),
+            None => Err(refusal(&self.pcbs, fd)),
+        }
     }
 
     /// Closes a socket, and frees all that waits in it; packets that it sent stay where they are (volume 2 chapter 15).

@@ -1,21 +1,17 @@
 -- A queue under steps of others.
-use Rattle.std.proofs.Common.{◌≡◌, Err, ℕ, suc, ◌+◌, List, [], ◌∷◌, length, map, refl, sym, ap, ◌∙◌, subst, arith}
+use Rattle.std.proofs.Common.{◌≡◌, Err, ℕ, List, [], ◌∷◌, refl, sym, ap, ◌∙◌, subst, arith}
 use Rattle.std.specs.List.{AllByRecursion as Each}
-use Rattle.flat_model.specs.Amounts.Weight.{all_of, ◌⊕◌}
-use Rattle.flat_model.specs.Machine.State.{Datagram}
 use Rattle.flat_model.specs.Sockets.Fits.{bytes_queued, memory_queued}
-use Rattle.mbuf_chain.specs.Chain.{Entry, PoolView, chain_of, without}
+use Rattle.mbuf_chain.specs.Chain.{PoolView, without}
 use Rattle.mbuf_chain.specs.Frames.{SameAt}
 use Rattle.mbuf_chain.specs.Owners.{times, IsOwned, Moves}
-use Rattle.mbuf_chain.specs.Train.{QueuedPacket, queued_packet_of}
+use Rattle.mbuf_chain.specs.Train.{QueuedPacket}
 use Rattle.mbuf_chain.proofs.Laws.Owners.{times_same, live_at_most, same_beside, same_without}
 use Rattle.mbuf_chain.proofs.Laws.Trains.{numbers_same, queued_packets_same, held_same, held_none}
-use Rattle.ledger.specs.Accounts.{weight_of, weight_owned}
-use Rattle.sockbuf.specs.SockBuf.{SockBufView, IsSockBuf, IsDatagram, datagram_of, datagrams_of, datagrams, chains_of, no_datagrams, AppendsAddr, IsRefused}
+use Rattle.sockbuf.specs.SockBuf.{SockBufView, IsSockBuf, IsDatagram, datagrams_of, datagrams, chains_of, no_datagrams, AppendsAddr, IsRefused}
 use Rattle.sockbuf.specs.declared.buffer.Refusal.{Refusal}
 use Rattle.sockbuf.specs.declared.buffer.Refusal.TheVariants.{Full, NoBufs}
 use Rattle.flat_model.specs.declared.address.Addr.{Addr}
-use Rattle.sockbuf.proofs.Queues.{Shape, shape}
 
 -- ---- a new queue fits every pool
 pub new_ready : (p : PoolView) → IsSockBuf p no_datagrams

@@ -1,13 +1,12 @@
 -- An mbuf with an address in front of a chain.
-use Rattle.std.proofs.Common.{◌≡◌, ◌≢◌, ℕ, ◌<◌, ◌≤◌, true, List, [], ◌∷◌, drop, None, refl, sym, ap, ◌∙◌, subst, arith}
+use Rattle.std.proofs.Common.{◌≡◌, ◌≢◌, ℕ, true, List, [], ◌∷◌, drop, None, refl, sym, ap, ◌∙◌, subst, arith}
 use Rattle.std.proofs.lemmas.Option.{none-some}
 use Rattle.flat_model.specs.declared.address.Addr.{Addr}
 use Rattle.mbuf_chain.specs.declared.place.Place.{Place}
-use Rattle.mbuf_chain.specs.Chain.{Entry, ChainView, PoolView, held_mbufs, IsLive, IsUnshared, HasTrailingSpace, chain_of, entry_of, entry_in, with_chain, without, Adds}
-use Rattle.mbuf_chain.specs.Steps.{one_mbuf, empty_entry, with_entry, with_entry_in, with_back, joined, first_part, second_part}
+use Rattle.mbuf_chain.specs.Chain.{Entry, ChainView, PoolView, IsLive, IsUnshared, HasTrailingSpace, chain_of, entry_of, entry_in, with_chain, without, Adds}
+use Rattle.mbuf_chain.specs.Steps.{one_mbuf, empty_entry, with_entry, with_entry_in, with_back, joined, second_part}
 use Rattle.mbuf_chain.specs.Owners.{IsOwned, Moves}
-use Rattle.mbuf_chain.proofs.Laws.Owners.{owned_more, moves_none, moves_with, live_here, chain_left, moves_reordered, then_adds, then_with, then_without, shown_adds, shown_with, kept_with, live_with}
-use Rattle.mbuf_chain.proofs.Laws.Accounts.{held-adds}
+use Rattle.mbuf_chain.proofs.Laws.Owners.{owned_more, moves_none, moves_without, moves_reordered, then_adds, then_with, then_without, shown_adds, shown_with, kept_with, live_with}
 use Rattle.mbuf_chain.proofs.Laws.Steps.{apart, live_beside}
 use Rattle.sockbuf.specs.SockBuf.{sockaddr_bytes, sockaddr_in, address_entry}
 
@@ -26,10 +25,6 @@ new_unshared at a first = λ c is. absurd (none-some c (sym (ap (λ (e : Entry).
 
 pub new_fits : {p q : PoolView} {d : ℕ} (at : Place) (n : ℕ) → Adds p q d (one_mbuf true (empty_entry 28 None) d) → at.index ≡ 0 → n ≡ 16 → HasTrailingSpace (entry_in q d at) n
 new_fits at n a first sixteen = subst (λ (e : Entry). HasTrailingSpace e n) (sym (new_entry at a first)) (omega (arith, sixteen))
-
--- an mbuf that was made was free before
-pub free_before : {p q : PoolView} {d : ℕ} → Adds p q d (one_mbuf true (empty_entry 28 None) d) → held_mbufs q ≤ q.mbufs → held_mbufs p < p.mbufs
-free_before {p} {q} {d} a few = omega (arith, few, held-adds a, ap (λ (u : PoolView). u.mbufs) a.pool)
 
 -- the chain with the address, before the other is linked after it
 pub with_bytes : {p q : PoolView} {d : ℕ} (r : PoolView) (at : Place) (a : Addr) (bytes : List ℕ) → Adds p q d (one_mbuf true (empty_entry 28 None) d) → at.index ≡ 0 → bytes ≡ sockaddr_bytes a
@@ -74,14 +69,8 @@ pub record Stripped (p : PoolView) (c : ℕ) (q : PoolView) (d : ℕ) : Type 0 w
   pub entries : (chain_of q d).entries ≡ drop 1 (chain_of p c).entries
   pub moves : Moves p (c ∷ []) q (d ∷ [])
 
-pub stripped : {p q : PoolView} {c d : ℕ} (r : PoolView) → IsLive p c → Adds (with_chain p c (first_part 1 (chain_of p c))) q d (second_part 1 (chain_of p c)) → r ≡ without q c → Stripped p c r d
-stripped {p} {q} {c} {d} r live adds gone =
-    let owned : IsOwned p (c ∷ []) = owned_more p c [] (λ k. omega arith) live refl in
-    let cut : Moves p (c ∷ []) (with_chain p c (first_part 1 (chain_of p c))) (c ∷ []) = moves_with p _ c _ live refl in
-    let made : Moves p (c ∷ []) q (d ∷ c ∷ []) = then_adds cut adds in
-    let turned : Moves p (c ∷ []) q (c ∷ d ∷ []) = moves_reordered (c ∷ []) (c ∷ d ∷ []) made (λ k. refl) (λ k. omega arith) in
-    let ne : d ≢ c = λ e. apart _ q d _ adds c (live_here p c _) (sym e) in
-    record {
-      entries = ap (λ (v : ChainView). v.entries) (ap (λ (u : PoolView). chain_of u d) gone ∙ chain_left q c d ne ∙ shown_adds adds);
-      moves = then_without r c (d ∷ []) turned owned gone;
-    }
+pub stripped : {p q : PoolView} {c d : ℕ} → IsLive p c → Adds (without p c) q d (second_part 1 (chain_of p c)) → Stripped p c q d
+stripped {p} {q} {c} {d} live adds = record {
+  entries = ap (λ (v : ChainView). v.entries) (shown_adds adds);
+  moves = then_adds (moves_without p (without p c) c live refl) adds;
+}

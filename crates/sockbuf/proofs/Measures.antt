@@ -1,13 +1,17 @@
 -- Sums over a chain's mbufs.
-use Rattle.std.proofs.Common.{◌≡◌, ℕ, suc, ◌+◌, ◌≤◌, cond, List, [], ◌∷◌, length, filter_map, Option, None, Some, is_some, refl, arith}
-use Rattle.std.specs.Prelude.{slice_index_or}
+use Rattle.std.proofs.Common.{◌≡◌, ℕ, suc, ◌+◌, ◌≤◌, cond, List, [], ◌∷◌, length, filter_map, Option, None, Some, is_some, refl, ap, arith}
 use Rattle.std.proofs.lemmas.List.Sums.{sum_by-cons}
-use Rattle.mbuf_chain.specs.Chain.{Entry, ChainView, entry_of, no_entry, PoolView, IsLive, chain_of, layout_of, mbufs_of}
+use Rattle.mbuf_chain.specs.Chain.{Entry, PoolView, IsLive, chain_of, layout_of, mbufs_of}
 use Rattle.mbuf_chain.specs.Frames.{IsBounded}
 use Rattle.mbuf_chain.specs.Owners.{IsOwned}
 use Rattle.mbuf_chain.proofs.Laws.Owners.{owned_more}
 use Rattle.mbuf_chain.proofs.Laws.Accounts.{owned_held}
 use Rattle.ledger.specs.Accounts.{weight_of}
+
+-- one entry of a layout for each mbuf
+pub layout_long : (es : List Entry) → length (layout_of es) ≡ length es
+layout_long [] = refl
+layout_long (e ∷ es) = ap suc (layout_long es)
 
 -- how many of them refer to a cluster
 abbrev pub references_in : List (ℕ × Option ℕ) → ℕ

@@ -168,6 +168,24 @@ oldest {p} {q} {b} {u} {c} {tag} ready i = go (queued_packets p b.train) refl re
           mbcnt = ready.mbcnt ∙ ap memory_queued queued ∙ mbcnt_of (chain_of q c).entries s (datagrams_of (queued_packets q u));
         }
 
+no_more : (cs : List QueuedPacket) → length cs ≡ 0 → cs ≡ []
+no_more [] e = refl
+no_more (c ∷ cs) e = absurd (omega arith)
+
+-- what the sums were, where nothing else waited
+pub record LastOne (b : SockBufView) (es : List Entry) : Type 0 where
+  pub cc : b.cc ≡ length (flat_bytes es)
+  pub mbcnt : b.mbcnt ≡ memory_of (weight_of es)
+
+pub last_one : {p q : PoolView} {b : SockBufView} {u : TrainView} {c tag : ℕ} → IsSockBuf p b → IsTakenOut p b c tag q u → u.len ≡ 0 → LastOne b (chain_of q c).entries
+last_one {p} {q} {b} {u} {c} {tag} ready i none =
+    let o : Oldest p b c q u = oldest ready i in
+    let left : queued_packets q u ≡ [] = no_more (queued_packets q u) (length-queued_packets q u i.held ∙ none) in
+    record {
+      cc = omega (arith, o.cc, ap (λ (cs : List QueuedPacket). bytes_queued (datagrams_of cs)) left);
+      mbcnt = omega (arith, o.mbcnt, ap (λ (cs : List QueuedPacket). memory_queued (datagrams_of cs)) left);
+    }
+
 -- the sender's address, in the first mbuf
 pub record Address (p : PoolView) (c : ℕ) (i : ℕ) : Type 0 where
   pub sixteen : (bytes : List ℕ) → bytes ≡ (slice_index_or (chain_of p c).entries i (record { bytes = []; start = 0; cluster = None })).bytes → length bytes ≡ 16

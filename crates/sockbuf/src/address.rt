@@ -1,6 +1,6 @@
 //! A sender's address in an mbuf of its own, in front of a datagram.
 
-ghost use Rattle.std.specs.Prelude.{◌≡◌, ◌<◌, ◌∷◌, [], true, drop, length, IfOk, IfErr, OnErr, OnOk};
+ghost use Rattle.std.specs.Prelude.{◌≡◌, ◌<◌, ◌∷◌, [], true, length};
 ghost use Rattle.mbuf_chain.specs.Chain.{IsLive, chain_of, held_mbufs, string};
 ghost use Rattle.mbuf_chain.specs.Owners.{Moves};
 ghost use Rattle.sockbuf.specs.SockBuf.{sockaddr_bytes, sockaddr_in, address_entry};
@@ -20,11 +20,12 @@ const FAMILY: u8 = 2;
 fn sockaddr_bytes(sender: Addr) -> [u8; SOCKADDR_BYTES as usize]
     ensures { result ≡ sockaddr_bytes sender }
 {
-    let port = sender.port.to_be_bytes();
-    let ip = sender.ip.to_be_bytes();
-    [
-        LENGTH, FAMILY, port[0], port[1], ip[0], ip[1], ip[2], ip[3], 0, 0, 0, 0, 0, 0, 0, 0,
-    ]
+    let mut bytes = [0; SOCKADDR_BYTES as usize];
+    bytes[0] = LENGTH;
+    bytes[1] = FAMILY;
+    BigEndian::write_u16(&mut bytes[2..], sender.port);
+    BigEndian::write_u32(&mut bytes[4..], sender.ip);
+    bytes
 }
 
 /// The address that such bytes say.
@@ -38,45 +39,23 @@ pub(crate) fn sockaddr_in(bytes: &[u8]) -> Addr
     }
 }
 
-/// Puts an mbuf with the sender's address in front of a chain of `len` bytes. Where no mbuf is free, the chain is handed
-/// back, and nothing changes.
-pub(crate) fn with_address(
-    pool: &mut Pool,
-    sender: Addr,
-    chain: Chain,
-    len: u32,
-) -> Result<Chain, Chain>
+/// Puts an mbuf with the sender's address in front of a chain of `len` bytes. An mbuf has to be free.
+pub(crate) fn with_address(pool: &mut Pool, sender: Addr, chain: Chain, len: u32) -> Chain
     requires live { IsLive pool.old chain }
     requires len { len ≡ length (string (chain_of pool.old chain)) }
-    ensures free { OnOk result (held_mbufs pool.old < pool.old.mbufs) }
-    ensures entries { IfOk result (λ c. (chain_of pool.new c).entries ≡
-        address_entry sender ∷ (chain_of pool.old chain).entries) }
-    ensures headed { IfOk result (λ c. (chain_of pool.new c).front.header ≡ true) }
-    ensures moves { IfOk result (λ c. Moves pool.old (chain ∷ []) pool.new (c ∷ [])) }
-    ensures none_free { OnErr result (held_mbufs pool.old ≡ pool.old.mbufs) }
-    ensures same { OnErr result (pool.new ≡ pool.old) }
-    ensures back { IfErr result (λ back. back ≡ chain) }
+    requires free { held_mbufs pool.old < pool.old.mbufs }
+    ensures entries { (chain_of pool.new result).entries ≡
+        address_entry sender ∷ (chain_of pool.old chain).entries }
+    ensures headed { (chain_of pool.new result).front.header ≡ true }
+    ensures moves { Moves pool.old (chain ∷ []) pool.new (result ∷ []) }
 {
     let front = match pool.new_plain(true, PACKET_START) {
         Ok(front) => front,
-        Err(_) => return Err(chain),
+        Err(_) => unreachable!(),
     };
-    pool.laws();
     let at = pool.first(&front);
     pool.put_back(&front, at, &sockaddr_bytes(sender));
     let at = pool.first(&front);
     pool.link_counted(&front, at, chain, len);
-    Ok(front)
-}
-
-/// Frees the first mbuf of a chain of several, and answers the chain of the others. It has no packet header.
-pub(crate) fn without_address(pool: &mut Pool, whole: Chain) -> Chain
-    requires live { IsLive pool.old whole }
-    requires several { 1 < length (chain_of pool.old whole).entries }
-    ensures entries { (chain_of pool.new result).entries ≡ drop 1 (chain_of pool.old whole).entries }
-    ensures moves { Moves pool.old (whole ∷ []) pool.new (result ∷ []) }
-{
-    let chain = pool.cut(&whole, 1);
-    pool.free_chain(whole);
-    chain
+    front
 }

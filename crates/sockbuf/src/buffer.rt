@@ -1,12 +1,12 @@
 //! The queue and its calls.
 
-ghost use Rattle.std.specs.Prelude.{◌≡◌, ◌==◌, [], length, MatchOption, ℕ};
+ghost use Rattle.std.specs.Prelude.{◌≡◌, ◌==◌, ◌<◌, ◌∷◌, [], ◌++◌, true, length, MatchOption, ℕ};
 ghost use Rattle.flat_model.specs.Sockets.Fits as flat;
-ghost use Rattle.mbuf_chain.specs.Chain.{IsLive, PoolView};
+ghost use Rattle.mbuf_chain.specs.Chain.{IsLive, PoolView, chain_of, held_mbufs, string};
 ghost use Rattle.mbuf_chain.specs.Owners.{times, Moves};
-ghost use Rattle.sockbuf.specs.SockBuf.{AppendsAddr, IsEmpty, IsSockBuf, TakesOldest, chains_of, datagrams, no_datagrams};
+ghost use Rattle.sockbuf.specs.SockBuf.{AppendsAddr, IsEmpty, IsSockBuf, TakesOldest, chains_of, datagram_from, datagrams, no_datagrams};
 
-use crate::address::{sockaddr_in, with_address, without_address};
+use crate::address::{sockaddr_in, with_address};
 use crate::measure::memory_of;
 use flat_model::Addr;
 use mbuf_chain::{Chain, Pool, Reclaim, Train};
@@ -112,21 +112,41 @@ impl SockBuf {
         if !self.fits(len) {
             return Err((chain, Refusal::Full));
         }
+        if pool.free_mbufs() == 0 {
+            return Err((chain, Refusal::NoBufs));
+        }
+        self.append_fitting(pool, sender, chain, len);
+        Ok(())
+    }
+
+    /// Puts a datagram of `len` bytes at the end, as `append_addr` does, for a caller who has asked before: it has to fit,
+    /// and an mbuf has to be free.
+    // Inlined, since a stack has one place that appends.
+    #[inline(always)]
+    pub fn append_fitting(&mut self, pool: &mut Pool, sender: Addr, chain: Chain, len: u32)
+        requires ready { IsSockBuf pool.old self.old }
+        requires live { IsLive pool.old chain }
+        requires apart { times chain (chains_of pool.old self.old) ≡ 0 }
+        requires len { len ≡ length (string (chain_of pool.old chain)) }
+        requires fits { flat.fits (datagrams pool.old self.old) len ≡ true }
+        requires free { held_mbufs pool.old < pool.old.mbufs }
+        ensures datagrams { datagrams pool.new self.new ≡ datagrams pool.old self.old ++ datagram_from sender pool.old chain ∷ [] }
+        ensures ready { IsSockBuf pool.new self.new }
+        ensures moves { Moves pool.old (chain ∷ chains_of pool.old self.old) pool.new (chains_of pool.new self.new) }
+    {
         pool.laws();
         let memory = memory_of(pool, &chain);
-        let whole = match with_address(pool, sender, chain, len) {
-            Ok(whole) => whole,
-            Err(chain) => return Err((chain, Refusal::NoBufs)),
-        };
+        let whole = with_address(pool, sender, chain, len);
         let end = self.train.len();
         self.train.insert(pool, end, whole, 0);
         self.cc += SOCKADDR_BYTES + len;
         self.mbcnt += MSIZE + memory;
-        Ok(())
     }
 
     /// Takes the oldest datagram and answers its sender and its chain, whose mbufs are those that were queued; only its
     /// packet header is gone. The mbuf with the address is freed. `None` where none waits.
+    // Inlined, since a stack has one place that takes.
+    #[inline(always)]
     pub fn take(&mut self, pool: &mut Pool) -> Option<(Addr, Chain)>
         requires ready { IsSockBuf pool.old self.old }
         ensures takes { MatchOption result (IsEmpty pool.old self.old pool.new self.new)
@@ -137,12 +157,15 @@ impl SockBuf {
             return None;
         }
         let (whole, _) = self.train.take(pool, 0);
-        let len = pool.len(&whole);
-        let memory = memory_of(pool, &whole);
         let first = pool.first(&whole);
         let sender = sockaddr_in(pool.bytes(&whole, first));
-        let chain = without_address(pool, whole);
-        // the sixteen bytes of the address stand in the chain
+        // the sixteen bytes of the address stand in the chain; the last one is all that was counted
+        let (len, memory) = if self.train.is_empty() {
+            (self.cc, self.mbcnt)
+        } else {
+            (pool.len(&whole), memory_of(pool, &whole))
+        };
+        let chain = pool.free_first(whole);
         self.cc -= len;
         self.mbcnt -= memory;
         Some((sender, chain))

@@ -14,10 +14,11 @@ pub(crate) fn memory_of(pool: &Pool, chain: &Chain) -> u32
     ensures value { result ≡ memory_of (weight_at pool.now chain.now) }
     ensures bound { result ≤ (MSIZE + MCLBYTES) * MAX_MBUFS }
 {
-    let mbufs = pool.mbufs(chain);
     pool.laws();
+    let mut mbufs = 0;
     let mut clusters = 0;
     'mbufs: for (_, cluster) in pool.layout(chain) {
+        mbufs += 1;
         if cluster.is_some() {
             clusters += 1;
         }

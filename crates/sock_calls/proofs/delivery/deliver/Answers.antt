@@ -1,12 +1,19 @@
-use Rattle.std.proofs.Common.{◌++◌, length, ap, sym, ◌∙◌, refl, arith}
+use Rattle.std.proofs.Common.{◌++◌, List, length, ap, sym, ◌∙◌, refl, arith}
 use Rattle.flat_model.specs.Sockets.Fits.{fits}
-use Rattle.mbuf_chain.specs.Chain.{string}
+use Rattle.flat_model.specs.Machine.State.{Datagram}
+use Rattle.mbuf_chain.specs.Chain.{ChainView, string}
 use Rattle.mbuf_chain.proofs.Laws.Owners.{times-append, live_first}
 use Rattle.ledger.proofs.Laws.{enough_mbufs}
 use Rattle.sock_calls.specs.Sockets.{from_three, queues_of, queued_chains}
 use Rattle.sock_calls.proofs.Delivered.{freed, tested, joined, full_end, lacking_end, fitting_end}
-use Rattle.sock_calls.proofs.Hearing.{named_at}
+use Rattle.sock_calls.proofs.Hearing.{named_at, descriptor_of}
 use Rattle.sock_calls.proofs.delivery.deliver.Goals as goal
+
+pub fits_at-requires-clause-descriptor : goal.fits_at-requires-clause-descriptor
+fits_at-requires-clause-descriptor g c = descriptor_of c.args.pcbs.now c.args.fd c.requires.socks.apart c.requires.opened
+
+pub append_at-requires-clause-descriptor : goal.append_at-requires-clause-descriptor
+append_at-requires-clause-descriptor g c = descriptor_of c.args.pcbs.now c.args.fd c.requires.socks.apart c.requires.opened
 
 pub returns-then-not-fits_at-clause-appended : goal.returns-then-not-fits_at-clause-appended
 returns-then-not-fits_at-clause-appended g c =
@@ -85,13 +92,19 @@ append_at-requires-clause-owned g c =
 pub append_at-requires-clause-free : goal.append_at-requires-clause-free
 append_at-requires-clause-free g c = omega (arith, enough_mbufs c.reserve.new.pool 1 0 (sym c.if-not-reserve.ensures.answer) (omega arith))
 
+pub append_at-requires-clause-len : goal.append_at-requires-clause-len
+append_at-requires-clause-len g c =
+    let p = c.args.pool.now in
+    let q = c.reserve.new.pool in
+    let x = tested p q c.args.chain (g.R.Reclaim.owned p c.args.waiting.now) (g.R.Reclaim.owned q c.reserve.new.waiting) _ c.requires.owned c.requires.socks c.reserve.ensures.moves in
+    c.len-len.ensures ∙ ap (λ (v : ChainView). length (string v)) (sym x.chain)
+
 pub append_at-requires-clause-fits : goal.append_at-requires-clause-fits
 append_at-requires-clause-fits g c =
     let p = c.args.pool.now in
     let q = c.reserve.new.pool in
     let x = tested p q c.args.chain (g.R.Reclaim.owned p c.args.waiting.now) (g.R.Reclaim.owned q c.reserve.new.waiting) _ c.requires.owned c.requires.socks c.reserve.ensures.moves in
-    (λ i. fits (x.socks.shows c.args.fd i) (length (string (x.chain i))))
-    ∙ ap (fits (queues_of p (from_three c.args.queues.now) c.args.fd)) (sym c.len-len.ensures) ∙ sym c.if-not-fits_at.ensures
+    ap (λ (ds : List Datagram). fits ds c.len-len.result) (x.socks.shows c.args.fd) ∙ sym c.if-not-fits_at.ensures
 
 pub returns-clause-appended : goal.returns-clause-appended
 returns-clause-appended g c =

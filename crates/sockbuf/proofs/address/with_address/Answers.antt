@@ -2,7 +2,7 @@ use Rattle.std.proofs.Common.{length, ap, sym, ◌∙◌, arith}
 use Rattle.mbuf_chain.specs.Chain.{ChainView, string}
 use Rattle.mbuf_chain.proofs.Laws.Owners.{live_adds}
 use Rattle.mbuf_chain.proofs.Laws.Steps.{live_shown}
-use Rattle.sockbuf.proofs.Fronts.{new_unshared, new_fits, with_bytes, kept_chain, live_chain, addressed, free_before}
+use Rattle.sockbuf.proofs.Fronts.{new_unshared, new_fits, with_bytes, kept_chain, live_chain, addressed}
 use Rattle.sockbuf.proofs.address.with_address.Goals as goal
 
 pub first-at-requires : goal.first-at-requires
@@ -27,9 +27,6 @@ link_counted-requires-clause-last c =
 pub link_counted-requires-clause-len : goal.link_counted-requires-clause-len
 link_counted-requires-clause-len c =
     c.requires.len ∙ ap (λ (v : ChainView). length (string v)) (sym (kept_chain _ _ _ c.in-Ok.ensures.ok c.put_back.ensures c.requires.live))
-
-pub returns-clause-free : goal.returns-clause-free
-returns-clause-free c = free_before c.in-Ok.ensures.ok c.laws.ensures.few
 
 pub returns-clause-entries : goal.returns-clause-entries
 returns-clause-entries c =

@@ -5,4 +5,7 @@ use Rattle.sockbuf.proofs.Measures.{references_in}
 use Rattle.sockbuf.proofs.measure.memory_of.Given as goal
 
 abbrev pub invariant-mbufs : goal.invariant-mbufs
-invariant-mbufs l = record { count : l.clusters + references_in l.cluster-iterator ≡ length (weight_of (chain_of l.pool l.chain).entries).bag }
+invariant-mbufs l = record {
+  seen : l.mbufs + length l.cluster-iterator ≡ length (chain_of l.pool l.chain).entries;
+  count : l.clusters + references_in l.cluster-iterator ≡ length (weight_of (chain_of l.pool l.chain).entries).bag;
+}
