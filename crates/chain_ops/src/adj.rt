@@ -5,7 +5,7 @@ ghost use Rattle.chain_ops.specs.Trims.{without_first, only_first, adjusted, adj
 
 use mbuf_chain::{Chain, Pool};
 
-/// Takes the first `n` bytes off a chain that has a longer first mbuf or not: see `trim_front`.
+/// Takes the first `n` bytes off a chain, mbuf by mbuf: see `trim_front`.
 fn trim_walk(pool: &mut Pool, chain: &Chain, n: u32)
     requires { IsLive pool.old chain.now }
     ensures { pool.new ≡ with_chain pool.old chain.now (record (chain_of pool.old chain.now) {
@@ -45,7 +45,7 @@ pub fn trim_front(pool: &mut Pool, chain: &Chain, n: u32)
     }
 }
 
-/// Leaves the first `keep` bytes of a chain, or all where it has fewer: see `trim_back`.
+/// Leaves the first `keep` bytes of a chain, mbuf by mbuf: see `trim_back`.
 fn keep_walk(pool: &mut Pool, chain: &Chain, keep: u32)
     requires { IsLive pool.old chain.now }
     ensures { pool.new ≡ with_chain pool.old chain.now (record (chain_of pool.old chain.now) {
