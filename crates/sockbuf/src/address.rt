@@ -49,12 +49,10 @@ pub(crate) fn with_address(pool: &mut Pool, sender: Addr, chain: Chain, len: u32
     ensures headed { (chain_of pool.new result).front.header ≡ true }
     ensures moves { Moves pool.old (chain ∷ []) pool.new (result ∷ []) }
 {
-    let front = match pool.new_plain(true, PACKET_START) {
+    let front = match pool.new_plain_with(true, PACKET_START, &sockaddr_bytes(sender)) {
         Ok(front) => front,
         Err(_) => unreachable!(),
     };
-    let at = pool.first(&front);
-    pool.put_back(&front, at, &sockaddr_bytes(sender));
     let at = pool.first(&front);
     pool.link_counted(&front, at, chain, len);
     front
