@@ -40,6 +40,8 @@ pub(crate) fn sockaddr_in(bytes: &[u8]) -> Addr
 }
 
 /// Puts an mbuf with the sender's address in front of a chain of `len` bytes. An mbuf has to be free.
+// Inlined into its one caller.
+#[inline(always)]
 pub(crate) fn with_address(pool: &mut Pool, sender: Addr, chain: Chain, len: u32) -> Chain
     requires live { IsLive pool.old chain }
     requires len { len ≡ length (string (chain_of pool.old chain)) }
