@@ -1,9 +1,9 @@
 -- Entries of one chain changed one after another.
 use Rattle.std.proofs.Common.{◌≡◌, ℕ, ◌+◌, ◌-◌, ◌≤◌, min, List, [], ◌∷◌, ◌++◌, length, take, drop, refl, sym, ap, ◌∙◌, arith, append-nil}
 use Rattle.std.specs.Prelude.{slice_set}
-use Rattle.std.proofs.lemmas.List.{take_all, take-append-drop, length-append, length-set}
+use Rattle.std.proofs.lemmas.List.{take_all, take-append-drop, length-set}
 use Rattle.mbuf_chain.specs.declared.place.Place.{Place}
-use Rattle.mbuf_chain.specs.Chain.{Entry, ChainView, PoolView, chain_of, entry_of, flat_bytes, IsLive, IsPlace, with_chain}
+use Rattle.mbuf_chain.specs.Chain.{Entry, ChainView, PoolView, chain_of, entry_of, IsLive, IsPlace, with_chain}
 use Rattle.mbuf_chain.specs.Steps.{with_entry, narrowed}
 use Rattle.mbuf_chain.proofs.Laws.Maps.{insert-insert, insert_same}
 use Rattle.mbuf_chain.proofs.Laws.Owners.{shown_with}
@@ -121,14 +121,3 @@ trim_first p q c at n len live place first is within step =
     let all = trim_all p q c at n n len i place is (omega arith) step refl in
     changed_step p p q c at.index (narrowed (entry_of (chain_of p c) at.index) n (len - n)) (changed_none p c live) step
     ∙ ap (changed p c) (sym same ∙ all ∙ ap (λ (k : ℕ). take k (chain_of p c).entries ++ without_first n (drop k (chain_of p c).entries)) first)
-
--- all bytes stay where there are no more
-pub keep_enough : (n : ℕ) (es : List Entry) → length (flat_bytes es) ≤ n → only_first n es ≡ es
-keep_enough n [] le = refl
-keep_enough n (e ∷ es) le =
-    let both = length-append e.bytes (flat_bytes es) in
-    λ j. record { bytes = take_all (min n (length e.bytes)) e.bytes (omega (arith, both)) j; start = from_start e.start j; cluster = e.cluster }
-    ∷ keep_enough (n - length e.bytes) es (omega (arith, both)) j
-  where
-    from_start : (k : ℕ) → k + 0 ≡ k
-    from_start k = omega arith

@@ -4,7 +4,7 @@ use Rattle.std.specs.List.{insert, cons_option}
 use Rattle.std.specs.Prelude.{slice_set, slice_index_or, sum_by}
 use Rattle.std.proofs.lemmas.List.Sums.{sum_by-cons}
 use Rattle.std.proofs.lemmas.Bool.{le-ltb}
-use Rattle.std.proofs.lemmas.List.{length-take, length-append, append_assoc, take_all, take-append-le, map-append}
+use Rattle.std.proofs.lemmas.List.{length-take, length-append, append_assoc, take-append-le, map-append}
 use Rattle.std.proofs.lemmas.List.Edits.{insert_end}
 use Rattle.flat_model.specs.Amounts.Weight.{Item}
 use Rattle.flat_model.specs.Fragments.Cuts.{Part, part, cuts}
@@ -21,7 +21,7 @@ use Rattle.mbuf_chain.proofs.Laws.Accounts.{held_moves}
 use Rattle.mbuf_chain.proofs.Laws.Trains.{Beside, beside_with, length-queued_packets}
 use Rattle.chain_ops.specs.Weights.{laid}
 use Rattle.chain_ops.specs.Trims.{only_first}
-use Rattle.chain_ops.proofs.Laws.Strings.{only_first_bytes}
+use Rattle.chain_ops.proofs.Laws.Strings.{keep_enough, only_first_bytes}
 use Rattle.ledger.specs.Accounts as ledger
 use Rattle.ledger.specs.Accounts.{item_of}
 use Rattle.ip_out.specs.declared.head.IpHead.{IpHead}
@@ -117,16 +117,6 @@ written {p} {q} {r} {s} {t} c k at hdr m held live is_r index is_s =
     }
 
 -- ---- a chain that isn't cut
-all_stay : (n : ℕ) (es : List Entry) → length (flat_bytes es) ≤ n → only_first n es ≡ es
-all_stay n [] le = refl
-all_stay n (e ∷ es) le =
-    let both : length (e.bytes ++ flat_bytes es) ≡ length e.bytes + length (flat_bytes es) = length-append e.bytes (flat_bytes es) in
-    λ j. record { bytes = take_all (min n (length e.bytes)) e.bytes (omega arith) j; start = from_start e.start j; cluster = e.cluster }
-    ∷ all_stay (n - length e.bytes) es (omega arith) j
-  where
-    from_start : (k : ℕ) → k + 0 ≡ k
-    from_start k = omega arith
-
 -- its header is written, and a train stands beside it
 pub record IsHeaded (p s : PoolView) (t : TrainView) (c k : ℕ) (hdr : List ℕ) : Type 0 where
   pub live : IsLive s c
@@ -141,7 +131,7 @@ headed_whole {p} {s} t c k at hdr held apart live long index is =
     let v : ChainView = chain_of p c in
     let w : ChainView = with_entry v at.index (overwritten (entry_in p c at) 0 hdr) in
     let b : Beside p s t = beside_with p s c w t is apart held in
-    let stays : v ≡ trimmed v k = ap (λ (es : List Entry). record v { entries = es }) (sym (all_stay k v.entries (omega (arith, long)))) in
+    let stays : v ≡ trimmed v k = ap (λ (es : List Entry). record v { entries = es }) (sym (keep_enough k v.entries (omega (arith, long)))) in
     let within : Moves p (c ∷ numbers p t) s (c ∷ numbers p t) = moves_within p s c w (c ∷ numbers p t) live (omega (arith, times_same c (numbers p t))) is in
     record {
       live = live_shown p s c w is;

@@ -1,8 +1,8 @@
 -- What the operations make of a chain's bytes: list operations, whatever the layout.
-use Rattle.std.proofs.Common.{◌≡◌, ℕ, zero, suc, ◌-◌, ◌<◌, ◌≤◌, min, Bool, true, false, cond, List, [], ◌∷◌, ◌++◌, length, take, drop, refl, sym, ap, ◌∙◌, arith, inl, inr, append_assoc, append-nil}
+use Rattle.std.proofs.Common.{◌≡◌, ℕ, zero, suc, ◌+◌, ◌-◌, ◌<◌, ◌≤◌, min, Bool, true, false, cond, List, [], ◌∷◌, ◌++◌, length, take, drop, refl, sym, ap, ◌∙◌, arith, inl, inr, append_assoc, append-nil}
 use Rattle.std.specs.Prelude.{◌⊎◌, ℤ, pos, negsuc, nat_le, is_some, None}
 use Rattle.std.proofs.lemmas.Bool.{cases_lt, cond-true, cond-false, eq-eqb, ne_eqb, lt-ltb, le-ltb}
-use Rattle.std.proofs.lemmas.List.{take_all, drop_all, take_rest, take-append-drop, drop-append-le}
+use Rattle.std.proofs.lemmas.List.{length-append, take_all, drop_all, take_rest, take-append-drop, drop-append-le}
 use Rattle.mbuf_chain.specs.Chain.{Entry, ChainView, entry_of, no_entry, flat_bytes, string, trailing_space}
 use Rattle.mbuf_chain.specs.Steps.{with_back, with_front, narrowed, empty_entry}
 use Rattle.chain_ops.specs.Rooms.{room_low, end_entry}
@@ -89,6 +89,17 @@ drop_least n xs = take_rest xs (min n (length xs)) ∙ elim (cases_lt n (length 
 pub without_first_bytes : (n : ℕ) (es : List Entry) → flat_bytes (without_first n es) ≡ drop n (flat_bytes es)
 without_first_bytes n [] = sym (drop_none n)
 without_first_bytes n (e ∷ es) = (λ j. drop_least n e.bytes j ++ without_first_bytes (n - length e.bytes) es j) ∙ sym (drop-append n e.bytes (flat_bytes es))
+
+-- all bytes stay where there are no more
+pub keep_enough : (n : ℕ) (es : List Entry) → length (flat_bytes es) ≤ n → only_first n es ≡ es
+keep_enough n [] le = refl
+keep_enough n (e ∷ es) le =
+    let both = length-append e.bytes (flat_bytes es) in
+    λ j. record { bytes = take_all (min n (length e.bytes)) e.bytes (omega (arith, both)) j; start = from_start e.start j; cluster = e.cluster }
+    ∷ keep_enough (n - length e.bytes) es (omega (arith, both)) j
+  where
+    from_start : (k : ℕ) → k + 0 ≡ k
+    from_start k = omega arith
 
 pub only_first_bytes : (n : ℕ) (es : List Entry) → flat_bytes (only_first n es) ≡ take n (flat_bytes es)
 only_first_bytes n [] = sym (take_none n)

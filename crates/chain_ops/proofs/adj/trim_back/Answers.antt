@@ -1,6 +1,7 @@
 use Rattle.std.proofs.Common.{arith, ap, sym, ◌∙◌}
 use Rattle.mbuf_chain.specs.Chain.{chain_of}
-use Rattle.chain_ops.proofs.Trims.{changed, changed_none, keep_enough}
+use Rattle.chain_ops.proofs.Laws.Strings.{keep_enough}
+use Rattle.chain_ops.proofs.Trims.{changed, changed_none}
 use Rattle.chain_ops.proofs.adj.trim_back.Goals as goal
 
 pub returns-else-keep-len : goal.returns-else-keep-len
