@@ -4,8 +4,8 @@ ghost use Rattle.in_cksum.specs.Inside.{CountsAs, IsAdded, IsLeft, lanes_total, 
 
 use std::simd::prelude::*;
 
-// How many bytes are added at a time.
-const BLOCK_LEN: usize = 32;
+/// How many bytes are added at a time.
+pub(crate) const BLOCK_LEN: usize = 32;
 
 /// How many bytes are added up at most before their sum is folded: whole blocks, whose words add up to
 /// less than 2^32.

@@ -16,7 +16,7 @@ mod chain;
 mod lanes;
 
 pub use chain::cksum_chain;
-use lanes::{PART_LEN, sum_part, sum_rest};
+use lanes::{BLOCK_LEN, PART_LEN, sum_part, sum_rest};
 use params::IP_HEADER;
 
 // 65,536 counts as 1, so what is left is a remainder by 65,535: 1 to 65,535, and 0 of 0 alone.
@@ -56,17 +56,13 @@ fn sum_long(bytes: &[u8]) -> u64
     total as u64 + sum_part(rest)
 }
 
-// Fewer bytes than these are added without a call: those of most headers.
-const SHORT_LEN: usize = 16;
-
-// The same of any bytes. The test is below a block's length, so that what is known of longer ones leaves the loop of
-// `sum_long` as it is.
+// The same, without a call where the bytes are fewer than a block has: those of most headers.
 #[inline(always)]
 fn sum_swapped(bytes: &[u8]) -> u64
     ensures folded { fold16 result ≡ fold16 (swapped_sum bytes.now) }
     ensures small { result < 2 ^ 51 }
 {
-    if bytes.len() < SHORT_LEN {
+    if bytes.len() < BLOCK_LEN {
         sum_rest(bytes)
     } else {
         sum_long(bytes)
