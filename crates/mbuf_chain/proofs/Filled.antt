@@ -1,10 +1,10 @@
 -- A new plain mbuf, whose bytes are written after its head.
-use Rattle.std.proofs.Common.{◌≡◌, ℕ, ◌+◌, ◌≤◌, Bool, true, false, cond, List, length, Option, None, is_some, refl, sym, ap, ◌∙◌, subst, arith, take, drop}
+use Rattle.std.proofs.Common.{◌≡◌, ℕ, ◌+◌, ◌≤◌, Bool, List, length, None, refl, sym, ap, ◌∙◌, subst, arith, take, drop}
 use Rattle.std.proofs.lemmas.Option.{none-some}
 use Rattle.mbuf_pool.specs.Cells.{Head, over}
 use Rattle.mbuf_pool.specs.Store.{StoreView, mbuf_of, head_of, IsStore}
 use Rattle.mbuf_chain.specs.declared.place.Place.{Place}
-use Rattle.mbuf_chain.specs.Chain.{Entry, ChainView, PoolView, chain_of, entry_of, IsLive, IsPlace, IsUnshared, with_chain, Adds}
+use Rattle.mbuf_chain.specs.Chain.{Entry, ChainView, chain_of, entry_of, IsLive, IsPlace, IsUnshared, with_chain, Adds}
 use Rattle.mbuf_chain.specs.Steps.{one_mbuf, with_entry}
 use Rattle.mbuf_chain.specs.Inside.Cells.{place_bytes, entry_over, pool_of, IsPool, Taken, head_for, start_of, room_low, room_high, WritesPlace}
 use Rattle.mbuf_chain.proofs.Made.{new_plain, plain_made, low_for}
