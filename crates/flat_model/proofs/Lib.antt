@@ -4,5 +4,4 @@ mod Amounts
 mod Fragments
 mod Machine
 mod Runs
-mod Wire
 pub mod Laws

@@ -1,10 +1,11 @@
 -- The machine: what each step keeps.
+pub mod Keys
+pub mod Numbers
 pub mod Sockets
 pub mod Counting
 pub mod Values
 pub mod Putting
 pub mod Laid
-pub mod Output
 pub mod Kept
 pub mod KeptCalls
 pub mod KeptSteps

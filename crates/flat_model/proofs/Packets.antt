@@ -1,3 +1,3 @@
 -- Packets as bytes.
 pub mod Folds
-pub mod Decode
+pub mod Sizes

@@ -27,7 +27,7 @@ pub use lookup_key::LookupKey;
 pub use need::Need;
 pub use option::Opt;
 pub use theorems::{
-    accounts_balance, cuts_join, exact_is_loose, leads_on, overlay_order, printed_is_run,
-    received_law, states_are_consistent, wire_law,
+    accounts_balance, cuts_join, exact_is_loose, keys_are_whole, leads_on, printed_is_run,
+    sends_are_numbered, states_are_consistent,
 };
 pub use usage::Mbstat;

@@ -1,18 +1,18 @@
 //! Theorems of the definitions. Each is a function that does nothing, and its contract is the theorem.
-ghost use Rattle.std.specs.Prelude.{◌≡◌, ◌+◌, ℕ, Bool, List, [], ◌∷◌, ◌++◌, ◌≤◌, ◌<◌, length, All};
+ghost use Rattle.std.specs.Prelude.{◌≡◌, ◌↔◌, ◌+◌, ◌%◌, ℕ, Bool, true, List, [], ◌∷◌, ◌++◌, ◌≤◌, length};
 ghost use Rattle.params.specs.declared.TheConstants.{FRAGMENT_UNIT, IP_HEADER};
-ghost use Rattle.flat_model.specs.Fragments.Overlay.{Fragment};
-ghost use Rattle.flat_model.specs.Amounts.Weight.{nothing};
+ghost use Rattle.flat_model.specs.Amounts.Weight.{Item, nothing};
 ghost use Rattle.flat_model.specs.Machine.Ledger.{exact_ledger, loose_ledger, weight_of_state, free_mbufs, usage_of};
 ghost use Rattle.flat_model.specs.Machine.Event.{Event, Reply, IsEvent};
-ghost use Rattle.flat_model.specs.Machine.State.{IsConfig, State, boot};
+ghost use Rattle.flat_model.specs.Machine.Send.{enqueued, spent, to_link};
+ghost use Rattle.flat_model.specs.Machine.Sending.{Sending, parts_of};
+ghost use Rattle.flat_model.specs.Machine.State.{IsConfig, Key, State, Unfinished, boot, is_key};
 ghost use Rattle.flat_model.specs.Runs.Consistent.{IsConsistent};
 ghost use Rattle.flat_model.specs.Machine.Step.{Step, Loose};
 ghost use Rattle.flat_model.specs.Runs.Run.{Turn, Leads, Run};
 ghost use Rattle.flat_model.specs.Scripts.Script.{Prints, IsPrintOfRun, PrintsRun, all_events};
 ghost use Rattle.flat_model.specs.declared.config.Config.{Config};
-ghost use Rattle.flat_model.specs.Runs.Wire.{ReceivedLaw, WireLaw};
-ghost use Rattle.flat_model.specs.Runs.Laws.{CutsJoin, IsFragmentOf, OverlayOrder};
+ghost use Rattle.flat_model.specs.Runs.Laws.{CutsJoin};
 
 /// The parts of a string put together are the string. All but the last are a multiple of 8 long, and
 /// each packet is at most as long as the link takes (RFC 791 section 3.2, "Fragmentation and Reassembly").
@@ -20,23 +20,18 @@ pub fn cuts_join()
     ensures { (s : List ℕ) (mtu : ℕ) → IP_HEADER + FRAGMENT_UNIT ≤ mtu → CutsJoin s mtu }
 {}
 
-/// The order in which the parts of a cut string come, and how often, makes no difference to what is
-/// put together of them.
-pub fn overlay_order()
-    ensures { (s : List ℕ) (mtu : ℕ) (fragments : List Fragment) → 0 < length s → IP_HEADER + FRAGMENT_UNIT ≤ mtu →
-        All (IsFragmentOf s mtu) fragments → OverlayOrder s mtu fragments }
+/// Fragments are of one datagram exactly where the whole of their keys is the same: source, destination, identification
+/// and protocol (RFC 791, section 3.2).
+pub fn keys_are_whole()
+    ensures { (k : Key) (u : Unfinished) → (is_key k u ≡ true) ↔ (u.key ≡ k) }
 {}
 
-/// Two machines on one wire that loses, repeats and reorders: what waits in the second machine's queues
-/// with the first machine's address as its sender was sent so, whole, by the first.
-pub fn wire_law()
-    ensures { WireLaw exact_ledger exact_ledger }
-{}
-
-/// The same of what the second machine's program is told: what its `recvfrom` answers with the first machine's address as
-/// the sender's is the front of what the first sent so, whole.
-pub fn received_law()
-    ensures { ReceivedLaw exact_ledger exact_ledger }
+/// A send that leaves spends its identification, whether or not the output queue takes all of its packets: in the state
+/// that it leaves, before any of them comes back, the next datagram has the next one, and after 65,535 comes 0.
+pub fn sends_are_numbered()
+    ensures { (fd : ℕ) (out : List Item) (x : Sending) (old : State) →
+        (enqueued (to_link old.config x.to.ip out) (spent fd x.port (parts_of old.config x) old)).next_id
+        ≡ (old.next_id + 1) % 65536 }
 {}
 
 /// The machine that keeps exact accounts of its buffers does nothing that the machine without accounts may not do:

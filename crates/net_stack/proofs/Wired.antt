@@ -1,8 +1,8 @@
 -- Two stacks on a wire are two machines on it.
 use Rattle.flat_model.specs.Runs.Run.{Turn}
 use Rattle.flat_model.specs.Machine.Ledger.{exact_ledger}
-use Rattle.flat_model.specs.Runs.Wire.{AreWired}
 use Rattle.flat_model.specs.declared.config.Config.{Config}
+use Rattle.flat_wire.specs.Wire.{AreWired}
 use Rattle.net_stack.specs.Stack.{StackView, state_of}
 use Rattle.net_stack.specs.Wire.{AreOnOneWire}
 use Rattle.net_stack.proofs.Runs.{calls_run}

@@ -4,8 +4,8 @@ use Rattle.flat_model.specs.Machine.Count.{value_of}
 use Rattle.flat_model.specs.declared.counter.Counter.TheVariants.{IpLocalout}
 use Rattle.flat_model.specs.Runs.Run.{Turn}
 use Rattle.flat_model.specs.Machine.State.{IsConfig, boot}
-use Rattle.flat_model.specs.Runs.Wire.{ComesFrom, packet_in, packet_out}
 use Rattle.flat_model.specs.declared.config.Config.{Config}
+use Rattle.flat_wire.specs.Wire.{ComesFrom, packet_in, packet_out}
 use Rattle.net_stack.specs.Stack.{StackView, state_of}
 use Rattle.net_stack.specs.Runs.{AreCalls}
 

@@ -4,14 +4,14 @@ ghost use Rattle.flat_model.specs.Runs.Run.{Turn, Run};
 ghost use Rattle.flat_model.specs.Machine.Event.{Receive, Received};
 ghost use Rattle.flat_model.specs.Machine.Ledger.{exact_ledger};
 ghost use Rattle.flat_model.specs.Machine.State.{Datagram, Socket, boot as flat_boot};
-ghost use Rattle.flat_model.specs.Runs.Wire.{IsAnswered, WasSent};
 ghost use Rattle.flat_model.specs.declared.address.Addr.{Addr};
 ghost use Rattle.flat_model.specs.declared.config.Config.{Config};
+ghost use Rattle.flat_wire.specs.Wire.{IsAnswered, WasSent};
 ghost use Rattle.net_stack.specs.Stack.{StackView, state_of};
 ghost use Rattle.net_stack.specs.Runs.{AreCalls};
 ghost use Rattle.net_stack.specs.Wire.{AreOnOneWire};
 
-use flat_model::{received_law, wire_law};
+use flat_wire::{received_law, wire_law};
 
 /// Whatever calls are made of a stack that has just started, and however many: the replies are those of one run of the
 /// flat machine, which leads to the state that the stack shows in the end. `boot` says how a stack starts, and each call

@@ -1,13 +1,12 @@
 -- The parts of a cut string, by their index.
-use Rattle.std.proofs.Common.{◌≡◌, ℕ, zero, suc, ◌+◌, ◌-◌, ◌*◌, ◌/◌, ◌%◌, ◌<◌, ◌≤◌, false, List, [], ◌∷◌, ◌++◌, length, map, take, drop, get_or, refl, sym, ◌∙◌, ap, subst, ◌⊎◌, inl, inr, arith, min}
-use Rattle.std.specs.Prelude.{flat_map, nat_le, nat_lt}
+use Rattle.std.proofs.Common.{◌≡◌, ℕ, zero, suc, ◌+◌, ◌-◌, ◌*◌, ◌%◌, ◌<◌, ◌≤◌, false, List, [], ◌∷◌, ◌++◌, length, map, take, drop, get_or, refl, sym, ◌∙◌, ap, subst, ◌⊎◌, inl, inr, arith, min}
+use Rattle.std.specs.Prelude.{flat_map, nat_le}
 use Rattle.std.specs.List.{range_with_len}
 use Rattle.std.proofs.Math.Seq.{take-add}
 use Rattle.std.proofs.Math.Nat.{le-div_iff_mul-le}
 use Rattle.std.proofs.lemmas.List.{take_min, drop-drop, length-drop, length-map, take_all, append-nil}
 use Rattle.std.proofs.lemmas.List.FromFn.{length-range_with_len, get_or-map-range_with_len}
-use Rattle.std.proofs.lemmas.Nat.{div_below, le-div}
-use Rattle.std.proofs.lemmas.Bool.{cases_lt, le-leb, lt-leb, le-ltb, cond-true, cond-false}
+use Rattle.std.proofs.lemmas.Bool.{cases_lt, le-leb, lt-leb, cond-true, cond-false}
 use Rattle.flat_model.specs.Fragments.Cuts.{Part, part, chunk, chunks, cuts}
 use Rattle.flat_model.specs.Runs.Laws.{bytes_of, CutsJoin}
 
@@ -108,27 +107,3 @@ cuts_join_lem s mtu low = go (cases_lt mtu (20 + length s))
           let same : (get_or (grid (length s) (chunk mtu)) k d).size ≡ min (chunk mtu) (length s - k * chunk mtu) = ap (λ (p : Part). p.size) (get_or-grid (length s) (chunk mtu) k d l) in
           omega (arith, same, chunk_fits mtu low);
     }
-
-div-eq_of_range : (k m : ℕ) → 0 < k → k ≤ m → m < k + k → m / k ≡ 1
-div-eq_of_range k m some low high =
-    let lower : 1 ≤ m / k = le-div 1 m k some (omega arith) in
-    let upper : m / k < 2 = div_below m k 2 some (omega arith) in
-    omega arith
-
--- the parts of a string that isn't empty are always those of a grid
-pub cuts_grid : (n mtu : ℕ) → 0 < n → 28 ≤ mtu → (c : ℕ) × (0 < c) × (cuts n mtu ≡ grid n c)
-cuts_grid n mtu some low = go (cases_lt mtu (20 + n))
-  where
-    one_chunk : chunks n n ≡ 1
-    one_chunk = div-eq_of_range n (n + (n - 1)) some (omega arith) (omega arith)
-
-    one_part : part n n 0 ≡ record { offset = 0; size = n; more = false }
-    one_part =
-        let zero_is : 0 * n ≡ 0 = omega arith in
-        let size_is : min n (n - 0 * n) ≡ n = omega arith in
-        let more_is : nat_lt ((0 + 1) * n) n ≡ false = le-ltb ((0 + 1) * n) n (omega arith) in
-        λ i. record { offset = zero_is i; size = size_is i; more = more_is i }
-
-    go : (mtu < 20 + n) ⊎ (20 + n ≤ mtu) → (c : ℕ) × (0 < c) × (cuts n mtu ≡ grid n c)
-    go (inl h) = (chunk mtu, omega (arith, chunk_some mtu low), cuts_long n mtu h)
-    go (inr h) = (n, some, cuts_short n mtu h ∙ sym (ap (λ k. map (part n n) (range_with_len 0 k)) one_chunk ∙ ap (λ p. p ∷ []) one_part))

@@ -1,6 +1,6 @@
 -- Facts of each element, by recursion; and what follows from facts by cases.
-use Rattle.std.proofs.Common.{◌≡◌, Bool, true, false, List, [], ◌∷◌, ◌++◌, map, refl, sym, Option, Some, None, cond, subst}
-use Rattle.std.specs.Prelude.{find, filter, is_some}
+use Rattle.std.proofs.Common.{◌≡◌, ℕ, zero, suc, Bool, true, false, List, [], ◌∷◌, ◌++◌, map, take, refl, sym, Option, Some, None, cond, subst}
+use Rattle.std.specs.Prelude.{find, filter}
 use Rattle.flat_model.specs.Packets.Header.{first_fault}
 use Rattle.flat_model.specs.Amounts.Choice.{Choice, Case}
 use Rattle.std.specs.List.{AllByRecursion as Each}
@@ -45,17 +45,6 @@ module _ {X : Type 0} (P : X → Type 0) where
       go rest true t e = let same : y ≡ x = same_Some y x e in subst (λ z. P z × (p z ≡ true)) same (h.0, t)
       go rest false t e = rest e
 
-pub each-not_found : {X : Type 0} (p : X → Bool) (xs : List X) → is_some (find p xs) ≡ false → Each (λ x. p x ≡ false) xs
-each-not_found p [] e = tt
-each-not_found p (x ∷ xs) e = go (each-not_found p xs) (p x) refl e
-  where
-    go : (is_some (find p xs) ≡ false → Each (λ x. p x ≡ false) xs) → (b : Bool) → p x ≡ b → is_some (cond b (Some x) (find p xs)) ≡ false → Each (λ x. p x ≡ false) (x ∷ xs)
-    go rest true t e = absurd (never e)
-      where
-        never : true ≡ false → ⊥
-        never e = cc
-    go rest false t e = (t, rest e)
-
 pub each-both : {X : Type 0} {P Q R : X → Type 0} → ((x : X) → P x → Q x → R x) → (xs : List X) → Each P xs → Each Q xs → Each R xs
 each-both f [] h k = tt
 each-both f (x ∷ xs) h k = (f x h.0 k.0, each-both f xs h.1 k.1)
@@ -67,6 +56,11 @@ each-weaker f (x ∷ xs) h = (f x h.0, each-weaker f xs h.1)
 pub each-map_to : {X Y : Type 0} {P : X → Type 0} (Q : Y → Type 0) (f : X → Y) → ((x : X) → P x → Q (f x)) → (xs : List X) → Each P xs → Each Q (map f xs)
 each-map_to Q f keeps [] h = tt
 each-map_to Q f keeps (x ∷ xs) h = (keeps x h.0, each-map_to Q f keeps xs h.1)
+
+pub each-take : {X : Type 0} (P : X → Type 0) (n : ℕ) (xs : List X) → Each P xs → Each P (take n xs)
+each-take P zero xs h = tt
+each-take P (suc n) [] h = tt
+each-take P (suc n) (x ∷ xs) h = (h.0, each-take P n xs h.1)
 
 -- no fault: no test passed
 pub none_passed : {E : Type 0} (tests : List (Bool × E)) → first_fault tests ≡ None → Each (λ test. test.0 ≡ false) tests

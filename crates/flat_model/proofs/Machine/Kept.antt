@@ -2,7 +2,7 @@
 use Rattle.std.proofs.Common.{◌≡◌, ℕ, ◌+◌, ◌*◌, ◌<◌, ◌≤◌, Bool, true, false, List, [], ◌∷◌, ◌++◌, length, map, take, drop, refl, sym, ◌∙◌, ap, subst, eq-eqb, arith, Option, Some, None, cond, ◌⊎◌, inl, inr}
 use Rattle.std.specs.Prelude.{◌==◌, not, nat_lt, count_by, find, filter, ⊤, option_to_list}
 use Rattle.std.specs.List.{AllByRecursion as Each}
-use Rattle.std.proofs.lemmas.Bool.{eqb-true, eqb-false, ne_eqb, ltb-false, leb-true, and_parts, and_from, or_parts}
+use Rattle.std.proofs.lemmas.Bool.{eqb-false, ne_eqb, ltb-false, leb-true, and_parts, and_from, or_parts}
 use Rattle.std.proofs.lemmas.Option.{none-some, same_Some}
 use Rattle.std.proofs.lemmas.List.{length-take, length-drop, length-map, length-append}
 use Rattle.std.proofs.lemmas.List.FromFn.{length-map-range_with_len}
@@ -26,6 +26,7 @@ use Rattle.flat_model.specs.Sockets.Fits.{bytes_queued, memory_queued}
 use Rattle.flat_model.specs.Sockets.Lookup.{best, receivers, matches, up_to_first}
 use Rattle.std.specs.Option.{option_or}
 use Rattle.std.proofs.lemmas.List.Sums.{sum_by-cons, sum_by-append}
+use Rattle.flat_model.proofs.Machine.Keys.{whole_key}
 use Rattle.flat_model.proofs.Machine.Sockets.{find-changed}
 use Rattle.flat_model.proofs.Lists.Each.{by_choice, by_case, each-map, each-map_to, each-both, each-weaker, each-append, each-filter, each-find}
 use Rattle.flat_model.proofs.Lists.Totals.{count_cons, each_sub_bag, count-append}
@@ -427,15 +428,7 @@ module _ (c : Config) where
       go socket g false e one = g
 
   key_same : (k k' : Key) (u : Unfinished) → is_key k' (begun k) ≡ true → is_key k' u ≡ is_key k u
-  key_same k k' u e =
-      let p = and_parts _ _ e in
-      let q = and_parts _ _ p.0 in
-      let r = and_parts _ _ q.0 in
-      let source : k.source ≡ k'.source = eqb-true _ _ r.0 in
-      let destination : k.destination ≡ k'.destination = eqb-true _ _ r.1 in
-      let id : k.id ≡ k'.id = eqb-true _ _ q.1 in
-      let protocol : k.protocol ≡ k'.protocol = eqb-true _ _ p.1 in
-      sym (rw (source, destination, id, protocol) refl)
+  key_same k k' u e = ap (λ (x : Key). is_key x u) (sym ((whole_key k' (begun k)).0 e))
 
   pub good_begins : (h : ℕ) (k : Key) (s : State) → Good c (h + 1) s → unfinished_at k s ≡ None → Good c h (begin_unfinished k s)
   good_begins h k s good none = record {

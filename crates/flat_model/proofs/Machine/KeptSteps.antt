@@ -29,9 +29,8 @@ use Rattle.flat_model.specs.Runs.Run.{Turn, Leads}
 use Rattle.flat_model.specs.Runs.Consistent.{Carries, IsQueued, IsSocket, IsWaiting, IsOutput, IsMap, IsConsistent}
 use Rattle.flat_model.specs.declared.address.Addr.{Addr}
 use Rattle.flat_model.specs.declared.config.Config.{Config}
-use Rattle.flat_model.proofs.Lists.Each.{by_case, each-append, none_passed}
-use Rattle.flat_model.proofs.Machine.Output.{each-take}
-use Rattle.flat_model.proofs.Packets.Decode.{length-udp}
+use Rattle.flat_model.proofs.Lists.Each.{by_case, each-append, each-take, none_passed}
+use Rattle.flat_model.proofs.Packets.Sizes.{length-udp}
 use Rattle.flat_model.proofs.Fragments.Grid.{cuts_short}
 use Rattle.flat_model.proofs.Fragments.Overlaid.{pieces_bag}
 use Rattle.flat_model.proofs.Machine.Laid.{ItemFits, parts_fit, items_fit, items_mbufs, length-packet, laid_mbufs, laid_carries, wire_is, wire_some}

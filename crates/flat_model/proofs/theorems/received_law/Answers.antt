@@ -1,7 +1,0 @@
--- What is received was sent, whatever a machine answers for its buffers.
-use Rattle.flat_model.specs.Machine.Ledger.{exact_ledger}
-use Rattle.flat_model.proofs.Wire.Received.{received_law_lem}
-use Rattle.flat_model.proofs.theorems.received_law.Goals as goal
-
-pub returns : goal.returns
-returns c = received_law_lem exact_ledger exact_ledger

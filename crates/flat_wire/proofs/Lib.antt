@@ -1,0 +1,16 @@
+mod Decode
+mod Grid
+mod Maps
+mod Laying
+mod Stretch
+mod Order
+mod Output
+mod Sendable
+mod Closed
+mod First
+mod Told
+mod Reading
+mod Second
+mod SecondSteps
+mod Law
+mod Received

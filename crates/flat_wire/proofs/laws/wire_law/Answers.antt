@@ -1,0 +1,7 @@
+-- The law holds whatever a machine answers for its buffers.
+use Rattle.flat_model.specs.Machine.Ledger.{exact_ledger}
+use Rattle.flat_wire.proofs.Law.{wire_law_lem}
+use Rattle.flat_wire.proofs.laws.wire_law.Goals as goal
+
+pub returns : goal.returns
+returns c = wire_law_lem exact_ledger exact_ledger
