@@ -15,6 +15,3 @@ pub use laws::strings_law;
 pub use mbuf_pool::Sizes;
 pub use runs::run_chains;
 pub use script_loop::{RunFault, Silent, Sink, Source};
-
-#[cfg(test)]
-mod tests;

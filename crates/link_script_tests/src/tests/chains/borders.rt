@@ -1,6 +1,6 @@
 //! Each call at the borders of its rule. The replies were worked out from the rules by hand.
 use super::{SIZES, check};
-use crate::Sizes;
+use chain_script::Sizes;
 use std::test::Fail;
 
 /// Bytes put in front: into the room there, or into an mbuf of their own, filled at its end.

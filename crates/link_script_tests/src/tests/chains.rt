@@ -1,4 +1,5 @@
-use crate::{RunFault, Sizes, run_chains};
+//! The script of calls on chains, by tables of lines and their replies.
+use chain_script::{RunFault, Sizes, run_chains};
 use std::alloc::Global;
 use std::process::Abort;
 use std::str;
