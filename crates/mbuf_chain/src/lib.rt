@@ -12,8 +12,6 @@ mod place;
 mod pool;
 mod queued_place;
 mod reclaim;
-#[cfg(test)]
-mod tests;
 mod train;
 mod usage;
 

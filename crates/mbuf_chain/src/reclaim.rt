@@ -69,6 +69,3 @@ impl Reclaim for Train {
         datagrams
     }
 }
-
-#[cfg(test)]
-mod tests;

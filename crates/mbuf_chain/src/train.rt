@@ -453,6 +453,3 @@ fn place(pool: &mut Pool, number: u32, after: Option<u32>, tag: u32)
     pool.set_after(&chain, after, tag);
     let _ = chain.into_number();
 }
-
-#[cfg(test)]
-pub(crate) mod tests;

@@ -1,0 +1,74 @@
+//! A chain of all mbufs of the largest pool.
+ghost use Rattle.std.specs.Prelude.{◌≡◌, ◌+◌, ◌<◌, length, IfOk};
+ghost use Rattle.mbuf_chain.specs.Chain.{IsLive, chain_of};
+
+use super::steps::booted;
+use mbuf_chain::{Chain, Place, Pool};
+use mbuf_pool::NoBufs;
+use params::{MAX_MBUFS, MBUF_HEADER};
+use std::test::Fail;
+
+/// How many of them stay at the front.
+const KEPT: u32 = 40_000;
+
+/// A chain of empty mbufs, as many as are asked for, or as many as are free.
+#[tactic(auto, using(mbuf_chain::proofs::Laws::Maps::map_steps))]
+fn chain_of_empty(pool: &mut Pool, mbufs: u32) -> Result<Chain, NoBufs>
+    ensures { IfOk result (λ c. IsLive pool.new c) }
+{
+    let chain = pool.new_chain()?;
+    let mut last = pool.first(&chain);
+    'mbufs: for _ in 1..mbufs {
+        let Ok(back) = pool.new_plain(false, MBUF_HEADER) else {
+            break;
+        };
+        last = pool.link(&chain, last, back);
+    }
+    Ok(chain)
+}
+
+/// The place of a chain's last mbuf, to which a walk from place to place leads.
+fn walked(pool: &Pool, chain: &Chain) -> Place
+    requires { IsLive pool.now chain.now }
+    ensures { result.index + 1 ≡ length (chain_of pool.now chain.now).entries }
+{
+    let mut last = pool.first(chain);
+    let mut after = pool.next(chain, last);
+    'mbufs: while let Some(place) = after {
+        last = place;
+        after = pool.next(chain, last);
+    }
+    last
+}
+
+/// Cuts a chain after its first mbufs, and gives both parts back.
+#[tactic(auto, using(mbuf_chain::proofs::Laws::Maps::map_steps))]
+fn cut_and_free(pool: &mut Pool, chain: Chain, keep: u32) -> (u32, u32)
+    requires live { IsLive pool.old chain }
+    requires some { 0 < keep }
+    requires within { keep < length (chain_of pool.old chain).entries }
+{
+    let rest = pool.cut(&chain, keep);
+    let counts = (pool.mbufs(&chain), pool.mbufs(&rest));
+    pool.free_chain(chain);
+    pool.free_chain(rest);
+    counts
+}
+
+#[test]
+#[tactic(auto, using(mbuf_chain::proofs::Laws::Maps::map_steps))]
+fn all_mbufs_in_one_chain(rt: HostRuntime) -> Result<(), Fail> {
+    let mut pool = booted(rt.alloc(), MAX_MBUFS, 0)?;
+    let chain = chain_of_empty(&mut pool, MAX_MBUFS).expect(&rt, "an mbuf is free");
+    assert_eq!(rt; pool.free_mbufs(), 0);
+    assert_eq!(rt; pool.mbufs(&chain), MAX_MBUFS);
+    assert_eq!(rt; walked(&pool, &chain).index, MAX_MBUFS - 1);
+    assert_eq!(rt; pool.last(&chain), walked(&pool, &chain));
+    assert_eq!(rt; pool.layout(&chain).count(), MAX_MBUFS as usize);
+    assert_eq!(rt; pool.pieces(&chain).count(), MAX_MBUFS as usize);
+    assert_eq!(rt; pool.len(&chain), 0);
+    let counts = cut_and_free(&mut pool, chain, KEPT);
+    assert_eq!(rt; counts, (KEPT, MAX_MBUFS - KEPT));
+    assert_eq!(rt; pool.free_mbufs(), MAX_MBUFS);
+    Ok(())
+}

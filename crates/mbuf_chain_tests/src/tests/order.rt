@@ -1,0 +1,170 @@
+//! Trains at work: the order of their chains, and two callers that use them as the layers above do.
+
+ghost use Rattle.std.specs.Prelude.{◌≡◌, ◌+◌, ◌<◌, ◌≤◌, [], OnOk, OnErr, IfOk, IsOkAnd, remove};
+ghost use Rattle.mbuf_chain.specs.Chain.{held_mbufs};
+ghost use Rattle.mbuf_chain.specs.Owners.{Moves};
+ghost use Rattle.mbuf_chain.specs.Train.{queued_packets, queued_packet_at, numbers, IsQueuedPlace, IsHeld};
+
+use super::steps::booted;
+use mbuf_chain::{Pool, QueuedPlace, Train};
+use mbuf_pool::NoBufs;
+use std::process::Abort;
+use std::test::Fail;
+
+/// Puts a new packet without bytes in at a place.
+pub(crate) fn put_new(pool: &mut Pool, train: &mut Train, i: u32, tag: u32) -> Result<(), NoBufs>
+    requires place { i ≤ train.old.len }
+    requires held { IsHeld pool.old train.old }
+    ensures ok { OnOk result (train.new.len ≡ train.old.len + 1) }
+    ensures err { OnErr result (train.new ≡ train.old) }
+    ensures full { OnErr result (held_mbufs pool.old ≡ pool.old.mbufs) }
+    ensures held { IsHeld pool.new train.new }
+    ensures moves { Moves pool.old (numbers pool.old train.old) pool.new (numbers pool.new train.new) }
+{
+    let chain = pool.new_chain()?;
+    train.insert(pool, i, chain, tag);
+    Ok(())
+}
+
+/// Frees the packet at a place, and answers its tag.
+fn drop_at(pool: &mut Pool, train: &mut Train, i: u32) -> u32
+    requires place { i < train.old.len }
+    requires held { IsHeld pool.old train.old }
+    ensures tag { result ≡ (queued_packet_at pool.old train.old i).tag }
+    ensures queued_packets { queued_packets pool.new train.new ≡ remove (queued_packets pool.old train.old) i }
+    ensures held { IsHeld pool.new train.new }
+    ensures len { train.new.len + 1 ≡ train.old.len }
+    ensures moves { Moves pool.old (numbers pool.old train.old) pool.new (numbers pool.new train.new) }
+{
+    let (chain, tag) = train.take(pool, i);
+    pool.free_chain(chain);
+    tag
+}
+
+/// Puts a new packet without bytes in after a place, and answers its own place.
+fn put_after(
+    pool: &mut Pool,
+    train: &mut Train,
+    at: QueuedPlace,
+    tag: u32,
+) -> Result<QueuedPlace, NoBufs>
+    requires place { IsQueuedPlace pool.old train.old at }
+    requires held { IsHeld pool.old train.old }
+    ensures ok { IfOk result (λ to. IsQueuedPlace pool.new train.new to) }
+    ensures kept { IsQueuedPlace pool.new train.new at }
+    ensures held { IsHeld pool.new train.new }
+{
+    let chain = pool.new_chain()?;
+    Ok(train.insert_after(pool, at, chain, tag))
+}
+
+/// Frees the packet after a place, and answers its tag.
+fn drop_after(pool: &mut Pool, train: &mut Train, at: QueuedPlace) -> u32
+    requires place { IsQueuedPlace pool.old train.old at }
+    requires more { at.index + 1 < train.old.len }
+    requires held { IsHeld pool.old train.old }
+    ensures held { IsHeld pool.new train.new }
+    ensures len { train.new.len + 1 ≡ train.old.len }
+{
+    let (chain, tag) = train.take_after(pool, at);
+    pool.free_chain(chain);
+    tag
+}
+
+/// Puts four packets in: at the end twice, in front, and between.
+fn put_four(rt: &impl Abort, pool: &mut Pool, train: &mut Train)
+    requires { IsHeld pool.old train.old }
+    ensures { IsHeld pool.new train.new }
+{
+    'inserts: for (i, tag) in [(0, 20), (1, 40), (0, 10), (2, 30)] {
+        assert!(rt; i <= train.len());
+        assert!(rt; put_new(pool, train, i, tag).is_ok());
+    }
+}
+
+/// Sees that four packets without bytes come in the order of these tags.
+fn must_walk(rt: &impl Abort, pool: &Pool, train: &Train, tags: [u32; 4])
+    requires { IsHeld pool.now train.now }
+{
+    let mut at = train.first(pool);
+    'walk: for want in tags {
+        let Some(place) = at else {
+            panic!(rt; "no chain with tag {want}");
+        };
+        let found = (train.tag_at(pool, place), train.len_at(pool, place));
+        assert_eq!(rt; found, (want, 0));
+        assert!(rt; train.pieces_at(pool, place).next().is_some());
+        at = train.next(pool, place);
+    }
+    assert!(rt; at.is_none());
+}
+
+/// Takes three of four packets out: the second, the last and the first.
+fn must_drop(rt: &impl Abort, pool: &mut Pool, train: &mut Train)
+    requires len { train.old.len ≡ 4 }
+    requires held { IsHeld pool.old train.old }
+    ensures len { train.new.len ≡ 1 }
+    ensures held { IsHeld pool.new train.new }
+{
+    let second = drop_at(pool, train, 1);
+    let next = train.tag(pool, 1);
+    let last = drop_at(pool, train, 2);
+    let first = drop_at(pool, train, 0);
+    assert_eq!(rt; (second, next, last, first), (20, 30, 40, 10));
+}
+
+#[test]
+fn keeps_its_order(rt: HostRuntime) -> Result<(), Fail> {
+    let mut pool = booted(rt.alloc(), 5, 0)?;
+    let mut train = Train::new();
+    assert!(rt; train.is_empty());
+    assert!(rt; train.first(&pool).is_none());
+    put_four(&rt, &mut pool, &mut train);
+    assert_eq!(rt; train.len(), 4);
+    must_walk(&rt, &pool, &train, [10, 20, 30, 40]);
+    must_drop(&rt, &mut pool, &mut train);
+    assert_eq!(rt; put_new(&mut pool, &mut train, 1, 50), Ok(()));
+    let after = (train.tag(&pool, 1), train.chain_len(&pool, 1));
+    assert_eq!(rt; after, (50, 0));
+    train.free(&mut pool);
+    assert_eq!(rt; pool.free_mbufs(), 5);
+    Ok(())
+}
+
+#[test]
+fn goes_on_at_a_place(rt: HostRuntime) -> Result<(), Fail> {
+    let mut pool = booted(rt.alloc(), 3, 0)?;
+    let mut train = Train::new();
+    assert_eq!(rt; put_new(&mut pool, &mut train, 0, 10), Ok(()));
+    let Some(at) = train.first(&pool) else {
+        panic!(rt; "the train has no chain");
+    };
+    let Ok(to) = put_after(&mut pool, &mut train, at, 30) else {
+        panic!(rt; "an mbuf is free");
+    };
+    assert_eq!(rt; train.tag_at(&pool, to), 30);
+    assert!(rt; put_after(&mut pool, &mut train, at, 20).is_ok());
+    assert_eq!(rt; put_after(&mut pool, &mut train, at, 25), Err(NoBufs));
+    assert!(rt; at.index + 1 < train.len());
+    assert_eq!(rt; drop_after(&mut pool, &mut train, at), 20);
+    assert!(rt; train.len() == 2);
+    assert_eq!(rt; train.tag(&pool, 1), 30);
+    train.free(&mut pool);
+    assert_eq!(rt; pool.free_mbufs(), 3);
+    Ok(())
+}
+
+#[test]
+fn takes_no_buffer(rt: HostRuntime) -> Result<(), Fail> {
+    let mut pool = booted(rt.alloc(), 2, 0)?;
+    let mut train = Train::new();
+    assert_eq!(rt; put_new(&mut pool, &mut train, 0, 1), Ok(()));
+    assert_eq!(rt; put_new(&mut pool, &mut train, 0, 2), Ok(()));
+    assert_eq!(rt; put_new(&mut pool, &mut train, 0, 3), Err(NoBufs));
+    assert_eq!(rt; train.len(), 2);
+    assert_eq!(rt; drop_at(&mut pool, &mut train, 1), 1);
+    assert_eq!(rt; put_new(&mut pool, &mut train, 1, 4), Ok(()));
+    train.free(&mut pool);
+    assert_eq!(rt; pool.free_mbufs(), 2);
+    Ok(())
+}

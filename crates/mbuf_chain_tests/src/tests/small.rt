@@ -1,0 +1,98 @@
+//! A pool of one mbuf and no cluster, and the room of its mbuf.
+ghost use Rattle.std.specs.Prelude.{ℕ};
+ghost use Rattle.mbuf_chain.specs.Chain.{IsLive};
+
+use super::steps::{booted, put_back, put_front};
+use mbuf_chain::Pool;
+use mbuf_pool::NoBufs;
+use params::MBUF_HEADER;
+use std::test::Fail;
+
+/// Whether no mbuf is to be had.
+#[tactic(auto, using(mbuf_chain::proofs::Laws::Maps::map_steps))]
+fn lacks_mbuf(pool: &mut Pool) -> bool
+    ensures { (k : ℕ) → IsLive pool.old k → IsLive pool.new k }
+{
+    match pool.new_plain(false, MBUF_HEADER) {
+        Ok(chain) => {
+            pool.free_chain(chain);
+            false
+        }
+        Err(NoBufs) => true,
+    }
+}
+
+/// Whether no cluster is to be had, or no mbuf for it.
+#[tactic(auto, using(mbuf_chain::proofs::Laws::Maps::map_steps))]
+fn lacks_cluster(pool: &mut Pool) -> bool
+    ensures { (k : ℕ) → IsLive pool.old k → IsLive pool.new k }
+{
+    match pool.new_cluster(true, 0) {
+        Ok(chain) => {
+            pool.free_chain(chain);
+            false
+        }
+        Err(NoBufs) => true,
+    }
+}
+
+#[test]
+#[tactic(auto, using(mbuf_chain::proofs::Laws::Maps::map_steps))]
+fn one_mbuf(rt: HostRuntime) -> Result<(), Fail> {
+    let mut pool = booted(rt.alloc(), 1, 0)?;
+    assert_eq!(rt; (pool.free_mbufs(), pool.free_clusters()), (1, 0));
+    assert!(rt; lacks_cluster(&mut pool));
+    let chain = pool.new_chain().expect(&rt, "the mbuf is free");
+    assert_eq!(rt; pool.free_mbufs(), 0);
+    assert_eq!(rt; (pool.len(&chain), pool.mbufs(&chain)), (0, 1));
+    assert!(rt; pool.has_header(&chain));
+    assert!(rt; lacks_mbuf(&mut pool));
+    pool.lose_header(&chain);
+    assert!(rt; !pool.has_header(&chain));
+    pool.free_chain(chain);
+    assert_eq!(rt; pool.free_mbufs(), 1);
+    assert!(rt; !lacks_mbuf(&mut pool));
+    Ok(())
+}
+
+#[test]
+#[tactic(auto, using(mbuf_chain::proofs::Laws::Maps::map_steps))]
+fn room_of_an_mbuf(rt: HostRuntime) -> Result<(), Fail> {
+    let mut pool = booted(rt.alloc(), 1, 0)?;
+    let chain = pool.new_plain(false, 60).expect(&rt, "the mbuf is free");
+    let at = pool.first(&chain);
+    let rooms = (
+        pool.leading_space(&chain, at),
+        pool.trailing_space(&chain, at),
+    );
+    assert_eq!(rt; rooms, (40, 68));
+    put_back(&rt, &mut pool, &chain, at, b"gram");
+    put_front(&rt, &mut pool, &chain, at, b"data");
+    assert_eq!(rt; pool.bytes(&chain, at), b"datagram".as_slice());
+    let rooms = (
+        pool.leading_space(&chain, at),
+        pool.trailing_space(&chain, at),
+    );
+    assert_eq!(rt; rooms, (36, 64));
+    pool.free_chain(chain);
+    Ok(())
+}
+
+#[test]
+#[tactic(auto, using(mbuf_chain::proofs::Laws::Maps::map_steps))]
+fn bytes_of_a_new_mbuf(rt: HostRuntime) -> Result<(), Fail> {
+    let mut pool = booted(rt.alloc(), 1, 0)?;
+    let chain = pool
+        .new_plain_with(true, 32, b"datagram")
+        .expect(&rt, "the mbuf is free");
+    assert_eq!(rt; pool.len(&chain), 8);
+    let at = pool.first(&chain);
+    assert_eq!(rt; pool.bytes(&chain, at), b"datagram".as_slice());
+    let rooms = (
+        pool.leading_space(&chain, at),
+        pool.trailing_space(&chain, at),
+    );
+    assert_eq!(rt; rooms, (4, 88));
+    pool.free_chain(chain);
+    Ok(())
+}
