@@ -1,6 +1,6 @@
 //! What no clause says: that memory can be had, and that each call does its work once on real memory.
 ghost use Rattle.std.specs.Prelude.{◌≡◌, ◌+◌, ◌<◌, ◌≤◌};
-ghost use Rattle.raw_cells.specs.Cells.{IsHead};
+ghost use Rattle.raw_cells.specs.Cells.{IsHead, IsPart};
 
 use crate::{Buffer, Head, PacketHeader, Part, Region};
 use params::{MAX_CLUSTERS, MAX_MBUFS};
@@ -91,32 +91,31 @@ fn every_byte_of_a_new_region_is_zero(rt: HostRuntime) -> Result<(), Fail> {
     Ok(())
 }
 
+/// Whether all bytes of a part are this one.
+fn is_all(region: &Region, part: Part, byte: u8) -> bool
+    requires { IsPart region.now part }
+{
+    region.bytes(part).iter().all(|it| *it == byte)
+}
+
 #[test]
 fn what_is_written_to_a_part_stays_in_it(rt: HostRuntime) -> Result<(), Fail> {
     let mut region = Region::new(rt.alloc(), 3, 2)?;
-    region.bytes_mut(part(Buffer::Mbuf(1), 20, 108)).fill(0xaa);
-    region
-        .bytes_mut(part(Buffer::Cluster(0), 100, 48))
-        .fill(0x55);
-    assert!(rt;
-        region
-            .bytes(part(Buffer::Mbuf(1), 20, 108))
-            .iter()
-            .all(|byte| *byte == 0xaa)
+    let mbuf = part(Buffer::Mbuf(1), 20, 108);
+    let cluster = part(Buffer::Cluster(0), 100, 48);
+    region.bytes_mut(mbuf).fill(0xaa);
+    region.bytes_mut(cluster).fill(0x55);
+    assert!(rt; is_all(&region, mbuf, 0xaa) && is_all(&region, cluster, 0x55));
+    let mbufs_before = is_all(&region, part(Buffer::Mbuf(0), 20, 108), 0);
+    let mbufs_after = is_all(&region, part(Buffer::Mbuf(2), 20, 108), 0);
+    let in_front = is_all(&region, part(Buffer::Cluster(0), 0, 100), 0);
+    let behind = is_all(&region, part(Buffer::Cluster(0), 148, 1900), 0);
+    let next = is_all(&region, part(Buffer::Cluster(1), 0, 2048), 0);
+    assert_eq!(rt;
+        [mbufs_before, mbufs_after, in_front, behind, next],
+        [true; 5]
     );
-    assert!(rt; is_zero(region.bytes(part(Buffer::Mbuf(0), 20, 108))));
-    assert!(rt; is_zero(region.bytes(part(Buffer::Mbuf(2), 20, 108))));
-    assert_eq!(rt; region.head(1), ZEROS);
-    assert_eq!(rt; region.head(2), ZEROS);
-    assert!(rt; is_zero(region.bytes(part(Buffer::Cluster(0), 0, 100))));
-    assert!(rt;
-        region
-            .bytes(part(Buffer::Cluster(0), 100, 48))
-            .iter()
-            .all(|byte| *byte == 0x55)
-    );
-    assert!(rt; is_zero(region.bytes(part(Buffer::Cluster(0), 148, 1900))));
-    assert!(rt; is_zero(region.bytes(part(Buffer::Cluster(1), 0, 2048))));
+    assert_eq!(rt; [region.head(1), region.head(2)], [ZEROS, ZEROS]);
     Ok(())
 }
 
@@ -206,28 +205,44 @@ fn a_field_is_stored_alone(rt: HostRuntime) -> Result<(), Fail> {
         len: 100,
         arrival: 7,
     };
-    let mut head = Head {
+    let head = Head {
         packet: Some(packet),
         cluster: Some(0),
         ..PLAIN
     };
     region.set_head(1, head);
     region.set_next(1, Some(0xffff_fffe));
-    head.next = Some(0xffff_fffe);
-    assert_eq!(rt; region.head(1), head);
+    let linked = region.head(1);
     region.set_next_packet(1, Some(2));
-    head.next_packet = Some(2);
-    assert_eq!(rt; region.head(1), head);
+    let queued = region.head(1);
     region.set_data(1, 2000, 48);
-    head.start = 2000;
-    head.len = 48;
-    assert_eq!(rt; region.head(1), head);
+    let moved = region.head(1);
     region.set_next(1, None);
     region.set_next_packet(1, None);
-    head.next = None;
-    head.next_packet = None;
-    assert_eq!(rt; region.head(1), head);
-    assert_eq!(rt; (region.head(0), region.head(2)), (ZEROS, ZEROS));
+    let alone = region.head(1);
+    let want_linked = Head {
+        next: Some(0xffff_fffe),
+        ..head
+    };
+    let want_queued = Head {
+        next_packet: Some(2),
+        ..want_linked
+    };
+    let want_moved = Head {
+        start: 2000,
+        len: 48,
+        ..want_queued
+    };
+    let want_alone = Head {
+        next: None,
+        next_packet: None,
+        ..want_moved
+    };
+    assert_eq!(rt;
+        [linked, queued, moved, alone],
+        [want_linked, want_queued, want_moved, want_alone]
+    );
+    assert_eq!(rt; [region.head(0), region.head(2)], [ZEROS, ZEROS]);
     Ok(())
 }
 
@@ -258,6 +273,6 @@ fn a_packet_header_is_changed_and_dropped(rt: HostRuntime) -> Result<(), Fail> {
         region.bytes(part(Buffer::Mbuf(1), 20, 9)),
         [0xff, 0xff, 0, 0, 0xff, 0xff, 0xff, 0xff, 2].as_slice()
     );
-    assert_eq!(rt; (region.head(0), region.head(2)), (ZEROS, ZEROS));
+    assert_eq!(rt; [region.head(0), region.head(2)], [ZEROS, ZEROS]);
     Ok(())
 }
