@@ -137,14 +137,27 @@ laid_carries c clusters rooms n f some e exist =
 shared : ℕ → ℕ → ℕ → ℕ → ℕ
 shared at size a b = min (at + size) b - max at a
 
+shared_none : (at a b : ℕ) → shared at 0 a b ≤ 0
+unfolding shared
+shared_none at a b = omega arith
+
+-- n bytes more in front add at most n, and nothing where they lie outside
+shared_more : (at n size a b : ℕ) → shared at (n + size) a b ≤ n + shared (at + n) size a b
+unfolding shared
+shared_more at n size a b = omega arith
+
+shared_past : (at n size a b : ℕ) → min (at + n) b ≤ max at a → shared at (n + size) a b ≤ shared (at + n) size a b
+unfolding shared
+shared_past at n size a b none = omega arith
+
 record IsMet (at : ℕ) (rooms : List Room) (a b : ℕ) (met : List Entry) : Type 0 where
   references : length (weight_of met).bag ≤ length met
   room : shared at (bytes_in rooms) a b ≤ 108 * (length met - length (weight_of met).bag) + 2048 * length (weight_of met).bag
 
 met_is : (clusters : List ℕ) (rooms : List Room) (at a b : ℕ) → length clusters ≡ count_by is_cluster rooms → Each RoomFits rooms
     → IsMet at rooms a b (meets_from (λ (entry : Entry). entry.size) at (laid_on clusters rooms) a b)
-unfolding laid_on bytes_in meets_from shared
-met_is clusters [] at a b e fit = record { references = omega arith; room = omega arith }
+unfolding laid_on bytes_in meets_from
+met_is clusters [] at a b e fit = record { references = omega arith; room = omega (arith, shared_none at a b) }
 met_is clusters (Plain n ∷ rooms) at a b e fit =
     let count = count_cons is_cluster (Plain n) rooms in
     go (met_is clusters rooms (at + n) a b (omega arith) fit.1) (nat_lt (max at a) (min (at + n) b)) refl
@@ -154,8 +167,8 @@ met_is clusters (Plain n ∷ rooms) at a b e fit =
 
     go : IsMet (at + n) rooms a b (meets_from (λ (entry : Entry). entry.size) (at + n) (laid_on clusters rooms) a b) → (t : Bool) → nat_lt (max at a) (min (at + n) b) ≡ t
         → IsMet at (Plain n ∷ rooms) a b (cond t (record { size = n; cluster = None } ∷ meets_from (λ (entry : Entry). entry.size) (at + n) (laid_on clusters rooms) a b) (meets_from (λ (entry : Entry). entry.size) (at + n) (laid_on clusters rooms) a b))
-    go rest true t = record { references = omega (arith, rest.references); room = omega (arith, rest.room, rest.references, fit.0) }
-    go rest false t = let none : min (at + n) b ≤ max at a = ltb-false _ _ t in record { references = rest.references; room = omega (arith, rest.room, rest.references) }
+    go rest true t = record { references = omega (arith, rest.references); room = omega (arith, shared_more at n (bytes_in rooms) a b, rest.room, rest.references, fit.0) }
+    go rest false t = record { references = rest.references; room = omega (arith, shared_past at n (bytes_in rooms) a b (ltb-false _ _ t), rest.room) }
 met_is [] (Cluster n ∷ rooms) at a b e fit = let count = count_cons is_cluster (Cluster n) rooms in absurd (omega arith)
 met_is (c ∷ clusters) (Cluster n ∷ rooms) at a b e fit =
     let count = count_cons is_cluster (Cluster n) rooms in
@@ -163,8 +176,8 @@ met_is (c ∷ clusters) (Cluster n ∷ rooms) at a b e fit =
   where
     go : IsMet (at + n) rooms a b (meets_from (λ (entry : Entry). entry.size) (at + n) (laid_on clusters rooms) a b) → (t : Bool) → nat_lt (max at a) (min (at + n) b) ≡ t
         → IsMet at (Cluster n ∷ rooms) a b (cond t (record { size = n; cluster = Some c } ∷ meets_from (λ (entry : Entry). entry.size) (at + n) (laid_on clusters rooms) a b) (meets_from (λ (entry : Entry). entry.size) (at + n) (laid_on clusters rooms) a b))
-    go rest true t = record { references = omega (arith, rest.references); room = omega (arith, rest.room, rest.references, fit.0) }
-    go rest false t = let none : min (at + n) b ≤ max at a = ltb-false _ _ t in record { references = rest.references; room = omega (arith, rest.room, rest.references) }
+    go rest true t = record { references = omega (arith, rest.references); room = omega (arith, shared_more at n (bytes_in rooms) a b, rest.room, rest.references, fit.0) }
+    go rest false t = record { references = rest.references; room = omega (arith, shared_past at n (bytes_in rooms) a b (ltb-false _ _ t), rest.room) }
 
 met_number : (clusters : List ℕ) (rooms : List Room) (at a b : ℕ)
     → length (meets_from (λ (entry : Entry). entry.size) at (laid_on clusters rooms) a b) ≡ length (meets_from size_of at rooms a b)
