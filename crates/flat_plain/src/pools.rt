@@ -45,30 +45,3 @@ pub fn usage(mbufs: u32, clusters: u32, held: &Weight) -> Mbstat
         most,
     }
 }
-
-#[cfg(test)]
-mod tests {
-    use super::*;
-    use std::test::Fail;
-
-    // The packets of the largest send on a link of 1500: 22 mbufs, and its five clusters 2, 3, 4, 3 and 3 times.
-    #[test]
-    fn of_the_largest_send(rt: HostRuntime) -> Result<(), Fail> {
-        let mut held = Weight {
-            mbufs: 22,
-            bag: Vec::new(rt.alloc()),
-        };
-        for (cluster, count) in [(0u32, 2u32), (1, 3), (2, 4), (3, 3), (4, 3)] {
-            for _ in 0..count {
-                held.bag.push(cluster)?;
-            }
-        }
-        assert!(rt; held.bag.len() <= 65536);
-        let shown = usage(512, 64, &held);
-        assert_eq!(rt; shown.free_mbufs, 490);
-        assert_eq!(rt; shown.free_clusters, 59);
-        assert_eq!(rt; shown.refs, 15);
-        assert_eq!(rt; shown.most, 4);
-        Ok(())
-    }
-}
