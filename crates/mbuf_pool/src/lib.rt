@@ -11,8 +11,6 @@ mod fault;
 mod link;
 mod sizes;
 mod store;
-#[cfg(test)]
-mod tests;
 
 pub use counts::Counts;
 pub use fault::{BootFault, NoBufs};

@@ -2,7 +2,7 @@ use Rattle.std.proofs.Common.{ℕ, ◌≢◌, ◌∙◌, ap, arith, is_some, Non
 use Rattle.std.proofs.lemmas.List.{length-set}
 use Rattle.mbuf_pool.specs.Store.{StoreView, is_out}
 use Rattle.mbuf_pool.proofs.Laws.{all_out, mbuf_other}
-use Rattle.mbuf_pool.proofs.tests.put_all.Goals as goal
+use Rattle.mbuf_pool_tests.proofs.tests.put_all.Goals as goal
 
 pub loop-index-init : goal.loop-index-init
 loop-index-init c = (Rattle.std.proofs.Common.refl, λ k low below. all_out c.args.store.now k c.requires.out below)

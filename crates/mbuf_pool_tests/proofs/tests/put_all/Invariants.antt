@@ -1,6 +1,6 @@
 use Rattle.std.proofs.Common.{◌≡◌, ℕ, ◌<◌, ◌≤◌, length, IsTrue}
 use Rattle.mbuf_pool.specs.Store.{is_out}
-use Rattle.mbuf_pool.proofs.tests.put_all.Given as goal
+use Rattle.mbuf_pool_tests.proofs.tests.put_all.Given as goal
 
 -- the mbufs that are not put back yet are out
 abbrev pub invariant-loop-index : goal.invariant-loop-index

@@ -2,7 +2,7 @@ use Rattle.std.proofs.Common.{ℕ, ◌≢◌, ◌<◌, ◌∙◌, ap, sym, subst
 use Rattle.std.proofs.lemmas.List.{length-set}
 use Rattle.mbuf_pool.specs.Store.{StoreView, ClusterView, cluster_of, count_of, released}
 use Rattle.mbuf_pool.proofs.Laws.{all_counted, cluster_other}
-use Rattle.mbuf_pool.proofs.tests.release_all.Goals as goal
+use Rattle.mbuf_pool_tests.proofs.tests.release_all.Goals as goal
 
 pub loop-cluster-init : goal.loop-cluster-init
 loop-cluster-init c = (Rattle.std.proofs.Common.refl, λ k low below. all_counted c.args.store.now k c.requires.out below)

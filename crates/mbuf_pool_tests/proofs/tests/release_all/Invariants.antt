@@ -1,6 +1,6 @@
 use Rattle.std.proofs.Common.{◌≡◌, ℕ, ◌<◌, ◌≤◌, length}
 use Rattle.mbuf_pool.specs.Store.{count_of}
-use Rattle.mbuf_pool.proofs.tests.release_all.Given as goal
+use Rattle.mbuf_pool_tests.proofs.tests.release_all.Given as goal
 
 -- the clusters that are not released yet are counted
 abbrev pub invariant-loop-cluster : goal.invariant-loop-cluster
