@@ -11,8 +11,6 @@ mod lay;
 mod place;
 mod queue;
 mod table;
-#[cfg(test)]
-mod tests;
 
 pub use arrival::Arrival;
 pub use datagram::Datagram;

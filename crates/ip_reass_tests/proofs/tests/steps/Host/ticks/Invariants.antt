@@ -1,0 +1,5 @@
+use Rattle.ip_reass.specs.Table.{IsReady}
+use Rattle.ip_reass_tests.proofs.tests.steps.Host.ticks.Given as goal
+
+abbrev pub invariant-ticks : goal.invariant-ticks
+invariant-ticks g l = IsReady l.self.pool l.self.table
