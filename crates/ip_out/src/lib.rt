@@ -6,8 +6,6 @@ mod head;
 mod needs;
 mod queue;
 mod sending;
-#[cfg(test)]
-mod tests;
 mod ways;
 
 pub use head::{IpHead, MAX_OFFSET, read_head, write_head};

@@ -1,5 +1,5 @@
 use Rattle.mbuf_chain.proofs.Laws.Trains.{beside_without}
-use Rattle.ip_out.proofs.tests.popped.Goals as goal
+use Rattle.ip_out_tests.proofs.tests.popped.Goals as goal
 
 pub returns : goal.returns
 returns g c =

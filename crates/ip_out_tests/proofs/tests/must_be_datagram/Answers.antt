@@ -2,7 +2,7 @@ use Rattle.std.proofs.Common.{◌≡◌, ℕ, ◌<◌, List, [], ◌∷◌, Opti
 use Rattle.std.specs.List.{AllByRecursion}
 use Rattle.mbuf_chain.specs.Chain.{Entry, chain_of, layout_of}
 use Rattle.chain_ops.specs.Weights.{HaveBytes}
-use Rattle.ip_out.proofs.tests.must_be_datagram.Goals as goal
+use Rattle.ip_out_tests.proofs.tests.must_be_datagram.Goals as goal
 
 have_bytes : (es : List Entry) → AllByRecursion (λ (p : ℕ × Option ℕ). 0 < p.0) (layout_of es) → HaveBytes es
 have_bytes [] h = h
