@@ -1,0 +1,18 @@
+//! A cluster that two hold.
+use mbuf_pool::{BootFault, Sizes, Store};
+use std::alloc::Global;
+
+/// How many of 64 clusters are free once both holders gave theirs back: all.
+pub fn free_again(alloc: Global) -> Result<u32, BootFault> {
+    let sizes = Sizes {
+        mbufs: 512,
+        clusters: 64,
+    };
+    let mut store = Store::boot(alloc, sizes)?;
+    if let Ok(cluster) = store.get_cluster() {
+        store.hold(cluster);
+        store.release(cluster);
+        store.release(cluster); // the last one: it's free
+    }
+    Ok(store.free_clusters())
+}

@@ -1,0 +1,47 @@
+//! A host that sends each datagram back to its sender.
+use flat_model::{Addr, Config, Errno};
+use net_stack::{BootFault, Stack};
+use std::alloc::Global;
+
+/// The host 10.0.0.1 of the network 10.0.0.0/24.
+const HOST: Config = Config {
+    addr: 0x0a00_0001,
+    bcast: 0x0a00_00ff,
+    mtu: 1500,
+    mbufs: 512,
+    clusters: 64,
+    first_id: 1,
+};
+
+/// The longest datagram.
+const LONGEST: usize = 9216;
+
+/// Opens a socket on port 7, hands the stack a packet, and sends back the datagram that came of it, if one did. What
+/// stands after the packet's own length counts for nothing. A call that is refused ends this one, by `?`.
+fn serve(stack: &mut Stack, packet: &[u8; 1500]) -> Result<usize, Errno> {
+    let fd = stack.socket()?;
+    stack.bind(fd, Addr { ip: 0, port: 7 })?;
+    stack.rx(packet);
+    let mut room = [0; LONGEST];
+    let (sender, len) = stack.recvfrom(fd, &mut room)?;
+    stack.sendto(fd, Some(sender), &room[..len])
+}
+
+/// Boots the host, has it serve a packet, and puts the first packet that it gives the link into `link`. The answer is
+/// how many bytes that has.
+///
+/// A stack must be spent, by `end`. So no `?` stands between `boot` and `end`: what may be refused stands in a function
+/// of its own, which borrows the stack.
+pub fn answer(
+    alloc: Global,
+    packet: &[u8; 1500],
+    link: &mut [u8; 4352],
+) -> Result<Option<usize>, BootFault> {
+    let mut stack = Stack::boot(alloc, HOST)?;
+    let sent = match serve(&mut stack, packet) {
+        Ok(_) => stack.tx(link),
+        Err(_) => None,
+    };
+    let _ = stack.end();
+    Ok(sent)
+}

@@ -1,0 +1,22 @@
+//! A caller of each library: whole programs in small, which the READMEs of the crates show.
+#![tactic(auto)]
+
+pub mod admission;
+pub mod cell_bytes;
+pub mod chain_lines;
+pub mod cluster_counts;
+pub mod counting;
+pub mod datagram_sizes;
+pub mod echo_host;
+pub mod fragment;
+pub mod hearing;
+pub mod line_echo;
+pub mod link_packets;
+pub mod packet_sum;
+pub mod receive_queue;
+pub mod send;
+pub mod shared_cluster;
+pub mod socket_lines;
+pub mod two_chains;
+pub mod udp_packet;
+pub mod user_clusters;

@@ -1,0 +1,18 @@
+//! A datagram that is cut for a link.
+ghost use Rattle.mbuf_chain.specs.Chain.{IsLive, chain_of};
+ghost use Rattle.ip_out.specs.Packets.{IsDatagram};
+
+use ip_out::{IpHead, Queue, output};
+use mbuf_chain::{Chain, Pool};
+
+/// How many packets of at most 1,500 bytes a datagram makes. They're freed.
+pub fn packets_of(pool: &mut Pool, chain: Chain, head: IpHead) -> u32
+    requires live { IsLive pool.old chain }
+    requires datagram { IsDatagram (chain_of pool.old chain) }
+{
+    let mut queue = Queue::new();
+    let _ = output(pool, chain, head, 1500, &mut queue);
+    let packets = queue.len();
+    queue.end(pool);
+    packets
+}
