@@ -393,6 +393,3 @@ fn without(cache: Option<Connection>, fd: u32) -> Option<Connection>
         None => None,
     }
 }
-
-#[cfg(test)]
-mod tests;
