@@ -1,15 +1,17 @@
 -- How large the pool over a store is, and where its entries lie.
-use Rattle.std.proofs.Common.{◌≡◌, ℕ, zero, suc, ◌<◌, List, [], ◌∷◌, length, Option, Some, None, refl, arith, slice_get, slice_index}
+use Rattle.std.proofs.Common.{◌≡◌, ◌≢◌, ℕ, zero, suc, ◌+◌, ◌<◌, ◌≤◌, List, [], ◌∷◌, length, Option, Some, None, refl, sym, ap, ◌∙◌, arith, slice_get, slice_index}
 use Rattle.std.specs.Option.{IfSome}
 use Rattle.mbuf_pool.specs.Cells.{IsLink}
-use Rattle.mbuf_pool.specs.Store.{StoreView, head_of}
+use Rattle.mbuf_pool.specs.Store.{StoreView, head_of, is_out}
 use Rattle.mbuf_chain.specs.declared.place.Place.{Place}
-use Rattle.mbuf_chain.specs.Chain.{chain_of, IsLive, IsPlace}
-use Rattle.mbuf_chain.specs.Inside.Cells.{pool_of, IsPool}
+use Rattle.mbuf_chain.specs.Chain.{ChainView, chain_of, IsLive, IsPlace}
+use Rattle.mbuf_chain.specs.Inside.Cells.{pool_of, IsPool, weigh, is_at, read_chain}
+use Rattle.mbuf_chain.specs.Owners.{times}
 use Rattle.mbuf_chain.specs.Frames.{Fits, IsBounded}
-use Rattle.mbuf_chain.proofs.Lists.{few_out, out_below}
+use Rattle.mbuf_chain.proofs.Lists.{few_out, out_below, small}
 use Rattle.mbuf_chain.proofs.Changes.{held_is}
-use Rattle.mbuf_chain.proofs.Focused.{open_on, count_cells, first_out}
+use Rattle.mbuf_chain.proofs.Focused.{open_on, count_cells, first_out, once_in}
+use Rattle.mbuf_chain.proofs.Joins.{open_two}
 use Rattle.mbuf_chain.proofs.Rewrites.{some_cell}
 use Rattle.mbuf_chain.proofs.Places.{live_cells}
 use Rattle.mbuf_chain.proofs.Grows.{rooms_at}
@@ -29,11 +31,37 @@ fits s c at ok live place =
       known = cluster_known s c at ok live place;
     }
 
+-- how often a number stands in a list of mbufs
+times_weigh : (k : ℕ) (l : List ℕ) → times k l ≡ weigh (is_at k) l
+times_weigh k [] = refl
+times_weigh k (x ∷ xs) = ap (λ (n : ℕ). is_at k x + n) (times_weigh k xs)
+
+times_cells : (s : StoreView) (k : ℕ) (l : List ℕ) (v : ChainView) → read_chain s l ≡ v → times k v.cells ≡ weigh (is_at k) l
+times_cells s k l v shows = ap (λ (w : ChainView). times k w.cells) (sym shows) ∙ times_weigh k l
+
+once : (s : StoreView) (c k : ℕ) → IsPool s → IsLive (pool_of s) c → times k (chain_of (pool_of s) c).cells ≤ 1
+once s c k ok live =
+    let o = open_on s c ok live in
+    omega (arith, once_in s c o.at k, times_cells s k o.at.cells (chain_of (pool_of s) c) o.at.shows)
+
+apart : (s : StoreView) (c d k : ℕ) → IsPool s → IsLive (pool_of s) c → IsLive (pool_of s) d → c ≢ d → times k (chain_of (pool_of s) c).cells + times k (chain_of (pool_of s) d).cells ≤ 1
+apart s c d k ok live_c live_d ne =
+    let two = open_two s c d ok live_c live_d ne in
+    omega (
+      arith,
+      two.sound.once k,
+      small (is_out s k),
+      times_cells s k two.front (chain_of (pool_of s) c) two.shows_front,
+      times_cells s k two.back (chain_of (pool_of s) d) two.shows_back,
+    )
+
 pub bounded : (s : StoreView) → IsPool s → IsBounded (pool_of s)
 bounded s ok = record {
   some = λ c live. let o = open_on s c ok live in omega (arith, count_cells s c o.at, some_cell s o.at.cells o.at.chain);
   numbers = λ c live. let o = open_on s c ok live in out_below s c (first_out s c o.at);
   cells = λ c live. (live_cells s c ok live).same;
+  once = λ c k live. once s c k ok live;
+  apart = λ c d k live_c live_d ne. apart s c d k ok live_c live_d ne;
   fits = λ c i live lt.
       fits s c (record { index = i; cell = slice_index (chain_of (pool_of s) c).cells i }) ok live
       (record { within = lt; cell = get_index (chain_of (pool_of s) c).cells i (omega (arith, lt, (live_cells s c ok live).same)) });

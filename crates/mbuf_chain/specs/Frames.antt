@@ -1,5 +1,5 @@
 -- What a step leaves alone, and how large a pool is (this project's own).
-use Rattle.std.specs.Prelude.{◌≡◌, ℕ, ◌+◌, ◌<◌, ◌≤◌, List, length, Some}
+use Rattle.std.specs.Prelude.{◌≡◌, ◌≢◌, ℕ, ◌+◌, ◌<◌, ◌≤◌, List, length, Some}
 use Rattle.std.specs.FinMap as finmap
 use Rattle.params.specs.declared.TheConstants.{MAX_MBUFS}
 use Rattle.mbuf_chain.specs.Chain.{ChainView, PoolView, IsLive, chain_of, mbufs_of, held_mbufs, entry_of, room_start, room_end}
@@ -16,11 +16,14 @@ pub record Fits (p : PoolView) (v : ChainView) (i : ℕ) : Type 0 where
   pub high : (entry_of v i).start + length (entry_of v i).bytes ≤ room_end (entry_of v i)
   pub known : (c : ℕ) → (entry_of v i).cluster ≡ Some c → c < p.clusters
 
--- each chain has an mbuf and is numbered by one, each of its entries fits, all chains together have no more mbufs than there are, and these are at most 65,535
+-- Each chain has an mbuf and is numbered by one, each of its entries fits, and an mbuf stands in one chain at most, once.
+-- All chains together have no more mbufs than there are, and these are at most 65,535.
 pub record IsBounded (p : PoolView) : Type 0 where
   pub some : (c : ℕ) → IsLive p c → 0 < mbufs_of (chain_of p c)
   pub numbers : (c : ℕ) → IsLive p c → c < p.mbufs
   pub cells : (c : ℕ) → IsLive p c → length (chain_of p c).cells ≡ mbufs_of (chain_of p c)
+  pub once : (c k : ℕ) → IsLive p c → times k (chain_of p c).cells ≤ 1
+  pub apart : (c d k : ℕ) → IsLive p c → IsLive p d → c ≢ d → times k (chain_of p c).cells + times k (chain_of p d).cells ≤ 1
   pub fits : (c i : ℕ) → IsLive p c → i < mbufs_of (chain_of p c) → Fits p (chain_of p c) i
   pub few : held_mbufs p ≤ p.mbufs
   pub small : p.mbufs ≤ MAX_MBUFS

@@ -1,7 +1,9 @@
 //! The stack: what it consists of, how it starts and how it ends.
 ghost use Rattle.std.specs.Prelude.{◌≡◌, ◌↔◌, Err, MatchResult};
+ghost use Rattle.flat_model.specs.Amounts.Weight.{nothing};
 ghost use Rattle.flat_model.specs.Machine.State.{HasSizes, IsConfig};
 ghost use Rattle.flat_model.specs.Machine.State.{boot as flat_boot};
+ghost use Rattle.ledger.specs.Accounts.{IsAccounted};
 ghost use Rattle.net_stack.specs.Boots.{IsUnbooted, free_pool};
 ghost use Rattle.net_stack.specs.Stack.{IsStack, state_of};
 
@@ -102,9 +104,11 @@ impl Stack {
         })
     }
 
-    /// What always holds of a stack. It takes no step.
+    /// What always holds of a stack: its parts fit together, and its pool holds what the state weighs. So the count of
+    /// each cluster is the number of live mbufs that refer to it. It takes no step.
     pub fn laws(&self)
-        ensures { IsStack self.now }
+        ensures stack { IsStack self.now }
+        ensures accounted { IsAccounted self.now.pool (state_of self.now) nothing }
     {
         let _ = &self.config;
     }

@@ -1,6 +1,13 @@
 use Rattle.std.proofs.Common.{subst}
-use Rattle.net_stack.specs.Stack.{IsStack}
+use Rattle.flat_model.specs.Amounts.Weight.{nothing}
+use Rattle.ledger.specs.Accounts.{IsAccounted}
+use Rattle.net_stack.specs.Inside.Fields.{seen}
+use Rattle.net_stack.specs.Stack.{StackView, IsStack, state_of}
+use Rattle.net_stack.proofs.Lifted.{accounts}
 use Rattle.net_stack.proofs.stack.Stack.laws.Goals as goal
 
-pub returns : goal.returns
-returns c = subst IsStack c.self.view_is c.self.invariant.stack
+pub returns-clause-stack : goal.returns-clause-stack
+returns-clause-stack c = subst IsStack c.self.view_is c.self.invariant.stack
+
+pub returns-clause-accounted : goal.returns-clause-accounted
+returns-clause-accounted c = subst (λ (s : StackView). IsAccounted s.pool (state_of s) nothing) c.self.view_is (accounts (seen c.self.inside) c.self.invariant.stack)
