@@ -3,3 +3,4 @@ pub mod Packets
 pub mod Queues
 pub mod Ways
 pub mod Inside
+pub mod Questions

@@ -5,6 +5,7 @@ ghost use Rattle.mbuf_chain.specs.Owners.{Moves, IsOwned, times};
 ghost use Rattle.mbuf_chain.specs.Train.{IsHeld, numbers};
 ghost use Rattle.ledger.specs.Accounts.{item_at};
 ghost use Rattle.ip_out.specs.Packets.{IsDatagram, packets, packets_of};
+ghost use Rattle.ip_out.specs.Questions.{oldest_length};
 ghost use Rattle.ip_out.specs.Queues.{IsQueue};
 
 use crate::fragments::add_whole;
@@ -77,6 +78,16 @@ impl Queue {
         ensures { result ≡ (self.now.len == 0) }
     {
         self.train.is_empty()
+    }
+
+    /// How many bytes the packet has that has waited longest; `None` where none waits. It changes nothing, and takes a
+    /// number of steps that doesn't depend on the queue.
+    pub fn next_len(&self, pool: &Pool) -> Option<u32>
+        requires { IsQueue pool.now self.now }
+        ensures { result ≡ oldest_length (packets pool.now self.now) }
+    {
+        let at = self.train.first(pool)?;
+        Some(self.train.len_at(pool, at))
     }
 
     /// Puts a packet at the end. Conditions: fewer than 50 wait; the first mbuf has a packet header. It takes a number

@@ -4,6 +4,7 @@
 mod arrive;
 mod calls;
 mod laws;
+mod questions;
 mod receive;
 mod send;
 mod stack;
@@ -11,4 +12,5 @@ mod traffic;
 mod transmit;
 
 pub use laws::{calls_are_run, stacks_on_a_wire};
+pub use sock_calls::{NextDatagram, SocketName};
 pub use stack::{BootFault, Stack};

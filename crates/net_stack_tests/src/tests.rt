@@ -1,6 +1,7 @@
 //! Calls of a stack, each on its plain path.
 mod broadcasts;
 mod fragments;
+mod questions;
 mod traffic;
 mod two;
 

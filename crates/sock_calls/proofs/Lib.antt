@@ -14,3 +14,4 @@ mod Made
 mod Queueing
 mod Going
 mod Tested
+mod Asked

@@ -2,3 +2,4 @@
 pub mod Destination
 pub mod Putting
 pub mod Delivering
+pub mod Asked

@@ -11,9 +11,11 @@ mod ending;
 mod input;
 mod net;
 mod packets;
+mod questions;
 mod receive;
 mod send;
 mod sockets;
 
 pub use net::Net;
+pub use questions::{NextDatagram, SocketName};
 pub use sockets::Socks;

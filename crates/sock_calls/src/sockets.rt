@@ -10,11 +10,13 @@ ghost use Rattle.pcb_table.specs.Table.{IsDescriptor};
 ghost use Rattle.sockbuf.specs.SockBuf.{no_datagrams};
 ghost use Rattle.sock_calls.specs.Delivery.{seen, IsInput};
 ghost use Rattle.sock_calls.specs.Outgoing.{sending, CanSend, IsSent};
+ghost use Rattle.sock_calls.specs.Questions.{next_datagram, readable, socket_name};
 ghost use Rattle.sock_calls.specs.Sockets.{IsSocks, IsCalled, queue_at, queued_chains, with_sockets};
 
 use crate::ending::{end_empty, flush_all};
 use crate::input::input;
 use crate::net::Net;
+use crate::questions::{NextDatagram, SocketName, name_of, next_at, readable};
 use crate::receive::{flush_at, refusal, take_at};
 use crate::send::send;
 use arrayvec::ArrayVec;
@@ -94,6 +96,35 @@ impl Socks {
         ensures { result ≡ self.now.pcbs.bcast }
     {
         self.pcbs.bcast()
+    }
+
+    /// What a socket is bound and connected to, and its options (`getsockname`, `getpeername` and `getsockopt` of volume
+    /// 2, chapters 15 and 17). It changes nothing. Refused: `BadDescriptor`.
+    pub fn name(&self, fd: u32) -> Result<SocketName, Errno>
+        ensures { (p : PoolView) (rest : State) → result ≡ socket_name fd (with_sockets p self.now rest) }
+    {
+        name_of(&self.pcbs, fd)
+    }
+
+    /// The oldest datagram that waits in a socket: its sender, how many bytes it has, and how many wait. It changes
+    /// nothing. Refused, in this order: `BadDescriptor`; `WouldBlock` where none waits.
+    pub fn next_datagram(&self, pool: &Pool, fd: u32) -> Result<NextDatagram, Errno>
+        requires { IsSocks pool.now self.now }
+        ensures { (rest : State) → result ≡ next_datagram fd (with_sockets pool.now self.now rest) }
+    {
+        match self.pcbs.block(fd) {
+            Some(_) => next_at(pool, &self.queues, place_of(fd)),
+            None => Err(Errno::BadDescriptor),
+        }
+    }
+
+    /// The sockets in which a datagram waits, as a set: bit k stands for descriptor 3 + k, the lowest for k = 0. It takes
+    /// one step for each of the 64 descriptors.
+    pub fn readable(&self) -> u64
+        ensures { (p : PoolView) (rest : State) → IsSocks p self.now
+            → result ≡ readable (with_sockets p self.now rest) }
+    {
+        readable(&self.queues)
     }
 
     /// Opens a socket, with the lowest free descriptor of 3 to 66 (volume 2 chapter 15). Refused, and then nothing

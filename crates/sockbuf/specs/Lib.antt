@@ -1,1 +1,2 @@
 pub mod SockBuf
+pub mod Questions

@@ -4,6 +4,7 @@ ghost use Rattle.std.specs.Prelude.{◌≡◌, ◌==◌, ◌<◌, ◌∷◌, [],
 ghost use Rattle.flat_model.specs.Sockets.Fits as flat;
 ghost use Rattle.mbuf_chain.specs.Chain.{IsLive, PoolView, chain_of, held_mbufs, string};
 ghost use Rattle.mbuf_chain.specs.Owners.{times, Moves};
+ghost use Rattle.sockbuf.specs.Questions.{oldest_of};
 ghost use Rattle.sockbuf.specs.SockBuf.{AppendsAddr, IsEmpty, IsSockBuf, TakesOldest, chains_of, datagram_from, datagrams, no_datagrams};
 
 use crate::address::{sockaddr_in, with_address};
@@ -91,6 +92,21 @@ impl SockBuf {
         let with_address = u64::from(SOCKADDR_BYTES) + u64::from(len);
         with_address + u64::from(self.cc) <= u64::from(UDP_RECEIVE_SPACE)
             && with_address + u64::from(self.mbcnt) <= u64::from(UDP_RECEIVE_MEMORY)
+    }
+
+    /// Who sent the oldest datagram, and how many bytes it has; `None` where none waits. It changes nothing, and takes a
+    /// number of steps that doesn't depend on the queue.
+    pub fn oldest(&self, pool: &Pool) -> Option<(Addr, u32)>
+        requires { IsSockBuf pool.now self.now }
+        ensures { result ≡ oldest_of (datagrams pool.now self.now) }
+    {
+        let at = self.train.first(pool)?;
+        let len = self.train.len_at(pool, at);
+        let mut pieces = self.train.pieces_at(pool, at);
+        match pieces.next() {
+            Some(front) => Some((sockaddr_in(front), len - SOCKADDR_BYTES)),
+            None => unreachable!(),
+        }
     }
 
     /// Puts a datagram at the end, with its sender's address in an mbuf in front (`sbappendaddr`). It takes one mbuf, and

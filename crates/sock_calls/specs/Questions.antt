@@ -1,0 +1,59 @@
+-- What a question about the sockets answers, as a function of the flat machine's state: `getsockname`, `getpeername` and
+-- `getsockopt` (volume 2, chapters 15 and 17), `FIONREAD` and `select` (chapters 15 and 16); that all of a socket is
+-- told at once, and of all sockets what is readable, is this project's own.
+use Rattle.std.specs.Prelude.{ℕ, zero, suc, ◌+◌, ◌^◌, Bool, false, not, ◌==◌, if◌then◌else◌, List, [], ◌∷◌, length, Option, None, Some, Result, Ok, Err}
+use Rattle.params.specs.declared.TheConstants.{FIRST_DESCRIPTOR, MAX_SOCKETS}
+use Rattle.flat_model.specs.Machine.State.{State, Socket, Datagram, socket_at}
+use Rattle.flat_model.specs.declared.errno.Errno.{Errno}
+use Rattle.flat_model.specs.declared.errno.Errno.TheVariants.{BadDescriptor, WouldBlock}
+use Rattle.sock_calls.specs.declared.questions.SocketName.{SocketName}
+use Rattle.sock_calls.specs.declared.questions.NextDatagram.{NextDatagram}
+
+-- ---- one socket
+
+-- what it is bound and connected to, and its options
+abbrev pub name_of : Socket → SocketName
+name_of me = record {
+  local = me.local;
+  port = me.port;
+  peer = me.peer;
+  broadcast = me.broadcast;
+  reuse_port = me.reuse_port;
+}
+
+abbrev pub named : Option Socket → Result SocketName Errno
+named None = Err BadDescriptor
+named (Some me) = Ok (name_of me)
+
+-- the name of a descriptor's socket; refused where no such socket is open
+abbrev pub socket_name : ℕ → State → Result SocketName Errno
+socket_name fd s = named (socket_at fd s)
+
+-- the oldest of these datagrams; refused where there is none
+abbrev pub next_of : List Datagram → Result NextDatagram Errno
+next_of [] = Err WouldBlock
+next_of (d ∷ later) = Ok (record { sender = d.sender; len = length d.item.bytes; waiting = suc (length later) })
+
+abbrev pub next_in : Option Socket → Result NextDatagram Errno
+next_in None = Err BadDescriptor
+next_in (Some me) = next_of me.queue
+
+-- the oldest datagram that waits in a descriptor's socket; refused where no such socket is open, and where none waits
+abbrev pub next_datagram : ℕ → State → Result NextDatagram Errno
+next_datagram fd s = next_in (socket_at fd s)
+
+-- ---- all sockets
+
+-- those of the numbers below a limit for which the test holds, as one number: its bit k stands for k
+unfoldable pub set_below : (ℕ → Bool) → ℕ → ℕ
+set_below test zero = 0
+set_below test (suc n) = set_below test n + (if test n then 2 ^ n else 0)
+
+-- a datagram waits
+abbrev pub waits_in : Option Socket → Bool
+waits_in None = false
+waits_in (Some me) = not (length me.queue == 0)
+
+-- the descriptors with a datagram that waits: bit k stands for descriptor 3 + k
+abbrev pub readable : State → ℕ
+readable s = set_below (λ k. waits_in (socket_at (FIRST_DESCRIPTOR + k) s)) MAX_SOCKETS
