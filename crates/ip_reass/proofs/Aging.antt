@@ -9,13 +9,12 @@ use Rattle.std.specs.List.{AllByRecursion}
 use Rattle.std.proofs.lemmas.List.Elements.{All-from_recursion, recursion_from_All}
 use Rattle.std.specs.List.Sorted.{IsPermutation}
 use Rattle.std.proofs.lemmas.List.Sums.{sum_by-cons}
-use Rattle.flat_model.specs.Machine.State.{Unfinished}
+use Rattle.flat_model.specs.Machine.State.{State, Key, Unfinished, is_key}
 use Rattle.flat_model.proofs.Laws.{count_cons}
 use Rattle.mbuf_chain.specs.Chain.{PoolView}
 use Rattle.mbuf_chain.specs.Owners.{times, Moves}
 use Rattle.mbuf_chain.proofs.Laws.Owners.{times-append, moves_beside}
-use Rattle.ip_reass.specs.Table.{aged, held, held_all, holds, IsUnfinished, AllUnfinished, IsTable, unfinished_of, unfinished}
-use Rattle.flat_model.specs.Machine.State.{State}
+use Rattle.ip_reass.specs.Table.{aged, held, held_all, holds, IsUnfinished, AllUnfinished, IsTable, unfinished_of, unfinished, AreDistinct}
 use Rattle.flat_model.specs.Machine.Step.{ticked}
 use Rattle.flat_model.specs.Machine.Count.{counts_more}
 use Rattle.flat_model.specs.declared.counters.Counters.{Counters}
@@ -185,3 +184,25 @@ tick_step rest c p q old new n e same left =
     let shows : unfinished q new ≡ filter (λ (u : Unfinished). ltb 0 u.ticks) (older (unfinished p old)) = unfinished_same p q new same ∙ (ap (unfinished p) e ∙ aged_is p old) in
     let count : count_by (λ (u : Unfinished). eqb u.ticks 0) (older (unfinished p old)) ≡ n = omega (arith, gone_is p old) in
     λ j. record rest { unfinished = sym shows j; counters = counts_more IpFragtimeout (count j) c }
+
+-- no key is held twice then
+keys_aged : (p : PoolView) (k : Key) (ds : List Datagram) → count_by (is_key k) (unfinished p (aged ds)) ≤ count_by (is_key k) (unfinished p ds)
+keys_aged p k [] = omega arith
+keys_aged p k (d ∷ ds) = elim (cases_lt 1 d.ticks) [
+  | inl l ↦ omega (
+    arith,
+    keys_aged p k ds,
+    ap (λ (xs : List Datagram). count_by (is_key k) (unfinished p xs)) (cond-true {A = List Datagram} _ (record d { ticks = d.ticks - 1 } ∷ aged ds) (aged ds) (lt-ltb 1 d.ticks l)),
+    count_cons (is_key k) (record (unfinished_of p d) { ticks = d.ticks - 1 }) (unfinished p (aged ds)),
+    count_cons (is_key k) (unfinished_of p d) (unfinished p ds),
+  )
+  | inr l ↦ omega (
+    arith,
+    keys_aged p k ds,
+    ap (λ (xs : List Datagram). count_by (is_key k) (unfinished p xs)) (cond-false {A = List Datagram} _ (record d { ticks = d.ticks - 1 } ∷ aged ds) (aged ds) (le-ltb 1 d.ticks l)),
+    count_cons (is_key k) (unfinished_of p d) (unfinished p ds),
+  )
+]
+
+pub aged_distinct : (p q : PoolView) (old new : List Datagram) → new ≡ aged old → SameAt p q (held_all p new) → AreDistinct p old → AreDistinct q new
+aged_distinct p q old new e same distinct = λ k. omega (arith, ap (count_by (is_key k)) (unfinished_same p q new same ∙ ap (unfinished p) e), keys_aged p k old, distinct k)

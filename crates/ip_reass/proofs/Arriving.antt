@@ -1,8 +1,7 @@
 -- A fragment that arrives, as a step of the flat machine.
-use Rattle.std.proofs.Common.{◌≡◌, ◌⊎◌, ℕ, zero, suc, ◌+◌, ◌-◌, ◌<◌, ◌≤◌, min, Bool, true, false, not, cond, List, [], ◌∷◌, ◌++◌, length, find, count_by, drop, take, Option, None, Some, is_some, get_or, refl, sym, ap, ◌∙◌, subst, arith, inl, inr, length-drop, length-append}
-use Rattle.std.specs.Prelude.{filter_map, slice_get}
-use Rattle.std.specs.List.{cons_option}
-use Rattle.std.proofs.lemmas.Bool.{false≢true, cases_lt, le-leb, lt-leb, lt-ltb, le-ltb, eq-eqb, ne_eqb, ltb-false, or_parts, and_left, cond-true, cond-false}
+use Rattle.std.proofs.Common.{◌≡◌, ℕ, zero, suc, ◌+◌, ◌-◌, ◌<◌, ◌≤◌, Bool, true, false, cond, List, [], ◌∷◌, ◌++◌, length, find, count_by, drop, Option, None, Some, is_some, refl, sym, ap, ◌∙◌, subst, arith, length-drop}
+use Rattle.std.specs.Prelude.{slice_get}
+use Rattle.std.proofs.lemmas.Bool.{false≢true, ltb-false, or_parts, cond-true, cond-false}
 use Rattle.std.proofs.lemmas.Option.{none-some}
 use Rattle.flat_model.specs.Amounts.Weight.{Weight, Item, SameWeight, nothing, mbuf, ◌⊕◌, all_of, times}
 use Rattle.flat_model.specs.Fragments.Whole.{weight_of_pieces}
@@ -10,14 +9,12 @@ use Rattle.flat_model.specs.Fragments.Overlay.{Fragment}
 use Rattle.flat_model.specs.Machine.State.{State, Socket, Key, Unfinished, is_key, begun, begin_unfinished, ends}
 use Rattle.flat_model.specs.Machine.Count.{counted, counts_more}
 use Rattle.flat_model.specs.Machine.Ledger.{exact_ledger, HasBuffers, need_mbufs}
-use Rattle.flat_model.specs.Machine.Arrival.{Origin, By_wire, Looped, Tests, Lays, Joins, FragmentArrives, is_bad_fragment, counts_fragment}
-use Rattle.flat_model.specs.Machine.Arrival as flat
+use Rattle.flat_model.specs.Machine.Arrival.{Tests, Lays, Joins, is_bad_fragment, counts_fragment}
 use Rattle.flat_model.specs.declared.counters.Counters.{Counters}
 use Rattle.flat_model.specs.declared.counter.Counter.TheVariants.{IpFragments}
 use Rattle.flat_model.specs.declared.counters.Why.TheVariants.{BadFragment, NoBufs}
 use Rattle.flat_model.proofs.Laws.{times-both, all_of-append}
-use Rattle.mbuf_chain.specs.Chain.{Entry, Front, ChainView, PoolView, without, chain_of, entry_of, no_entry, flat_bytes, string, with_chain}
-use Rattle.mbuf_chain.specs.Steps.{narrowed, with_back, empty_entry}
+use Rattle.mbuf_chain.specs.Chain.{Entry, Front, ChainView, PoolView, without, chain_of, entry_of, flat_bytes, string, with_chain}
 use Rattle.mbuf_chain.specs.Owners as owners
 use Rattle.mbuf_chain.specs.Owners.{IsOwned, Moves}
 use Rattle.mbuf_chain.specs.Frames.{SameAt}
@@ -26,7 +23,6 @@ use Rattle.chain_ops.specs.Makes.{Makes}
 use Rattle.ip_reass.proofs.Reserved.{Stays}
 use Rattle.chain_ops.specs.Pulls as ops
 use Rattle.chain_ops.specs.Pulls.{moved, pulled_len}
-use Rattle.chain_ops.specs.Rooms.{room_low}
 use Rattle.chain_ops.specs.Trims.{without_first}
 use Rattle.chain_ops.proofs.Laws.Strings.{without_first_bytes, pulled_up_bytes}
 use Rattle.ledger.specs.Accounts.{IsAccounted, Shifts, weight_of, weight_at, weight_owned}
@@ -34,13 +30,12 @@ use Rattle.ledger.proofs.Laws.{accounted_after}
 use Rattle.ip_out.specs.declared.head.IpHead.{IpHead}
 use Rattle.ip_reass.specs.Fragments.{fragment_of}
 use Rattle.ip_reass.specs.Inside.Walks.{arrived}
-use Rattle.ip_reass.specs.Table.{has_key, held_all, IsTable, unfinished, unfinished_of}
+use Rattle.ip_reass.specs.Table.{has_key, held_all, AreDistinct, IsTable, unfinished, unfinished_of}
 use Rattle.ip_reass.specs.Inside.Steps.{datagram_at}
 use Rattle.ip_reass.specs.Same.{held_all_same, table_same, unfinished_same, queues_same, table_weighs}
-use Rattle.ip_reass.specs.Layouts.{queues}
-use Rattle.ip_reass.specs.Arrivals.{AreDistinct, machine, flat_head, key_in, carried_at, CameBy, IsPulled, pulled_entries, carried_entries}
+use Rattle.ip_reass.specs.Layouts.{queues, fragment_carried, ChainArrives}
+use Rattle.ip_reass.specs.Arrivals.{machine, flat_head, key_in, IsPulled, pulled_entries, carried_entries}
 use Rattle.ip_reass.specs.declared.datagram.Datagram.{Datagram}
-use Rattle.ip_reass.proofs.Edits.{weight_trimmed}
 use Rattle.ip_reass.proofs.Places.{found_passes}
 
 -- ---- the accounts after a step: those of what is in hand and of the table
@@ -110,60 +105,7 @@ trimmed_off q r es n is owns gone =
       moves = m;
     }
 
--- ---- what a packet weighs once its header is pulled up
-abbrev bag_of : List Entry → List ℕ
-bag_of es = filter_map (λ (e : Entry). e.cluster) es
-
--- no byte more is moved
-moved_none : (x : Entry) (es : List Entry) (n : ℕ) → n ≡ 0 → moved n x es ≡ x ∷ es
-moved_none x [] n z = refl
-moved_none x (e ∷ es) n z = cond-true _ _ _ (eq-eqb n 0 z)
-
--- the first mbuf is a cluster that is emptied
-moved_whole : (x e : Entry) (es : List Entry) (n : ℕ) → 0 < n → length e.bytes ≡ n → moved n x (e ∷ es) ≡ with_back x e.bytes ∷ es
-moved_whole x e es n some same =
-    cond-false _ _ _ (ne_eqb n 0 (λ z. absurd (omega arith))) ∙ (cond-true _ _ _ (le-leb (length e.bytes) n (omega arith)) ∙ moved_none (with_back x e.bytes) es (n - length e.bytes) (omega arith))
-
--- or keeps some bytes
-moved_part : (x e : Entry) (es : List Entry) (n : ℕ) → 0 < n → n < length e.bytes → moved n x (e ∷ es) ≡ with_back x (take n e.bytes) ∷ narrowed e n (length e.bytes - n) ∷ es
-moved_part x e es n some less =
-    cond-false _ _ _ (ne_eqb n 0 (λ z. absurd (omega arith))) ∙ cond-false _ _ _ (lt-leb (length e.bytes) n less)
-
-pulled_weighs : (e x : Entry) (es : List Entry) (k n total : ℕ) → e.cluster ≡ Some k → x.cluster ≡ None → length e.bytes ≤ total → n ≡ min 40 total → 0 < n → (total ≤ length e.bytes) ⊎ (40 < length e.bytes)
-    → weight_of (moved n x (e ∷ es)) ≡ flat.pulled_up total (weight_of (e ∷ es))
-pulled_weighs e x es k n total is none long n_is some holds = elim (cases_lt 40 total) [
-  | inl more ↦
-      let less : n < length e.bytes = elim holds [ inl a ↦ omega arith | inr a ↦ omega arith ] in
-      let mbufs : length (with_back x (take n e.bytes) ∷ narrowed e n (length e.bytes - n) ∷ es) ≡ length (e ∷ es) + 1 = omega arith in
-      let bag : bag_of (with_back x (take n e.bytes) ∷ narrowed e n (length e.bytes - n) ∷ es) ≡ bag_of (e ∷ es) = ap (λ (o : Option ℕ). cons_option o (cons_option e.cluster (bag_of es))) none in
-      ap weight_of (moved_part x e es n some less) ∙ ((λ i. record { mbufs = mbufs i; bag = bag i }) ∙ sym (cond-true _ _ _ (lt-ltb 40 total more)))
-  | inr fewer ↦
-      let same : length e.bytes ≡ n = elim holds [ inl a ↦ omega arith | inr a ↦ absurd (omega arith) ] in
-      let bag : bag_of (with_back x e.bytes ∷ es) ≡ drop 1 (bag_of (e ∷ es)) =
-      ap (λ (o : Option ℕ). cons_option o (bag_of es)) none ∙ ap (λ (o : Option ℕ). drop 1 (cons_option o (bag_of es))) (sym is) in
-      ap weight_of (moved_whole x e es n some same) ∙ ((λ i. record { mbufs = suc (length es); bag = bag i }) ∙ sym (cond-false _ _ _ (le-ltb 40 total fewer)))
-]
-
--- **a packet whose first mbuf is a cluster weighs what the flat machine says once its header is pulled up**
-pub pulled_is : (v : ChainView) → is_some (entry_of v 0).cluster ≡ true → 20 ≤ length (string v) → (length (string v) ≤ length (entry_of v 0).bytes) ⊎ (40 < length (entry_of v 0).bytes)
-    → weight_of (ops.pulled_up v 20) ≡ flat.pulled_up (length (string v)) (weight_of v.entries)
-pulled_is v is some holds = ap weight_of plain ∙ go v.entries is some holds
-  where
-    plain : ops.pulled_up v 20 ≡ moved (pulled_len 20 v.entries) (empty_entry (room_low v.front.header) None) v.entries
-    plain = cond-false _ _ _ (and_left _ _ (ap not is))
-
-    cluster_of : (o : Option ℕ) → is_some o ≡ true → (k : ℕ) × (o ≡ Some k)
-    cluster_of None e = absurd (false≢true e)
-    cluster_of (Some k) e = (k, refl)
-
-    go : (es : List Entry) → is_some (get_or es 0 no_entry).cluster ≡ true → 20 ≤ length (flat_bytes es) → (length (flat_bytes es) ≤ length (get_or es 0 no_entry).bytes) ⊎ (40 < length (get_or es 0 no_entry).bytes)
-        → weight_of (moved (pulled_len 20 es) (empty_entry (room_low v.front.header) None) es) ≡ flat.pulled_up (length (flat_bytes es)) (weight_of es)
-    go [] e l h = absurd (false≢true e)
-    go (e ∷ es) is l h =
-        let k = cluster_of e.cluster is in
-        pulled_weighs e (empty_entry (room_low v.front.header) None) es k.0 (pulled_len 20 (e ∷ es)) (length (flat_bytes (e ∷ es))) k.1 refl (omega (arith, length-append e.bytes (flat_bytes es))) (omega arith) (omega arith) h
-
--- ---- the fragment that joins
+-- ---- the bytes of the fragment that joins
 pub carried_bytes : (v : ChainView) → flat_bytes (carried_entries v) ≡ drop 20 (string v)
 carried_bytes v = without_first_bytes 20 (pulled_entries v) ∙ ap (drop 20) (pulled_bytes (is_some (entry_of v 0).cluster))
   where
@@ -171,58 +113,26 @@ carried_bytes v = without_first_bytes 20 (pulled_entries v) ∙ ap (drop 20) (pu
     pulled_bytes true = pulled_up_bytes v 20
     pulled_bytes false = refl
 
-carried_is : (v : ChainView) (h : IpHead) (es : List Entry) (w : Weight) → es ≡ carried_entries v → weight_of (pulled_entries v) ≡ w
-    → fragment_of (record { offset = h.offset; more = h.more; entries = es }) ≡ record { offset = h.offset; bytes = drop 20 (string v); more = h.more; weight = w }
-carried_is v h es w e is =
-    let bytes : flat_bytes es ≡ drop 20 (string v) = ap flat_bytes e ∙ carried_bytes v in
-    let weight : weight_of es ≡ w = ap weight_of e ∙ (weight_trimmed 20 (pulled_entries v) ∙ is) in
-    λ i. record { offset = h.offset; bytes = bytes i; more = h.more; weight = weight i }
-
 -- ---- the three ends
-module _ (rest : State) (held : Weight) (new : State) (h : IpHead) (p : PoolView) (ds : List Datagram) (c : Counters) (n len : ℕ) (long : length (string (chain_of p n)) ≡ 20 + len) where
-  len_is : length (drop 20 (string (chain_of p n))) ≡ len
-  len_is = omega (arith, length-drop 20 (string (chain_of p n)))
-
+module _ (held : Weight) (old new : State) (h : IpHead) (v : ChainView) where
   -- none can be so
-  pub arrives_bad : (origin : Origin) → is_bad_fragment (flat_head h) len ≡ true → new ≡ ends BadFragment (machine p ds c rest) → FragmentArrives exact_ledger origin held (flat_head h) (carried_at p n) (machine p ds c rest) new
-  arrives_bad origin bad is = record {
-    yes = λ e. is;
-    no = λ e. absurd (false≢true (sym e ∙ (ap (is_bad_fragment (flat_head h)) len_is ∙ bad)));
-  }
+  pub arrives_bad : is_bad_fragment (flat_head h) (h.total - 20) ≡ true → new ≡ ends BadFragment old → ChainArrives held h v old new
+  arrives_bad bad is = record { yes = λ e. is; no = λ e. absurd (false≢true (sym e ∙ bad)) }
 
-  -- no mbuf for the header
-  pub arrives_lacking : (origin : Origin) → CameBy origin (chain_of p n) → is_bad_fragment (flat_head h) len ≡ false → is_some (entry_of (chain_of p n) 0).cluster ≡ true
-      → Tests exact_ledger (counts_fragment (machine p ds c rest)) (held ⊕ weight_at p n) 1 new (λ mid. Joins exact_ledger held (key_in h) (record { offset = h.offset; bytes = drop 20 (string (chain_of p n)); more = h.more; weight = flat.pulled_up (20 + len) (weight_at p n) }) mid new)
-      → FragmentArrives exact_ledger origin held (flat_head h) (carried_at p n) (machine p ds c rest) new
-  arrives_lacking Looped came good cluster tests = absurd (false≢true (sym (ap is_some came) ∙ cluster))
-  arrives_lacking (By_wire received) came good cluster tests = record {
-    yes = λ e. absurd (false≢true (sym (ap (is_bad_fragment (flat_head h)) len_is ∙ good) ∙ e));
-    no = λ e. record {
-      yes = λ large. subst (λ (total : ℕ). Tests exact_ledger (counts_fragment (machine p ds c rest)) (held ⊕ weight_at p n) 1 new (λ mid. Joins exact_ledger held (key_in h) (record { offset = h.offset; bytes = drop 20 (string (chain_of p n)); more = h.more; weight = flat.pulled_up (20 + total) (weight_at p n) }) mid new)) (sym len_is) tests;
-      no = λ small. absurd (false≢true (sym small ∙ (sym came.cluster ∙ cluster)));
-    };
+  -- a first mbuf that is a cluster
+  pub arrives_cluster : is_bad_fragment (flat_head h) (h.total - 20) ≡ false → is_some (entry_of v 0).cluster ≡ true
+      → Tests exact_ledger (counts_fragment old) (held ⊕ weight_of v.entries) 1 new (λ mid. Joins exact_ledger held (key_in h) (fragment_of (fragment_carried v h)) mid new) → ChainArrives held h v old new
+  arrives_cluster good cluster tests = record {
+    yes = λ e. absurd (false≢true (sym good ∙ e));
+    no = λ e. record { yes = λ is. tests; no = λ is. absurd (false≢true (sym is ∙ cluster)) };
   }
 
   -- a plain first mbuf
-  pub arrives_plain : (origin : Origin) → CameBy origin (chain_of p n) → is_bad_fragment (flat_head h) len ≡ false → is_some (entry_of (chain_of p n) 0).cluster ≡ false
-      → Joins exact_ledger held (key_in h) (record { offset = h.offset; bytes = drop 20 (string (chain_of p n)); more = h.more; weight = weight_at p n }) (counts_fragment (machine p ds c rest)) new
-      → FragmentArrives exact_ledger origin held (flat_head h) (carried_at p n) (machine p ds c rest) new
-  arrives_plain Looped came good plain joins = record {
-    yes = λ e. absurd (false≢true (sym (ap (is_bad_fragment (flat_head h)) len_is ∙ good) ∙ e));
-    no = λ e. joins;
+  pub arrives_plain : is_bad_fragment (flat_head h) (h.total - 20) ≡ false → is_some (entry_of v 0).cluster ≡ false → Joins exact_ledger held (key_in h) (fragment_of (fragment_carried v h)) (counts_fragment old) new → ChainArrives held h v old new
+  arrives_plain good plain joins = record {
+    yes = λ e. absurd (false≢true (sym good ∙ e));
+    no = λ e. record { yes = λ is. absurd (false≢true (sym plain ∙ is)); no = λ is. joins };
   }
-  arrives_plain (By_wire received) came good plain joins = record {
-    yes = λ e. absurd (false≢true (sym (ap (is_bad_fragment (flat_head h)) len_is ∙ good) ∙ e));
-    no = λ e. record {
-      yes = λ large. absurd (false≢true (sym plain ∙ (came.cluster ∙ large)));
-      no = λ small. joins;
-    };
-  }
-
--- what came by the wire in a cluster holds enough of the packet
-pub holds_of : (origin : Origin) (v : ChainView) → CameBy origin v → is_some (entry_of v 0).cluster ≡ true → (length (string v) ≤ length (entry_of v 0).bytes) ⊎ (40 < length (entry_of v 0).bytes)
-holds_of Looped v came cluster = absurd (false≢true (sym (ap is_some came) ∙ cluster))
-holds_of (By_wire received) v came cluster = came.holds
 
 -- a test for the header's mbuf, and where it passed, that the fragment joins
 pub tests_of : (rest : State) (held : Weight) (new : State) (k : Key) (f : Fragment) (w : Weight) (p q : PoolView) (ds es : List Datagram) (c d : Counters) (answer : Bool) → IsPulled p ds c w answer q es d rest held
@@ -345,56 +255,38 @@ good_some h (suc n) e = omega arith
 pub good_small : (h : IpHead) (n : ℕ) → is_bad_fragment (flat_head h) n ≡ false → h.offset + n ≤ 65515
 good_small h n e = ltb-false _ _ (or_parts _ _ e).1
 
--- ---- what waits after a test
-distinct_then : (rest : State) (w : Weight) (p q : PoolView) (ds es : List Datagram) (c mid : Counters) → AreDistinct p ds → HasBuffers exact_ledger (machine p ds c rest) w (need_mbufs 1) true (machine q es mid rest) → AreDistinct q es
-distinct_then rest w p q ds es c mid distinct (inl a) = λ k. omega (arith, distinct k, ap (λ (s : State). count_by (is_key k) s.unfinished) a.1)
-distinct_then rest w p q ds es c mid distinct (inr a) = λ k. omega (arith, ap (λ (s : State). count_by (is_key k) s.unfinished) a.1)
-
-distinct_same : (q r : PoolView) (es : List Datagram) → unfinished r es ≡ unfinished q es → AreDistinct q es → AreDistinct r es
-distinct_same q r es e distinct = λ k. omega (arith, distinct k, ap (count_by (is_key k)) e)
-
 -- **a fragment whose header stands in a plain mbuf now**
-module _ (rest : State) (held : Weight) (new : State) (h : IpHead) (p q r : PoolView) (ds es : List Datagram) (c c1 d : Counters) (n n' len : ℕ) (long : length (string (chain_of p n)) ≡ 20 + len) (good : is_bad_fragment (flat_head h) len ≡ false)
-    (counts : c1 ≡ counts_more IpFragments 1 c) (entries : (chain_of q n').entries ≡ pulled_entries (chain_of p n)) (t : Trimmed q es n' r) (distinct : AreDistinct p ds)
-    (joins : AreDistinct r es → Joins exact_ledger held (key_in h) (fragment_of (arrived r n' h.offset h.more)) (machine r es d rest) new) where
-  entries_here : (chain_of r n').entries ≡ carried_entries (chain_of p n)
-  entries_here = ap (λ (v : ChainView). v.entries) t.chain ∙ ap (without_first 20) entries
+module _ (rest : State) (held : Weight) (new : State) (h : IpHead) (p q r : PoolView) (ds es : List Datagram) (c c1 d : Counters) (n n' : ℕ) (good : is_bad_fragment (flat_head h) (h.total - 20) ≡ false) (counts : c1 ≡ counts_more IpFragments 1 c)
+    (entries : (chain_of q n').entries ≡ pulled_entries (chain_of p n)) (t : Trimmed q es n' r) (joins : Joins exact_ledger held (key_in h) (fragment_of (arrived r n' h.offset h.more)) (machine r es d rest) new) where
+  carried_now : fragment_of (arrived r n' h.offset h.more) ≡ fragment_of (fragment_carried (chain_of p n) h)
+  carried_now = ap (λ (xs : List Entry). fragment_of (record { offset = h.offset; more = h.more; entries = xs })) (ap (λ (v : ChainView). v.entries) t.chain ∙ ap (without_first 20) entries)
 
-  pub some_plain : (origin : Origin) → CameBy origin (chain_of p n) → is_some (entry_of (chain_of p n) 0).cluster ≡ false → q ≡ p → es ≡ ds → d ≡ c1 → FragmentArrives exact_ledger origin held (flat_head h) (carried_at p n) (machine p ds c rest) new
-  some_plain origin came plain q_is es_is d_is =
+  -- what joins, from the state that the test of its header leaves
+  joins_then : (s : State) → machine r es d rest ≡ s → Joins exact_ledger held (key_in h) (fragment_of (fragment_carried (chain_of p n) h)) s new
+  joins_then s now = subst (λ (x : State). Joins exact_ledger held (key_in h) (fragment_of (fragment_carried (chain_of p n) h)) x new) now (subst (λ (x : Fragment). Joins exact_ledger held (key_in h) x (machine r es d rest) new) carried_now joins)
+
+  pub some_plain : is_some (entry_of (chain_of p n) 0).cluster ≡ false → q ≡ p → es ≡ ds → d ≡ c1 → ChainArrives held h (chain_of p n) (machine p ds c rest) new
+  some_plain plain q_is es_is d_is =
       let shows : unfinished r es ≡ unfinished p ds = t.shows ∙ (λ j. unfinished (q_is j) (es_is j)) in
-      let there : AreDistinct r es = λ k. omega (arith, distinct k, ap (count_by (is_key k)) shows) in
       let now : machine r es d rest ≡ counts_fragment (machine p ds c rest) = λ j. record rest { unfinished = shows j; counters = (d_is ∙ counts) j } in
-      let weight : weight_of (pulled_entries (chain_of p n)) ≡ weight_at p n = ap weight_of (cond-false _ _ _ plain) in
-      let f = carried_is (chain_of p n) h (chain_of r n').entries (weight_at p n) entries_here weight in
-      arrives_plain rest held new h p ds c n len long origin came good plain
-      (subst (λ (s : State). Joins exact_ledger held (key_in h) (record { offset = h.offset; bytes = drop 20 (string (chain_of p n)); more = h.more; weight = weight_at p n }) s new) now
-      (subst (λ (x : Fragment). Joins exact_ledger held (key_in h) x (machine r es d rest) new) f (joins there)))
+      arrives_plain held (machine p ds c rest) new h (chain_of p n) good plain (joins_then (counts_fragment (machine p ds c rest)) now)
 
-  pub some_cluster : (origin : Origin) → CameBy origin (chain_of p n) → is_some (entry_of (chain_of p n) 0).cluster ≡ true → IsPulled p ds c1 (weight_at p n) true q es d rest held → FragmentArrives exact_ledger origin held (flat_head h) (carried_at p n) (machine p ds c rest) new
-  some_cluster origin came cluster tested =
-      let there : AreDistinct r es = distinct_same q r es t.shows (distinct_then rest (held ⊕ weight_at p n) p q ds es c1 tested.mid distinct tested.has_buffers) in
-      let holds = holds_of origin (chain_of p n) came cluster in
-      let weight : weight_of (pulled_entries (chain_of p n)) ≡ flat.pulled_up (20 + len) (weight_at p n) =
-      ap weight_of (cond-true _ _ _ cluster) ∙ (pulled_is (chain_of p n) cluster (omega (arith, long)) holds ∙ ap (λ (m : ℕ). flat.pulled_up m (weight_at p n)) long) in
-      let f = carried_is (chain_of p n) h (chain_of r n').entries (flat.pulled_up (20 + len) (weight_at p n)) entries_here weight in
+  pub some_cluster : is_some (entry_of (chain_of p n) 0).cluster ≡ true → IsPulled p ds c1 (weight_at p n) true q es d rest held → ChainArrives held h (chain_of p n) (machine p ds c rest) new
+  some_cluster cluster tested =
       let now : machine r es d rest ≡ machine q es d rest = λ j. record rest { unfinished = t.shows j; counters = d } in
-      let joined : Joins exact_ledger held (key_in h) (record { offset = h.offset; bytes = drop 20 (string (chain_of p n)); more = h.more; weight = flat.pulled_up (20 + len) (weight_at p n) }) (machine q es d rest) new =
-      subst (λ (s : State). Joins exact_ledger held (key_in h) (record { offset = h.offset; bytes = drop 20 (string (chain_of p n)); more = h.more; weight = flat.pulled_up (20 + len) (weight_at p n) }) s new) now
-      (subst (λ (x : Fragment). Joins exact_ledger held (key_in h) x (machine r es d rest) new) f (joins there)) in
       let was : machine p ds c1 rest ≡ counts_fragment (machine p ds c rest) = ap (λ (x : Counters). machine p ds x rest) counts in
-      arrives_lacking rest held new h p ds c n len long origin came good cluster
-      (subst (λ (s : State). Tests exact_ledger s (held ⊕ weight_at p n) 1 new (λ mid. Joins exact_ledger held (key_in h) (record { offset = h.offset; bytes = drop 20 (string (chain_of p n)); more = h.more; weight = flat.pulled_up (20 + len) (weight_at p n) }) mid new)) was
-      (tests_of rest held new (key_in h) _ (weight_at p n) p q ds es c1 d true tested (λ e. joined) (λ e. absurd (false≢true (sym e)))))
+      arrives_cluster held (machine p ds c rest) new h (chain_of p n) good cluster
+      (subst (λ (s : State). Tests exact_ledger s (held ⊕ weight_at p n) 1 new (λ mid. Joins exact_ledger held (key_in h) (fragment_of (fragment_carried (chain_of p n) h)) mid new)) was
+      (tests_of rest held new (key_in h) (fragment_of (fragment_carried (chain_of p n) h)) (weight_at p n) p q ds es c1 d true tested (λ e. joins_then (machine q es d rest) now) (λ e. absurd (false≢true (sym e)))))
 
 -- **no mbuf was had for its header**
-pub none_cluster : (rest : State) (held : Weight) (new : State) (h : IpHead) (p q : PoolView) (ds es : List Datagram) (c c1 d : Counters) (n len : ℕ) (answer : Bool) → length (string (chain_of p n)) ≡ 20 + len → is_bad_fragment (flat_head h) len ≡ false → c1 ≡ counts_more IpFragments 1 c
-    → (origin : Origin) → CameBy origin (chain_of p n) → is_some (entry_of (chain_of p n) 0).cluster ≡ true → IsPulled p ds c1 (weight_at p n) answer q es d rest held → answer ≡ false → new ≡ machine q es d rest → FragmentArrives exact_ledger origin held (flat_head h) (carried_at p n) (machine p ds c rest) new
-none_cluster rest held new h p q ds es c c1 d n len answer long good counts origin came cluster tested refused is =
+pub none_cluster : (rest : State) (held : Weight) (new : State) (h : IpHead) (p q : PoolView) (ds es : List Datagram) (c c1 d : Counters) (n : ℕ) (answer : Bool) → is_bad_fragment (flat_head h) (h.total - 20) ≡ false → c1 ≡ counts_more IpFragments 1 c
+    → is_some (entry_of (chain_of p n) 0).cluster ≡ true → IsPulled p ds c1 (weight_at p n) answer q es d rest held → answer ≡ false → new ≡ machine q es d rest → ChainArrives held h (chain_of p n) (machine p ds c rest) new
+none_cluster rest held new h p q ds es c c1 d n answer good counts cluster tested refused is =
     let was : machine p ds c1 rest ≡ counts_fragment (machine p ds c rest) = ap (λ (x : Counters). machine p ds x rest) counts in
-    arrives_lacking rest held new h p ds c n len long origin came good cluster
-    (subst (λ (s : State). Tests exact_ledger s (held ⊕ weight_at p n) 1 new (λ mid. Joins exact_ledger held (key_in h) (record { offset = h.offset; bytes = drop 20 (string (chain_of p n)); more = h.more; weight = flat.pulled_up (20 + len) (weight_at p n) }) mid new)) was
-    (tests_of rest held new (key_in h) (record { offset = h.offset; bytes = drop 20 (string (chain_of p n)); more = h.more; weight = flat.pulled_up (20 + len) (weight_at p n) }) (weight_at p n) p q ds es c1 d answer tested (λ e. absurd (false≢true (sym refused ∙ e))) (λ e. is)))
+    arrives_cluster held (machine p ds c rest) new h (chain_of p n) good cluster
+    (subst (λ (s : State). Tests exact_ledger s (held ⊕ weight_at p n) 1 new (λ mid. Joins exact_ledger held (key_in h) (fragment_of (fragment_carried (chain_of p n) h)) mid new)) was
+    (tests_of rest held new (key_in h) (fragment_of (fragment_carried (chain_of p n) h)) (weight_at p n) p q ds es c1 d answer tested (λ e. absurd (false≢true (sym refused ∙ e))) (λ e. is)))
 
 -- the length of what is carried
 pub carried_size : (p : PoolView) (n len : ℕ) → length (string (chain_of p n)) ≡ 20 + len → length (flat_bytes (carried_entries (chain_of p n))) ≡ len

@@ -15,3 +15,6 @@ mod Fitting
 mod Reserved
 mod Arriving
 mod Queues
+mod Came
+mod Distinct
+pub mod Laws

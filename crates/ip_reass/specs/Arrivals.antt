@@ -1,11 +1,11 @@
 -- An arrival beside that of the flat machine (`ip_reass` of TCP/IP Illustrated, volume 2, chapter 10): the clauses hold for
 -- every rest of the machine.
-use Rattle.std.specs.Prelude.{◌≡◌, ◌⊎◌, ℕ, ◌+◌, ◌<◌, ◌≤◌, Bool, true, false, is_some, nat_le, if◌then◌else◌, List, [], ◌∷◌, length, drop, count_by, None}
+use Rattle.std.specs.Prelude.{◌≡◌, ◌⊎◌, ℕ, ◌+◌, ◌<◌, ◌≤◌, Bool, true, false, is_some, nat_le, if◌then◌else◌, List, [], ◌∷◌, length, drop, None}
 use Rattle.params.specs.declared.TheConstants.{IP_HEADER, MINCLSIZE, MAX_PROTOCOL_HEADER}
 use Rattle.flat_model.specs.Amounts.Weight.{Weight, Item, ◌⊕◌}
 use Rattle.flat_model.specs.Packets.Header.{Head}
 use Rattle.flat_model.specs.Fragments.Overlay.{Fragment}
-use Rattle.flat_model.specs.Machine.State.{State, Key, is_key, begun, begin_unfinished}
+use Rattle.flat_model.specs.Machine.State.{State, Key, begun, begin_unfinished}
 use Rattle.flat_model.specs.Machine.Count.{counted}
 use Rattle.flat_model.specs.Machine.Ledger.{exact_ledger, HasBuffers, need_mbufs}
 use Rattle.flat_model.specs.Machine.Arrival.{Origin, By_wire, Looped, Tests, Lays, WholeArrives}
@@ -35,10 +35,6 @@ key_in h = record { source = h.src; destination = h.dst; id = h.id; protocol = h
 -- what a packet carries after its IP header, with the weight of its chain
 abbrev pub carried_at : PoolView → ℕ → Item
 carried_at p c = record { bytes = drop IP_HEADER (string (chain_of p c)); weight = weight_at p c }
-
--- no two unfinished datagrams go by one key
-abbrev pub AreDistinct : PoolView → List Datagram → Type 0
-AreDistinct p ds = (k : Key) → count_by (is_key k) (unfinished p ds) ≤ 1
 
 -- How a packet came shows in its first mbuf: by loopback in a plain one; from the wire in a cluster where 208 bytes or
 -- more were received, which then holds more than 40 bytes of the packet, or all.

@@ -1,15 +1,19 @@
 -- The layout of what waits and of what is handed out: the mbufs that fragments have, where their bytes begin, and which clusters
 -- they refer to (`ip_reass` of TCP/IP Illustrated, volume 2, chapter 10, with `m_pullup`, `m_adj` and `m_cat` of chapter 2).
-use Rattle.std.specs.Prelude.{◌≡◌, ◌⊎◌, ℕ, ◌-◌, Bool, true, ◌==◌, ◌&&◌, if◌then◌else◌, List, [], ◌∷◌, map, slice_index_or, slice_set, remove}
+use Rattle.std.specs.Prelude.{◌≡◌, ◌⊎◌, ℕ, ◌-◌, Bool, true, is_some, ◌==◌, ◌&&◌, if◌then◌else◌, List, [], ◌∷◌, map, slice_index_or, slice_set, remove}
 use Rattle.params.specs.declared.TheConstants.{IP_HEADER}
+use Rattle.flat_model.specs.Amounts.Choice.{Choice}
+use Rattle.flat_model.specs.Amounts.Weight.{Weight, ◌⊕◌}
 use Rattle.flat_model.specs.Fragments.Overlay.{is_covered}
-use Rattle.flat_model.specs.Machine.Arrival.{is_bad_fragment}
-use Rattle.flat_model.specs.Machine.State.{Key}
+use Rattle.flat_model.specs.Machine.Arrival.{Tests, Joins, counts_fragment, is_bad_fragment}
+use Rattle.flat_model.specs.Machine.Ledger.{exact_ledger}
+use Rattle.flat_model.specs.Machine.State.{State, Key, ends}
 use Rattle.flat_model.specs.declared.counters.Why.{Why}
 use Rattle.flat_model.specs.declared.counters.Why.TheVariants.{BadFragment, FragmentDropped, NoBufs}
-use Rattle.mbuf_chain.specs.Chain.{ChainView, PoolView, chain_of}
+use Rattle.mbuf_chain.specs.Chain.{ChainView, PoolView, chain_of, entry_of}
+use Rattle.ledger.specs.Accounts.{weight_of}
 use Rattle.ip_out.specs.declared.head.IpHead.{IpHead}
-use Rattle.ip_reass.specs.Arrivals.{carried_entries, flat_head}
+use Rattle.ip_reass.specs.Arrivals.{carried_entries, flat_head, key_in}
 use Rattle.ip_reass.specs.Fragments.{QueuedFragment, queued, laid, joined, fragment_of, map_of}
 use Rattle.ip_reass.specs.declared.datagram.Datagram.{Datagram}
 use Rattle.ip_reass.specs.declared.arrival.Arrival.{Arrival}
@@ -70,6 +74,23 @@ pub record HasLayout (p : PoolView) (ds : List Datagram) (k : Key) (f : QueuedFr
   pub waited : List KeyedQueue
   pub before : WaitOrNone (queues p ds) waited
   pub leaves : Leaves k f waited q result (queues q es)
+
+-- ---- the step of the flat machine
+
+-- The header of a packet in chain v is pulled up where its first mbuf is a cluster, which takes an mbuf. This comes before
+-- the key is looked for.
+abbrev pub PullsUpHeader : ChainView → Weight → State → State → (State → Type 0) → Type 0
+PullsUpHeader v held old new Then =
+    Choice (is_some (entry_of v 0).cluster) (Tests exact_ledger old (held ⊕ weight_of v.entries) 1 new Then) (Then old)
+
+-- The packet in chain v arrives as a fragment, whatever its layout: the flat machine's `FragmentArrives`, with the chain's
+-- own mbufs in place of what is known by the packet's origin.
+abbrev pub ChainArrives : Weight → IpHead → ChainView → State → State → Type 0
+ChainArrives held h v old new =
+    Choice (is_bad_fragment (flat_head h) (h.total - IP_HEADER))
+    (new ≡ ends BadFragment old)
+    (PullsUpHeader v held (counts_fragment old) new (λ mid.
+    Joins exact_ledger held (key_in h) (fragment_of (fragment_carried v h)) mid new))
 
 -- ---- the cause of a drop
 

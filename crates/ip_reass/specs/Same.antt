@@ -1,10 +1,11 @@
 -- A step of somebody else leaves the table as it was, and what it weighs: laws that the ghost members of the table cite
 -- (this project's own).
 use Rattle.std.proofs.Common.{◌≡◌, ℕ, List, [], ◌∷◌, ◌++◌, length, map, refl, sym, ap, ◌∙◌, subst, arith}
+use Rattle.std.specs.Prelude.{count_by}
 use Rattle.std.proofs.lemmas.List.{length-map}
 use Rattle.params.specs.declared.TheConstants.{IP_MAX_DATA}
 use Rattle.flat_model.specs.Amounts.Weight.{Weight, SameWeight, all_of, mbuf, ◌⊕◌}
-use Rattle.flat_model.specs.Machine.State.{Unfinished}
+use Rattle.flat_model.specs.Machine.State.{Unfinished, is_key}
 use Rattle.flat_model.specs.Fragments.Whole.{weight_of_pieces}
 use Rattle.mbuf_chain.specs.Chain.{PoolView}
 use Rattle.mbuf_chain.specs.Owners.{IsOwned}
@@ -17,7 +18,7 @@ use Rattle.flat_model.proofs.Laws.{times-both, all_of-append}
 use Rattle.flat_model.specs.Fragments.Overlay.{Fragment}
 use Rattle.ip_reass.specs.Fragments.{queued_of, fragment_in, fragments, map_of, Apart, AllEnd, IsQueue}
 use Rattle.ip_reass.specs.Layouts.{queues}
-use Rattle.ip_reass.specs.Table.{held, held_all, IsUnfinished, AllUnfinished, IsTable, TableView, IsReady, unfinished_of, unfinished}
+use Rattle.ip_reass.specs.Table.{held, held_all, IsUnfinished, AllUnfinished, AreDistinct, IsTable, TableView, IsReady, unfinished_of, unfinished}
 use Rattle.ip_reass.specs.declared.datagram.Datagram.{Datagram}
 use Rattle.ip_reass.specs.Inside.Weighs.{weight_is}
 
@@ -65,14 +66,21 @@ table_same p q ds s is = record {
   each = each_same p q ds s is.each;
 }
 
-pub ready_same : (p q : PoolView) (r : TableView) → SameAt p q (held_all p r.datagrams) → IsReady p r → IsReady q r
-ready_same p q r s is = record { table = table_same p q r.datagrams s is.table; room = omega (arith, s.mbufs, is.room) }
-
 pub unfinished_same : (p q : PoolView) (ds : List Datagram) → SameAt p q (held_all p ds) → unfinished q ds ≡ unfinished p ds
 unfinished_same p q [] s = refl
 unfinished_same p q (d ∷ ds) s =
     let one : queued_packets q d.fragments ≡ queued_packets p d.fragments = queued_packets_same p q d.fragments (train_same p q d (first_same p q d ds s)) in
     λ j. record { key = (unfinished_of p d).key; ticks = d.ticks; bytes = map_of (map fragment_in (one j)) } ∷ unfinished_same p q ds (rest_same p q d ds s) j
+
+pub distinct_same : (p q : PoolView) (ds es : List Datagram) → unfinished q es ≡ unfinished p ds → AreDistinct p ds → AreDistinct q es
+distinct_same p q ds es same distinct = λ k. omega (arith, distinct k, ap (count_by (is_key k)) same)
+
+pub ready_same : (p q : PoolView) (r : TableView) → SameAt p q (held_all p r.datagrams) → IsReady p r → IsReady q r
+ready_same p q r s is = record {
+  table = table_same p q r.datagrams s is.table;
+  room = omega (arith, s.mbufs, is.room);
+  distinct = distinct_same p q r.datagrams r.datagrams (unfinished_same p q r.datagrams s) is.distinct;
+}
 
 pub queues_same : (p q : PoolView) (ds : List Datagram) → SameAt p q (held_all p ds) → queues q ds ≡ queues p ds
 queues_same p q [] s = refl

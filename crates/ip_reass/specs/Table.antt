@@ -1,9 +1,9 @@
 -- The table of unfinished datagrams, and what the flat machine sees of it (TCP/IP Illustrated, volume 2, chapter 10).
-use Rattle.std.specs.Prelude.{◌≡◌, ℕ, ◌-◌, ◌≤◌, nat_lt, Bool, ◌==◌, ◌&&◌, if◌then◌else◌, List, [], ◌∷◌, ◌++◌, map, None}
+use Rattle.std.specs.Prelude.{◌≡◌, ℕ, ◌-◌, ◌≤◌, nat_lt, Bool, ◌==◌, ◌&&◌, if◌then◌else◌, List, [], ◌∷◌, ◌++◌, map, count_by, None}
 use Rattle.std.specs.List.{AllByRecursion}
 use Rattle.params.specs.declared.TheConstants.{FRAGMENT_TICKS}
 use Rattle.flat_model.specs.Amounts.Weight.{mbuf}
-use Rattle.flat_model.specs.Machine.State.{Key, Unfinished}
+use Rattle.flat_model.specs.Machine.State.{Key, Unfinished, is_key}
 use Rattle.mbuf_chain.specs.Chain.{PoolView}
 use Rattle.mbuf_chain.specs.Owners.{times, IsOwned}
 use Rattle.mbuf_chain.specs.Train.{numbers}
@@ -56,12 +56,17 @@ pub record IsTable (p : PoolView) (ds : List Datagram) : Type 0 where
   pub owned : IsOwned p (held_all p ds)
   pub each : AllUnfinished p ds
 
+-- no two unfinished datagrams go by one key
+abbrev pub AreDistinct : PoolView → List Datagram → Type 0
+AreDistinct p ds = (k : Key) → count_by (is_key k) (unfinished p ds) ≤ 1
+
 -- what a contract sees of the table: its datagrams in the order of their beginning, and for how many there are places
 pub record TableView : Type 0 where
   pub datagrams : List Datagram
   pub room : ℕ
 
--- the table fits the pool, and has a place for each of the pool's mbufs
+-- the table fits the pool, has a place for each of the pool's mbufs, and holds no key twice
 pub record IsReady (p : PoolView) (r : TableView) : Type 0 where
   pub table : IsTable p r.datagrams
   pub room : p.mbufs ≤ r.room
+  pub distinct : AreDistinct p r.datagrams

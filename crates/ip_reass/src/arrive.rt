@@ -1,16 +1,16 @@
 //! A fragment arrives: its header is pulled up, its key is looked for, and it joins the others of its datagram.
 ghost use Rattle.std.specs.Prelude.{◌≡◌, ℕ, ◌+◌, ◌<◌, ◌≤◌, [], ◌∷◌, ◌++◌, true, false, None, Some, IfSome, length, find, is_some, option_to_list};
-ghost use Rattle.flat_model.specs.Machine.State.{State, is_key};
+ghost use Rattle.flat_model.specs.Machine.State.{State};
 ghost use Rattle.flat_model.specs.Amounts.Weight.{Weight, ◌⊕◌};
 ghost use Rattle.flat_model.specs.Machine.Ledger.{exact_ledger};
-ghost use Rattle.flat_model.specs.Machine.Arrival.{FragmentArrives, Joins, Origin, is_bad_fragment};
+ghost use Rattle.flat_model.specs.Machine.Arrival.{Joins, is_bad_fragment};
 ghost use Rattle.mbuf_chain.specs.Chain.{chain_of, entry_of, string};
 ghost use Rattle.mbuf_chain.specs.Owners.{IsOwned, Moves};
 ghost use Rattle.ledger.specs.Accounts.{IsAccounted, weight_at, weight_owned};
-ghost use Rattle.ip_reass.specs.Arrivals.{AreDistinct, BeginsAt, CameBy, GoesOn, HasWhole, IsPulled, carried_at, flat_head, in_hand, key_in, machine, pulled_entries};
+ghost use Rattle.ip_reass.specs.Arrivals.{BeginsAt, GoesOn, HasWhole, IsPulled, flat_head, in_hand, key_in, machine, pulled_entries};
 ghost use Rattle.ip_reass.specs.Fragments.{fragment_of};
-ghost use Rattle.ip_reass.specs.Layouts.{HasCause, HasLayout, WaitOrNone, cause_among, cause_of, fragment_carried, queues, under};
-ghost use Rattle.ip_reass.specs.Table.{IsReady, has_key, held_all, unfinished};
+ghost use Rattle.ip_reass.specs.Layouts.{ChainArrives, HasCause, HasLayout, WaitOrNone, cause_among, cause_of, fragment_carried, queues, under};
+ghost use Rattle.ip_reass.specs.Table.{IsReady, has_key, held_all};
 ghost use Rattle.ip_reass.specs.Inside.Walks.{arrived};
 
 use crate::arrival::Arrival;
@@ -59,18 +59,16 @@ impl Reass {
         requires headed { (chain_of pool.old chain).front.header ≡ true }
         requires some { 0 < length (string (chain_of pool.old chain)) }
         requires small { head.offset + length (string (chain_of pool.old chain)) ≤ IP_MAX_DATA }
+        requires fresh { find (has_key (key_in head)) self.old.datagrams ≡ None }
         ensures step { (rest : State) (held : Weight) (new : State) →
-            find (is_key (key_in head)) (unfinished pool.old self.old.datagrams) ≡ None →
             IsAccounted pool.old (machine pool.old self.old.datagrams counters.old rest) (held ⊕ weight_at pool.old chain) →
             GoesOn held pool.new result (machine pool.new self.new.datagrams counters.new rest) new →
             BeginsAt pool.old self.old.datagrams counters.old (key_in head) (fragment_of (arrived pool.old chain head.offset head.more))
             (weight_at pool.old chain) result pool.new self.new.datagrams counters.new rest held new }
         ensures whole { HasWhole pool.new head result }
-        ensures layout { find (has_key (key_in head)) self.old.datagrams ≡ None →
-            HasLayout pool.old self.old.datagrams (key_in head) (arrived pool.old chain head.offset head.more) result
-            pool.new self.new.datagrams }
-        ensures cause { find (has_key (key_in head)) self.old.datagrams ≡ None →
-            HasCause (cause_among (under (key_in head) (queues pool.new self.new.datagrams))
+        ensures layout { HasLayout pool.old self.old.datagrams (key_in head)
+            (arrived pool.old chain head.offset head.more) result pool.new self.new.datagrams }
+        ensures cause { HasCause (cause_among (under (key_in head) (queues pool.new self.new.datagrams))
             (arrived pool.old chain head.offset head.more)) result }
         ensures ready { IsReady pool.new self.new }
         ensures moves { Moves pool.old (chain ∷ held_all pool.old self.old.datagrams) pool.new
@@ -103,7 +101,7 @@ impl Reass {
         requires headed { (chain_of pool.old chain).front.header ≡ true }
         requires some { 0 < length (string (chain_of pool.old chain)) }
         requires small { head.offset + length (string (chain_of pool.old chain)) ≤ IP_MAX_DATA }
-        ensures step { (rest : State) (held : Weight) (new : State) → AreDistinct pool.old self.old.datagrams →
+        ensures step { (rest : State) (held : Weight) (new : State) →
             IsAccounted pool.old (machine pool.old self.old.datagrams counters.old rest) (held ⊕ weight_at pool.old chain) →
             GoesOn held pool.new result (machine pool.new self.new.datagrams counters.new rest) new →
             Joins exact_ledger held (key_in head) (fragment_of (arrived pool.old chain head.offset head.more))
@@ -187,12 +185,10 @@ impl Reass {
         requires total { length (string (chain_of pool.old chain)) ≡ head.total }
         requires header { IP_HEADER ≤ head.total }
         requires offset { head.offset ≤ IP_MAX_PACKET }
-        ensures step { (rest : State) (held : Weight) (origin : Origin) (new : State) → AreDistinct pool.old self.old.datagrams →
-            CameBy origin (chain_of pool.old chain) →
+        ensures step { (rest : State) (held : Weight) (new : State) →
             IsAccounted pool.old (machine pool.old self.old.datagrams counters.old rest) (held ⊕ weight_at pool.old chain) →
             GoesOn held pool.new result (machine pool.new self.new.datagrams counters.new rest) new →
-            FragmentArrives exact_ledger origin held (flat_head head) (carried_at pool.old chain)
-            (machine pool.old self.old.datagrams counters.old rest) new }
+            ChainArrives held head (chain_of pool.old chain) (machine pool.old self.old.datagrams counters.old rest) new }
         ensures accounts { (rest : State) (held : Weight) →
             IsAccounted pool.old (machine pool.old self.old.datagrams counters.old rest) (held ⊕ weight_at pool.old chain) →
             IsAccounted pool.new (machine pool.new self.new.datagrams counters.new rest)

@@ -27,8 +27,8 @@ use Rattle.ledger.specs.Accounts.{item_at, weight_of, weight_at, weight_owned, I
 use Rattle.pcb_table.specs.Table.{machine}
 use Rattle.ip_out.specs.Headings.{head_in}
 use Rattle.ip_out.specs.declared.head.IpHead.{IpHead}
-use Rattle.ip_reass.specs.Table.{TableView, IsReady, held_all, unfinished}
-use Rattle.ip_reass.specs.Arrivals.{AreDistinct, CameBy, CameByWire, carried_at, flat_head}
+use Rattle.ip_reass.specs.Table.{TableView, AreDistinct, IsReady, held_all, unfinished}
+use Rattle.ip_reass.specs.Arrivals.{CameBy, CameByWire, carried_at, flat_head}
 use Rattle.ip_reass.specs.Arrivals as reass
 use Rattle.sock_calls.specs.Sockets.{SocksView, IsSocks, queued_chains, with_sockets, with_net}
 use Rattle.sock_calls.specs.Delivery.{NetView, seen, state_at, IsInput}

@@ -17,9 +17,10 @@ use Rattle.mbuf_chain.specs.Train.{numbers}
 use Rattle.mbuf_chain.proofs.Laws.Owners.{times-append, live_at_most, live_none, live_one, moves_beside, moves_trans, moves_nothing, same_beside, same_part}
 use Rattle.pcb_table.specs.Table.{sockets_with}
 use Rattle.ip_out.specs.Queues.{IsQueue}
-use Rattle.ip_reass.specs.Table.{IsTable, held_all, unfinished}
+use Rattle.ip_reass.specs.Table.{AreDistinct, IsTable, held_all, unfinished}
 use Rattle.ip_reass.specs.declared.datagram.Datagram.{Datagram}
 use Rattle.sock_calls.specs.Sockets.{IsSocks, queues_of, queued_chains}
+use Rattle.ip_reass.proofs.Laws.{none_distinct}
 use Rattle.ip_out.proofs.Laws.{none_wait}
 use Rattle.net_stack.specs.Boots.{free_pool}
 use Rattle.net_stack.specs.Stack.{IsStack, state_of, chains_of}
@@ -86,7 +87,11 @@ started config s is h = record {
     mbufs = ap (λ (c : Config). c.mbufs) h.same ∙ sym (ap (λ (p : PoolView). p.mbufs) h.pool);
     clusters = ap (λ (c : Config). c.clusters) h.same ∙ sym (ap (λ (p : PoolView). p.clusters) h.pool);
     socks = h.socks s.pool;
-    reass = record { table = none_table s.pool s.reass.datagrams h.none; room = omega (arith, h.room, ap (λ (p : PoolView). p.mbufs) h.pool) };
+    reass = record {
+      table = none_table s.pool s.reass.datagrams h.none;
+      room = omega (arith, h.room, ap (λ (p : PoolView). p.mbufs) h.pool);
+      distinct = subst (AreDistinct s.pool) (sym h.none) (none_distinct s.pool);
+    };
     output = h.out s.pool;
     all = started_all config s h;
     consistent = subst IsConsistent (sym (started_state config s h)) (boot_is_consistent config is);

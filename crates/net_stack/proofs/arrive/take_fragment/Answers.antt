@@ -1,6 +1,8 @@
 use Rattle.std.proofs.Common.{◌∷◌, [], arith}
 use Rattle.mbuf_chain.proofs.Laws.Owners.{times-append, owned_after}
 use Rattle.ip_reass.specs.Table.{held_all}
+use Rattle.ip_reass.specs.Arrivals.{machine}
+use Rattle.ip_reass.proofs.Laws.{fragment_arrives}
 use Rattle.sock_calls.specs.Sockets.{queued_chains}
 use Rattle.net_stack.proofs.Aside.{beside_socks}
 use Rattle.net_stack.proofs.Arriving.{waits, completes}
@@ -19,12 +21,12 @@ input-requires-clause-owned c =
 
 pub returns-in-Whole-clause-taken : goal.returns-in-Whole-clause-taken
 returns-in-Whole-clause-taken c =
-    completes {ds = c.args.reass.now} {es = c.arrive.new.self} c.in-Whole.head c.requires.owned c.requires.socks (record { step = c.in-Whole.ensures.step; accounts = c.in-Whole.ensures.accounts; moves = c.in-Whole.ensures.moves }) c.input.ensures.input
+    completes {ds = c.args.reass.now} {es = c.arrive.new.self} c.in-Whole.head c.requires.owned c.requires.socks (record { step = λ rest held origin new apart came acc goes. fragment_arrives held origin c.args.head c.args.pool.now c.args.chain (machine c.args.pool.now c.args.reass.now.datagrams c.args.counters.now rest) new came c.requires.total c.requires.header (c.in-Whole.ensures.step rest held new acc goes); accounts = c.in-Whole.ensures.accounts; moves = c.in-Whole.ensures.moves }) c.input.ensures.input
 
 pub returns-in-Kept-clause-taken : goal.returns-in-Kept-clause-taken
 returns-in-Kept-clause-taken c =
-    waits {ds = c.args.reass.now} {es = c.arrive.new.self} c.requires.owned c.requires.socks (record { step = c.in-Kept.ensures.step; accounts = c.in-Kept.ensures.accounts; moves = c.in-Kept.ensures.moves })
+    waits {ds = c.args.reass.now} {es = c.arrive.new.self} c.requires.owned c.requires.socks (record { step = λ rest held origin new apart came acc goes. fragment_arrives held origin c.args.head c.args.pool.now c.args.chain (machine c.args.pool.now c.args.reass.now.datagrams c.args.counters.now rest) new came c.requires.total c.requires.header (c.in-Kept.ensures.step rest held new acc goes); accounts = c.in-Kept.ensures.accounts; moves = c.in-Kept.ensures.moves })
 
 pub returns-in-Dropped-clause-taken : goal.returns-in-Dropped-clause-taken
 returns-in-Dropped-clause-taken c =
-    waits {ds = c.args.reass.now} {es = c.arrive.new.self} c.requires.owned c.requires.socks (record { step = c.in-Dropped.ensures.step; accounts = c.in-Dropped.ensures.accounts; moves = c.in-Dropped.ensures.moves })
+    waits {ds = c.args.reass.now} {es = c.arrive.new.self} c.requires.owned c.requires.socks (record { step = λ rest held origin new apart came acc goes. fragment_arrives held origin c.args.head c.args.pool.now c.args.chain (machine c.args.pool.now c.args.reass.now.datagrams c.args.counters.now rest) new came c.requires.total c.requires.header (c.in-Dropped.ensures.step rest held new acc goes); accounts = c.in-Dropped.ensures.accounts; moves = c.in-Dropped.ensures.moves })

@@ -9,8 +9,9 @@ use Rattle.mbuf_chain.specs.Owners.{Moves}
 use Rattle.mbuf_chain.proofs.Laws.Owners.{moves_none, moves_trans, owned_after}
 use Rattle.chain_ops.specs.Trims.{without_first}
 use Rattle.ledger.specs.Accounts.{weight_at, weight_owned}
-use Rattle.ip_reass.specs.Arrivals.{carried_entries, flat_head, in_hand, key_in, IsPulled}
+use Rattle.ip_reass.specs.Arrivals.{carried_entries, flat_head, in_hand, key_in, machine, IsPulled}
 use Rattle.ip_reass.specs.Table.{TableView, held_all}
+use Rattle.ip_reass.specs.Same.{distinct_same}
 use Rattle.ip_reass.specs.Layouts.{fragment_carried, queues, under}
 use Rattle.ip_reass.proofs.Queues.{arrived_layout, arrived_cause, cause_lacking}
 use Rattle.ip_reass.proofs.Reserved.{stays, freed}
@@ -18,10 +19,10 @@ use Rattle.ip_reass.proofs.Arriving.{accounts, one_weighs, same_weight, trimmed_
 use Rattle.ip_reass.proofs.table.Reass.arrive.Goals as goal
 
 pub returns-then-is_bad-clause-step : goal.returns-then-is_bad-clause-step
-returns-then-is_bad-clause-step c = λ rest held origin new distinct came acc is.
+returns-then-is_bad-clause-step c = λ rest held new acc is.
     let fr = freed c.args.pool.now c.args.pool.now c.free_chain.new.self c.args.self.now.datagrams c.args.self.now.datagrams c.args.chain (stays c.args.pool.now c.args.pool.now c.args.self.now.datagrams c.args.self.now.datagrams c.args.chain c.requires.owned (moves_none _ _)) c.requires.ready.table c.free_chain.ensures in
-    arrives_bad rest held new c.args.head c.args.pool.now c.args.self.now.datagrams c.args.counters.now c.args.chain (c.len-len.result - 20) (omega (arith, c.len-len.ensures, c.requires.total, c.requires.header)) origin
-    (sym c.is_bad.ensures ∙ c.if-is_bad.true) (is ∙ (λ j. record rest { unfinished = fr.shows j; counters = c.count_ended.ensures j }))
+    arrives_bad held (machine c.args.pool.now c.args.self.now.datagrams c.args.counters.now rest) new c.args.head (chain_of c.args.pool.now c.args.chain)
+    (ap (λ (n : ℕ). is_bad_fragment (flat_head c.args.head) (n - 20)) (sym c.requires.total ∙ sym c.len-len.ensures) ∙ (sym c.is_bad.ensures ∙ c.if-is_bad.true)) (is ∙ (λ j. record rest { unfinished = fr.shows j; counters = c.count_ended.ensures j }))
 
 pub returns-then-is_bad-clause-accounts : goal.returns-then-is_bad-clause-accounts
 returns-then-is_bad-clause-accounts c = λ rest held acc.
@@ -32,6 +33,8 @@ pub returns-then-is_bad-clause-ready : goal.returns-then-is_bad-clause-ready
 returns-then-is_bad-clause-ready c = record {
   table = (freed c.args.pool.now c.args.pool.now c.free_chain.new.self c.args.self.now.datagrams c.args.self.now.datagrams c.args.chain (stays c.args.pool.now c.args.pool.now c.args.self.now.datagrams c.args.self.now.datagrams c.args.chain c.requires.owned (moves_none _ _)) c.requires.ready.table c.free_chain.ensures).table;
   room = omega (arith, c.requires.ready.room, ap (λ (q : PoolView). q.mbufs) c.free_chain.ensures);
+  distinct = distinct_same c.args.pool.now c.free_chain.new.self c.args.self.now.datagrams c.args.self.now.datagrams
+      (freed c.args.pool.now c.args.pool.now c.free_chain.new.self c.args.self.now.datagrams c.args.self.now.datagrams c.args.chain (stays c.args.pool.now c.args.pool.now c.args.self.now.datagrams c.args.self.now.datagrams c.args.chain c.requires.owned (moves_none _ _)) c.requires.ready.table c.free_chain.ensures).shows c.requires.ready.distinct;
 }
 
 pub returns-then-is_bad-clause-moves : goal.returns-then-is_bad-clause-moves
@@ -39,14 +42,13 @@ returns-then-is_bad-clause-moves c =
     (freed c.args.pool.now c.args.pool.now c.free_chain.new.self c.args.self.now.datagrams c.args.self.now.datagrams c.args.chain (stays c.args.pool.now c.args.pool.now c.args.self.now.datagrams c.args.self.now.datagrams c.args.chain c.requires.owned (moves_none _ _)) c.requires.ready.table c.free_chain.ensures).moves
 
 pub returns-in_default-clause-step : goal.returns-in_default-clause-step
-returns-in_default-clause-step c = λ rest held origin new distinct came acc is.
-    let long : length (string (chain_of c.args.pool.now c.args.chain)) ≡ 20 + (c.len-len.result - 20) = omega (arith, c.len-len.ensures, c.requires.total, c.requires.header) in
-    let good : is_bad_fragment (flat_head c.args.head) (c.len-len.result - 20) ≡ false = sym c.is_bad.ensures ∙ c.if-is_bad.false in
+returns-in_default-clause-step c = λ rest held new acc is.
+    let good : is_bad_fragment (flat_head c.args.head) (c.args.head.total - 20) ≡ false = ap (λ (n : ℕ). is_bad_fragment (flat_head c.args.head) (n - 20)) (sym c.requires.total ∙ sym c.len-len.ensures) ∙ (sym c.is_bad.ensures ∙ c.if-is_bad.false) in
     elim (cases_Bool (is_some (entry_of (chain_of c.args.pool.now c.args.chain) 0).cluster)) [
       | inr plain ↦ absurd (none-some c.args.chain (sym c.in_default.is ∙ (c.pull_up.ensures.plain plain).3))
       | inl cluster ↦
           let tested = c.pull_up.ensures.tested cluster rest held (accounted_counters c.args.pool.now c.args.self.now.datagrams c.args.counters.now c.count.new.self rest (held ⊕ weight_at c.args.pool.now c.args.chain) acc) in
-          none_cluster rest held new c.args.head c.args.pool.now c.pull_up.new.pool c.args.self.now.datagrams c.pull_up.new.self.datagrams c.args.counters.now c.count.new.self c.pull_up.new.counters c.args.chain (c.len-len.result - 20) (is_some c.pull_up.result) long good c.count.ensures origin came cluster tested (ap is_some c.in_default.is) is
+          none_cluster rest held new c.args.head c.args.pool.now c.pull_up.new.pool c.args.self.now.datagrams c.pull_up.new.self.datagrams c.args.counters.now c.count.new.self c.pull_up.new.counters c.args.chain (is_some c.pull_up.result) good c.count.ensures cluster tested (ap is_some c.in_default.is) is
     ]
 
 pub returns-in_default-clause-accounts : goal.returns-in_default-clause-accounts
@@ -58,7 +60,11 @@ pub join_others-requires-clause-ready : goal.join_others-requires-clause-ready
 join_others-requires-clause-ready c =
     let m = subst (λ (o : Option ℕ). Moves c.args.pool.now (c.args.chain ∷ held_all c.args.pool.now c.args.self.now.datagrams) c.pull_up.new.pool (option_to_list o ++ held_all c.pull_up.new.pool c.pull_up.new.self.datagrams)) c.in-Some.is c.pull_up.ensures.moves in
     let t = trimmed_off c.pull_up.new.pool c.trim_front.new.pool c.pull_up.new.self.datagrams c.in-Some.chain c.pull_up.ensures.ready.table (owned_after m c.requires.owned) c.trim_front.ensures in
-    record { table = t.table; room = omega (arith, c.pull_up.ensures.ready.room, t.moves.mbufs) }
+    record {
+      table = t.table;
+      room = omega (arith, c.pull_up.ensures.ready.room, t.moves.mbufs);
+      distinct = distinct_same c.pull_up.new.pool c.trim_front.new.pool c.pull_up.new.self.datagrams c.pull_up.new.self.datagrams t.shows c.pull_up.ensures.ready.distinct;
+    }
 
 pub join_others-requires-clause-owned : goal.join_others-requires-clause-owned
 join_others-requires-clause-owned c =
@@ -93,23 +99,23 @@ join_others-requires-clause-small c =
     omega (arith, size, small)
 
 pub returns-clause-step : goal.returns-clause-step
-returns-clause-step c = λ rest held origin new distinct came acc goes.
+returns-clause-step c = λ rest held new acc goes.
     let m = subst (λ (o : Option ℕ). Moves c.args.pool.now (c.args.chain ∷ held_all c.args.pool.now c.args.self.now.datagrams) c.pull_up.new.pool (option_to_list o ++ held_all c.pull_up.new.pool c.pull_up.new.self.datagrams)) c.in-Some.is c.pull_up.ensures.moves in
     let t = trimmed_off c.pull_up.new.pool c.trim_front.new.pool c.pull_up.new.self.datagrams c.in-Some.chain c.pull_up.ensures.ready.table (owned_after m c.requires.owned) c.trim_front.ensures in
-    let long : length (string (chain_of c.args.pool.now c.args.chain)) ≡ 20 + (c.len-len.result - 20) = omega (arith, c.len-len.ensures, c.requires.total, c.requires.header) in
-    let good : is_bad_fragment (flat_head c.args.head) (c.len-len.result - 20) ≡ false = sym c.is_bad.ensures ∙ c.if-is_bad.false in
+    let good : is_bad_fragment (flat_head c.args.head) (c.args.head.total - 20) ≡ false = ap (λ (n : ℕ). is_bad_fragment (flat_head c.args.head) (n - 20)) (sym c.requires.total ∙ sym c.len-len.ensures) ∙ (sym c.is_bad.ensures ∙ c.if-is_bad.false) in
     let acc' = accounts c.args.pool.now c.trim_front.new.pool (c.args.chain ∷ []) (c.in-Some.chain ∷ []) rest held (weight_at c.args.pool.now c.args.chain) (weight_at c.trim_front.new.pool c.in-Some.chain) c.args.self.now.datagrams c.pull_up.new.self.datagrams c.args.counters.now c.pull_up.new.counters acc
     (moves_trans m t.moves) c.requires.owned c.requires.ready.table t.table (one_weighs c.args.pool.now c.args.chain) (one_weighs c.trim_front.new.pool c.in-Some.chain) in
+    let joins = c.join_others.ensures.step rest held new acc' goes in
     elim (cases_Bool (is_some (entry_of (chain_of c.args.pool.now c.args.chain) 0).cluster)) [
       | inr plain ↦
           let same = c.pull_up.ensures.plain plain in
-          some_plain rest held new c.args.head c.args.pool.now c.pull_up.new.pool c.trim_front.new.pool c.args.self.now.datagrams c.pull_up.new.self.datagrams c.args.counters.now c.count.new.self c.pull_up.new.counters c.args.chain c.in-Some.chain (c.len-len.result - 20) long good c.count.ensures c.in-Some.ensures.entries t distinct
-          (λ there. c.join_others.ensures.step rest held new there acc' goes) origin came plain same.0 (ap (λ (r : TableView). r.datagrams) same.1) same.2
+          some_plain rest held new c.args.head c.args.pool.now c.pull_up.new.pool c.trim_front.new.pool c.args.self.now.datagrams c.pull_up.new.self.datagrams c.args.counters.now c.count.new.self c.pull_up.new.counters c.args.chain c.in-Some.chain good c.count.ensures c.in-Some.ensures.entries t joins plain
+          same.0 (ap (λ (r : TableView). r.datagrams) same.1) same.2
       | inl cluster ↦
           let tested = subst (λ (b : Bool). IsPulled c.args.pool.now c.args.self.now.datagrams c.count.new.self (weight_at c.args.pool.now c.args.chain) b c.pull_up.new.pool c.pull_up.new.self.datagrams c.pull_up.new.counters rest held) (ap is_some c.in-Some.is)
           (c.pull_up.ensures.tested cluster rest held (accounted_counters c.args.pool.now c.args.self.now.datagrams c.args.counters.now c.count.new.self rest (held ⊕ weight_at c.args.pool.now c.args.chain) acc)) in
-          some_cluster rest held new c.args.head c.args.pool.now c.pull_up.new.pool c.trim_front.new.pool c.args.self.now.datagrams c.pull_up.new.self.datagrams c.args.counters.now c.count.new.self c.pull_up.new.counters c.args.chain c.in-Some.chain (c.len-len.result - 20) long good c.count.ensures c.in-Some.ensures.entries t distinct
-          (λ there. c.join_others.ensures.step rest held new there acc' goes) origin came cluster tested
+          some_cluster rest held new c.args.head c.args.pool.now c.pull_up.new.pool c.trim_front.new.pool c.args.self.now.datagrams c.pull_up.new.self.datagrams c.args.counters.now c.count.new.self c.pull_up.new.counters c.args.chain c.in-Some.chain good c.count.ensures c.in-Some.ensures.entries t joins cluster
+          tested
     ]
 
 pub returns-clause-moves : goal.returns-clause-moves

@@ -11,12 +11,15 @@ use Rattle.ip_reass.specs.Layouts.{cause_among, queues, under}
 use Rattle.ip_reass.specs.Table.{held_all, new_datagram}
 use Rattle.ip_reass.specs.declared.datagram.Datagram.{Datagram}
 use Rattle.ip_reass.specs.Table.{TableView}
+use Rattle.ip_reass.specs.Same.{distinct_same}
+use Rattle.ip_reass.proofs.Arriving.{none_by_key}
+use Rattle.ip_reass.proofs.Distinct.{distinct_after}
 use Rattle.ip_reass.proofs.Queues.{begins_layout, begins_cause, cause_lacking, none_reserved, wait_reserved}
 use Rattle.ip_reass.proofs.Reserved.{stays, freed, lacking, Began, began, begins_here, room}
 use Rattle.ip_reass.proofs.table.Reass.begin_with.Goals as goal
 
 pub returns-then-not-reserve-clause-step : goal.returns-then-not-reserve-clause-step
-returns-then-not-reserve-clause-step c = λ rest held new none acc is.
+returns-then-not-reserve-clause-step c = λ rest held new acc is.
     let r = c.reserve.ensures.reserves (machine c.args.pool.now c.args.self.now.datagrams c.args.counters.now rest) (held ⊕ weight_at c.args.pool.now c.args.chain) refl refl acc in
     let fr = freed c.args.pool.now c.reserve.new.pool c.free_chain.new.self c.args.self.now.datagrams c.reserve.new.waiting.datagrams c.args.chain
     (stays c.args.pool.now c.reserve.new.pool c.args.self.now.datagrams c.reserve.new.waiting.datagrams c.args.chain c.requires.owned c.reserve.ensures.moves) c.reserve.ensures.ready.table c.free_chain.ensures in
@@ -28,6 +31,9 @@ returns-then-not-reserve-clause-ready c = record {
   table = (freed c.args.pool.now c.reserve.new.pool c.free_chain.new.self c.args.self.now.datagrams c.reserve.new.waiting.datagrams c.args.chain
       (stays c.args.pool.now c.reserve.new.pool c.args.self.now.datagrams c.reserve.new.waiting.datagrams c.args.chain c.requires.owned c.reserve.ensures.moves) c.reserve.ensures.ready.table c.free_chain.ensures).table;
   room = omega (arith, c.reserve.ensures.ready.room, ap (λ (q : PoolView). q.mbufs) c.free_chain.ensures);
+  distinct = distinct_same c.reserve.new.pool c.free_chain.new.self c.reserve.new.waiting.datagrams c.reserve.new.waiting.datagrams
+      (freed c.args.pool.now c.reserve.new.pool c.free_chain.new.self c.args.self.now.datagrams c.reserve.new.waiting.datagrams c.args.chain
+      (stays c.args.pool.now c.reserve.new.pool c.args.self.now.datagrams c.reserve.new.waiting.datagrams c.args.chain c.requires.owned c.reserve.ensures.moves) c.reserve.ensures.ready.table c.free_chain.ensures).shows c.reserve.ensures.ready.distinct;
 }
 
 pub returns-then-not-reserve-clause-moves : goal.returns-then-not-reserve-clause-moves
@@ -77,13 +83,13 @@ invariant_of-self c =
     omega (arith, c.settle.ensures.len, c.begin.ensures.len, few, same, c.laws.ensures.small)
 
 pub returns-clause-step : goal.returns-clause-step
-returns-clause-step c = λ rest held new none acc goes.
+returns-clause-step c = λ rest held new acc goes.
     let r = c.reserve.ensures.reserves (machine c.args.pool.now c.args.self.now.datagrams c.args.counters.now rest) (held ⊕ weight_at c.args.pool.now c.args.chain) refl refl acc in
     let st = stays c.args.pool.now c.reserve.new.pool c.args.self.now.datagrams c.reserve.new.waiting.datagrams c.args.chain c.requires.owned c.reserve.ensures.moves in
     let b = began c.reserve.new.pool c.new_chain.new.self c.reserve.new.waiting.datagrams c.begin.new.table.items c.args.chain c.in-Ok.holder (length c.as_slice-i.result.now) (key_in c.args.head) c.reserve.ensures.ready.table st.owned c.in-Ok.ensures.ok
     (c.begin.ensures.items ∙ (λ j. ((ap (λ (r : TableView). r.datagrams) c.self.view_is) j) ++ new_datagram (c.key_of.ensures j) c.in-Ok.holder ∷ [])) (ap (λ (ds : List Datagram). length ds) (c.as_slice-i.ensures.value ∙ (ap (λ (r : TableView). r.datagrams) c.self.view_is))) in
     begins_here rest held new (key_in c.args.head) (weight_at c.args.pool.now c.args.chain) c.args.pool.now c.reserve.new.pool c.new_chain.new.self c.args.self.now.datagrams c.reserve.new.waiting.datagrams c.begin.new.table.items c.args.counters.now c.reserve.new.counters c.settle.new.counters c.args.chain (length c.as_slice-i.result.now) c.args.head.offset c.args.head.more c.settle.result c.settle.new.pool c.settle.new.table.items c.reserve.result c.if-not-reserve.false
-    none r.has_buffers (b.stays.chain ∙ st.chain) b (λ here most. c.settle.ensures.step rest held new here most goes)
+    (none_by_key c.args.pool.now (key_in c.args.head) c.args.self.now.datagrams c.requires.fresh) r.has_buffers (b.stays.chain ∙ st.chain) b (λ here most. c.settle.ensures.step rest held new here most goes)
 
 moved : (c : goal.After-settle) → Moves c.args.pool.now (c.args.chain ∷ held_all c.args.pool.now c.args.self.now.datagrams) c.settle.new.pool (in_hand c.settle.result ++ held_all c.settle.new.pool c.settle.new.table.items)
 moved c =
@@ -94,6 +100,15 @@ moved c =
 
 pub returns-clause-moves : goal.returns-clause-moves
 returns-clause-moves c = moved c
+
+laid_in : goal.returns-clause-layout
+laid_in c =
+    let st = stays c.args.pool.now c.reserve.new.pool c.args.self.now.datagrams c.reserve.new.waiting.datagrams c.args.chain c.requires.owned c.reserve.ensures.moves in
+    let b = began c.reserve.new.pool c.new_chain.new.self c.reserve.new.waiting.datagrams c.begin.new.table.items c.args.chain c.in-Ok.holder (length c.as_slice-i.result.now) (key_in c.args.head) c.reserve.ensures.ready.table st.owned c.in-Ok.ensures.ok
+    (c.begin.ensures.items ∙ (λ j. ((ap (λ (r : TableView). r.datagrams) c.self.view_is) j) ++ new_datagram (c.key_of.ensures j) c.in-Ok.holder ∷ [])) (ap (λ (ds : List Datagram). length ds) (c.as_slice-i.ensures.value ∙ (ap (λ (r : TableView). r.datagrams) c.self.view_is))) in
+    begins_layout c.args.pool.now c.reserve.new.pool c.new_chain.new.self c.settle.new.pool c.args.self.now.datagrams c.reserve.new.waiting.datagrams c.begin.new.table.items c.settle.new.table.items (key_in c.args.head) c.args.chain (length c.as_slice-i.result.now) c.args.head.offset c.args.head.more c.settle.result
+    (wait_reserved c.args.pool.now c.reserve.new.pool c.args.self.now c.reserve.new.waiting c.args.counters.now c.reserve.new.counters _ c.reserve.ensures.kept c.reserve.ensures.none)
+    c.requires.fresh c.requires.some (b.stays.chain ∙ st.chain) b.rows (ap (λ (ds : List Datagram). length ds) (c.as_slice-i.ensures.value ∙ (ap (λ (r : TableView). r.datagrams) c.self.view_is))) c.settle.ensures.layout
 
 pub returns-clause-ready : goal.returns-clause-ready
 returns-clause-ready c = record {
@@ -107,29 +122,24 @@ returns-clause-ready c = record {
     c.reserve.ensures.moves.mbufs,
     (moved c).mbufs,
   );
+  distinct = distinct_after c.args.pool.now c.settle.new.pool c.args.self.now.datagrams c.settle.new.table.items (key_in c.args.head) (arrived c.args.pool.now c.args.chain c.args.head.offset c.args.head.more) c.settle.result (laid_in c) c.requires.ready.distinct;
 }
 
 pub returns-clause-whole : goal.returns-clause-whole
 returns-clause-whole c = c.settle.ensures.whole
 
 pub returns-clause-layout : goal.returns-clause-layout
-returns-clause-layout c = λ none.
-    let st = stays c.args.pool.now c.reserve.new.pool c.args.self.now.datagrams c.reserve.new.waiting.datagrams c.args.chain c.requires.owned c.reserve.ensures.moves in
-    let b = began c.reserve.new.pool c.new_chain.new.self c.reserve.new.waiting.datagrams c.begin.new.table.items c.args.chain c.in-Ok.holder (length c.as_slice-i.result.now) (key_in c.args.head) c.reserve.ensures.ready.table st.owned c.in-Ok.ensures.ok
-    (c.begin.ensures.items ∙ (λ j. ((ap (λ (r : TableView). r.datagrams) c.self.view_is) j) ++ new_datagram (c.key_of.ensures j) c.in-Ok.holder ∷ [])) (ap (λ (ds : List Datagram). length ds) (c.as_slice-i.ensures.value ∙ (ap (λ (r : TableView). r.datagrams) c.self.view_is))) in
-    begins_layout c.args.pool.now c.reserve.new.pool c.new_chain.new.self c.settle.new.pool c.args.self.now.datagrams c.reserve.new.waiting.datagrams c.begin.new.table.items c.settle.new.table.items (key_in c.args.head) c.args.chain (length c.as_slice-i.result.now) c.args.head.offset c.args.head.more c.settle.result
-    (wait_reserved c.args.pool.now c.reserve.new.pool c.args.self.now c.reserve.new.waiting c.args.counters.now c.reserve.new.counters _ c.reserve.ensures.kept c.reserve.ensures.none)
-    none c.requires.some (b.stays.chain ∙ st.chain) b.rows (ap (λ (ds : List Datagram). length ds) (c.as_slice-i.ensures.value ∙ (ap (λ (r : TableView). r.datagrams) c.self.view_is))) c.settle.ensures.layout
+returns-clause-layout c = laid_in c
 
 pub returns-then-not-reserve-clause-cause : goal.returns-then-not-reserve-clause-cause
-returns-then-not-reserve-clause-cause c = λ none.
+returns-then-not-reserve-clause-cause c =
     let fr = freed c.args.pool.now c.reserve.new.pool c.free_chain.new.self c.args.self.now.datagrams c.reserve.new.waiting.datagrams c.args.chain
     (stays c.args.pool.now c.reserve.new.pool c.args.self.now.datagrams c.reserve.new.waiting.datagrams c.args.chain c.requires.owned c.reserve.ensures.moves) c.reserve.ensures.ready.table c.free_chain.ensures in
     cause_lacking (key_in c.args.head) (arrived c.args.pool.now c.args.chain c.args.head.offset c.args.head.more) (queues c.free_chain.new.self c.reserve.new.waiting.datagrams) c.requires.some
     (fr.rows ∙ none_reserved c.args.pool.now c.reserve.new.pool c.args.self.now c.reserve.new.waiting c.args.counters.now c.reserve.new.counters c.reserve.result c.reserve.ensures.kept c.reserve.ensures.none c.reserve.ensures.answer c.if-not-reserve.true)
 
 pub returns-clause-cause : goal.returns-clause-cause
-returns-clause-cause c = λ none.
+returns-clause-cause c =
     let st = stays c.args.pool.now c.reserve.new.pool c.args.self.now.datagrams c.reserve.new.waiting.datagrams c.args.chain c.requires.owned c.reserve.ensures.moves in
     let b = began c.reserve.new.pool c.new_chain.new.self c.reserve.new.waiting.datagrams c.begin.new.table.items c.args.chain c.in-Ok.holder (length c.as_slice-i.result.now) (key_in c.args.head) c.reserve.ensures.ready.table st.owned c.in-Ok.ensures.ok
     (c.begin.ensures.items ∙ (λ j. ((ap (λ (r : TableView). r.datagrams) c.self.view_is) j) ++ new_datagram (c.key_of.ensures j) c.in-Ok.holder ∷ [])) (ap (λ (ds : List Datagram). length ds) (c.as_slice-i.ensures.value ∙ (ap (λ (r : TableView). r.datagrams) c.self.view_is))) in

@@ -3,19 +3,20 @@ use Rattle.ip_reass.specs.Arrivals.{key_in}
 use Rattle.ip_reass.specs.Fragments.{fragment_of}
 use Rattle.ip_reass.specs.Inside.Walks.{arrived}
 use Rattle.ip_reass.specs.Table.{TableView}
+use Rattle.ip_reass.proofs.Distinct.{distinct_after}
 use Rattle.ip_reass.proofs.Queues.{found_layout, found_cause}
 use Rattle.ip_reass.proofs.Arriving.{joins_found, joins_none, none_found_in}
 use Rattle.ip_reass.proofs.table.Reass.join_others.Goals as goal
 
 pub returns-in-Some-clause-step : goal.returns-in-Some-clause-step
-returns-in-Some-clause-step c = λ rest held new distinct acc goes.
+returns-in-Some-clause-step c = λ rest held new acc goes.
     joins_found rest held new (key_in c.args.head) c.key_of.result (fragment_of (arrived c.args.pool.now c.args.chain c.args.head.offset c.args.head.more)) c.args.pool.now c.as_slice.result.now c.self.inside.datagrams.items c.args.self.now.datagrams c.args.counters.now c.in-Some.i
-    c.as_slice.ensures.value (ap (λ (r : TableView). r.datagrams) c.self.view_is) c.key_of.ensures c.in-Some.ensures.0 c.in-Some.ensures.1 distinct (λ here most. c.settle.ensures.step rest held new here most goes)
+    c.as_slice.ensures.value (ap (λ (r : TableView). r.datagrams) c.self.view_is) c.key_of.ensures c.in-Some.ensures.0 c.in-Some.ensures.1 c.requires.ready.distinct (λ here most. c.settle.ensures.step rest held new here most goes)
 
 pub returns-in-None-clause-step : goal.returns-in-None-clause-step
-returns-in-None-clause-step c = λ rest held new distinct acc goes.
+returns-in-None-clause-step c = λ rest held new acc goes.
     let none = none_found_in c.args.pool.now (key_in c.args.head) c.key_of.result c.as_slice.result.now c.args.self.now.datagrams (c.as_slice.ensures.value ∙ (ap (λ (r : TableView). r.datagrams) c.self.view_is)) c.key_of.ensures c.in-None.ensures in
-    joins_none rest held new (key_in c.args.head) (fragment_of (arrived c.args.pool.now c.args.chain c.args.head.offset c.args.head.more)) c.args.pool.now c.args.self.now.datagrams c.args.counters.now none (c.begin_with.ensures.step rest held new none acc goes).tests
+    joins_none rest held new (key_in c.args.head) (fragment_of (arrived c.args.pool.now c.args.chain c.args.head.offset c.args.head.more)) c.args.pool.now c.args.self.now.datagrams c.args.counters.now none (c.begin_with.ensures.step rest held new acc goes).tests
 
 pub returns-in-Some-clause-whole : goal.returns-in-Some-clause-whole
 returns-in-Some-clause-whole c = c.settle.ensures.whole
@@ -23,16 +24,20 @@ returns-in-Some-clause-whole c = c.settle.ensures.whole
 pub returns-in-None-clause-whole : goal.returns-in-None-clause-whole
 returns-in-None-clause-whole c = c.begin_with.ensures.whole
 
+laid_in : goal.returns-in-Some-clause-layout
+laid_in c =
+    found_layout c.args.pool.now c.settle.new.pool c.as_slice.result.now c.self.inside.datagrams.items c.args.self.now.datagrams c.settle.new.table.items (key_in c.args.head) c.key_of.result (arrived c.args.pool.now c.args.chain c.args.head.offset c.args.head.more) c.in-Some.i c.settle.result
+    c.as_slice.ensures.value (ap (λ (r : TableView). r.datagrams) c.self.view_is) c.key_of.ensures c.in-Some.ensures.0 c.in-Some.ensures.1 c.in-Some.ensures.2 c.settle.ensures.layout
+
 pub returns-in-Some-clause-ready : goal.returns-in-Some-clause-ready
 returns-in-Some-clause-ready c = record {
   table = c.settle.ensures.table;
   room = omega (arith, c.settle.ensures.capacity, ap (λ (r : TableView). r.room) c.self.view_is, c.requires.ready.room, c.settle.ensures.moves.mbufs);
+  distinct = distinct_after c.args.pool.now c.settle.new.pool c.args.self.now.datagrams c.settle.new.table.items (key_in c.args.head) (arrived c.args.pool.now c.args.chain c.args.head.offset c.args.head.more) c.settle.result (laid_in c) c.requires.ready.distinct;
 }
 
 pub returns-in-Some-clause-layout : goal.returns-in-Some-clause-layout
-returns-in-Some-clause-layout c =
-    found_layout c.args.pool.now c.settle.new.pool c.as_slice.result.now c.self.inside.datagrams.items c.args.self.now.datagrams c.settle.new.table.items (key_in c.args.head) c.key_of.result (arrived c.args.pool.now c.args.chain c.args.head.offset c.args.head.more) c.in-Some.i c.settle.result
-    c.as_slice.ensures.value (ap (λ (r : TableView). r.datagrams) c.self.view_is) c.key_of.ensures c.in-Some.ensures.0 c.in-Some.ensures.1 c.in-Some.ensures.2 c.settle.ensures.layout
+returns-in-Some-clause-layout c = laid_in c
 
 pub returns-in-Some-clause-cause : goal.returns-in-Some-clause-cause
 returns-in-Some-clause-cause c =

@@ -3,6 +3,7 @@ use Rattle.mbuf_chain.specs.Chain.{PoolView}
 use Rattle.flat_model.specs.Amounts.Weight.{◌⊕◌}
 use Rattle.ledger.specs.Accounts.{weight_at}
 use Rattle.ip_reass.specs.Arrivals.{machine}
+use Rattle.ip_reass.specs.Same.{distinct_same}
 use Rattle.ip_reass.proofs.Queues.{wait_then, wait_reserved, none_reserved}
 use Rattle.ip_reass.proofs.Reserved.{stays, freed}
 use Rattle.ip_reass.proofs.Arriving.{pulled, pulled_done, pulled_lacking}
@@ -20,6 +21,9 @@ returns-then-not-reserve-clause-ready c = record {
   table = (freed c.args.pool.now c.reserve.new.pool c.free_chain.new.self c.args.self.now.datagrams c.reserve.new.waiting.datagrams c.args.chain
       (stays c.args.pool.now c.reserve.new.pool c.args.self.now.datagrams c.reserve.new.waiting.datagrams c.args.chain c.requires.owned c.reserve.ensures.moves) c.reserve.ensures.ready.table c.free_chain.ensures).table;
   room = omega (arith, c.reserve.ensures.ready.room, ap (λ (q : PoolView). q.mbufs) c.free_chain.ensures);
+  distinct = distinct_same c.reserve.new.pool c.free_chain.new.self c.reserve.new.waiting.datagrams c.reserve.new.waiting.datagrams
+      (freed c.args.pool.now c.reserve.new.pool c.free_chain.new.self c.args.self.now.datagrams c.reserve.new.waiting.datagrams c.args.chain
+      (stays c.args.pool.now c.reserve.new.pool c.args.self.now.datagrams c.reserve.new.waiting.datagrams c.args.chain c.requires.owned c.reserve.ensures.moves) c.reserve.ensures.ready.table c.free_chain.ensures).shows c.reserve.ensures.ready.distinct;
 }
 
 pub returns-then-not-reserve-clause-moves : goal.returns-then-not-reserve-clause-moves
@@ -38,7 +42,11 @@ pub returns-clause-ready : goal.returns-clause-ready
 returns-clause-ready c =
     let u = pulled c.args.pool.now c.reserve.new.pool c.m_pullup.new.pool c.args.self.now.datagrams c.reserve.new.waiting.datagrams c.args.chain c.m_pullup.new.chain _ _
     (stays c.args.pool.now c.reserve.new.pool c.args.self.now.datagrams c.reserve.new.waiting.datagrams c.args.chain c.requires.owned c.reserve.ensures.moves) c.reserve.ensures.ready.table c.in-Ok.ensures.ok in
-    record { table = u.table; room = omega (arith, c.reserve.ensures.ready.room, u.moves.mbufs, c.reserve.ensures.moves.mbufs) }
+    record {
+      table = u.table;
+      room = omega (arith, c.reserve.ensures.ready.room, u.moves.mbufs, c.reserve.ensures.moves.mbufs);
+      distinct = distinct_same c.reserve.new.pool c.m_pullup.new.pool c.reserve.new.waiting.datagrams c.reserve.new.waiting.datagrams u.shows c.reserve.ensures.ready.distinct;
+    }
 
 pub returns-clause-moves : goal.returns-clause-moves
 returns-clause-moves c =

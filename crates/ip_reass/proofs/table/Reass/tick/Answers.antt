@@ -4,7 +4,7 @@ use Rattle.mbuf_chain.specs.Owners.{Moves}
 use Rattle.ip_reass.specs.Table.{aged, held_all, holds, AllUnfinished, IsTable}
 use Rattle.std.proofs.lemmas.List.{length-take-le}
 use Rattle.ip_reass.specs.Table.{TableView}
-use Rattle.ip_reass.proofs.Aging.{reordered, table_reordered, lent, tick_step}
+use Rattle.ip_reass.proofs.Aging.{reordered, table_reordered, lent, tick_step, aged_distinct}
 use Rattle.ip_reass.proofs.table.Reass.tick.Goals as goal
 
 pub free_beyond-requires-clause-table : goal.free_beyond-requires-clause-table
@@ -24,18 +24,22 @@ returns-clause-moves c =
     (subst (λ (ds : List Datagram). Moves c.args.pool.now (held_all c.args.pool.now ds) c.free_beyond.new.pool (held_all c.free_beyond.new.pool c.free_beyond.new.table.items)) (lent c.self.inside.datagrams.len c.self.inside.datagrams.items c.age-kept.new.table long)
     c.free_beyond.ensures.moves)
 
-pub returns-clause-step : goal.returns-clause-step
-returns-clause-step c = λ rest d.
+aged_now : (c : goal.After-free_beyond) → c.free_beyond.new.table.items ≡ aged c.args.self.now.datagrams
+aged_now c =
     let long : length c.age-kept.new.table ≡ c.self.inside.datagrams.len = omega arith in
     let was = c.as_mut_slice.ensures.value ∙ (ap (λ (r : TableView). r.datagrams) c.self.view_is) in
-    let back = lent c.self.inside.datagrams.len c.self.inside.datagrams.items c.age-kept.new.table long in
-    let e : c.free_beyond.new.table.items ≡ aged c.args.self.now.datagrams = c.free_beyond.ensures.items ∙ (ap (take c.age-kept.result) back ∙ (c.age-kept.ensures.kept ∙ ap aged was)) in
+    c.free_beyond.ensures.items ∙ (ap (take c.age-kept.result) (lent c.self.inside.datagrams.len c.self.inside.datagrams.items c.age-kept.new.table long) ∙ (c.age-kept.ensures.kept ∙ ap aged was))
+
+pub returns-clause-step : goal.returns-clause-step
+returns-clause-step c = λ rest d.
+    let was = c.as_mut_slice.ensures.value ∙ (ap (λ (r : TableView). r.datagrams) c.self.view_is) in
     let kept : length (aged c.args.self.now.datagrams) ≡ c.age-kept.result = ap (λ (xs : List Datagram). length xs) (sym (c.age-kept.ensures.kept ∙ ap aged was)) ∙ length-take-le c.age-kept.result c.age-kept.new.table c.age-kept.ensures.within in
     let size : length c.args.self.now.datagrams ≡ c.self.inside.datagrams.len = omega (arith, c.as_mut_slice.ensures.len, ap (λ (xs : List Datagram). length xs) was) in
-    tick_step rest d c.args.pool.now c.free_beyond.new.pool c.args.self.now.datagrams c.free_beyond.new.table.items (c.len-before.result - c.age-kept.result) e c.free_beyond.ensures.same (omega (arith, kept, size, c.len-before.ensures, c.age-kept.ensures.within))
+    tick_step rest d c.args.pool.now c.free_beyond.new.pool c.args.self.now.datagrams c.free_beyond.new.table.items (c.len-before.result - c.age-kept.result) (aged_now c) c.free_beyond.ensures.same (omega (arith, kept, size, c.len-before.ensures, c.age-kept.ensures.within))
 
 pub returns-clause-ready : goal.returns-clause-ready
 returns-clause-ready c = record {
   table = c.free_beyond.ensures.table;
   room = omega (arith, c.free_beyond.ensures.capacity, ap (λ (r : TableView). r.room) c.self.view_is, c.requires.room, c.free_beyond.ensures.moves.mbufs);
+  distinct = aged_distinct c.args.pool.now c.free_beyond.new.pool c.args.self.now.datagrams c.free_beyond.new.table.items (aged_now c) c.free_beyond.ensures.same c.requires.distinct;
 }

@@ -1,0 +1,130 @@
+-- What is known of a packet by its origin: what it weighs once its header is pulled up, and that its arrival is the flat
+-- machine's.
+use Rattle.std.proofs.Common.{◌≡◌, ◌⊎◌, ℕ, suc, ◌+◌, ◌-◌, ◌<◌, ◌≤◌, min, true, false, not, List, [], ◌∷◌, length, drop, take, Option, None, Some, is_some, get_or, refl, sym, ap, ◌∙◌, subst, arith, inl, inr, length-drop, length-append}
+use Rattle.std.specs.Prelude.{filter_map}
+use Rattle.std.specs.List.{cons_option}
+use Rattle.std.proofs.lemmas.Bool.{false≢true, cases_lt, le-leb, lt-leb, lt-ltb, le-ltb, eq-eqb, ne_eqb, and_left, cond-true, cond-false}
+use Rattle.flat_model.specs.Amounts.Weight.{Weight, ◌⊕◌}
+use Rattle.flat_model.specs.Fragments.Overlay.{Fragment}
+use Rattle.flat_model.specs.Machine.State.{State}
+use Rattle.flat_model.specs.Machine.Ledger.{exact_ledger}
+use Rattle.flat_model.specs.Machine.Arrival.{Origin, By_wire, Looped, Tests, Joins, PullsUp, FragmentArrives, is_bad_fragment, counts_fragment}
+use Rattle.flat_model.specs.Machine.Arrival as flat
+use Rattle.mbuf_chain.specs.Chain.{Entry, ChainView, PoolView, chain_of, entry_of, no_entry, flat_bytes, string}
+use Rattle.mbuf_chain.specs.Steps.{narrowed, with_back, empty_entry}
+use Rattle.chain_ops.specs.Pulls as ops
+use Rattle.chain_ops.specs.Pulls.{moved, pulled_len}
+use Rattle.chain_ops.specs.Rooms.{room_low}
+use Rattle.ledger.specs.Accounts.{weight_of, weight_at}
+use Rattle.ip_out.specs.declared.head.IpHead.{IpHead}
+use Rattle.ip_reass.specs.Fragments.{fragment_of}
+use Rattle.ip_reass.specs.Arrivals.{flat_head, key_in, carried_at, CameBy, pulled_entries, carried_entries}
+use Rattle.ip_reass.specs.Layouts.{fragment_carried, PullsUpHeader, ChainArrives}
+use Rattle.ip_reass.proofs.Arriving.{carried_bytes}
+use Rattle.ip_reass.proofs.Edits.{weight_trimmed}
+
+-- ---- what a packet weighs once its header is pulled up
+abbrev bag_of : List Entry → List ℕ
+bag_of es = filter_map (λ (e : Entry). e.cluster) es
+
+-- no byte more is moved
+moved_none : (x : Entry) (es : List Entry) (n : ℕ) → n ≡ 0 → moved n x es ≡ x ∷ es
+moved_none x [] n z = refl
+moved_none x (e ∷ es) n z = cond-true _ _ _ (eq-eqb n 0 z)
+
+-- the first mbuf is a cluster that is emptied
+moved_whole : (x e : Entry) (es : List Entry) (n : ℕ) → 0 < n → length e.bytes ≡ n → moved n x (e ∷ es) ≡ with_back x e.bytes ∷ es
+moved_whole x e es n some same =
+    cond-false _ _ _ (ne_eqb n 0 (λ z. absurd (omega arith))) ∙ (cond-true _ _ _ (le-leb (length e.bytes) n (omega arith)) ∙ moved_none (with_back x e.bytes) es (n - length e.bytes) (omega arith))
+
+-- or keeps some bytes
+moved_part : (x e : Entry) (es : List Entry) (n : ℕ) → 0 < n → n < length e.bytes → moved n x (e ∷ es) ≡ with_back x (take n e.bytes) ∷ narrowed e n (length e.bytes - n) ∷ es
+moved_part x e es n some less =
+    cond-false _ _ _ (ne_eqb n 0 (λ z. absurd (omega arith))) ∙ cond-false _ _ _ (lt-leb (length e.bytes) n less)
+
+pulled_weighs : (e x : Entry) (es : List Entry) (k n total : ℕ) → e.cluster ≡ Some k → x.cluster ≡ None → length e.bytes ≤ total → n ≡ min 40 total → 0 < n → (total ≤ length e.bytes) ⊎ (40 < length e.bytes)
+    → weight_of (moved n x (e ∷ es)) ≡ flat.pulled_up total (weight_of (e ∷ es))
+pulled_weighs e x es k n total is none long n_is some holds = elim (cases_lt 40 total) [
+  | inl more ↦
+      let less : n < length e.bytes = elim holds [ inl a ↦ omega arith | inr a ↦ omega arith ] in
+      let mbufs : length (with_back x (take n e.bytes) ∷ narrowed e n (length e.bytes - n) ∷ es) ≡ length (e ∷ es) + 1 = omega arith in
+      let bag : bag_of (with_back x (take n e.bytes) ∷ narrowed e n (length e.bytes - n) ∷ es) ≡ bag_of (e ∷ es) = ap (λ (o : Option ℕ). cons_option o (cons_option e.cluster (bag_of es))) none in
+      ap weight_of (moved_part x e es n some less) ∙ ((λ i. record { mbufs = mbufs i; bag = bag i }) ∙ sym (cond-true _ _ _ (lt-ltb 40 total more)))
+  | inr fewer ↦
+      let same : length e.bytes ≡ n = elim holds [ inl a ↦ omega arith | inr a ↦ absurd (omega arith) ] in
+      let bag : bag_of (with_back x e.bytes ∷ es) ≡ drop 1 (bag_of (e ∷ es)) =
+      ap (λ (o : Option ℕ). cons_option o (bag_of es)) none ∙ ap (λ (o : Option ℕ). drop 1 (cons_option o (bag_of es))) (sym is) in
+      ap weight_of (moved_whole x e es n some same) ∙ ((λ i. record { mbufs = suc (length es); bag = bag i }) ∙ sym (cond-false _ _ _ (le-ltb 40 total fewer)))
+]
+
+-- **a packet whose first mbuf is a cluster weighs what the flat machine says once its header is pulled up**
+pub pulled_is : (v : ChainView) → is_some (entry_of v 0).cluster ≡ true → 20 ≤ length (string v) → (length (string v) ≤ length (entry_of v 0).bytes) ⊎ (40 < length (entry_of v 0).bytes)
+    → weight_of (ops.pulled_up v 20) ≡ flat.pulled_up (length (string v)) (weight_of v.entries)
+pulled_is v is some holds = ap weight_of plain ∙ go v.entries is some holds
+  where
+    plain : ops.pulled_up v 20 ≡ moved (pulled_len 20 v.entries) (empty_entry (room_low v.front.header) None) v.entries
+    plain = cond-false _ _ _ (and_left _ _ (ap not is))
+
+    cluster_of : (o : Option ℕ) → is_some o ≡ true → (k : ℕ) × (o ≡ Some k)
+    cluster_of None e = absurd (false≢true e)
+    cluster_of (Some k) e = (k, refl)
+
+    go : (es : List Entry) → is_some (get_or es 0 no_entry).cluster ≡ true → 20 ≤ length (flat_bytes es) → (length (flat_bytes es) ≤ length (get_or es 0 no_entry).bytes) ⊎ (40 < length (get_or es 0 no_entry).bytes)
+        → weight_of (moved (pulled_len 20 es) (empty_entry (room_low v.front.header) None) es) ≡ flat.pulled_up (length (flat_bytes es)) (weight_of es)
+    go [] e l h = absurd (false≢true e)
+    go (e ∷ es) is l h =
+        let k = cluster_of e.cluster is in
+        pulled_weighs e (empty_entry (room_low v.front.header) None) es k.0 (pulled_len 20 (e ∷ es)) (length (flat_bytes (e ∷ es))) k.1 refl (omega (arith, length-append e.bytes (flat_bytes es))) (omega arith) (omega arith) h
+
+-- ---- the fragment that joins
+carried_is : (v : ChainView) (h : IpHead) (es : List Entry) (w : Weight) → es ≡ carried_entries v → weight_of (pulled_entries v) ≡ w
+    → fragment_of (record { offset = h.offset; more = h.more; entries = es }) ≡ record { offset = h.offset; bytes = drop 20 (string v); more = h.more; weight = w }
+carried_is v h es w e is =
+    let bytes : flat_bytes es ≡ drop 20 (string v) = ap flat_bytes e ∙ carried_bytes v in
+    let weight : weight_of es ≡ w = ap weight_of e ∙ (weight_trimmed 20 (pulled_entries v) ∙ is) in
+    λ i. record { offset = h.offset; bytes = bytes i; more = h.more; weight = weight i }
+
+-- what came by the wire in a cluster holds enough of the packet
+pub holds_of : (origin : Origin) (v : ChainView) → CameBy origin v → is_some (entry_of v 0).cluster ≡ true → (length (string v) ≤ length (entry_of v 0).bytes) ⊎ (40 < length (entry_of v 0).bytes)
+holds_of Looped v came cluster = absurd (false≢true (sym (ap is_some came) ∙ cluster))
+holds_of (By_wire received) v came cluster = came.holds
+
+-- ---- the step
+
+-- the fragment that a packet carries, of that weight
+abbrev with_weight : IpHead → ChainView → Weight → Fragment
+with_weight h v w = record { offset = h.offset; bytes = drop 20 (string v); more = h.more; weight = w }
+
+-- **a packet whose chain shows its origin arrives as the flat machine says of that origin**
+pub fragment_arrives : (held : Weight) (origin : Origin) (h : IpHead) (p : PoolView) (n : ℕ) (old new : State) → CameBy origin (chain_of p n) → length (string (chain_of p n)) ≡ h.total → 20 ≤ h.total
+    → ChainArrives held h (chain_of p n) old new → FragmentArrives exact_ledger origin held (flat_head h) (carried_at p n) old new
+fragment_arrives held origin h p n old new came total least step = record {
+  yes = λ bad. step.yes (ap (is_bad_fragment (flat_head h)) (sym size) ∙ bad);
+  no = λ good. pulls origin came (step.no (ap (is_bad_fragment (flat_head h)) (sym size) ∙ good));
+}
+  where
+    size : length (drop 20 (string (chain_of p n))) ≡ h.total - 20
+    size = omega (arith, length-drop 20 (string (chain_of p n)))
+
+    plain : is_some (entry_of (chain_of p n) 0).cluster ≡ false → Joins exact_ledger held (key_in h) (fragment_of (fragment_carried (chain_of p n) h)) (counts_fragment old) new → Joins exact_ledger held (key_in h) (with_weight h (chain_of p n) (weight_at p n)) (counts_fragment old) new
+    plain is joins = subst (λ (f : Fragment). Joins exact_ledger held (key_in h) f (counts_fragment old) new) (carried_is (chain_of p n) h (carried_entries (chain_of p n)) (weight_at p n) refl (ap weight_of (cond-false _ _ _ is))) joins
+
+    whole_size : length (string (chain_of p n)) ≡ 20 + length (drop 20 (string (chain_of p n)))
+    whole_size = omega (arith, size)
+
+    in_cluster : (received : ℕ) → CameBy (By_wire received) (chain_of p n) → is_some (entry_of (chain_of p n) 0).cluster ≡ true
+        → Tests exact_ledger (counts_fragment old) (held ⊕ weight_at p n) 1 new (λ mid. Joins exact_ledger held (key_in h) (fragment_of (fragment_carried (chain_of p n) h)) mid new)
+        → Tests exact_ledger (counts_fragment old) (held ⊕ weight_at p n) 1 new (λ mid. Joins exact_ledger held (key_in h) (with_weight h (chain_of p n) (flat.pulled_up (20 + length (drop 20 (string (chain_of p n)))) (weight_at p n))) mid new)
+    in_cluster received came cluster tests =
+        let weight : weight_of (pulled_entries (chain_of p n)) ≡ flat.pulled_up (20 + length (drop 20 (string (chain_of p n)))) (weight_at p n) =
+        ap weight_of (cond-true _ _ _ cluster) ∙ (pulled_is (chain_of p n) cluster (omega (arith, total, least)) (holds_of (By_wire received) (chain_of p n) came cluster) ∙ ap (λ (m : ℕ). flat.pulled_up m (weight_at p n)) whole_size) in
+        subst (λ (f : Fragment). Tests exact_ledger (counts_fragment old) (held ⊕ weight_at p n) 1 new (λ mid. Joins exact_ledger held (key_in h) f mid new))
+        (carried_is (chain_of p n) h (carried_entries (chain_of p n)) (flat.pulled_up (20 + length (drop 20 (string (chain_of p n)))) (weight_at p n)) refl weight) tests
+
+    pulls : (o : Origin) → CameBy o (chain_of p n) → PullsUpHeader (chain_of p n) held (counts_fragment old) new (λ mid. Joins exact_ledger held (key_in h) (fragment_of (fragment_carried (chain_of p n) h)) mid new)
+        → PullsUp exact_ledger o held (weight_at p n) (20 + length (drop 20 (string (chain_of p n)))) (counts_fragment old) new (λ w mid. Joins exact_ledger held (key_in h) (with_weight h (chain_of p n) w) mid new)
+    pulls Looped o_came s = plain (ap is_some o_came) (s.no (ap is_some o_came))
+    pulls (By_wire received) o_came s = record {
+      yes = λ large. in_cluster received o_came (o_came.cluster ∙ large) (s.yes (o_came.cluster ∙ large));
+      no = λ small. plain (o_came.cluster ∙ small) (s.no (o_came.cluster ∙ small));
+    }
