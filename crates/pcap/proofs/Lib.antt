@@ -1,0 +1,4 @@
+mod Unique
+mod Answered
+mod Headers
+mod Written

@@ -1,0 +1,27 @@
+//! Laws of the definitions, for callers to cite: each is the contract of a function that does nothing.
+ghost use Rattle.std.specs.Prelude.{◌≡◌, ◌++◌, List, ℕ, Ok, Result, drop};
+ghost use Rattle.std.specs.List.{AllByRecursion};
+ghost use Rattle.pcap.specs.File.{IsHeader, header_bytes, header_of};
+ghost use Rattle.pcap.specs.Records.{Captured, Fits, Reads, Whole, records_bytes};
+ghost use Rattle.pcap.specs.declared.header.Header.{Header};
+ghost use Rattle.pcap.specs.declared.fault.Fault.{Fault};
+
+/// A header as the format spells it, in either byte order and of either resolution, is read as it is.
+#[tactic(auto, using(crate::proofs::Headers::header_again))]
+pub fn headers_are_read()
+    ensures { (h : Header) (rest : List ℕ) → IsHeader h
+        → (header_of (header_bytes h ++ rest) ≡ Ok h) × (drop 24 (header_bytes h ++ rest) ≡ rest) }
+{}
+
+/// A header and records as the format spells them read as these and no others, by `one_reading`.
+#[tactic(auto, using(crate::proofs::Headers::spelled_reads))]
+pub fn written_is_read()
+    ensures { (w : Whole) → IsHeader w.header → AllByRecursion Fits w.records
+        → Reads (header_bytes w.header ++ records_bytes w.header.order w.records) (Ok w) }
+{}
+
+/// A file reads in one way: as one header with one list of records, or with one fault.
+#[tactic(auto, using(crate::proofs::Unique::same_reading))]
+pub fn one_reading()
+    ensures { (file : List ℕ) (a b : Result Whole Fault) → Reads file a → Reads file b → a ≡ b }
+{}

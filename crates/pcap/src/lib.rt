@@ -1,0 +1,22 @@
+//! Classic capture files, the format that tcpdump writes (pcap-savefile(5), draft-ietf-opsawg-pcap): a writer, a
+//! reader, and the IPv4 packet in a frame of each link type that the reader takes.
+//!
+//! It uses nothing of the stack.
+#![tactic(auto)]
+
+mod fault;
+mod header;
+mod laws;
+mod link;
+mod link_type;
+mod numbers;
+mod reader;
+mod writer;
+
+pub use fault::{Fault, ReadError, Why, WriteError};
+pub use header::{Header, Order, Resolution};
+pub use laws::{headers_are_read, one_reading, written_is_read};
+pub use link::{NoPacket, ipv4_packet};
+pub use link_type::LinkType;
+pub use reader::{Capture, Reader, Record, read};
+pub use writer::{LONGEST_PACKET, Packet, put_header, put_record, write};

@@ -1,0 +1,38 @@
+//! Numbers of 16 and 32 bits, in either order of their bytes.
+ghost use Rattle.std.specs.Prelude.{◌≡◌, ◌+◌, ◌≤◌, ◌++◌, length, drop};
+ghost use Rattle.std.specs.Int.{w16, w32};
+ghost use Rattle.pcap.specs.File.{number, number_of};
+
+use crate::header::Order;
+
+/// The number of 16 bits at a place.
+pub(crate) fn u16_at(order: Order, bytes: &[u8], at: usize) -> u16
+    requires { at + 2 ≤ length bytes.now }
+    ensures { result ≡ number_of order w16 (drop at bytes.now) }
+{
+    let parts = [bytes[at], bytes[at + 1]];
+    match order {
+        Order::Little => u16::from_le_bytes(parts),
+        Order::Big => u16::from_be_bytes(parts),
+    }
+}
+
+/// The number of 32 bits at a place.
+pub(crate) fn u32_at(order: Order, bytes: &[u8], at: usize) -> u32
+    requires { at + 4 ≤ length bytes.now }
+    ensures { result ≡ number_of order w32 (drop at bytes.now) }
+{
+    let parts = [bytes[at], bytes[at + 1], bytes[at + 2], bytes[at + 3]];
+    match order {
+        Order::Little => u32::from_le_bytes(parts),
+        Order::Big => u32::from_be_bytes(parts),
+    }
+}
+
+/// The number of 32 bits in front, and the bytes behind it.
+pub(crate) fn first_u32(order: Order, bytes: &[u8]) -> (u32, &[u8])
+    requires { 4 ≤ length bytes.now }
+    ensures { bytes.now ≡ number order w32 result.0 ++ result.1.now }
+{
+    (u32_at(order, bytes, 0), &bytes[4..])
+}
