@@ -4,7 +4,7 @@ bench="$(cd "$(dirname "${BASH_SOURCE[0]}")" && pwd)"
 crates="$bench/../crates"
 kit="$(dirname "$("${RT:-rt}" doc)")" # its C archive has the functions that ask malloc and free
 
-# The crate whose static library has a subject: its own where there is one.
+# The crate whose static library has a subject: its own if there is one.
 crate_of() { # SUBJECT
     if [ -d "$crates/bench_$1" ]; then echo "bench_$1"; else echo bench_c; fi
 }
@@ -14,22 +14,25 @@ build_library() { # WORK CRATE
     (cd "$crates/$2" && "${RT:-rt}" lib > "$1/lib.log" 2>&1) || { cat "$1/lib.log" >&2; return 1; }
 }
 
-# Builds a subject's program, WORK/bench, and its library.
-build_bench() { # WORK SUBJECT
-    local crate
-    crate="$(crate_of "$2")"
-    build_library "$1" "$crate"
-    "${CC:-gcc}" ${CFLAGS:--O3} -Wall -Wextra -I "$bench" -o "$1/bench" "$bench/$2/bench.c" \
-        "$crates/$crate/out/lib$crate.a" "$kit/c/liblibc_c.a"
+# Builds a subject's program, WORK/bench, with the static libraries of these crates, and with other libraries.
+build_bench() { # WORK SUBJECT CRATES [LIBRARY..]
+    local work="$1" subject="$2" names="$3" crate archives=()
+    shift 3
+    for crate in $names; do
+        build_library "$work" "$crate"
+        archives+=("$crates/$crate/out/lib$crate.a")
+    done
+    "${CC:-gcc}" ${CFLAGS:--O3} -Wall -Wextra -I "$bench" -o "$work/bench" "$bench/$subject/bench.c" \
+        "${archives[@]}" "$kit/c/liblibc_c.a" "$@" "-Wl,-rpath,$work"
 }
 
-# The instructions of so many turns, and of what is made once.
-counted() { # WORK ROW COLUMN TURNS
-    valgrind --tool=callgrind --callgrind-out-file=/dev/null "$1/bench" turns "$2" "$3" "$4" 2>&1 |
-        sed -n 's/.*Collected : //p'
+# The instructions of a program. memcpy is told to copy without `rep movsb`, which would be counted once a byte.
+counted() { # PROGRAM ARGUMENT..
+    GLIBC_TUNABLES=glibc.cpu.x86_rep_movsb_threshold=2000000000 \
+        valgrind --tool=callgrind --callgrind-out-file=/dev/null "$@" 2>&1 | sed -n 's/.*Collected : //p'
 }
 
-# The instructions of each turn, as the difference of 101 turns and one; `-` where the row doesn't have the column.
+# The instructions of each turn, as the difference of 101 turns and one; `-` if the row doesn't have the column.
 print_instructions() { # WORK
     local each column columns row rows once more status
     each="$("$1/bench" each)"
@@ -48,10 +51,22 @@ print_instructions() { # WORK
                 continue
             fi
             [ "$status" = 0 ] || { echo "$row: status $status" >&2; return 1; }
-            once="$(counted "$1" "$row" "$column" 1)"
-            more="$(counted "$1" "$row" "$column" 101)"
+            once="$(counted "$1/bench" turns "$row" "$column" 1)"
+            more="$(counted "$1/bench" turns "$row" "$column" 101)"
             printf ' %12d' $(((more - once) / (100 * each)))
         done
         echo
     done
+}
+
+# Both tables of a subject whose program is built.
+print_tables() { # WORK
+    if command -v valgrind > /dev/null; then print_instructions "$1"; fi
+    "$1/bench"
+}
+
+# Measures a subject that has no measure.sh of its own.
+measure() { # WORK SUBJECT
+    build_bench "$1" "$2" "$(crate_of "$2")"
+    print_tables "$1"
 }

@@ -1,6 +1,6 @@
 #!/usr/bin/env bash
-# Measures the subject that is named, or each of them: the instructions of a turn where valgrind is there, and then its
-# time. A subject is a folder beside this file.
+# Measures the subject that is named, or each of them. A subject is a folder beside this file; its measure.sh says how,
+# or else lib.sh.
 set -euo pipefail
 . "$(dirname "$0")/lib.sh"
 
@@ -13,7 +13,10 @@ if [ $# = 0 ]; then
 fi
 for subject in "${subjects[@]}"; do
     echo "== $subject"
-    build_bench "$work" "$subject"
-    if command -v valgrind > /dev/null; then print_instructions "$work"; fi
-    "$work/bench"
+    if [ -f "$bench/$subject/measure.sh" ]; then
+        . "$bench/$subject/measure.sh"
+        "measure_$subject" "$work"
+    else
+        measure "$work" "$subject"
+    fi
 done

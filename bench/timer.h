@@ -1,7 +1,7 @@
 /*
  * What the benchmarks share: a table of rows and columns, its times, and the words that bench/lib.sh asks for.
  *
- *   bench                     checks what there is to check, and prints nanoseconds
+ *   bench                     checks what there is to check, and prints nanoseconds. ROUNDS names more rounds than 100
  *   bench rows                prints the rows' names, one a line
  *   bench columns             prints the columns' names, one a line
  *   bench each                prints how often a turn does what is counted
@@ -17,7 +17,7 @@
 #include <string.h>
 #include <time.h>
 
-enum { TIMER_ROUNDS = 100, TIMER_MOST_COLUMNS = 8, TIMER_MOST_ROWS = 16 };
+enum { TIMER_MOST_COLUMNS = 8, TIMER_MOST_ROWS = 16 };
 
 /* Fewer turns than take that many nanoseconds aren't timed. */
 #define TIMER_SHORTEST 100000.0
@@ -67,16 +67,43 @@ static inline double lesser(double a, double b)
     return a < b ? a : b;
 }
 
-/* So many turns that they can be timed, beside what is made once. */
+/* The least time of a few runs, since a busy machine makes single ones long. */
+static inline double least_time(const Row *row, int column, uint64_t turns)
+{
+    double least = 1e18;
+    for (int round = 0; round < 5; round++)
+        least = lesser(least, time_taken(row, column, turns));
+    return least;
+}
+
+/* So many turns that they can be timed, and that what is made once is little beside them. */
 static inline uint64_t turns_of(const Row *row, int column)
 {
-    double once = 1e18;
-    for (int round = 0; round < 5; round++)
-        once = lesser(once, time_taken(row, column, 1));
+    double once = least_time(row, column, 1);
     uint64_t turns = 8;
-    while (time_taken(row, column, turns) < once + TIMER_SHORTEST)
+    while (least_time(row, column, turns) < 5 * once + TIMER_SHORTEST)
         turns *= 2;
     return turns;
+}
+
+/* The times of all rows, or their ratios to those of the first: these say more, on a busy machine and on another. */
+static inline void print_rows(const Table *table, double taken[][TIMER_MOST_COLUMNS], bool ratios)
+{
+    printf("%-40s", ratios ? "times to those of the first row" : table->what);
+    for (int c = 0; c < table->column_count; c++)
+        printf(" %12s", table->columns[c]);
+    printf("\n");
+    for (int r = 0; r < table->row_count; r++) {
+        printf("%-40s", table->rows[r].name);
+        for (int c = 0; c < table->column_count; c++)
+            if (c < table->rows[r].from)
+                printf(" %12s", "-");
+            else if (ratios)
+                printf(" %12.2f", taken[r][c] / taken[0][c]);
+            else
+                printf(" %9.1f ns", taken[r][c]);
+        printf("\n");
+    }
 }
 
 /*
@@ -87,7 +114,8 @@ static inline void print_times(const Table *table)
 {
     static double few[TIMER_MOST_ROWS][TIMER_MOST_COLUMNS], many[TIMER_MOST_ROWS][TIMER_MOST_COLUMNS];
     static uint64_t turns[TIMER_MOST_ROWS][TIMER_MOST_COLUMNS];
-    for (int round = 0; round < TIMER_ROUNDS; round++)
+    const char *rounds = getenv("ROUNDS");
+    for (int round = 0; round < (rounds ? atoi(rounds) : 100); round++)
         for (int c = 0; c < table->column_count; c++)
             for (int r = 0; r < table->row_count; r++) {
                 const Row *row = &table->rows[r];
@@ -100,19 +128,12 @@ static inline void print_times(const Table *table)
                 few[r][c] = lesser(few[r][c], time_taken(row, c, turns[r][c]));
                 many[r][c] = lesser(many[r][c], time_taken(row, c, 3 * turns[r][c]));
             }
-    printf("%-40s", table->what);
-    for (int c = 0; c < table->column_count; c++)
-        printf(" %12s", table->columns[c]);
-    printf("\n");
-    for (int r = 0; r < table->row_count; r++) {
-        printf("%-40s", table->rows[r].name);
-        for (int c = 0; c < table->column_count; c++)
-            if (c < table->rows[r].from)
-                printf(" %12s", "-");
-            else
-                printf(" %9.1f ns", (many[r][c] - few[r][c]) / (2.0 * (double)turns[r][c] * (double)table->each));
-        printf("\n");
-    }
+    for (int r = 0; r < table->row_count; r++)
+        for (int c = table->rows[r].from; c < table->column_count; c++)
+            many[r][c] = (many[r][c] - few[r][c]) / (2.0 * (double)turns[r][c] * (double)table->each);
+    print_rows(table, many, false);
+    if (table->row_count > 1)
+        print_rows(table, many, true);
 }
 
 static inline int work_turns(const Table *table, const char *row, const char *column, uint64_t turns)

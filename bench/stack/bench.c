@@ -4,10 +4,11 @@
  */
 #include "timer.h"
 
-enum { MOST = 9000 };
+enum { MOST = 9000, MBUFS = 512 };
 
 /* crates/bench_stack/src/lib.rt */
-uint32_t bsdudp_send_and_receive(const uint8_t *bytes, size_t len, uint32_t times);
+uint32_t bsdudp_send_and_receive(const uint8_t *bytes, size_t len, uint32_t mbufs, uint8_t sockets, uint8_t at,
+                                 uint32_t times);
 uint32_t bsdudp_send_to_itself(const uint8_t *bytes, size_t len, uint32_t times);
 
 static const size_t LENS[] = {2, 1472, MOST};
@@ -17,7 +18,7 @@ static uint8_t bytes[MOST];
 
 static bool to_another(int column, uint64_t turns)
 {
-    return bsdudp_send_and_receive(bytes, LENS[column], (uint32_t)turns) == turns;
+    return bsdudp_send_and_receive(bytes, LENS[column], MBUFS, 1, 0, (uint32_t)turns) == turns;
 }
 
 static bool to_itself(int column, uint64_t turns)

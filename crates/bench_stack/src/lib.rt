@@ -7,7 +7,7 @@ ghost use Rattle.std.specs.Prelude.{◌≤◌};
 
 use flat_model::{Addr, Config};
 use net_stack::Stack;
-use params::{MAX_MTU, UDP_HEADER};
+use params::{MAX_CLUSTERS, MAX_MTU, UDP_HEADER};
 use std::alloc::Global;
 
 /// How many bytes a packet carries at most on a link of 1,500 bytes.
@@ -16,41 +16,35 @@ const CHUNK: usize = 1480;
 /// The most bytes of a datagram.
 const MOST: usize = 9216;
 
-/// 10.0.0.1, with what a host has where nothing is said.
-const SENDER: Config = Config {
-    addr: 0x0a00_0001,
-    bcast: 0x0a00_00ff,
-    mtu: 1500,
-    mbufs: 512,
-    clusters: 64,
-    first_id: 1,
-};
+/// 10.0.0.1 and 10.0.0.2.
+const SENDER: u32 = 0x0a00_0001;
 
-/// 10.0.0.2, and its socket.
-const HEARER: Config = Config {
-    addr: 0x0a00_0002,
-    ..SENDER
-};
+const HEARER: u32 = 0x0a00_0002;
 
-const TO_HEARER: Addr = Addr {
-    ip: HEARER.addr,
-    port: 7,
-};
+/// How many mbufs a stack has unless its caller says.
+const MBUFS: u32 = 512;
 
-/// The sender's own socket.
-const TO_ITSELF: Addr = Addr {
-    ip: SENDER.addr,
-    port: 7,
-};
-
-/// The first socket of a stack.
+/// The first socket of a stack, and its port. The others are numbered after it.
 const SOCKET: u32 = 3;
 
-/// A stack with a socket on port 7.
-fn listening(alloc: Global, config: Config) -> Option<Stack> {
+const PORT: u16 = 7;
+
+/// A stack of so many mbufs, and an eighth as many clusters, with so many sockets, each on a port of its own.
+fn listening(alloc: Global, addr: u32, mbufs: u32, sockets: u8) -> Option<Stack> {
+    let config = Config {
+        addr,
+        bcast: 0x0a00_00ff,
+        mtu: 1500,
+        mbufs,
+        clusters: (mbufs / 8).min(MAX_CLUSTERS),
+        first_id: 1,
+    };
     let mut stack = Stack::boot(alloc, config).ok()?;
-    let _ = stack.socket();
-    let _ = stack.bind(SOCKET, Addr { ip: 0, port: 7 });
+    'sockets: for at in 0..sockets {
+        let port = PORT + u16::from(at);
+        let _ = stack.socket();
+        let _ = stack.bind(SOCKET + u32::from(at), Addr { ip: 0, port });
+    }
     Some(stack)
 }
 
@@ -72,46 +66,61 @@ fn carry(from: &mut Stack, to: &mut Stack, packet: &mut Packet, packets: usize) 
     }
 }
 
-/// Whether a datagram of `len` bytes waits in the socket, which is read into `room`.
-fn heard(stack: &mut Stack, len: usize, room: &mut [u8]) -> bool {
-    match stack.recvfrom(SOCKET, room) {
+/// Whether a datagram of `len` bytes waits in a socket, which is read into `room`.
+fn heard(stack: &mut Stack, socket: u32, len: usize, room: &mut [u8]) -> bool {
+    match stack.recvfrom(socket, room) {
         Ok((_, read)) => read == len,
         Err(_) => false,
     }
 }
 
-/// Sends, carries and receives so many times. Answers how often all bytes came.
-fn exchange(sender: &mut Stack, hearer: &mut Stack, bytes: &[u8], times: u32) -> u32
+/// Sends from the first socket, carries, and receives in the socket that stands so many after the first, so many times.
+/// Answers how often all bytes came.
+fn exchange(sender: &mut Stack, hearer: &mut Stack, at: u8, bytes: &[u8], times: u32) -> u32
     ensures { result ≤ times }
 {
+    let socket = SOCKET + u32::from(at);
+    let to = Addr {
+        ip: HEARER,
+        port: PORT + u16::from(at),
+    };
     let mut packet = [0; MAX_MTU as usize];
     let mut room = [0; MOST];
     let packets = packets_of(bytes.len());
     let mut well = 0;
     'turns: for _ in 0..times {
-        let sent = sender.sendto(SOCKET, Some(TO_HEARER), bytes);
+        let sent = sender.sendto(SOCKET, Some(to), bytes);
         carry(sender, hearer, &mut packet, packets);
-        if sent.is_ok() && heard(hearer, bytes.len(), &mut room) {
+        if sent.is_ok() && heard(hearer, socket, bytes.len(), &mut room) {
             well += 1;
         }
     }
     well
 }
 
-/// Boots two stacks, and `times` times sends a datagram from one to the other and reads it there. Answers how often all of
-/// it came: `uint32_t bsdudp_send_and_receive(const uint8_t *bytes, size_t len, uint32_t times)`.
+/// Boots two stacks of so many mbufs and sockets, and `times` times sends a datagram from the oldest socket of one to the
+/// socket `at` of the other (0 is the oldest) and reads it there. Answers how often all of it came:
+/// `uint32_t bsdudp_send_and_receive(const uint8_t *bytes, size_t len, uint32_t mbufs, uint8_t sockets, uint8_t at,
+/// uint32_t times)`.
 #[unsafe(no_mangle)]
-pub extern "C" fn bsdudp_send_and_receive(alloc: Global, bytes: &[u8], times: u32) -> u32
+pub extern "C" fn bsdudp_send_and_receive(
+    alloc: Global,
+    bytes: &[u8],
+    mbufs: u32,
+    sockets: u8,
+    at: u8,
+    times: u32,
+) -> u32
     ensures { result ≤ times }
 {
-    let Some(mut sender) = listening(alloc, SENDER) else {
+    let Some(mut sender) = listening(alloc, SENDER, mbufs, sockets) else {
         return 0;
     };
-    let Some(mut hearer) = listening(alloc, HEARER) else {
+    let Some(mut hearer) = listening(alloc, HEARER, mbufs, sockets) else {
         let _ = sender.end();
         return 0;
     };
-    let well = exchange(&mut sender, &mut hearer, bytes, times);
+    let well = exchange(&mut sender, &mut hearer, at, bytes, times);
     let _ = sender.end();
     let _ = hearer.end();
     well
@@ -123,14 +132,18 @@ pub extern "C" fn bsdudp_send_and_receive(alloc: Global, bytes: &[u8], times: u3
 pub extern "C" fn bsdudp_send_to_itself(alloc: Global, bytes: &[u8], times: u32) -> u32
     ensures { result ≤ times }
 {
-    let Some(mut stack) = listening(alloc, SENDER) else {
+    let Some(mut stack) = listening(alloc, SENDER, MBUFS, 1) else {
         return 0;
+    };
+    let to = Addr {
+        ip: SENDER,
+        port: PORT,
     };
     let mut room = [0; MOST];
     let mut well = 0;
     'turns: for _ in 0..times {
-        let sent = stack.sendto(SOCKET, Some(TO_ITSELF), bytes);
-        if sent.is_ok() && heard(&mut stack, bytes.len(), &mut room) {
+        let sent = stack.sendto(SOCKET, Some(to), bytes);
+        if sent.is_ok() && heard(&mut stack, SOCKET, bytes.len(), &mut room) {
             well += 1;
         }
     }

@@ -1,0 +1,112 @@
+/*
+ * How the cost of one thing grows with the number of others: bench/lib.sh asks for the table's lines, and counts the
+ * instructions of each size.
+ *
+ *   bench lines              what grows, what is counted, how many turns to compare with one, and the sizes: a line
+ *                            each, parted by tabs
+ *   bench each LINE SIZE     how often a turn does what is counted
+ *   bench turns LINE SIZE N  works N turns
+ */
+#include "packets.h"
+#include "timer.h"
+
+enum { MBUFS = 512, ALL_MBUFS = 65535, MOST_FRAGMENTS = 8000, PIECE = 8, PROTOCOL = 17, MOST = 1472 };
+
+/* crates/bench_stack, crates/bench_c */
+uint32_t bsdudp_send_and_receive(const uint8_t *bytes, size_t len, uint32_t mbufs, uint8_t sockets, uint8_t at,
+                                 uint32_t times);
+uint32_t bsdudp_reassemble(const uint8_t *packets, size_t len, uint32_t mbufs, uint32_t times);
+uint32_t bsdudp_new_keys(const uint8_t *first, size_t first_len, const uint8_t *last, size_t last_len, uint16_t held,
+                         uint32_t times);
+
+static const uint8_t bytes[MOST];
+static uint8_t packets[MOST_FRAGMENTS * PACKETS_APART];
+
+static uint32_t sent(size_t len, uint32_t mbufs, uint32_t sockets, uint32_t at, uint32_t turns)
+{
+    return bsdudp_send_and_receive(bytes, len, mbufs, (uint8_t)sockets, (uint8_t)at, turns);
+}
+
+static uint32_t to_oldest(uint32_t sockets, uint32_t turns)
+{
+    return sent(2, MBUFS, sockets, 0, turns);
+}
+
+static uint32_t to_newest(uint32_t sockets, uint32_t turns)
+{
+    return sent(2, MBUFS, sockets, sockets - 1, turns);
+}
+
+static uint32_t short_one(uint32_t mbufs, uint32_t turns)
+{
+    return sent(2, mbufs, 1, 0, turns);
+}
+
+static uint32_t long_one(uint32_t mbufs, uint32_t turns)
+{
+    return sent(MOST, mbufs, 1, 0, turns);
+}
+
+static uint32_t new_key(uint32_t held, uint32_t turns)
+{
+    uint8_t *last = packets + PACKETS_APART;
+    put_fragment(packets, PROTOCOL, 0, PIECE, 2 * PIECE);
+    put_fragment(last, PROTOCOL, 1, PIECE, 2 * PIECE);
+    return bsdudp_new_keys(packets, PACKET_HEADER + PIECE, last, PACKET_HEADER + PIECE, (uint16_t)held, turns);
+}
+
+static uint32_t fragments(uint32_t count, bool reversed, uint32_t turns)
+{
+    for (uint32_t at = 0; at < count; at++)
+        put_fragment(packets + at * PACKETS_APART, PROTOCOL, reversed ? count - 1 - at : at, PIECE, count * PIECE);
+    return bsdudp_reassemble(packets, (size_t)count * PACKETS_APART, ALL_MBUFS, turns);
+}
+
+static uint32_t in_order(uint32_t count, uint32_t turns)
+{
+    return fragments(count, false, turns);
+}
+
+static uint32_t reversed(uint32_t count, uint32_t turns)
+{
+    return fragments(count, true, turns);
+}
+
+typedef struct {
+    const char *grows, *counted, *sizes;
+    uint32_t turns; /* that are compared with one */
+    uint32_t each;  /* how often a turn does what is counted; 0 for as often as the size */
+    uint32_t (*run)(uint32_t size, uint32_t turns);
+} Line;
+
+static const Line LINES[] = {
+    {"open sockets", "a datagram to the oldest", "1 8 16 32 64", 65, 1, to_oldest},
+    {"open sockets", "a datagram to the newest", "1 8 16 32 64", 65, 1, to_newest},
+    {"other datagrams unfinished", "a fragment of a new one", "0 10 100 1000 10000", 65, 2, new_key},
+    {"fragments of a datagram", "each, in order", "7 45 250 1000 8000", 2, 0, in_order},
+    {"fragments of a datagram", "each, reversed", "7 45 250 1000 8000", 2, 0, reversed},
+    {"mbufs of the pool", "a datagram of 2 bytes", "64 512 4096 16384 65535", 65, 1, short_one},
+    {"mbufs of the pool", "a datagram of 1,472 bytes", "64 512 4096 16384 65535", 65, 1, long_one},
+};
+
+int main(int argc, char **argv)
+{
+    if (argc == 2 && !strcmp(argv[1], "lines")) {
+        for (int at = 0; at < COUNT_OF(LINES); at++)
+            printf("%s\t%s\t%u\t%s\n", LINES[at].grows, LINES[at].counted, (unsigned)LINES[at].turns, LINES[at].sizes);
+        return 0;
+    }
+    if (argc < 4 || atoi(argv[2]) >= COUNT_OF(LINES))
+        return 2;
+    const Line *line = &LINES[atoi(argv[2])];
+    uint32_t size = (uint32_t)atoi(argv[3]);
+    if (argc == 4 && !strcmp(argv[1], "each")) {
+        printf("%u\n", (unsigned)(line->each ? line->each : size));
+        return 0;
+    }
+    if (argc == 5 && !strcmp(argv[1], "turns")) {
+        uint32_t turns = (uint32_t)atoi(argv[4]);
+        return line->run(size, turns) == turns ? 0 : 1;
+    }
+    return 2;
+}

@@ -1,0 +1,73 @@
+# How the cost of one thing grows with the number of others, by instructions. PROGRAM names another build of bsdudp.
+
+# A line of the table: `flat` if the last is at most 1.2 times the first, and else what each more costs.
+print_line() { # COUNTED SIZES COSTS
+    local costs
+    read -r -a costs <<< "$3"
+    printf '  %-30s' "$1"
+    printf ' %9s' "${costs[@]}"
+    awk -v sizes="$2" -v costs="$3" 'BEGIN {
+        n = split(sizes, size); split(costs, cost)
+        if (cost[n] <= 1.2 * cost[1]) print "   flat"
+        else printf "   +%.1f for each more\n", (cost[n] - cost[1]) / (size[n] - size[1])
+    }'
+}
+
+print_head() { # GROWS SIZES
+    local sizes
+    read -r -a sizes <<< "$2"
+    printf '%-32s' "$1"
+    printf ' %9s' "${sizes[@]}"
+    echo
+}
+
+# The instructions of a turn of bench, as the difference of so many turns and one.
+cost_of() { # WORK LINE SIZE TURNS
+    local once more each
+    once="$(counted "$1/bench" turns "$2" "$3" 1)"
+    more="$(counted "$1/bench" turns "$2" "$3" "$4")"
+    each="$("$1/bench" each "$2" "$3")"
+    echo $(((more - once) / (($4 - 1) * each)))
+}
+
+# A script that sends so many bytes by loopback and receives them, so many times.
+loopback_script() { # SIZE TIMES
+    local bytes
+    bytes="$(printf '%*s' "$1" '' | sed 's/ /61/g')"
+    printf 'socket\nbind 3 0.0.0.0 7\n'
+    for ((at = 0; at < $2; at++)); do printf 'sendto 3 127.0.0.1 7 %s\nrecvfrom 3 9216\n' "$bytes"; done
+}
+
+print_script_lines() { # WORK
+    local program="${PROGRAM:-$crates/bsdudp/out/bsdudp}" sizes="2 64 256 1472 9000" size costs=() once more
+    if [ ! -x "$program" ]; then
+        echo "bytes of a line: left out, since $program isn't built (rt run in crates/bsdudp)"
+        return
+    fi
+    print_head "bytes of a line" "$sizes"
+    for size in $sizes; do
+        loopback_script "$size" 1 > "$1/once"
+        loopback_script "$size" 101 > "$1/more"
+        once="$(counted "$program" run < "$1/once")"
+        more="$(counted "$program" run < "$1/more")"
+        costs+=($(((more - once) / 100)))
+    done
+    print_line "sendto, and its recvfrom" "$sizes" "${costs[*]}"
+}
+
+measure_growth() { # WORK
+    local line=0 last= grows what sizes size turns costs
+    if ! command -v valgrind > /dev/null; then
+        echo "skipped: it counts instructions by valgrind"
+        return
+    fi
+    build_bench "$1" growth "bench_stack bench_c"
+    while IFS=$'\t' read -r grows what turns sizes; do
+        [ "$grows" = "$last" ] || print_head "$grows" "$sizes"
+        last="$grows" costs=()
+        for size in $sizes; do costs+=("$(cost_of "$1" "$line" "$size" "$turns")"); done
+        print_line "$what" "$sizes" "${costs[*]}"
+        line=$((line + 1))
+    done < <("$1/bench" lines)
+    print_script_lines "$1"
+}
