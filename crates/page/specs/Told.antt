@@ -1,0 +1,48 @@
+-- What a page is told of a script that was served (this project's own).
+use Rattle.std.specs.Prelude.{◌≡◌, ◌≤◌, ◌<◌, ◌++◌, ℕ, List, [], length, drop, Option, Some, Result, Ok, Err}
+use Rattle.flat_model.specs.declared.config.Config.{Config}
+use Rattle.mbuf_pool.specs.declared.sizes.Sizes.{Sizes}
+use Rattle.page.specs.declared.settings.PageMachine.{PageMachine}
+use Rattle.page.specs.declared.settings.PagePool.{PagePool}
+use Rattle.script_loop.specs.Serves.{Serves}
+use Rattle.script_loop.specs.declared.fault.RunFault.{RunFault}
+use Rattle.script_loop.specs.declared.fault.RunFault.TheVariants.{Read, Write, Memory, TooManyLines, BadSizes, BadConfig}
+
+-- ---- what the page says of the machine
+
+abbrev pub config_of : PageMachine → Config
+config_of m = record { addr = m.addr; bcast = m.bcast; mtu = m.mtu; mbufs = m.mbufs; clusters = m.clusters; first_id = m.first_id }
+
+abbrev pub sizes_of : PagePool → Sizes
+sizes_of p = record { mbufs = p.mbufs; clusters = p.clusters }
+
+-- ---- what it is told
+
+-- the outcome as a number
+abbrev pub number : Result Unit RunFault → ℕ
+number (Ok done) = 0
+number (Err BadSizes) = 1
+number (Err BadConfig) = 2
+number (Err Memory) = 3
+number (Err TooManyLines) = 4
+number (Err Read) = 5
+number (Err Write) = 6
+
+-- The room after the replies were handed over: they stand at its beginning, where they fit, and all else is as it was.
+pub record Handed (replies before after : List ℕ) : Type 0 where
+  pub fits : length replies ≤ length before → after ≡ replies ++ drop (length replies) before
+  pub lacks : length before < length replies → after ≡ before
+
+-- A whole script was served from the state `booted`, each answer being one that it `gives`: with an outcome that `boots` allows, and
+-- these replies. The page is told the outcome's number and how many bytes the replies have, and they are in its room.
+pub record Told {S : Type 0} (gives : S → List ℕ → List ℕ → S → Type 0) (booted : S) (boots : Result Unit RunFault → Type 0)
+    (script : List ℕ) (answer len : ℕ) (before after : List ℕ) : Type 0 where
+  pub outcome : Result Unit RunFault
+  pub replies : List ℕ
+  pub unread : Option (List ℕ)
+  pub new : S
+  pub allowed : boots outcome
+  pub served : Serves gives booted new (Some script) unread (Some []) (Some replies) outcome
+  pub numbered : answer ≡ number outcome
+  pub counted : len ≡ length replies
+  pub handed : Handed replies before after

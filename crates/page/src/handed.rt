@@ -1,0 +1,31 @@
+//! How an outcome and the replies are handed over.
+ghost use Rattle.std.specs.Prelude.{◌≡◌, length};
+ghost use Rattle.page.specs.Told.{number, Handed};
+
+use link_script::RunFault;
+
+/// The outcome as a number.
+pub(crate) fn number_of(outcome: Result<(), RunFault>) -> u32
+    ensures { result ≡ number outcome }
+{
+    match outcome {
+        Ok(()) => 0,
+        Err(RunFault::BadSizes) => 1,
+        Err(RunFault::BadConfig) => 2,
+        Err(RunFault::Memory) => 3,
+        Err(RunFault::TooManyLines) => 4,
+        Err(RunFault::Read) => 5,
+        Err(RunFault::Write) => 6,
+    }
+}
+
+/// Puts the bytes at the beginning of the room, where they fit, and else nothing. Answers how many they are.
+pub(crate) fn hand_over(bytes: &[u8], room: &mut [u8]) -> usize
+    ensures handed { Handed bytes.now room.old room.new }
+    ensures len { result ≡ length bytes.now }
+{
+    if bytes.len() <= room.len() {
+        room[..bytes.len()].copy_from_slice(bytes);
+    }
+    bytes.len()
+}

@@ -1,0 +1,71 @@
+//! What a web page calls: both scripts as functions of a whole script, over bytes in memory. The page hands over a whole
+//! script each time, so nothing is kept between two calls. No other crate stands on this one.
+//!
+//! It shows that the outcome and the replies are those of the script on a new machine, and where the replies stand.
+#![tactic(auto)]
+
+ghost use Rattle.flat_model.specs.Machine.State.{boot};
+ghost use Rattle.flat_model.specs.Machine.Step.{Step};
+ghost use Rattle.link_script.specs.Says.{Says};
+ghost use Rattle.link_script.specs.Boots.{Boots};
+ghost use Rattle.chain_script.specs.Machines.{booted};
+ghost use Rattle.chain_script.specs.Steps as chain_steps;
+ghost use Rattle.chain_script.specs.Boots as chain_sizes;
+ghost use Rattle.page.specs.Told.{Told, config_of, sizes_of};
+
+mod handed;
+mod settings;
+
+use chain_script::run_chains;
+use handed::{hand_over, number_of};
+use link_script::run;
+pub use settings::{PageMachine, PagePool};
+use std::alloc::Global;
+
+/// Serves a script of `bsdudp run` on a new machine, and puts the replies at the beginning of the room: `uint32_t
+/// bsdudp_page_run(const struct page_machine *, const uint8_t *script, size_t, uint8_t *room, size_t, size_t *len)`.
+///
+/// Answers the outcome's number: 0 where all lines were answered, and else that of the fault. `len` is then how many bytes
+/// the replies have. Where the room has fewer it's as it was, and the page calls again with more.
+///
+/// The faults: 1 `BadSizes`, 2 `BadConfig`, 3 `Memory`, 4 `TooManyLines`, 6 `Write`, each as `link_script::run` has it;
+/// `Write` comes where the host refuses memory for the replies. 5 is `Read`, which a script in memory never has.
+#[unsafe(no_mangle)]
+pub extern "C" fn bsdudp_page_run(
+    alloc: Global,
+    machine: &PageMachine,
+    script: &[u8],
+    room: &mut [u8],
+    len: &mut usize,
+) -> u32
+    ensures told { Told (Says Step) (boot (config_of machine.now)) (Boots (config_of machine.now))
+        script.now result len.new room.old room.new }
+{
+    let mut reader = script;
+    let mut replies = Vec::new(alloc);
+    let outcome = run(alloc, machine.config(), &mut reader, &mut replies);
+    *len = hand_over(replies.as_slice(), room);
+    number_of(outcome)
+}
+
+/// Serves a script of `bsdudp chain` over a new pool, in the same way: `uint32_t bsdudp_page_chain(const struct page_pool
+/// *, const uint8_t *script, size_t, uint8_t *room, size_t, size_t *len)`.
+///
+/// The faults: 1 `BadSizes`, 3 `Memory`, 4 `TooManyLines`, 6 `Write`, each as `chain_script::run_chains` has it.
+#[unsafe(no_mangle)]
+pub extern "C" fn bsdudp_page_chain(
+    alloc: Global,
+    pool: &PagePool,
+    script: &[u8],
+    room: &mut [u8],
+    len: &mut usize,
+) -> u32
+    ensures told { Told chain_steps.Says (booted pool.now.mbufs pool.now.clusters) (chain_sizes.Boots (sizes_of pool.now))
+        script.now result len.new room.old room.new }
+{
+    let mut reader = script;
+    let mut replies = Vec::new(alloc);
+    let outcome = run_chains(alloc, pool.sizes(), &mut reader, &mut replies);
+    *len = hand_over(replies.as_slice(), room);
+    number_of(outcome)
+}
