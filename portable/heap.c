@@ -1,0 +1,121 @@
+// The heap of a module that has no C library: rattle_alloc, rattle_realloc and rattle_dealloc, which the proved code
+// calls, and `room` and `give_back`, by which a page gets memory for what it hands over. It isn't proved, as malloc
+// isn't.
+//
+// The free blocks are a list in the order of their addresses. The first one that is large enough is taken, and split if
+// it's much larger; what is freed is merged with its neighbours. Memory grows by pages of 65,536 bytes, and never
+// shrinks.
+typedef unsigned long long u64;
+typedef unsigned char u8;
+
+// What an allocation answers: whether there was memory, and where it is.
+typedef struct {
+    u64 ok, at;
+} Tried;
+
+// In front of each block: its size with this head, a multiple of 16, and of a free block the next one.
+typedef struct Block {
+    u64 size;
+    struct Block *next;
+} Block;
+
+enum { HEAD = sizeof(Block), ALIGNED = 16, PAGE = 65536 };
+
+extern u8 __heap_base;
+static Block *first_free;
+static u64 top; // the end of all that was handed out, 0 before the first call
+
+static u64 rounded(u64 n) {
+    return (n + (ALIGNED - 1)) & ~(u64)(ALIGNED - 1);
+}
+
+// Whether the memory reaches so far, after it has grown if need be.
+static int reaches(u64 end) {
+    u64 have = (u64)__builtin_wasm_memory_size(0) * PAGE;
+    if (end <= have) return 1;
+    u64 refused = (__typeof__(__builtin_wasm_memory_size(0)))-1;
+    return (u64)__builtin_wasm_memory_grow(0, (end - have + PAGE - 1) / PAGE) != refused;
+}
+
+// A block of this size behind all others, or 0.
+static Block *from_the_top(u64 size) {
+    if (top == 0) top = rounded((u64)&__heap_base);
+    if (top + size < top || !reaches(top + size)) return 0;
+    Block *block = (Block *)top;
+    block->size = size;
+    top += size;
+    return block;
+}
+
+// The first free block that is large enough, taken from the list, or 0. What it has too much stays free.
+static Block *from_the_list(u64 size) {
+    for (Block **link = &first_free; *link; link = &(*link)->next) {
+        Block *block = *link;
+        if (block->size < size) continue;
+        if (block->size < size + HEAD + ALIGNED) {
+            *link = block->next;
+            return block;
+        }
+        Block *rest = (Block *)((u8 *)block + size);
+        rest->size = block->size - size;
+        rest->next = block->next;
+        *link = rest;
+        block->size = size;
+        return block;
+    }
+    return 0;
+}
+
+// New memory of n bytes, aligned to 16; no caller asks for more.
+Tried rattle_alloc(u64 n, u64 alignment) {
+    (void)alignment;
+    if (n > (1ULL << 40)) return (Tried){0, 0};
+    u64 size = rounded(n) + HEAD;
+    Block *block = from_the_list(size);
+    if (!block) block = from_the_top(size);
+    return block ? (Tried){1, (u64)block + HEAD} : (Tried){0, 0};
+}
+
+// Merges a block with the one behind it, where they touch.
+static void merge(Block *block) {
+    Block *next = block->next;
+    if (next && (u8 *)block + block->size == (u8 *)next) {
+        block->size += next->size;
+        block->next = next->next;
+    }
+}
+
+// Gives memory back.
+void rattle_dealloc(u8 *at) {
+    if (!at) return;
+    Block *block = (Block *)(at - HEAD), *before = 0, **link = &first_free;
+    while (*link && *link < block) {
+        before = *link;
+        link = &before->next;
+    }
+    block->next = *link;
+    *link = block;
+    merge(block);
+    if (before) merge(before);
+}
+
+// Memory of n bytes whose first `kept` bytes are those at `at`, which is given back where the answer is elsewhere.
+Tried rattle_realloc(u8 *at, u64 kept, u64 n, u64 alignment) {
+    if (at && ((Block *)(at - HEAD))->size - HEAD >= n) return (Tried){1, (u64)at};
+    Tried got = rattle_alloc(n, alignment);
+    if (got.ok && at) {
+        __builtin_memcpy((u8 *)got.at, at, kept);
+        rattle_dealloc(at);
+    }
+    return got;
+}
+
+// Memory of n bytes for what a page hands over, or 0.
+__attribute__((export_name("room"))) u64 room(u64 n) {
+    return rattle_alloc(n, ALIGNED).at;
+}
+
+// Gives it back.
+__attribute__((export_name("give_back"))) void give_back(u8 *at) {
+    rattle_dealloc(at);
+}
