@@ -11,7 +11,8 @@ use Rattle.script_loop.specs.declared.fault.RunFault.TheVariants.{Read, Write, M
 -- ---- what the page says of the machine
 
 abbrev pub config_of : PageMachine → Config
-config_of m = record { addr = m.addr; bcast = m.bcast; mtu = m.mtu; mbufs = m.mbufs; clusters = m.clusters; first_id = m.first_id }
+config_of m = record {
+    addr = m.addr; bcast = m.bcast; mtu = m.mtu; mbufs = m.mbufs; clusters = m.clusters; first_id = m.first_id }
 
 abbrev pub sizes_of : PagePool → Sizes
 sizes_of p = record { mbufs = p.mbufs; clusters = p.clusters }
@@ -33,10 +34,11 @@ pub record Handed (replies before after : List ℕ) : Type 0 where
   pub fits : length replies ≤ length before → after ≡ replies ++ drop (length replies) before
   pub lacks : length before < length replies → after ≡ before
 
--- A whole script was served from the state `booted`, each answer being one that it `gives`: with an outcome that `boots` allows, and
--- these replies. The page is told the outcome's number and how many bytes the replies have, and they are in its room.
-pub record Told {S : Type 0} (gives : S → List ℕ → List ℕ → S → Type 0) (booted : S) (boots : Result Unit RunFault → Type 0)
-    (script : List ℕ) (answer len : ℕ) (before after : List ℕ) : Type 0 where
+-- A whole script was served from the state `booted`, each answer being one that it `gives`: with an outcome that
+-- `boots` allows, and these replies. The page is told the outcome's number and how many bytes the replies have, and
+-- they are in its room.
+pub record Told {S : Type 0} (gives : S → List ℕ → List ℕ → S → Type 0) (booted : S)
+    (boots : Result Unit RunFault → Type 0) (script : List ℕ) (answer len : ℕ) (before after : List ℕ) : Type 0 where
   pub outcome : Result Unit RunFault
   pub replies : List ℕ
   pub unread : Option (List ℕ)

@@ -1,5 +1,5 @@
-//! What a web page calls: both scripts as functions of a whole script, over bytes in memory. The page hands over a whole
-//! script each time, so nothing is kept between two calls. No other crate stands on this one.
+//! What a web page calls: both scripts as functions of a whole script, over bytes in memory. The page hands over a
+//! whole script each time, so nothing is kept between two calls. No other crate stands on this one.
 //!
 //! It shows that the outcome and the replies are those of the script on a new machine, and where the replies stand.
 #![tactic(auto)]
@@ -25,8 +25,8 @@ use std::alloc::Global;
 /// Serves a script of `bsdudp run` on a new machine, and puts the replies at the beginning of the room: `uint32_t
 /// bsdudp_page_run(const struct page_machine *, const uint8_t *script, size_t, uint8_t *room, size_t, size_t *len)`.
 ///
-/// Answers the outcome's number: 0 where all lines were answered, and else that of the fault. `len` is then how many bytes
-/// the replies have. Where the room has fewer it's as it was, and the page calls again with more.
+/// Answers the outcome's number: 0 where all lines were answered, and else that of the fault. `len` is then how many
+/// bytes the replies have. Where the room has fewer it's as it was, and the page calls again with more.
 ///
 /// The faults: 1 `BadSizes`, 2 `BadConfig`, 3 `Memory`, 4 `TooManyLines`, 6 `Write`, each as `link_script::run` has it;
 /// `Write` comes where the host refuses memory for the replies. 5 is `Read`, which a script in memory never has.
@@ -48,8 +48,8 @@ pub extern "C" fn bsdudp_page_run(
     number_of(outcome)
 }
 
-/// Serves a script of `bsdudp chain` over a new pool, in the same way: `uint32_t bsdudp_page_chain(const struct page_pool
-/// *, const uint8_t *script, size_t, uint8_t *room, size_t, size_t *len)`.
+/// Serves a script of `bsdudp chain` over a new pool, in the same way: `uint32_t bsdudp_page_chain(const struct
+/// page_pool *, const uint8_t *script, size_t, uint8_t *room, size_t, size_t *len)`.
 ///
 /// The faults: 1 `BadSizes`, 3 `Memory`, 4 `TooManyLines`, 6 `Write`, each as `chain_script::run_chains` has it.
 #[unsafe(no_mangle)]
@@ -60,7 +60,8 @@ pub extern "C" fn bsdudp_page_chain(
     room: &mut [u8],
     len: &mut usize,
 ) -> u32
-    ensures told { Told chain_steps.Says (booted pool.now.mbufs pool.now.clusters) (chain_sizes.Boots (sizes_of pool.now))
+    ensures told { Told chain_steps.Says (booted pool.now.mbufs pool.now.clusters)
+        (chain_sizes.Boots (sizes_of pool.now))
         script.now result len.new room.old room.new }
 {
     let mut reader = script;

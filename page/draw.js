@@ -1,0 +1,237 @@
+"use strict";
+// Drawings: the elements of a page, packets as RFC 791 draws them, the pool, and chains as volume 2 draws them.
+
+// An element with attributes and children. A child that is nothing is left out.
+function h(tag, attributes = {}, ...children) {
+  const it = document.createElement(tag);
+  for (const [name, value] of Object.entries(attributes)) {
+    if (name.startsWith("on")) it.addEventListener(name.slice(2), value);
+    else if (value === true) it.setAttribute(name, "");
+    else if (value !== null && value !== undefined && value !== false) it.setAttribute(name, value);
+  }
+  it.append(...children.flat(9).filter(child => child !== null && child !== undefined && child !== false));
+  return it;
+}
+
+// The same of a drawing.
+function svg(tag, attributes = {}, ...children) {
+  const it = document.createElementNS("http://www.w3.org/2000/svg", tag);
+  for (const [name, value] of Object.entries(attributes)) it.setAttribute(name, value);
+  it.append(...children.flat(9));
+  return it;
+}
+
+const words = (x, y, kind, text, anchor = "start") => svg("text", { x, y, class: kind, "text-anchor": anchor }, String(text));
+
+// ---- a packet
+
+function cellOf(field) {
+  const marks = field.isWrong ? [h("b", { class: "cross" }, " ✗ wrong")] : field.isRight ? [h("b", { class: "tick" }, " ✓")] : [];
+  const shape = `cell kind-${field.kind} bits-${field.bits}${field.isWrong ? " wrong" : ""}`;
+  return h("li", { class: shape, "data-at": field.at },
+    h("span", { class: "cell-name" }, field.name), h("span", { class: "cell-value" }, field.value, marks));
+}
+
+// The bytes, 16 in a row, each with the field that it's of.
+function dumpOf(packet) {
+  const most = packet.length <= 128 ? 128 : 96, cells = [];
+  packet.bytes.subarray(0, most).forEach((byte, at) => {
+    if (at % 16 === 0) cells.push(h("span", { class: "at" }, String(at)));
+    const field = packet.fields.find(it => at >= it.at && at < it.at + it.size);
+    const title = `${field.name}${field.value && `: ${field.value}`}`;
+    cells.push(h("span", { class: `byte kind-${field.kind}`, title, "data-of": field.at }, hexOf([byte])));
+  });
+  const rest = packet.length > most && h("span", { class: "rest" }, `and ${plural(packet.length - most, "more byte")}`);
+  return h("div", { class: "dump", role: "img", "aria-label": `its first bytes: ${hexOf(packet.bytes.subarray(0, 64))}` }, cells, rest);
+}
+
+// The header as RFC 791 draws it, 32 bits in a row, and the bytes below it. What the pointer is on is lit in both.
+function packetView(packet, title) {
+  const header = packet.isShort || scroller("the header, 32 bits in a row", h("ul", { class: "rfc" }, packet.fields.map(cellOf)));
+  const it = h("div", { class: "packet" },
+    h("h3", {}, title, " ", h("span", { class: "faint" }, plural(packet.length, "byte"))),
+    header === true ? null : header, scroller("the bytes of the packet", dumpOf(packet)));
+  it.addEventListener("mouseover", event => {
+    const found = event.target.closest("[data-at], [data-of]");
+    it.querySelectorAll(".lit").forEach(lit => lit.classList.remove("lit"));
+    if (!found) return;
+    const place = found.dataset.at || found.dataset.of;
+    it.querySelectorAll(`[data-at="${place}"], [data-of="${place}"]`).forEach(lit => lit.classList.add("lit"));
+  });
+  return it;
+}
+
+// What may be wider than the window is scrolled by itself, also by keyboard.
+const scroller = (name, ...children) => h("div", { class: "scroller", tabindex: 0, role: "group", "aria-label": name }, children);
+
+// ---- the pool
+
+// A bar of buffers by owner: a cell for each if there are few.
+function poolBar(name, total, owners) {
+  const used = owners.reduce((n, owner) => n + owner.count, 0), all = [...owners, { name: "free", kind: "free", count: total - used }];
+  const shown = all.filter(owner => owner.count > 0);
+  const isCells = total <= 64;
+  const parts = isCells
+    ? shown.flatMap(owner => Array.from({ length: owner.count }, () => h("i", { class: `of-${owner.kind}` })))
+    : shown.map(owner => h("i", { class: `of-${owner.kind}`, style: `flex: ${owner.count} 0 3px` }));
+  const label = `${name}: ${shown.map(owner => `${owner.count} ${owner.name}`).join(", ")}`;
+  return h("div", { class: "pool" },
+    h("div", {}, h("b", {}, name), " ", h("span", { class: "faint" }, `${(total - used).toLocaleString("en")} of ${total.toLocaleString("en")} free`)),
+    h("div", { class: isCells ? "bar cells" : "bar", role: "img", "aria-label": label }, parts));
+}
+
+// The curve of mbufs in use, line by line, with the line that is looked at.
+function curve(steps, here, choose) {
+  const width = 300, height = 34, most = Math.max(1, ...steps.map(step => step.pool.used));
+  const x = i => (i * width) / Math.max(1, steps.length - 1), y = step => height - 2 - ((height - 5) * step.pool.used) / most;
+  const line = steps.map((step, i) => `L${x(i).toFixed(1)} ${y(step).toFixed(1)}`).join("");
+  const label = `mbufs in use after each line: at most ${most}, now ${steps[here].pool.used}`;
+  const picture = svg("svg", { viewBox: `0 0 ${width} ${height}`, preserveAspectRatio: "none", role: "img", "aria-label": label },
+    svg("path", { d: `M0 ${height}${line}L${width} ${height}z`, class: "area" }), svg("path", { d: `M${x(here)} 0V${height}`, class: "here" }));
+  picture.addEventListener("click", event => {
+    const box = picture.getBoundingClientRect();
+    choose(Math.round(((event.clientX - box.left) / box.width) * (steps.length - 1)));
+  });
+  return [h("span", { class: "faint" }, `mbufs in use, at most ${most.toLocaleString("en")}`), picture];
+}
+
+// ---- chains, as volume 2 draws them
+
+const letterOf = n => (n < 26 ? "" : String.fromCharCode(64 + Math.floor(n / 26))) + String.fromCharCode(65 + (n % 26));
+const HUES = 8;
+const SIZE = { mbuf: 158, gap: 46, left: 104, high: 96, cluster: 62, under: 38, row: 34, most: 40 };
+
+// Mbufs in a row, each with m_next to the next one; clusters under the row that has them first.
+class ChainPicture {
+  constructor(step, sharing) {
+    this.step = step;
+    this.sharing = sharing;
+    this.clusters = new Map();
+    this.refs = [];
+    this.rows = [];
+    this.width = 420;
+    let top = 16;
+    for (const [slot, chain] of step.chains) top = this.place(slot, chain, top);
+    this.height = top;
+    this.parts = { links: [], boxes: [], refs: [] };
+    for (const [number, cluster] of this.clusters) this.drawCluster(number, cluster);
+    for (const ref of this.refs) this.drawRef(ref);
+    for (const row of this.rows) this.drawRow(row);
+  }
+
+  // Where the row of a chain stands, and the clusters that come first in it. Answers where the next row begins.
+  place(slot, chain, top) {
+    const row = { slot, chain, top, hue: slot % HUES };
+    let isFirst = false;
+    chain.mbufs.slice(0, SIZE.most).forEach((mbuf, i) => {
+      const x = this.xOf(i);
+      this.width = Math.max(this.width, x + SIZE.mbuf + 30);
+      if (!mbuf.isCluster) return;
+      const number = this.sharing.of.get(`${slot}/${i}`);
+      if (!this.clusters.has(number)) {
+        this.clusters.set(number, { x, y: top + SIZE.high + SIZE.under });
+        isFirst = true;
+      }
+      this.refs.push({ number, x, row, bytes: mbuf.bytes, count: mbuf.count });
+    });
+    this.rows.push(row);
+    return top + SIZE.high + SIZE.row + (isFirst ? SIZE.under + SIZE.cluster : 6);
+  }
+
+  xOf(place) {
+    return SIZE.left + place * (SIZE.mbuf + SIZE.gap);
+  }
+
+  drawCluster(number, { x, y }) {
+    const refs = this.refs.filter(ref => ref.number === number), count = refs[0].count;
+    const slot = +this.step.line.split(" ")[1];
+    const isRefused = this.step.reply === "shared" && count > 1 && refs.some(ref => ref.row.slot === slot);
+    const high = 14 / Math.min(4, refs.length), wide = SIZE.mbuf - 18;
+    const bars = refs.slice(0, 4).map((ref, i) => svg("rect", {
+      x: x + 9, y: y + 27 + i * high, width: Math.max(2, (wide * ref.bytes) / 2048), height: Math.max(high - 1, 1), class: `hue-${ref.row.hue}`,
+    }));
+    const sizes = [...new Set(refs.map(ref => ref.bytes.toLocaleString("en")))];
+    const told = sizes.length > 2 ? `${sizes.length} parts of 2,048 bytes` : `${sizes.join(", ")} of 2,048 bytes`;
+    this.parts.boxes.push(svg("g", { class: `cluster${count > 1 ? " shared" : ""}${isRefused ? " refused" : ""}` },
+      svg("rect", { x, y, width: SIZE.mbuf, height: SIZE.cluster, rx: 4, class: "box" }),
+      words(x + 9, y + 17, "title", `cluster ${letterOf(number)}`),
+      svg("rect", { x: x + SIZE.mbuf - 42, y: y + 5, width: 35, height: 17, rx: 8.5, class: "count" }),
+      words(x + SIZE.mbuf - 24.5, y + 17.5, "count-text", `×${count}`, "middle"),
+      svg("rect", { x: x + 9, y: y + 27, width: wide, height: 14, rx: 2, class: "room" }), bars,
+      words(x + 9, y + 55, "small", told)));
+  }
+
+  // From an mbuf to its cluster: down, if that stands below, and else up around what stands between.
+  drawRef({ number, x, row }) {
+    const to = this.clusters.get(number), others = this.refs.filter(ref => ref.number === number);
+    const place = others.findIndex(ref => ref.row === row && ref.x === x);
+    const endX = to.x + SIZE.mbuf / 2 + (place - (others.length - 1) / 2) * 18;
+    const isDown = to.y > row.top, endY = isDown ? to.y : to.y + SIZE.cluster;
+    let path;
+    if (isDown) {
+      const startX = x + SIZE.mbuf - 18, startY = row.top + SIZE.high - 14, middle = (startY + endY) / 2;
+      path = `M${startX} ${startY}C${startX} ${middle + 6} ${endX} ${middle - 6} ${endX} ${endY}`;
+      this.parts.refs.push(svg("circle", { cx: startX, cy: startY, r: 3.2, class: `hue-${row.hue}` }));
+    } else {
+      const startX = x + SIZE.mbuf, startY = row.top + 62 - 4 * (place % 4), outside = Math.max(startX, endX) + 26;
+      path = `M${startX} ${startY}C${outside} ${startY} ${endX} ${endY + 60} ${endX} ${endY}`;
+    }
+    this.parts.refs.push(svg("path", { d: path, class: `ref line-${row.hue}`, "marker-end": `url(#tip-${row.hue})` }));
+  }
+
+  drawRow({ slot, chain, top, hue }) {
+    const old = this.step.chainsBefore.get(slot);
+    const news = !old ? "new" : JSON.stringify(old) === JSON.stringify(chain) ? "" : "changed";
+    this.parts.boxes.push(words(10, top + 26, "title", `chain ${slot}`),
+      words(10, top + 44, "small", plural(chain.length, "byte")), words(10, top + 60, "small", news));
+    this.link(72, SIZE.left - 4, top + 21);
+    let from = 0;
+    chain.mbufs.slice(0, SIZE.most).forEach((mbuf, i) => {
+      const was = old && old.mbufs[i], isNew = JSON.stringify(was) !== JSON.stringify(mbuf);
+      const bytes = this.sharing.data.get(slot).subarray(from, from + mbuf.bytes);
+      this.drawMbuf({ x: this.xOf(i), top, hue, mbuf, bytes, isNew, isLast: i + 1 === chain.mbufs.length, number: this.sharing.of.get(`${slot}/${i}`) });
+      if (i + 1 < Math.min(SIZE.most, chain.mbufs.length)) this.link(this.xOf(i) + SIZE.mbuf, this.xOf(i + 1) - 3, top + 16);
+      from += mbuf.bytes;
+    });
+    const more = chain.mbufs.length - SIZE.most;
+    if (more > 0) this.parts.boxes.push(words(this.xOf(SIZE.most), top + 22, "small", `and ${more} more`));
+  }
+
+  link(from, to, y) {
+    this.parts.links.push(svg("path", { d: `M${from} ${y}L${to} ${y}`, class: "next", "marker-end": "url(#tip)" }));
+  }
+
+  drawMbuf({ x, top, hue, mbuf, bytes, isNew, isLast, number }) {
+    const wide = SIZE.mbuf - 18, filled = Math.max(2, (wide * Math.min(mbuf.bytes, 108)) / 108);
+    const own = [svg("rect", { x: x + 9, y: top + 56, width: wide, height: 12, rx: 2, class: "room" })];
+    if (mbuf.bytes) own.push(svg("rect", { x: x + 9, y: top + 56, width: filled, height: 12, rx: 2, class: `hue-${hue}` }));
+    const other = [words(x + 9, top + 66, "field", "m_data"), words(x + 56, top + 66, "small", `in cluster ${letterOf(number || 0)}`)];
+    const isText = bytes.every(byte => byte >= 32 && byte < 127);
+    const hex = hexOf(bytes.subarray(0, 6)).replace(/(..)/g, "$1 ").trim() + (bytes.length > 6 ? " …" : "");
+    const said = bytes.length === 0 ? "" : isText ? `“${readable(bytes, 13)}”` : hex;
+    this.parts.boxes.push(svg("g", { class: `mbuf${isNew ? " new" : ""}` },
+      svg("rect", { x, y: top, width: SIZE.mbuf, height: SIZE.high, rx: 5, class: `box line-${hue}` }),
+      words(x + 9, top + 20, "title", "mbuf"), words(x + SIZE.mbuf - 9, top + 20, "field", isLast ? "m_next 0" : "m_next •", "end"),
+      words(x + 9, top + 47, "field", "m_len"), words(x + 52, top + 47, "value", mbuf.bytes.toLocaleString("en")),
+      words(x + SIZE.mbuf - 9, top + 47, "small", mbuf.isCluster ? "M_EXT" : "in the mbuf", "end"),
+      mbuf.isCluster ? other : own, words(x + 9, top + 86, "bytes", said)));
+  }
+
+  // The picture in words.
+  get tells() {
+    const mbufIn = (slot, mbuf, i) => mbuf.isCluster
+      ? `${mbuf.bytes} bytes in cluster ${letterOf(this.sharing.of.get(`${slot}/${i}`))}, counted ${mbuf.count}`
+      : `${mbuf.bytes} bytes in the mbuf`;
+    const chainIs = ([slot, { length, mbufs }]) => `chain ${slot}, ${plural(length, "byte")}: ${mbufs.map((it, i) => mbufIn(slot, it, i)).join("; ")}`;
+    return [...this.step.chains].map(chainIs).join(". ");
+  }
+
+  get element() {
+    const tip = (name, kind) => svg("marker", { id: name, viewBox: "0 0 10 10", refX: 9, refY: 5, markerWidth: 7, markerHeight: 7, orient: "auto" },
+      svg("path", { d: "M0 0L10 5L0 10z", class: kind }));
+    const tips = [tip("tip", "tip"), ...Array.from({ length: HUES }, (_, hue) => tip(`tip-${hue}`, `hue-${hue}`))];
+    const size = { viewBox: `0 0 ${this.width} ${this.height}`, width: this.width * 1.1, height: this.height * 1.1 };
+    return svg("svg", { class: "picture", role: "img", "aria-label": this.tells, ...size },
+      svg("defs", {}, tips), this.parts.links, this.parts.boxes, this.parts.refs);
+  }
+}

@@ -1,0 +1,149 @@
+"use strict";
+// The proved program as a WebAssembly module. A run is a function of the whole script, and the module keeps nothing
+// between two.
+
+// What the outcomes mean, by their numbers (crates/page).
+const FAULTS = [
+  "",
+  "bad sizes: a pool has 1 to 65,535 mbufs and 0 to 4,096 clusters",
+  "bad config: an MTU is 68 to 4,352, and the two addresses are different ones that hosts can have",
+  "no memory",
+  "too many lines: at most 10,000,000, each of at most 1,048,576 bytes",
+  "read failed",
+  "write failed: there is no memory for the replies",
+];
+
+class Engine {
+  constructor(module) {
+    this.module = module;
+    this.room = 1 << 16;
+    this.start();
+  }
+
+  static async load(bytes) {
+    return new Engine(await WebAssembly.compile(bytes));
+  }
+
+  start() {
+    this.calls = new WebAssembly.Instance(this.module, {}).exports;
+  }
+
+  take(size) {
+    const at = this.calls.room(BigInt(Math.max(size, 1)));
+    if (at === 0n) throw new Error(FAULTS[3]);
+    return at;
+  }
+
+  bytes(at, size) {
+    return new Uint8Array(this.calls.memory.buffer, Number(at), size);
+  }
+
+  // Puts bytes into the module's memory for as long as `use` works with them.
+  lend(bytes, use) {
+    const at = this.take(bytes.length);
+    this.bytes(at, bytes.length).set(bytes);
+    const answer = use(at);
+    this.calls.give_back(at);
+    return answer;
+  }
+
+  // Calls the export with a script, and a second time with more room where the replies didn't fit.
+  serve(call, settings, script) {
+    const text = new TextEncoder().encode(script);
+    try {
+      for (;;) {
+        const answer = this.try(call, settings, text);
+        if (answer.replies) return answer;
+        this.room = answer.length;
+      }
+    } catch (fault) {
+      // after a trap nothing is known of the memory
+      this.start();
+      throw fault;
+    }
+  }
+
+  try(call, settings, text) {
+    const room = new Uint8Array(this.room);
+    return this.lend(settings, about =>
+      this.lend(text, from =>
+        this.lend(room, to =>
+          this.lend(new Uint8Array(8), length => {
+            const code = call(about, from, BigInt(text.length), to, BigInt(room.length), length);
+            const bytes = Number(new DataView(this.calls.memory.buffer).getBigUint64(Number(length), true));
+            if (bytes > room.length) return { length: bytes };
+            return { code, replies: linesOf(new TextDecoder().decode(this.bytes(to, bytes))) };
+          }))));
+  }
+
+  // The outcome and the replies of a script of `bsdudp run`.
+  run(config, script) {
+    const settings = new DataView(new ArrayBuffer(20));
+    [config.addr, config.bcast, config.mbufs, config.clusters].forEach((n, i) => settings.setUint32(4 * i, n, true));
+    settings.setUint16(16, config.mtu, true);
+    settings.setUint16(18, config.id, true);
+    return this.serve(this.calls.bsdudp_page_run, new Uint8Array(settings.buffer), script);
+  }
+
+  // The same of a script of `bsdudp chain`.
+  chain(config, script) {
+    const settings = new DataView(new ArrayBuffer(8));
+    [config.mbufs, config.clusters].forEach((n, i) => settings.setUint32(4 * i, n, true));
+    return this.serve(this.calls.bsdudp_page_chain, new Uint8Array(settings.buffer), script);
+  }
+}
+
+// The lines of a text; what stands after the last line feed is one too, where it has a character.
+function linesOf(text) {
+  const lines = text.split("\n");
+  if (lines[lines.length - 1] === "") lines.pop();
+  return lines;
+}
+
+// ---- scripts with notes
+
+// A line that begins with # is a note on the next line, and no part of the script. At the end of a note may stand what
+// the program has to reply, after "=>"; where that ends in "..", it's the beginning of the reply.
+function readNotes(text) {
+  const all = linesOf(text), lines = [], places = [], notes = [], wanted = [];
+  let note = [];
+  all.forEach((line, place) => {
+    if (line.startsWith("#")) {
+      note.push(line.slice(1).trim());
+      return;
+    }
+    const [said, reply] = note.join(" ").split(/\s*=> /);
+    lines.push(line);
+    places.push(place);
+    notes.push(said);
+    wanted.push(reply);
+    note = [];
+  });
+  return { all, lines, places, notes, wanted, script: lines.map(line => line + "\n").join("") };
+}
+
+const isReply = (reply, wanted) =>
+  wanted === undefined || (wanted.endsWith("..") ? reply.startsWith(wanted.slice(0, -2)) : reply === wanted);
+
+// ---- the options of the command line
+
+const DEFAULTS = { addr: "10.0.0.1", bcast: "10.0.0.255", mtu: "1500", mbufs: "512", clusters: "64", id: "1" };
+const MOST = { mtu: 65535, mbufs: 4294967295, clusters: 4294967295, id: 65535 };
+
+const numberIn = (text, most) => (/^(0|[1-9]\d{0,9})$/.test(text) && +text <= most ? +text : null);
+
+// The machine that options ask for, or `wrong`, the name of the first one that has no such value.
+function configOf(options) {
+  const config = { addr: undotted(options.addr), bcast: undotted(options.bcast) };
+  for (const name in MOST) config[name] = numberIn(options[name], MOST[name]);
+  const wrong = Object.keys(config).find(name => config[name] === null);
+  return wrong ? { wrong } : config;
+}
+
+// Options from words as --mtu 68 or --mtu=68.
+function optionsOf(words) {
+  const options = { ...DEFAULTS };
+  const all = words.flatMap(word => word.split("="));
+  for (let i = 0; i + 1 < all.length; i += 2) options[all[i].replace(/^--/, "")] = all[i + 1];
+  return options;
+}

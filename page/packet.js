@@ -1,0 +1,162 @@
+"use strict";
+// Packets as people read them: IP (RFC 791) and UDP (RFC 768). This is the page's own reading, and no part of the
+// proof.
+
+const hexOf = bytes => Array.from(bytes, byte => byte.toString(16).padStart(2, "0")).join("");
+const bytesOf = hex => new Uint8Array((hex === "-" ? [] : hex.match(/../g) || []).map(digits => parseInt(digits, 16)));
+const dotted = ip => [24, 16, 8, 0].map(shift => (ip >>> shift) & 255).join(".");
+const hex16 = n => "0x" + n.toString(16).padStart(4, "0");
+const plural = (n, one, many = one + "s") => `${n.toLocaleString("en")} ${n === 1 ? one : many}`;
+
+// An address as a number. What is none counts as 0.0.0.0, as it does for the program.
+function undotted(text) {
+  const parts = text.split(".");
+  const isOne = parts.length === 4 && parts.every(part => /^(0|[1-9]\d{0,2})$/.test(part) && +part < 256);
+  return isOne ? parts.reduce((ip, part) => (ip * 256 + +part) >>> 0, 0) : 0;
+}
+
+// Bytes that aren't there count as 0, as they do in a checksum.
+const word16 = (bytes, at) => ((bytes[at] || 0) << 8) | (bytes[at + 1] || 0);
+const word32 = (bytes, at) => (word16(bytes, at) * 65536 + word16(bytes, at + 2)) >>> 0;
+
+// The folded sum over all words (RFC 1071): 65,535 where a checksum is right.
+function foldedSum(bytes, start = 0) {
+  let sum = start;
+  for (let at = 0; at < bytes.length; at += 2) sum += word16(bytes, at);
+  while (sum > 65535) sum = (sum & 65535) + (sum >>> 16);
+  return sum;
+}
+
+// What UDP's checksum covers beside the datagram.
+const pseudoSum = (source, destination, length) =>
+  (source >>> 16) + (source & 65535) + (destination >>> 16) + (destination & 65535) + 17 + length;
+
+// Bytes as ASCII, with a dot for what can't be read.
+function readable(bytes, most = 24) {
+  const text = Array.from(bytes.subarray(0, most), byte => (byte >= 32 && byte < 127 ? String.fromCharCode(byte) : "·"));
+  return text.join("") + (bytes.length > most ? "…" : "");
+}
+
+// The fields of a packet in their order. `kind` is for the colour, `bits` for the width in the drawing.
+class Packet {
+  constructor(bytes) {
+    this.bytes = bytes;
+    this.length = bytes.length;
+    this.fields = [];
+    this.isShort = bytes.length < 20;
+    if (this.isShort) {
+      this.add("no whole header", 0, bytes.length, "data", "", 32);
+      return;
+    }
+    this.readHead();
+    this.addHead();
+    this.readData();
+  }
+
+  add(name, at, size, kind, value, bits, isWrong = false, isRight = false) {
+    this.fields.push({ name, at, size, kind, value: String(value), bits, isWrong, isRight });
+  }
+
+  readHead() {
+    const bytes = this.bytes, flags = bytes[6] >> 5;
+    this.header = (bytes[0] & 15) * 4;
+    this.total = word16(bytes, 2);
+    this.id = word16(bytes, 4);
+    this.flags = [["reserved", 4], ["DF", 2], ["MF", 1]].filter(([, bit]) => flags & bit).map(([name]) => name);
+    this.hasMore = this.flags.includes("MF");
+    this.offset = (word16(bytes, 6) & 0x1fff) * 8;
+    this.isFragment = this.hasMore || this.offset > 0;
+    this.protocol = bytes[9];
+    this.source = word32(bytes, 12);
+    this.destination = word32(bytes, 16);
+  }
+
+  addHead() {
+    const bytes = this.bytes, version = bytes[0] >> 4, words = bytes[0] & 15;
+    const isRight = foldedSum(bytes.subarray(0, Math.max(this.header, 20))) === 65535;
+    this.add("version", 0, 1, "size", version, 4, version !== 4);
+    this.add("IHL", 0, 1, "size", words, 4, words !== 5);
+    this.add("type of service", 1, 1, "other", bytes[1], 8);
+    this.add("total length", 2, 2, "size", this.total, 16, this.total < 20 || this.total > this.length);
+    this.add("identification", 4, 2, "fragment", this.id, 16);
+    this.add("flags", 6, 2, "fragment", this.flags.join(" ") || "–", 3);
+    this.add("fragment offset", 6, 2, "fragment", this.offset ? `${this.offset} (${this.offset / 8} × 8)` : 0, 13);
+    this.add("time to live", 8, 1, "other", bytes[8], 8);
+    this.add("protocol", 9, 1, "other", this.protocol === 17 ? "17 UDP" : this.protocol, 8, this.protocol !== 17);
+    this.add("header checksum", 10, 2, "sum", hex16(word16(bytes, 10)), 16, !isRight, isRight);
+    this.add("source address", 12, 4, "source", dotted(this.source), 32);
+    this.add("destination address", 16, 4, "destination", dotted(this.destination), 32);
+  }
+
+  readData() {
+    let at = 20;
+    const end = Math.min(this.length, Math.max(this.total, 20));
+    if (this.header > 20 && this.header <= this.length) {
+      this.add("options", 20, this.header - 20, "other", "", 32, true);
+      at = this.header;
+    }
+    this.carried = this.bytes.subarray(at, end);
+    const isUdp = this.protocol === 17 && this.offset === 0 && this.carried.length >= 8;
+    const to = isUdp ? this.readUdp(at, end) : end;
+    this.data = this.bytes.subarray(isUdp ? at + 8 : at, to);
+    if (isUdp) at += 8;
+    if (this.data.length) this.add(this.dataName(isUdp), at, this.data.length, "data", readable(this.data, 56), 32);
+    const behind = at + this.data.length;
+    if (behind < this.length) this.add("behind the datagram", behind, this.length - behind, "behind", "", 32);
+  }
+
+  // Adds the UDP header, and answers where the data end.
+  readUdp(at, end) {
+    const bytes = this.bytes, length = word16(bytes, at + 4), sum = word16(bytes, at + 6);
+    const fits = length >= 8 && length <= end - at;
+    this.sourcePort = word16(bytes, at);
+    this.destinationPort = word16(bytes, at + 2);
+    const isTested = fits && !this.isFragment && sum !== 0;
+    const pseudo = pseudoSum(this.source, this.destination, length);
+    const isRight = isTested && foldedSum(bytes.subarray(at, at + length), pseudo) === 65535;
+    this.add("source port", at, 2, "source", this.sourcePort, 16);
+    this.add("destination port", at + 2, 2, "destination", this.destinationPort, 16);
+    this.add("UDP length", at + 4, 2, "size", length, 16, !this.isFragment && !fits);
+    this.add("UDP checksum", at + 6, 2, "sum", sum === 0 ? "none" : hex16(sum), 16, isTested && !isRight, isRight);
+    return this.isFragment || !fits ? end : at + length;
+  }
+
+  dataName(isUdp) {
+    if (isUdp || !this.isFragment) return `data, ${plural(this.data.length, "byte")}`;
+    return `bytes ${this.offset} to ${this.offset + this.data.length - 1} of the datagram`;
+  }
+
+  // In one line: who to whom, and what.
+  get tells() {
+    if (this.isShort) return `${plural(this.length, "byte")}, no whole IP header`;
+    const end = (ip, port) => dotted(ip) + (port === undefined ? "" : ":" + port);
+    const who = `${end(this.source, this.sourcePort)} → ${end(this.destination, this.destinationPort)}`;
+    if (!this.isFragment) {
+      return `${who}, ${this.protocol === 17 ? plural(this.data.length, "byte") : `protocol ${this.protocol}`}`;
+    }
+    const bytes = `bytes ${this.offset} to ${this.offset + this.carried.length - 1}`;
+    return `${who}, fragment of datagram ${this.id}: ${bytes}, ${this.hasMore ? "more follow" : "the last"}`;
+  }
+}
+
+// ---- a packet made by hand
+
+// A packet with right lengths and checksums, but for the fault that is chosen.
+function makePacket({ source, sourcePort, destination, destinationPort, id, data, fault }) {
+  const udp = new Uint8Array(8 + data.length), bytes = new Uint8Array(28 + data.length);
+  const put = (to, at, n) => to.set([(n >> 8) & 255, n & 255], at);
+  [sourcePort, destinationPort, udp.length].forEach((n, i) => put(udp, 2 * i, n));
+  udp.set(data, 8);
+  put(udp, 6, 65535 - foldedSum(udp, pseudoSum(source, destination, udp.length)) || 65535);
+  if (fault === "udp sum") udp[6] ^= 0x55;
+  bytes[0] = fault === "version" ? 0x65 : 0x45;
+  put(bytes, 2, bytes.length);
+  put(bytes, 4, id);
+  bytes[8] = 64;
+  bytes[9] = fault === "protocol" ? 6 : 17;
+  [source >>> 16, source & 65535, destination >>> 16, destination & 65535].forEach((n, i) => put(bytes, 12 + 2 * i, n));
+  put(bytes, 10, 65535 - foldedSum(bytes.subarray(0, 20)));
+  bytes.set(udp, 20);
+  if (fault === "ip sum") bytes[10] ^= 0x55;
+  return fault === "short" ? bytes.subarray(0, -1) : bytes;
+}

@@ -1,0 +1,179 @@
+#!/usr/bin/env python3
+"""browser.py PAGE.html EXAMPLES LESSONS SHOTS: plays each example and each lesson in the page itself, in headless Chromium,
+and looks at each line of the lessons. The page's replies have to be those that are wanted, its console has to be silent, it
+asks the network for nothing, nothing may overlap or be cut off at widths of 360, 768 and 1,600 pixels, and each text has to
+have a contrast of 4.5 at least, in light and in dark. Screenshots are kept in the folder SHOTS. It's silent where all is
+well."""
+import base64
+import json
+import os
+import pathlib
+import shutil
+import subprocess
+import sys
+import tempfile
+
+HERE = pathlib.Path(__file__).resolve().parent
+WIDTHS = {360: 800, 768: 1024, 1600: 1000}
+NAMES = ["chromium", "chromium-browser", "google-chrome"]
+
+
+class Browser:
+    """Chromium, asked through two pipes: a message is JSON and ends in a zero byte."""
+
+    def __init__(self, home):
+        program = next(filter(None, map(shutil.which, NAMES)))
+        read, self.asks = os.pipe()
+        self.answers, write = os.pipe()
+        how = ["--headless=new", "--no-sandbox", "--disable-gpu", "--no-first-run", "--remote-debugging-pipe"]
+        words = [program, *how, f"--user-data-dir={home}", "about:blank"]
+
+        def in_place():
+            os.dup2(read, 3)
+            os.dup2(write, 4)
+
+        # the numbers 3 and 4 are Chromium's own
+        high = [os.dup(it) for it in (read, write)] if min(read, write) < 5 else [read, write]
+        read, write = high
+        quiet = {"stdout": subprocess.DEVNULL, "stderr": subprocess.DEVNULL}
+        self.child = subprocess.Popen(words, preexec_fn=in_place, close_fds=False, **quiet)
+        self.number, self.rest, self.session, self.events = 0, b"", None, []
+        page = next(it for it in self.ask("Target.getTargets")["targetInfos"] if it["type"] == "page")
+        self.session = self.ask("Target.attachToTarget", targetId=page["targetId"], flatten=True)["sessionId"]
+        for part in ("Page", "Runtime", "Log", "Network"):
+            self.ask(f"{part}.enable")
+
+    def ask(self, method, **params):
+        self.number += 1
+        message = {"id": self.number, "method": method, "params": params}
+        if self.session:
+            message["sessionId"] = self.session
+        os.write(self.asks, json.dumps(message).encode() + b"\0") if len(json.dumps(message)) < 4096 else self.write(message)
+        while True:
+            answer = self.read()
+            if answer.get("id") == self.number:
+                if "error" in answer:
+                    raise RuntimeError(f"{method}: {answer['error']['message']}")
+                return answer["result"]
+            self.events.append(answer)
+
+    def write(self, message):
+        left = json.dumps(message).encode() + b"\0"
+        while left:
+            left = left[os.write(self.asks, left) :]
+
+    def read(self):
+        while b"\0" not in self.rest:
+            more = os.read(self.answers, 1 << 16)
+            if not more:
+                raise RuntimeError("Chromium ended")
+            self.rest += more
+        message, _, self.rest = self.rest.partition(b"\0")
+        return json.loads(message)
+
+    def run(self, code):
+        """What a piece of JavaScript answers in the page."""
+        got = self.ask("Runtime.evaluate", expression=code, awaitPromise=True, returnByValue=True)
+        if "exceptionDetails" in got:
+            fault = got["exceptionDetails"]
+            raise RuntimeError(fault.get("exception", {}).get("description", fault["text"]))
+        return got["result"].get("value")
+
+    def resize(self, width):
+        self.ask("Emulation.setDeviceMetricsOverride", width=width, height=WIDTHS[width], deviceScaleFactor=1, mobile=False)
+
+    def shoot(self, file):
+        file.write_bytes(base64.b64decode(self.ask("Page.captureScreenshot", format="png")["data"]))
+
+    def complaints(self):
+        """What came to the console, what was thrown, and what was asked of the network."""
+        for event in self.events:
+            what, about = event.get("method"), event.get("params", {})
+            if what == "Runtime.exceptionThrown":
+                yield about["exceptionDetails"].get("exception", {}).get("description", "an exception")
+            elif what == "Runtime.consoleAPICalled" or what == "Log.entryAdded":
+                yield f"the console: {json.dumps(about)[:200]}"
+            elif what == "Network.requestWillBeSent" and not about["request"]["url"].startswith(("file:", "data:", "blob:")):
+                yield f"it asked the network for {about['request']['url']}"
+
+    def end(self):
+        self.child.terminate()
+        self.child.wait(20)
+
+
+def scripts(examples, lessons):
+    """Each script with its command, its words and the replies that are wanted; of a lesson its notes tell them."""
+    for command, folder in (("run", examples), ("chain", examples / "chain")):
+        for it in sorted(folder.glob("*.txt")):
+            yield command, it, pathlib.Path(f"{it}.stdout").read_text()
+    for command in ("run", "chain"):
+        for it in sorted((lessons / command).glob("*.txt")):
+            yield command, it, None
+
+
+def words_of(script):
+    options = pathlib.Path(f"{script}.args")
+    return options.read_text().split() if options.exists() else []
+
+
+def play_all(browser, examples, lessons):
+    """Plays all scripts in the page, and looks at their lines."""
+    for command, script, wanted in scripts(examples, lessons):
+        asked = [command, script.read_text(), words_of(script), wanted]
+        for fault in browser.run(f"playInPage(...{json.dumps(asked)})"):
+            yield f"{script}: {fault}"
+
+
+# What stands in the pictures: a lesson, and the line that is looked at.
+VIEWS = [
+    ("run", "05_fragments_and_a_hole", 8),
+    ("chain", "03_sharing_without_copying", 6),
+    ("run", "07_checksums_and_a_damaged_bit", 4),
+    ("run", "11_the_receive_limits", 41),
+    ("run", "12_a_connected_socket", 2),
+    ("chain", "02_an_mbuf_and_a_cluster", 14),
+]
+
+
+def look_all(browser, shots):
+    """Looks at the page's layout and colours at each width."""
+    for command, name, line in VIEWS:
+        browser.run(f"open({json.dumps(command)}, {{ name: {json.dumps(name)}, place: {line} }})")
+        for theme in ("light", "dark"):
+            browser.run(f"setTheme('{theme}')")
+            for width in WIDTHS:
+                browser.resize(width)
+                for fault in browser.run("faultsOfLayout()"):
+                    yield f"{name}, {width} pixels, {theme}: {fault}"
+                browser.shoot(shots / f"{name}-{theme}-{width}.png")
+    for dialog in ("make", "about"):
+        browser.run(f"open('run', {{ name: '01_a_datagram' }}); byId('{dialog}').click()")
+        for width in WIDTHS:
+            browser.resize(width)
+            for fault in browser.run("faultsOfLayout()"):
+                yield f"{dialog}, {width} pixels: {fault}"
+        browser.shoot(shots / f"{dialog}.png")
+        browser.run("document.querySelector('dialog[open]').close()")
+
+
+def main(page, examples, lessons, shots):
+    shots.mkdir(parents=True, exist_ok=True)
+    with tempfile.TemporaryDirectory(ignore_cleanup_errors=True) as home:
+        browser = Browser(home)
+        try:
+            browser.resize(1600)
+            browser.ask("Page.navigate", url=page.resolve().as_uri())
+            browser.run("new Promise(done => { const look = () => typeof page === 'object' && document.body.dataset.ready ? "
+                        "done() : setTimeout(look, 20); look(); })")
+            browser.run((HERE / "in_page.js").read_text())
+            faults = [*play_all(browser, examples, lessons), *look_all(browser, shots), *browser.run("faultsOfKeys()")]
+            faults += browser.complaints()
+        finally:
+            browser.end()
+    for fault in faults:
+        print(f"page: {fault}", file=sys.stderr)
+    return 1 if faults else 0
+
+
+if __name__ == "__main__":
+    sys.exit(main(*map(pathlib.Path, sys.argv[1:])))
