@@ -79,10 +79,10 @@ function tellChainStep(line, reply) {
 
 // ---- which mbufs share a cluster
 
-// `show` tells how often a cluster is referred to, and not which one it is. So the script is played once more, on a machine
-// that is thrown away, and there the chains are taken apart mbuf by mbuf: where one is freed, the counts that go down are
-// those of its cluster. Answers the bytes of each chain (`data`), the cluster of each mbuf by "slot/place" (`of`), numbered
-// in the order in which they come, and how many there are.
+// `show` tells how often a cluster is referred to, and not which one it is. So the script is played once more, on a
+// machine that is thrown away, and there the chains are taken apart mbuf by mbuf: where one is freed, the counts that
+// go down are those of its cluster. Answers the bytes of each chain (`data`), the cluster of each mbuf by "slot/place"
+// (`of`), numbered in the order in which they come, and how many there are.
 class Sharing {
   constructor(engine, config, lines, step) {
     this.chains = [...step.chains];
@@ -139,7 +139,8 @@ class Sharing {
       const now = slot === null ? null : chainIn(replies[shown[k]]);
       if (!now) return;
       const own = this.chains.find(([it]) => it === chain)[1].mbufs.length - from;
-      now.mbufs.slice(-own).forEach((mbuf, i) => { if (mbuf.isCluster) counts.set(`${chain}/${from + i}`, mbuf.count); });
+      now.mbufs.slice(-own)
+        .forEach((mbuf, i) => { if (mbuf.isCluster) counts.set(`${chain}/${from + i}`, mbuf.count); });
     });
     return counts;
   }

@@ -21,12 +21,14 @@ function svg(tag, attributes = {}, ...children) {
   return it;
 }
 
-const words = (x, y, kind, text, anchor = "start") => svg("text", { x, y, class: kind, "text-anchor": anchor }, String(text));
+const words = (x, y, kind, text, anchor = "start") =>
+  svg("text", { x, y, class: kind, "text-anchor": anchor }, String(text));
 
 // ---- a packet
 
 function cellOf(field) {
-  const marks = field.isWrong ? [h("b", { class: "cross" }, " ✗ wrong")] : field.isRight ? [h("b", { class: "tick" }, " ✓")] : [];
+  const marks = field.isWrong ? [h("b", { class: "cross" }, " ✗ wrong")] : field.isRight
+    ? [h("b", { class: "tick" }, " ✓")] : [];
   const shape = `cell kind-${field.kind} bits-${field.bits}${field.isWrong ? " wrong" : ""}`;
   return h("li", { class: shape, "data-at": field.at },
     h("span", { class: "cell-name" }, field.name), h("span", { class: "cell-value" }, field.value, marks));
@@ -42,12 +44,15 @@ function dumpOf(packet) {
     cells.push(h("span", { class: `byte kind-${field.kind}`, title, "data-of": field.at }, hexOf([byte])));
   });
   const rest = packet.length > most && h("span", { class: "rest" }, `and ${plural(packet.length - most, "more byte")}`);
-  return h("div", { class: "dump", role: "img", "aria-label": `its first bytes: ${hexOf(packet.bytes.subarray(0, 64))}` }, cells, rest);
+  return h("div",
+    { class: "dump", role: "img", "aria-label": `its first bytes: ${hexOf(packet.bytes.subarray(0, 64))}` }, cells,
+    rest);
 }
 
 // The header as RFC 791 draws it, 32 bits in a row, and the bytes below it. What the pointer is on is lit in both.
 function packetView(packet, title) {
-  const header = packet.isShort || scroller("the header, 32 bits in a row", h("ul", { class: "rfc" }, packet.fields.map(cellOf)));
+  const header = packet.isShort
+    || scroller("the header, 32 bits in a row", h("ul", { class: "rfc" }, packet.fields.map(cellOf)));
   const it = h("div", { class: "packet" },
     h("h3", {}, title, " ", h("span", { class: "faint" }, plural(packet.length, "byte"))),
     header === true ? null : header, scroller("the bytes of the packet", dumpOf(packet)));
@@ -62,13 +67,15 @@ function packetView(packet, title) {
 }
 
 // What may be wider than the window is scrolled by itself, also by keyboard.
-const scroller = (name, ...children) => h("div", { class: "scroller", tabindex: 0, role: "group", "aria-label": name }, children);
+const scroller = (name, ...children) =>
+  h("div", { class: "scroller", tabindex: 0, role: "group", "aria-label": name }, children);
 
 // ---- the pool
 
 // A bar of buffers by owner: a cell for each if there are few.
 function poolBar(name, total, owners) {
-  const used = owners.reduce((n, owner) => n + owner.count, 0), all = [...owners, { name: "free", kind: "free", count: total - used }];
+  const used = owners.reduce((n, owner) => n + owner.count, 0),
+    all = [...owners, { name: "free", kind: "free", count: total - used }];
   const shown = all.filter(owner => owner.count > 0);
   const isCells = total <= 64;
   const parts = isCells
@@ -76,18 +83,22 @@ function poolBar(name, total, owners) {
     : shown.map(owner => h("i", { class: `of-${owner.kind}`, style: `flex: ${owner.count} 0 3px` }));
   const label = `${name}: ${shown.map(owner => `${owner.count} ${owner.name}`).join(", ")}`;
   return h("div", { class: "pool" },
-    h("div", {}, h("b", {}, name), " ", h("span", { class: "faint" }, `${(total - used).toLocaleString("en")} of ${total.toLocaleString("en")} free`)),
+    h("div", {}, h("b", {}, name), " ",
+      h("span", { class: "faint" }, `${(total - used).toLocaleString("en")} of ${total.toLocaleString("en")} free`)),
     h("div", { class: isCells ? "bar cells" : "bar", role: "img", "aria-label": label }, parts));
 }
 
 // The curve of mbufs in use, line by line, with the line that is looked at.
 function curve(steps, here, choose) {
   const width = 300, height = 34, most = Math.max(1, ...steps.map(step => step.pool.used));
-  const x = i => (i * width) / Math.max(1, steps.length - 1), y = step => height - 2 - ((height - 5) * step.pool.used) / most;
+  const x = i => (i * width) / Math.max(1, steps.length - 1),
+    y = step => height - 2 - ((height - 5) * step.pool.used) / most;
   const line = steps.map((step, i) => `L${x(i).toFixed(1)} ${y(step).toFixed(1)}`).join("");
   const label = `mbufs in use after each line: at most ${most}, now ${steps[here].pool.used}`;
-  const picture = svg("svg", { viewBox: `0 0 ${width} ${height}`, preserveAspectRatio: "none", role: "img", "aria-label": label },
-    svg("path", { d: `M0 ${height}${line}L${width} ${height}z`, class: "area" }), svg("path", { d: `M${x(here)} 0V${height}`, class: "here" }));
+  const picture = svg("svg",
+    { viewBox: `0 0 ${width} ${height}`, preserveAspectRatio: "none", role: "img", "aria-label": label },
+    svg("path", { d: `M0 ${height}${line}L${width} ${height}z`, class: "area" }),
+      svg("path", { d: `M${x(here)} 0V${height}`, class: "here" }));
   picture.addEventListener("click", event => {
     const box = picture.getBoundingClientRect();
     choose(Math.round(((event.clientX - box.left) / box.width) * (steps.length - 1)));
@@ -148,7 +159,8 @@ class ChainPicture {
     const isRefused = this.step.reply === "shared" && count > 1 && refs.some(ref => ref.row.slot === slot);
     const high = 14 / Math.min(4, refs.length), wide = SIZE.mbuf - 18;
     const bars = refs.slice(0, 4).map((ref, i) => svg("rect", {
-      x: x + 9, y: y + 27 + i * high, width: Math.max(2, (wide * ref.bytes) / 2048), height: Math.max(high - 1, 1), class: `hue-${ref.row.hue}`,
+      x: x + 9, y: y + 27 + i * high, width: Math.max(2, (wide * ref.bytes) / 2048), height: Math.max(high - 1, 1),
+        class: `hue-${ref.row.hue}`,
     }));
     const sizes = [...new Set(refs.map(ref => ref.bytes.toLocaleString("en")))];
     const told = sizes.length > 2 ? `${sizes.length} parts of 2,048 bytes` : `${sizes.join(", ")} of 2,048 bytes`;
@@ -161,22 +173,22 @@ class ChainPicture {
       words(x + 9, y + 55, "small", told)));
   }
 
-  // From an mbuf to its cluster: down, if that stands below, and else up around what stands between.
+  // From an mbuf to its cluster: down, if that stands below; else beside the mbufs up to it, and to it from below.
   drawRef({ number, x, row }) {
     const to = this.clusters.get(number), others = this.refs.filter(ref => ref.number === number);
     const place = others.findIndex(ref => ref.row === row && ref.x === x);
-    const endX = to.x + SIZE.mbuf / 2 + (place - (others.length - 1) / 2) * 18;
-    const isDown = to.y > row.top, endY = isDown ? to.y : to.y + SIZE.cluster;
+    const endX = to.x + SIZE.mbuf / 2 + (place - (others.length - 1) / 2) * 14, startX = x + SIZE.mbuf;
     let path;
-    if (isDown) {
-      const startX = x + SIZE.mbuf - 18, startY = row.top + SIZE.high - 14, middle = (startY + endY) / 2;
-      path = `M${startX} ${startY}C${startX} ${middle + 6} ${endX} ${middle - 6} ${endX} ${endY}`;
-      this.parts.refs.push(svg("circle", { cx: startX, cy: startY, r: 3.2, class: `hue-${row.hue}` }));
+    if (to.y > row.top) {
+      const fromX = startX - 18, fromY = row.top + SIZE.high - 14, middle = (fromY + to.y) / 2;
+      path = `M${fromX} ${fromY}C${fromX} ${middle + 6} ${endX} ${middle - 6} ${endX} ${to.y}`;
+      this.parts.refs.push(svg("circle", { cx: fromX, cy: fromY, r: 3.2, class: `hue-${row.hue}` }));
     } else {
-      const startX = x + SIZE.mbuf, startY = row.top + 62 - 4 * (place % 4), outside = Math.max(startX, endX) + 26;
-      path = `M${startX} ${startY}C${outside} ${startY} ${endX} ${endY + 60} ${endX} ${endY}`;
+      const below = to.y + SIZE.cluster, lane = startX + 8 + 6 * (place % 6), level = below + 10 + 4 * (place % 5);
+      path = `M${startX} ${row.top + 62}H${lane}V${level}H${endX}V${below}`;
     }
-    this.parts.refs.push(svg("path", { d: path, class: `ref line-${row.hue}`, "marker-end": `url(#tip-${row.hue})` }));
+    const kind = `ref line-${row.hue}`;
+    this.parts.refs.push(svg("path", { d: path, class: kind, "marker-end": `url(#tip-${row.hue})` }));
   }
 
   drawRow({ slot, chain, top, hue }) {
@@ -189,8 +201,10 @@ class ChainPicture {
     chain.mbufs.slice(0, SIZE.most).forEach((mbuf, i) => {
       const was = old && old.mbufs[i], isNew = JSON.stringify(was) !== JSON.stringify(mbuf);
       const bytes = this.sharing.data.get(slot).subarray(from, from + mbuf.bytes);
-      this.drawMbuf({ x: this.xOf(i), top, hue, mbuf, bytes, isNew, isLast: i + 1 === chain.mbufs.length, number: this.sharing.of.get(`${slot}/${i}`) });
-      if (i + 1 < Math.min(SIZE.most, chain.mbufs.length)) this.link(this.xOf(i) + SIZE.mbuf, this.xOf(i + 1) - 3, top + 16);
+      this.drawMbuf({ x: this.xOf(i), top, hue, mbuf, bytes, isNew, isLast: i + 1 === chain.mbufs.length,
+        number: this.sharing.of.get(`${slot}/${i}`) });
+      if (i + 1 < Math.min(SIZE.most, chain.mbufs.length)) this.link(this.xOf(i) + SIZE.mbuf, this.xOf(i + 1) - 3,
+        top + 16);
       from += mbuf.bytes;
     });
     const more = chain.mbufs.length - SIZE.most;
@@ -204,14 +218,17 @@ class ChainPicture {
   drawMbuf({ x, top, hue, mbuf, bytes, isNew, isLast, number }) {
     const wide = SIZE.mbuf - 18, filled = Math.max(2, (wide * Math.min(mbuf.bytes, 108)) / 108);
     const own = [svg("rect", { x: x + 9, y: top + 56, width: wide, height: 12, rx: 2, class: "room" })];
-    if (mbuf.bytes) own.push(svg("rect", { x: x + 9, y: top + 56, width: filled, height: 12, rx: 2, class: `hue-${hue}` }));
-    const other = [words(x + 9, top + 66, "field", "m_data"), words(x + 56, top + 66, "small", `in cluster ${letterOf(number || 0)}`)];
+    if (mbuf.bytes) own.push(svg("rect",
+      { x: x + 9, y: top + 56, width: filled, height: 12, rx: 2, class: `hue-${hue}` }));
+    const other = [words(x + 9, top + 66, "field", "m_data"),
+      words(x + 56, top + 66, "small", `in cluster ${letterOf(number || 0)}`)];
     const isText = bytes.every(byte => byte >= 32 && byte < 127);
     const hex = hexOf(bytes.subarray(0, 6)).replace(/(..)/g, "$1 ").trim() + (bytes.length > 6 ? " …" : "");
     const said = bytes.length === 0 ? "" : isText ? `“${readable(bytes, 13)}”` : hex;
     this.parts.boxes.push(svg("g", { class: `mbuf${isNew ? " new" : ""}` },
       svg("rect", { x, y: top, width: SIZE.mbuf, height: SIZE.high, rx: 5, class: `box line-${hue}` }),
-      words(x + 9, top + 20, "title", "mbuf"), words(x + SIZE.mbuf - 9, top + 20, "field", isLast ? "m_next 0" : "m_next •", "end"),
+      words(x + 9, top + 20, "title", "mbuf"),
+        words(x + SIZE.mbuf - 9, top + 20, "field", isLast ? "m_next 0" : "m_next •", "end"),
       words(x + 9, top + 47, "field", "m_len"), words(x + 52, top + 47, "value", mbuf.bytes.toLocaleString("en")),
       words(x + SIZE.mbuf - 9, top + 47, "small", mbuf.isCluster ? "M_EXT" : "in the mbuf", "end"),
       mbuf.isCluster ? other : own, words(x + 9, top + 86, "bytes", said)));
@@ -222,12 +239,15 @@ class ChainPicture {
     const mbufIn = (slot, mbuf, i) => mbuf.isCluster
       ? `${mbuf.bytes} bytes in cluster ${letterOf(this.sharing.of.get(`${slot}/${i}`))}, counted ${mbuf.count}`
       : `${mbuf.bytes} bytes in the mbuf`;
-    const chainIs = ([slot, { length, mbufs }]) => `chain ${slot}, ${plural(length, "byte")}: ${mbufs.map((it, i) => mbufIn(slot, it, i)).join("; ")}`;
+    const chainIs = ([slot, { length, mbufs }]) =>
+      `chain ${slot}, ${plural(length, "byte")}: ${mbufs.map((it, i) => mbufIn(slot, it, i)).join("; ")}`;
     return [...this.step.chains].map(chainIs).join(". ");
   }
 
   get element() {
-    const tip = (name, kind) => svg("marker", { id: name, viewBox: "0 0 10 10", refX: 9, refY: 5, markerWidth: 7, markerHeight: 7, orient: "auto" },
+    const tip = (name, kind) =>
+      svg("marker",
+      { id: name, viewBox: "0 0 10 10", refX: 9, refY: 5, markerWidth: 7, markerHeight: 7, orient: "auto" },
       svg("path", { d: "M0 0L10 5L0 10z", class: kind }));
     const tips = [tip("tip", "tip"), ...Array.from({ length: HUES }, (_, hue) => tip(`tip-${hue}`, `hue-${hue}`))];
     const size = { viewBox: `0 0 ${this.width} ${this.height}`, width: this.width * 1.1, height: this.height * 1.1 };

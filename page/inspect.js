@@ -4,7 +4,8 @@
 const SIGNS = { in: "⇢", out: "⇠", send: "↗", read: "↙", call: "•", tick: "◔", ask: "?", bad: "✗" };
 const signOf = step => {
   const isBad = !step.isOk || step.drops.length > 0;
-  return h("span", { class: `sign sign-${isBad ? "bad" : step.kind}`, "aria-hidden": "true" }, SIGNS[isBad ? "bad" : step.kind]);
+  return h("span", { class: `sign sign-${isBad ? "bad" : step.kind}`, "aria-hidden": "true" },
+    SIGNS[isBad ? "bad" : step.kind]);
 };
 const cut = (text, most) => (text.length > most ? text.slice(0, most) + "…" : text);
 const verdict = (kind, ...children) => h("p", { class: `verdict ${kind}` }, children);
@@ -13,7 +14,9 @@ const panel = (title, ...children) => h("section", { class: "panel" }, title && 
 // The sentence, the note of a lesson, what became of it, and the reply.
 function leadOf(step, note, verdicts) {
   return h("section", { class: "panel lead" },
-    h("h3", {}, signOf(step), h("span", {}, h("code", {}, step.kind === "bad" ? cut(step.line, 40) || "an empty line" : step.verb), " ", step.tells)),
+    h("h3", {}, signOf(step),
+      h("span", {}, h("code", {}, step.kind === "bad" ? cut(step.line, 40) || "an empty line" : step.verb), " ",
+      step.tells)),
     note && h("p", { class: "note" }, note), verdicts,
     h("p", { class: "reply" }, h("span", {}, "reply "), h("code", {}, cut(step.reply, 160))));
 }
@@ -30,7 +33,8 @@ function verdictsOf(step, before, now) {
   const all = [], grown = grownIn(before, now), sent = now.output.length - before.output.length;
   if (step.error) all.push(verdict("no", h("b", {}, `Refused, ${step.error}`), `: ${step.why}.`));
   if (step.kind === "bad") all.push(verdict("no", "A line of no form is answered “? line”, and changes nothing."));
-  if (grown.length) all.push(verdict("yes", `Delivered: it waits in the receive queue of ${grown.map(it => `socket ${it.fd}`).join(" and ")}.`));
+  if (grown.length) all.push(verdict("yes",
+    `Delivered: it waits in the receive queue of ${grown.map(it => `socket ${it.fd}`).join(" and ")}.`));
   if (step.kind === "send" && sent > 0) {
     const how = has(step, "ip.fragmented") ? ": the datagram was cut into fragments" : "";
     all.push(verdict("yes", `${plural(sent, "packet")} went to the output queue${how}.`));
@@ -39,9 +43,11 @@ function verdictsOf(step, before, now) {
     all.push(verdict("wait", step.packet.isFragment ? "It waits: the datagram isn't whole yet." : "It was taken."));
   }
   for (const it of step.drops) {
-    all.push(verdict("no", h("b", {}, it.by > 1 ? `${it.by} dropped` : "Dropped"), `: ${COUNTERS[it.name]} (`, h("code", {}, it.name), ")."));
+    all.push(verdict("no", h("b", {}, it.by > 1 ? `${it.by} dropped` : "Dropped"), `: ${COUNTERS[it.name]} (`,
+      h("code", {}, it.name), ")."));
   }
-  if (step.data) all.push(verdict("yes", "Read: ", h("code", {}, step.data.length ? readable(step.data, 60) : "no bytes")));
+  if (step.data) all.push(verdict("yes", "Read: ",
+    h("code", {}, step.data.length ? readable(step.data, 60) : "no bytes")));
   return all;
 }
 
@@ -51,12 +57,15 @@ function checksOf(step) {
   // a packet that was counted had its own buffers: what was lacking came later
   const failed = end && end.name === "nobufs" && has(step, "ip.total") ? "nobufs later" : end && end.name;
   const isOfFragments = name => name === "ip.badfrag" || name === "ip.fragdropped";
-  const isReached = name => failed || !step.packet.isFragment || !name.startsWith("udp.") || has(step, "ip.reassembled");
+  const isReached = name => failed || !step.packet.isFragment || !name.startsWith("udp.")
+    || has(step, "ip.reassembled");
   const isShown = name => name === failed || !(name === "nobufs later" || name === "udp.noportbcast"
     || (isOfFragments(name) && !step.packet.isFragment) || !isReached(name));
-  const all = CHECKS.filter(([name]) => isShown(name)), last = failed ? all.findIndex(([name]) => name === failed) : all.length;
+  const all = CHECKS.filter(([name]) => isShown(name)),
+    last = failed ? all.findIndex(([name]) => name === failed) : all.length;
   return h("ol", { class: "checks" }, all.map(([name, what], i) => {
-    const [kind, mark, told] = i < last ? ["pass", "✓", "passed: "] : i === last ? ["fail", "✗", "failed: "] : ["not", "·", "not reached: "];
+    const [kind, mark, told] = i < last ? ["pass", "✓", "passed: "] : i === last ? ["fail", "✗", "failed: "]
+      : ["not", "·", "not reached: "];
     return h("li", { class: kind }, h("span", { "aria-hidden": "true" }, mark), h("span", { class: "unseen" }, told),
       what, kind === "fail" && h("code", {}, name.split(" ")[0]));
   }));
@@ -65,34 +74,45 @@ function checksOf(step) {
 const buffersOf = it => `${plural(it.mbufs, "mbuf")}${it.refs ? ` and ${plural(it.refs, "cluster")}` : ""}`;
 
 function queueOf(kind, queue, fresh, tell) {
-  const items = queue.slice(0, 10).map((it, i) => h("li", { class: `datagram of-${kind}${i >= queue.length - fresh ? " new" : ""}` }, tell(it)));
-  return h("ul", { class: "queue" }, items, queue.length > 10 && h("li", { class: "faint" }, `and ${queue.length - 10} more`));
+  const items = queue.slice(0, 10)
+    .map((it, i) => h("li", { class: `datagram of-${kind}${i >= queue.length - fresh ? " new" : ""}` }, tell(it)));
+  return h("ul", { class: "queue" }, items,
+    queue.length > 10 && h("li", { class: "faint" }, `and ${queue.length - 10} more`));
 }
 
 function socketView(socket, before) {
-  const old = before.sockets.find(it => it.fd === socket.fd), fresh = socket.queue.length - (old ? old.queue.length : 0);
-  const about = [socket.local ? `hears ${socket.local}` : "has no port", socket.peer && `peer ${socket.peer}`, ...socket.options];
+  const old = before.sockets.find(it => it.fd === socket.fd),
+    fresh = socket.queue.length - (old ? old.queue.length : 0);
+  const about = [socket.local ? `hears ${socket.local}` : "has no port", socket.peer && `peer ${socket.peer}`,
+    ...socket.options];
   const tell = it => [h("small", {}, it.from), h("code", {}, it.data.length ? readable(it.data, 10) : "no bytes"),
     h("small", {}, `${plural(it.data.length, "byte")}, ${buffersOf(it)}`)];
-  return h("div", { class: "holder" }, h("b", {}, `socket ${socket.fd}`), " ", h("span", { class: "faint" }, about.filter(Boolean).join(", ")),
+  return h("div", { class: "holder" }, h("b", {}, `socket ${socket.fd}`), " ",
+    h("span", { class: "faint" }, about.filter(Boolean).join(", ")),
     socket.queue.length ? queueOf("queue", socket.queue, fresh, tell) : h("p", { class: "faint" }, "Nothing waits."));
 }
 
 function outputView(output, before) {
   const tell = ({ packet, ...it }) => [
-    h("small", {}, `to ${dotted(packet.destination)}${packet.destinationPort === undefined ? "" : ":" + packet.destinationPort}`),
-    h("code", {}, packet.isFragment ? `bytes ${packet.offset} to ${packet.offset + packet.carried.length - 1}` : readable(packet.data, 10) || "no bytes"),
+    h("small", {},
+      `to ${dotted(packet.destination)}${packet.destinationPort === undefined ? "" : ":" + packet.destinationPort}`),
+    h("code", {},
+      packet.isFragment ? `bytes ${packet.offset} to ${packet.offset + packet.carried.length - 1}`
+      : readable(packet.data, 10) || "no bytes"),
     h("small", {}, `${plural(packet.length, "byte")}, ${buffersOf(it)}`)];
-  return h("div", { class: "holder" }, h("b", {}, "output queue"), " ", h("span", { class: "faint" }, `${output.length} of 50`),
+  return h("div", { class: "holder" }, h("b", {}, "output queue"), " ",
+    h("span", { class: "faint" }, `${output.length} of 50`),
     queueOf("output", output, output.length - before.output.length, tell));
 }
 
 function piecesView([key, { pieces, end }]) {
   const whole = end || Math.max(...pieces.map(it => it.to)) * 1.25;
-  const bars = pieces.map(it => h("i", { style: `left: ${(100 * it.from) / whole}%; width: ${(100 * (it.to - it.from)) / whole}%` }));
+  const bars = pieces.map(it =>
+    h("i", { style: `left: ${(100 * it.from) / whole}%; width: ${(100 * (it.to - it.from)) / whole}%` }));
   const told = pieces.map(it => `${it.from} to ${it.to - 1}`).join(", ");
   return h("div", { class: "pieces" }, h("small", {}, key),
-    h("div", { class: "pieces-bar", "aria-hidden": "true" }, bars), h("small", {}, `bytes ${told} came; ${end ? `it has ${end}` : "its end isn't known yet"}`));
+    h("div", { class: "pieces-bar", "aria-hidden": "true" }, bars),
+      h("small", {}, `bytes ${told} came; ${end ? `it has ${end}` : "its end isn't known yet"}`));
 }
 
 function unfinishedView(held, steps) {
@@ -100,19 +120,22 @@ function unfinishedView(held, steps) {
   const until = end && `, dropped in ${plural(end.tick, "tick")} unless whole by then`;
   return h("div", { class: "holder" }, h("b", {}, "unfinished datagrams"), " ",
     h("span", { class: "faint" }, `${plural(held.unfinished.mbufs, "mbuf")}${until || ""}`),
-    pieces.slice(0, 6).map(piecesView), pieces.length > 6 && h("p", { class: "faint" }, `and ${pieces.length - 6} more`));
+    pieces.slice(0, 6).map(piecesView),
+      pieces.length > 6 && h("p", { class: "faint" }, `and ${pieces.length - 6} more`));
 }
 
 // Buffers by owner. What is left over is shared between owners, so no one of them gives it back alone.
 function ownersOf(held, name, used) {
   const parts = [["receive queues", "queue", held.total(name)], ["output queue", "output", sumOf(held.output, name)],
-    ["unfinished datagrams", "unfinished", held.unfinished[name]]].map(([who, kind, count]) => ({ name: who, kind, count }));
+    ["unfinished datagrams", "unfinished", held.unfinished[name]]]
+      .map(([who, kind, count]) => ({ name: who, kind, count }));
   const rest = Math.max(0, used - parts.reduce((n, it) => n + it.count, 0));
   return [...parts, { name: "shared between owners", kind: "shared", count: rest }];
 }
 
 function machineView(step, steps, before, now) {
-  const pool = step.pool, mbufs = ownersOf(now, "mbufs", pool.used), clusters = ownersOf(now, "clusters", pool.usedClusters);
+  const pool = step.pool, mbufs = ownersOf(now, "mbufs", pool.used),
+    clusters = ownersOf(now, "clusters", pool.usedClusters);
   const legend = [...mbufs.filter((it, i) => i < 3 || it.count + clusters[i].count), { name: "free", kind: "free" }];
   return panel("The machine after this line",
     poolBar("mbufs", pool.mbufs, mbufs), poolBar("clusters", pool.clusters, clusters),
@@ -126,7 +149,8 @@ function countersView(step) {
   const rows = Object.entries(step.counters).map(([name, n]) => {
     const change = step.changed.find(it => it.name === name);
     return h("tr", { class: change ? (DROPS.has(name) ? "dropped" : "changed") : null },
-      h("th", { scope: "row" }, h("code", {}, name)), h("td", {}, String(n)), h("td", {}, change ? `+${change.by}` : ""), h("td", {}, COUNTERS[name]));
+      h("th", { scope: "row" }, h("code", {}, name)), h("td", {}, String(n)),
+        h("td", {}, change ? `+${change.by}` : ""), h("td", {}, COUNTERS[name]));
   });
   return rows.length > 0 && panel("Counters", scroller("counters", h("table", { class: "counters" }, rows)));
 }
@@ -134,9 +158,12 @@ function countersView(step) {
 function stackView(page, step) {
   const now = page.heldAfter(step.number), before = page.heldAfter(step.number - 1), about = [];
   if (step.kind === "in") about.push(panel("The checks, in their order", checksOf(step)));
-  if (step.packet) about.push(panel(null, packetView(step.packet, step.kind === "in" ? "From the wire" : "To the wire")));
+  if (step.packet) about.push(panel(null,
+    packetView(step.packet, step.kind === "in" ? "From the wire" : "To the wire")));
   const sent = step.kind === "send" ? now.output.slice(before.output.length) : [];
-  sent.slice(0, 3).forEach((it, i) => about.push(panel(null, packetView(it.packet, `Packet ${i + 1} of ${sent.length} in the output queue`))));
+  sent.slice(0, 3)
+    .forEach((it, i) =>
+    about.push(panel(null, packetView(it.packet, `Packet ${i + 1} of ${sent.length} in the output queue`))));
   const state = [machineView(step, page.steps.slice(0, step.number), before, now), countersView(step)];
   return [leadOf(step, page.noteOf(step), verdictsOf(step, before, now)),
     about.length > 0 && h("div", { class: "column" }, about), h("div", { class: "column" }, state)];
@@ -147,11 +174,15 @@ function stackView(page, step) {
 function chainView(page, step) {
   const refused = !step.isOk && verdict("no", h("b", {}, step.reply), `: ${step.why}. Nothing has changed.`);
   const sharing = new Sharing(page.engine, page.config, page.notes.lines.slice(0, step.number), step);
-  const drawn = step.chains.size ? scroller("the chains after this line", new ChainPicture(step, sharing).element) : h("p", { class: "faint" }, "No chain is held.");
+  const drawn = step.chains.size ? scroller("the chains after this line", new ChainPicture(step, sharing).element)
+    : h("p", { class: "faint" }, "No chain is held.");
   const pool = step.pool, inChains = count => [{ name: "in chains", kind: "queue", count }];
   const many = pool.refs > pool.usedClusters ? " So bytes are shared, and not copied." : "";
-  const told = `${plural(pool.refs, "mbuf")} ${pool.refs === 1 ? "refers" : "refer"} to ${plural(pool.usedClusters, "cluster")}; the greatest count is ${pool.most}.${many}`;
-  return [leadOf(step, page.noteOf(step), refused), h("section", { class: "panel wide" }, h("h3", {}, "The chains after this line"), drawn),
-    panel("The pool after this line", poolBar("mbufs", pool.mbufs, inChains(pool.used)), poolBar("clusters", pool.clusters, inChains(pool.usedClusters)),
+  const refer = `${plural(pool.refs, "mbuf")} ${pool.refs === 1 ? "refers" : "refer"}`;
+  const told = `${refer} to ${plural(pool.usedClusters, "cluster")}; the greatest count is ${pool.most}.${many}`;
+  return [leadOf(step, page.noteOf(step), refused),
+    h("section", { class: "panel wide" }, h("h3", {}, "The chains after this line"), drawn),
+    panel("The pool after this line", poolBar("mbufs", pool.mbufs, inChains(pool.used)),
+      poolBar("clusters", pool.clusters, inChains(pool.usedClusters)),
       h("p", { class: "faint" }, pool.refs ? told : "No cluster is referred to."))];
 }

@@ -12,7 +12,8 @@ const page = {
   held: new Map(),
   // what is held after so many lines
   heldAfter(n) {
-    if (!this.held.has(n)) this.held.set(n, new Held(this.engine, this.config, this.notes.lines.slice(0, n), this.steps.slice(0, n)));
+    if (!this.held.has(n)) this.held.set(n,
+      new Held(this.engine, this.config, this.notes.lines.slice(0, n), this.steps.slice(0, n)));
     return this.held.get(n);
   },
   noteOf(step) {
@@ -24,13 +25,17 @@ const page = {
 
 function rowOf(step, i) {
   const change = step.pool.used - step.before.used;
-  const badges = step.changed.map(({ name, by }) => h("span", { class: DROPS.has(name) ? "badge drop" : "badge" }, `+${by} ${name}`));
+  const badges = step.changed.map(({ name, by }) =>
+    h("span", { class: DROPS.has(name) ? "badge drop" : "badge" }, `+${by} ${name}`));
   const what = h("span", { class: "what" },
     h("code", {}, step.kind === "bad" ? cut(step.line, 24) || "an empty line" : step.verb), " ", step.tells,
-    h("span", { class: "after" }, h("code", { class: step.isOk ? "answer" : "answer no" }, cut(step.reply, step.kind === "ask" ? 60 : 34)), badges));
+    h("span", { class: "after" },
+      h("code", { class: step.isOk ? "answer" : "answer no" }, cut(step.reply, step.kind === "ask" ? 60 : 34)),
+      badges));
   const delta = change ? `${change > 0 ? "+" : "−"}${plural(Math.abs(change), "mbuf")}` : "";
   return h("li", {}, h("button", { class: "row", type: "button", onclick: () => select(i) },
-    h("span", { class: "number" }, String(page.notes.places[i] + 1)), signOf(step), what, h("span", { class: "delta" }, delta)));
+    h("span", { class: "number" }, String(page.notes.places[i] + 1)), signOf(step), what,
+      h("span", { class: "delta" }, delta)));
 }
 
 // Looks at a line. All that is shown of it is made anew.
@@ -41,12 +46,14 @@ function select(i) {
   byId("rows").querySelectorAll("[aria-current]").forEach(row => row.removeAttribute("aria-current"));
   const row = rows[page.at].firstChild;
   row.setAttribute("aria-current", "step");
-  const list = byId("rows"), top = row.offsetTop - list.offsetTop;
+  const list = byId("rows"), top = row.offsetTop;
   if (top < list.scrollTop || top + row.offsetHeight > list.scrollTop + list.clientHeight) list.scrollTop = top - 60;
   byId("curve").replaceChildren(...curve(page.steps, page.at, select));
-  byId("look").replaceChildren(...(page.mode === "run" ? stackView(page, step) : chainView(page, step)).filter(Boolean));
+  byId("look").replaceChildren(...(page.mode === "run" ? stackView(page, step) : chainView(page, step))
+    .filter(Boolean));
   byId("place").textContent = `${step.number} of ${page.steps.length}`;
-  byId("said").textContent = `line ${step.number}: ${step.verb} ${step.tells}. ${step.isOk ? "" : step.error || step.reply}`;
+  const refusal = step.isOk ? "" : step.error || step.reply;
+  byId("said").textContent = `line ${step.number}: ${step.verb} ${step.tells}. ${refusal}`;
   for (const mark of byId("gutter").querySelectorAll(".here")) mark.classList.remove("here");
   byId("gutter").children[page.notes.places[page.at]].classList.add("here");
 }
@@ -60,29 +67,37 @@ function replay(place) {
     : (page.mode === "run" ? traceStack : traceChains)(page.engine, page.config, page.notes.lines);
   page.steps = steps;
   byId("trouble").textContent = page.config.wrong ? `--${page.config.wrong}: no number in its range` : FAULTS[code];
-  byId("gutter").replaceChildren(...page.notes.all.map((line, i) => h("span", { class: line.startsWith("#") ? "note-line" : null }, String(i + 1))));
+  byId("gutter").replaceChildren(...page.notes.all.map((line, i) =>
+    h("span", { class: line.startsWith("#") ? "note-line" : null }, String(i + 1))));
   byId("rows").replaceChildren(...steps.map(rowOf));
   byId("command").textContent = `bsdudp ${page.mode}${optionWords()} < script.txt`;
   for (const part of ["look", "curve"]) byId(part).replaceChildren();
   select(place);
 }
 
-const usedOptions = () => Object.keys(DEFAULTS).filter(name => page.mode === "run" || name === "mbufs" || name === "clusters");
-const optionWords = () => usedOptions().filter(name => page.options[name] !== DEFAULTS[name]).map(name => ` --${name} ${page.options[name]}`).join("");
+const usedOptions = () => Object.keys(DEFAULTS)
+  .filter(name => page.mode === "run" || name === "mbufs" || name === "clusters");
+const optionWords = () => usedOptions().filter(name => page.options[name] !== DEFAULTS[name])
+  .map(name => ` --${name} ${page.options[name]}`).join("");
 
 function showOptions() {
-  const inputOf = name => h("input", { id: `option-${name}`, value: page.options[name], spellcheck: "false", autocomplete: "off", oninput: event => {
+  const inputOf = name =>
+    h("input", { id: `option-${name}`, value: page.options[name], spellcheck: "false", autocomplete: "off",
+    oninput: event => {
     page.options[name] = event.target.value;
     later();
   } });
-  byId("options").replaceChildren(...usedOptions().map(name => h("label", { class: name === "addr" || name === "bcast" ? "long" : null }, `--${name} `, inputOf(name))));
+  byId("options").replaceChildren(...usedOptions()
+    .map(name =>
+    h("label", { class: name === "addr" || name === "bcast" ? "long" : null }, `--${name} `, inputOf(name))));
 }
 
 function showScripts() {
   const { lessons, examples } = SCRIPTS[page.mode];
   const option = ({ name, title }) => h("option", { value: name }, title);
   byId("choice").replaceChildren(h("option", { value: "" }, "your own script"),
-    h("optgroup", { label: "Lessons" }, lessons.map(option)), h("optgroup", { label: "Examples" }, examples.map(option)));
+    h("optgroup", { label: "Lessons" }, lessons.map(option)),
+      h("optgroup", { label: "Examples" }, examples.map(option)));
   byId("choice").value = page.name;
 }
 
@@ -97,7 +112,8 @@ function open(mode, { name = "", text = "", options = DEFAULTS, place = 0 }) {
   byId("script").value = known ? known.text : text;
   byId("script").scrollTop = 0;
   document.body.dataset.mode = mode;
-  for (const tab of document.querySelectorAll("[data-tab]")) tab.setAttribute("aria-pressed", String(tab.dataset.tab === mode));
+  for (const tab of document.querySelectorAll("[data-tab]")) tab.setAttribute("aria-pressed",
+    String(tab.dataset.tab === mode));
   showScripts();
   showOptions();
   replay(place);
@@ -123,10 +139,12 @@ function follow() {
 // ---- a packet made by hand
 
 function putPacket() {
-  const value = name => byId(`packet-${name}`).value, number = name => Math.min(65535, Math.max(0, Math.floor(+value(name)) || 0));
+  const value = name => byId(`packet-${name}`).value,
+    number = name => Math.min(65535, Math.max(0, Math.floor(+value(name)) || 0));
   const bytes = makePacket({
     source: undotted(value("source")), sourcePort: number("source-port"), destination: undotted(value("destination")),
-    destinationPort: number("destination-port"), id: number("id"), data: new TextEncoder().encode(value("data")), fault: value("fault"),
+    destinationPort: number("destination-port"), id: number("id"), data: new TextEncoder().encode(value("data")),
+      fault: value("fault"),
   });
   const all = page.notes.all, isEmpty = !page.steps.length;
   const place = isEmpty ? all.length : page.notes.places[page.at] + 1;
@@ -140,8 +158,10 @@ function putPacket() {
 
 // A link holds the script, what machine it is for, and the line that is looked at.
 function link() {
-  const changed = usedOptions().filter(name => page.options[name] !== DEFAULTS[name]).map(name => [name, page.options[name]]);
-  const asked = new URLSearchParams([["mode", page.mode], ...changed, ["line", page.at + 1], ["script", byId("script").value]]);
+  const changed = usedOptions().filter(name => page.options[name] !== DEFAULTS[name])
+    .map(name => [name, page.options[name]]);
+  const asked = new URLSearchParams([["mode", page.mode], ...changed, ["line", page.at + 1],
+    ["script", byId("script").value]]);
   history.replaceState(null, "", `#${asked}`);
   if (navigator.clipboard) navigator.clipboard.writeText(location.href).catch(() => {});
   byId("said").textContent = "The address of this page holds the script now.";
@@ -200,7 +220,8 @@ function listen() {
   on("save", "click", save);
   on("load", "change", load);
   on("theme", "click", () => setTheme(document.documentElement.dataset.theme === "dark" ? "light" : "dark"));
-  for (const tab of document.querySelectorAll("[data-tab]")) tab.addEventListener("click", () => openFirst(tab.dataset.tab));
+  for (const tab of document.querySelectorAll("[data-tab]")) tab.addEventListener("click",
+    () => openFirst(tab.dataset.tab));
   addEventListener("hashchange", openLink);
   addEventListener("keydown", stepByKey);
 }

@@ -33,7 +33,8 @@ const pseudoSum = (source, destination, length) =>
 
 // Bytes as ASCII, with a dot for what can't be read.
 function readable(bytes, most = 24) {
-  const text = Array.from(bytes.subarray(0, most), byte => (byte >= 32 && byte < 127 ? String.fromCharCode(byte) : "·"));
+  const text = Array.from(bytes.subarray(0, most),
+    byte => (byte >= 32 && byte < 127 ? String.fromCharCode(byte) : "·"));
   return text.join("") + (bytes.length > most ? "…" : "");
 }
 

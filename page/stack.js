@@ -1,6 +1,6 @@
 "use strict";
-// What the page asks the machine of a script of socket calls. All that it shows of a state it has from replies: the machine
-// is asked again with more lines, on a run that is thrown away.
+// What the page asks the machine of a script of socket calls. All that it shows of a state it has from replies: the
+// machine is asked again with more lines, on a run that is thrown away.
 
 // What each counter says of a packet or a datagram, in the order of `stat`.
 const COUNTERS = {
@@ -32,7 +32,8 @@ const COUNTERS = {
   nobufs: "no buffer was free",
 };
 
-// The checks of a packet that arrives, in their order, each with the counter that counts its failure (docs/behaviour.md).
+// The checks of a packet that arrives, in their order, each with the counter that counts its failure
+// (docs/behaviour.md).
 const CHECKS = [
   ["nobufs", "buffers for the packet"],
   ["ip.toosmall", "at least 20 bytes"],
@@ -75,7 +76,8 @@ const ERRORS = {
 
 // ---- replies
 
-const countersIn = reply => Object.fromEntries(reply.split(" ").slice(1).map(word => word.split("=")).map(([k, n]) => [k, +n]));
+const countersIn = reply =>
+  Object.fromEntries(reply.split(" ").slice(1).map(word => word.split("=")).map(([k, n]) => [k, +n]));
 
 // What `mbstat` replies.
 function usageIn(reply) {
@@ -83,7 +85,8 @@ function usageIn(reply) {
   return { free, mbufs, freeClusters, clusters, refs, most, used: mbufs - free, usedClusters: clusters - freeClusters };
 }
 
-const emptyPool = ({ mbufs, clusters }) => usageIn(`mbufs ${mbufs}/${mbufs} clusters ${clusters}/${clusters} refs 0 most 0`);
+const emptyPool = ({ mbufs, clusters }) =>
+  usageIn(`mbufs ${mbufs}/${mbufs} clusters ${clusters}/${clusters} refs 0 most 0`);
 
 // The oldest datagram of a queue, by what `recvfrom` replies; or nothing.
 function datagramIn(reply) {
@@ -188,8 +191,8 @@ function changeSocket(open, fd, socket, verb, words, step) {
   if (verb === "close") open.delete(fd);
 }
 
-// What is held after so many lines: the same script once more, on a machine that is thrown away, whose queues are emptied
-// then. What each datagram gives back to the pool is what it held.
+// What is held after so many lines: the same script once more, on a machine that is thrown away, whose queues are
+// emptied then. What each datagram gives back to the pool is what it held.
 class Held {
   constructor(engine, config, lines, steps) {
     this.ask = more => engine.run(config, [...lines, ...more, ""].join("\n")).replies.slice(lines.length);

@@ -1,9 +1,9 @@
 #!/usr/bin/env python3
-"""browser.py PAGE.html EXAMPLES LESSONS SHOTS: plays each example and each lesson in the page itself, in headless Chromium,
-and looks at each line of the lessons. The page's replies have to be those that are wanted, its console has to be silent, it
-asks the network for nothing, nothing may overlap or be cut off at widths of 360, 768 and 1,600 pixels, and each text has to
-have a contrast of 4.5 at least, in light and in dark. Screenshots are kept in the folder SHOTS. It's silent where all is
-well."""
+"""browser.py PAGE.html EXAMPLES LESSONS SHOTS: plays each example and each lesson in the page itself, in headless
+Chromium, and looks at each line of the lessons. The page's replies have to be those that are wanted. Its console has to be
+silent, and it may ask the network for nothing. Nothing may overlap or be cut off at widths of 360, 768 and 1,600 pixels,
+and each text has to have a contrast of 4.5 at least, in light and in dark. Screenshots are kept in the folder SHOTS. It's
+silent where all is well."""
 import base64
 import json
 import os
@@ -14,7 +14,13 @@ import sys
 import tempfile
 
 HERE = pathlib.Path(__file__).resolve().parent
+UNTIL_READY = """new Promise(done => {
+    const look = () => (document.body && document.body.dataset.ready ? done() : setTimeout(look, 20));
+    look();
+})"""
 WIDTHS = {360: 800, 768: 1024, 1600: 1000}
+# the pictures that are kept; the others are only looked at
+SHOT = [("light", 1600), ("dark", 1600), ("light", 360)]
 NAMES = ["chromium", "chromium-browser", "google-chrome"]
 
 
@@ -48,7 +54,7 @@ class Browser:
         message = {"id": self.number, "method": method, "params": params}
         if self.session:
             message["sessionId"] = self.session
-        os.write(self.asks, json.dumps(message).encode() + b"\0") if len(json.dumps(message)) < 4096 else self.write(message)
+        self.write(message)
         while True:
             answer = self.read()
             if answer.get("id") == self.number:
@@ -80,7 +86,8 @@ class Browser:
         return got["result"].get("value")
 
     def resize(self, width):
-        self.ask("Emulation.setDeviceMetricsOverride", width=width, height=WIDTHS[width], deviceScaleFactor=1, mobile=False)
+        size = {"width": width, "height": WIDTHS[width], "deviceScaleFactor": 1, "mobile": False}
+        self.ask("Emulation.setDeviceMetricsOverride", **size)
 
     def shoot(self, file):
         file.write_bytes(base64.b64decode(self.ask("Page.captureScreenshot", format="png")["data"]))
@@ -93,8 +100,10 @@ class Browser:
                 yield about["exceptionDetails"].get("exception", {}).get("description", "an exception")
             elif what == "Runtime.consoleAPICalled" or what == "Log.entryAdded":
                 yield f"the console: {json.dumps(about)[:200]}"
-            elif what == "Network.requestWillBeSent" and not about["request"]["url"].startswith(("file:", "data:", "blob:")):
-                yield f"it asked the network for {about['request']['url']}"
+            elif what == "Network.requestWillBeSent":
+                url = about["request"]["url"]
+                if not url.startswith(("file:", "data:", "blob:")):
+                    yield f"it asked the network for {url}"
 
     def end(self):
         self.child.terminate()
@@ -145,7 +154,8 @@ def look_all(browser, shots):
                 browser.resize(width)
                 for fault in browser.run("faultsOfLayout()"):
                     yield f"{name}, {width} pixels, {theme}: {fault}"
-                browser.shoot(shots / f"{name}-{theme}-{width}.png")
+                if (theme, width) in SHOT:
+                    browser.shoot(shots / f"{name}-{theme}-{width}.png")
     for dialog in ("make", "about"):
         browser.run(f"open('run', {{ name: '01_a_datagram' }}); byId('{dialog}').click()")
         for width in WIDTHS:
@@ -163,8 +173,7 @@ def main(page, examples, lessons, shots):
         try:
             browser.resize(1600)
             browser.ask("Page.navigate", url=page.resolve().as_uri())
-            browser.run("new Promise(done => { const look = () => typeof page === 'object' && document.body.dataset.ready ? "
-                        "done() : setTimeout(look, 20); look(); })")
+            browser.run(UNTIL_READY)
             browser.run((HERE / "in_page.js").read_text())
             faults = [*play_all(browser, examples, lessons), *look_all(browser, shots), *browser.run("faultsOfKeys()")]
             faults += browser.complaints()

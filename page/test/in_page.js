@@ -7,7 +7,8 @@ function playInPage(mode, text, words, wanted) {
   open(mode, { text, options: optionsOf(words) });
   const replies = page.steps.map(step => step.reply), outcome = page.engine[mode](page.config, page.notes.script);
   if (outcome.replies.join("\n") !== replies.join("\n")) faults.push("the steps have other replies than the script");
-  if (wanted !== null && replies.map(reply => reply + "\n").join("") !== wanted) faults.push("the page has other replies");
+  if (wanted !== null && replies.map(reply => reply + "\n")
+    .join("") !== wanted) faults.push("the page has other replies");
   if (wanted === null) {
     page.notes.wanted.forEach((reply, i) => {
       if (!isReply(replies[i], reply)) faults.push(`line ${page.notes.places[i] + 1}: it's answered ${replies[i]}`);
@@ -32,43 +33,54 @@ function faultsOfOwners(i) {
 
 const isSeen = it => {
   const box = it.getBoundingClientRect(), style = getComputedStyle(it);
-  return box.width > 0 && box.height > 0 && style.visibility !== "hidden" && !it.closest(".unseen") && !it.matches("input[type=file]");
+  return box.width > 0 && box.height > 0 && style.visibility !== "hidden" && !it.closest(".unseen")
+    && !it.matches("input[type=file]");
 };
-const nameOf = it => `${it.tagName.toLowerCase()}${it.id ? "#" + it.id : it.classList.length ? "." + it.classList[0] : ""}`;
+const nameOf = it =>
+  `${it.tagName.toLowerCase()}${it.id ? "#" + it.id : it.classList.length ? "." + it.classList[0] : ""}`;
 
-// The part of an element that isn't cut off by what it's scrolled in.
-function seenBox(it) {
-  let { left, top, right, bottom } = it.getBoundingClientRect();
+// The boxes of an element, of each of its lines if it flows in a text, without what is cut off by what it's scrolled
+// in.
+function seenBoxes(it) {
+  const cuts = [];
   for (let box = it.parentElement; box; box = box.parentElement) {
     const style = getComputedStyle(box);
-    if (style.overflowX === "visible" && style.overflowY === "visible") continue;
-    const by = box.getBoundingClientRect();
-    [left, top, right, bottom] = [Math.max(left, by.left), Math.max(top, by.top), Math.min(right, by.right), Math.min(bottom, by.bottom)];
+    if (style.overflowX !== "visible" || style.overflowY !== "visible") cuts.push(box.getBoundingClientRect());
   }
-  return { left, top, right, bottom };
+  const cutBox = ({ left, top, right, bottom }) => cuts.reduce((box, by) => ({
+    left: Math.max(box.left, by.left), top: Math.max(box.top, by.top),
+    right: Math.min(box.right, by.right), bottom: Math.min(box.bottom, by.bottom),
+  }), { left, top, right, bottom });
+  return [...it.getClientRects()].map(cutBox).filter(box => box.right - box.left > 1 && box.bottom - box.top > 1);
 }
 
-const doOverlap = (a, b) => Math.min(a.right, b.right) - Math.max(a.left, b.left) > 1 && Math.min(a.bottom, b.bottom) - Math.max(a.top, b.top) > 1;
+const doOverlap = (a, b) => Math.min(a.right, b.right) - Math.max(a.left, b.left) > 1
+  && Math.min(a.bottom, b.bottom) - Math.max(a.top, b.top) > 1;
 
 // Elements with text of their own or that take input, of which none may lie over another.
 function solid() {
   const within = document.querySelector("dialog[open]") || document.body;
   const hasText = it => [...it.childNodes].some(node => node.nodeType === 3 && node.data.trim());
-  return [...within.querySelectorAll("*")].filter(it => !it.closest("svg, option, select > *, script, style") && isSeen(it)
-    && (within !== document.body || !it.closest("dialog")) && (hasText(it) || it.matches("input, select, textarea, svg, .bar")));
+  return [...within.querySelectorAll("*")]
+    .filter(it => !it.closest("svg, option, select > *, script, style") && isSeen(it)
+    && (within !== document.body || !it.closest("dialog"))
+      && (hasText(it) || it.matches("input, select, textarea, svg, .bar")));
 }
 
 function faultsOfOverlap() {
-  const all = solid().map(it => ({ it, box: seenBox(it) })).filter(({ box }) => box.right - box.left > 1 && box.bottom - box.top > 1);
-  const faults = [], isSticky = it => it.closest("#middle .head") && getComputedStyle(it.closest(".head")).position === "sticky";
-  for (let i = 0; i < all.length; i++) {
-    for (let k = i + 1; k < all.length; k++) {
-      const [a, b] = [all[i], all[k]];
-      if (a.it.contains(b.it) || b.it.contains(a.it) || isSticky(a.it) !== isSticky(b.it)) continue;
-      if (doOverlap(a.box, b.box)) faults.push(`${nameOf(a.it)} and ${nameOf(b.it)} overlap`);
+  const isSticky = it => getComputedStyle(document.querySelector("#middle .head")).position === "sticky"
+    && it.closest("#middle .head") !== null;
+  const all = solid().flatMap(it => seenBoxes(it).map(box => ({ it, box, isHead: isSticky(it) })));
+  all.sort((a, b) => a.box.top - b.box.top);
+  const faults = new Set();
+  all.forEach((a, i) => {
+    for (const b of all.slice(i + 1)) {
+      if (b.box.top >= a.box.bottom) break;
+      if (a.it === b.it || a.it.contains(b.it) || b.it.contains(a.it) || a.isHead !== b.isHead) continue;
+      if (doOverlap(a.box, b.box)) faults.add(`${nameOf(a.it)} and ${nameOf(b.it)} overlap`);
     }
-  }
-  return [...new Set(faults)].slice(0, 8);
+  });
+  return [...faults].slice(0, 8);
 }
 
 // No text is cut off at its side, but where it's marked by dots or can be scrolled to.
@@ -78,14 +90,16 @@ function faultsOfWidth() {
   for (const it of solid()) {
     const style = getComputedStyle(it), box = it.getBoundingClientRect();
     if (it.closest(".scroller") || it.matches("input, textarea, select")) continue;
-    if (it.scrollWidth > it.clientWidth + 1 && style.overflowX !== "visible" && style.display !== "inline") faults.push(`${nameOf(it)} is cut off`);
+    if (it.scrollWidth > it.clientWidth + 1 && style.overflowX !== "visible"
+      && style.display !== "inline") faults.push(`${nameOf(it)} is cut off`);
     if (box.right > innerWidth + 1) faults.push(`${nameOf(it)} stands out on the right`);
   }
   return [...new Set(faults)].slice(0, 8);
 }
 
 const channels = colour => (colour.match(/[\d.]+/g) || []).map(Number);
-const light = ([r, g, b]) => [r, g, b].map(it => it / 255).map(it => (it <= 0.03928 ? it / 12.92 : ((it + 0.055) / 1.055) ** 2.4))
+const light = ([r, g, b]) => [r, g, b].map(it => it / 255)
+  .map(it => (it <= 0.03928 ? it / 12.92 : ((it + 0.055) / 1.055) ** 2.4))
   .reduce((sum, it, i) => sum + it * [0.2126, 0.7152, 0.0722][i], 0);
 
 // What is behind an element: the first colour that isn't clear.
@@ -97,7 +111,8 @@ function behind(it) {
   return [255, 255, 255];
 }
 
-// WCAG 2.1, 1.4.3. In drawings the text stands on the paper's colour or a shape's; those of shapes are named in style.css.
+// WCAG 2.1, 1.4.3. In drawings the text stands on the paper's colour or a shape's; those of shapes are named in
+// style.css.
 function faultsOfContrast() {
   const faults = [];
   for (const it of solid().filter(it => !it.matches("svg, .bar"))) {
@@ -106,10 +121,13 @@ function faultsOfContrast() {
     if (contrast < 4.5) faults.push(`${nameOf(it)} has a contrast of ${contrast.toFixed(1)}`);
   }
   for (const text of document.querySelectorAll(".picture text")) {
-    const group = text.closest("g"), box = group && group.querySelector(text.matches(".count-text") ? ".count" : ".box");
-    const [a, b] = [channels(getComputedStyle(text).fill), box ? channels(getComputedStyle(box).fill) : behind(text.closest("svg"))].map(light);
+    const group = text.closest("g"),
+      box = group && group.querySelector(text.matches(".count-text") ? ".count" : ".box");
+    const [a, b] = [channels(getComputedStyle(text).fill),
+      box ? channels(getComputedStyle(box).fill) : behind(text.closest("svg"))].map(light);
     const contrast = (Math.max(a, b) + 0.05) / (Math.min(a, b) + 0.05);
-    if (contrast < 4.5) faults.push(`${text.getAttribute("class")} in the picture has a contrast of ${contrast.toFixed(1)}`);
+    const name = text.getAttribute("class");
+    if (contrast < 4.5) faults.push(`${name} in the picture has a contrast of ${contrast.toFixed(1)}`);
   }
   return [...new Set(faults)].slice(0, 8);
 }
@@ -117,16 +135,18 @@ function faultsOfContrast() {
 // Whatever takes input has a name that a screen reader tells.
 function faultsOfNames() {
   const within = document.querySelector("dialog[open]") || document.body;
-  const isNamed = it => it.getAttribute("aria-label") || it.textContent.trim() || it.closest("label") || it.getAttribute("aria-labelledby");
+  const isNamed = it => it.getAttribute("aria-label") || it.textContent.trim() || it.closest("label")
+    || it.getAttribute("aria-labelledby");
   return [...within.querySelectorAll("button, input, select, textarea, [role=img], svg")]
     .filter(it => !isNamed(it)).map(it => `${nameOf(it)} has no name`);
 }
 
 const faultsOfLayout = () => [...faultsOfOverlap(), ...faultsOfWidth(), ...faultsOfContrast(), ...faultsOfNames()];
 
-// Arrow keys step, Home and End of the script's own field don't; a link brings the script back.
+// Arrow keys step, but in the script's own field; a link brings a script back; a packet that is made is put in.
 function faultsOfKeys() {
-  const faults = [], press = (it, key) => it.dispatchEvent(new KeyboardEvent("keydown", { key, bubbles: true, cancelable: true }));
+  const faults = [],
+    press = (it, key) => it.dispatchEvent(new KeyboardEvent("keydown", { key, bubbles: true, cancelable: true }));
   open("run", { name: "01_a_datagram" });
   press(document.body, "ArrowDown");
   press(byId("rows").firstChild.firstChild, "ArrowDown");
@@ -137,7 +157,8 @@ function faultsOfKeys() {
   link();
   open("chain", { text: "" });
   openLink();
-  if (byId("script").value !== before || page.mode !== "run" || page.at !== 2) faults.push("a link doesn't bring the script back");
+  if (byId("script").value !== before || page.mode !== "run"
+    || page.at !== 2) faults.push("a link doesn't bring the script back");
   byId("make").click();
   putPacket();
   if (page.steps[3].verb !== "rx" || page.at !== 3) faults.push("a packet that was made isn't put in");

@@ -16,7 +16,8 @@ function fault(script, text) {
   faults += 1;
 }
 
-const scriptsOf = folder => fs.readdirSync(folder).filter(name => name.endsWith(".txt")).map(name => path.join(folder, name));
+const scriptsOf = folder => fs.readdirSync(folder).filter(name => name.endsWith(".txt"))
+  .map(name => path.join(folder, name));
 
 function play(engine, command, script, text) {
   const words = fs.existsSync(script + ".args") ? fs.readFileSync(script + ".args", "utf8").trim().split(/\s+/) : [];
@@ -26,7 +27,8 @@ function play(engine, command, script, text) {
 function tryExample(engine, command, script) {
   const got = play(engine, command, script, fs.readFileSync(script, "utf8"));
   const said = got.replies.map(reply => reply + "\n").join("");
-  if (said !== fs.readFileSync(script + ".stdout", "utf8")) fault(script, `the page's module has other replies than ${script}.stdout`);
+  if (said !== fs.readFileSync(script + ".stdout", "utf8")) fault(script,
+    `the page's module has other replies than ${script}.stdout`);
 }
 
 function tryLesson(engine, command, script) {
@@ -36,9 +38,11 @@ function tryLesson(engine, command, script) {
   notes.lines.forEach((line, i) => {
     const reply = got.replies[i] || "";
     if (!page.isReply(reply, notes.wanted[i])) {
-      fault(`${script}:${notes.places[i] + 1}`, `the note says ${notes.wanted[i]}, and the program ${reply.slice(0, 100)}`);
+      fault(`${script}:${notes.places[i] + 1}`,
+        `the note says ${notes.wanted[i]}, and the program ${reply.slice(0, 100)}`);
     }
-    if (reply.startsWith("?") && notes.wanted[i] === undefined) fault(`${script}:${notes.places[i] + 1}`, `it's answered ${reply}`);
+    if (reply.startsWith("?") && notes.wanted[i] === undefined) fault(`${script}:${notes.places[i] + 1}`,
+      `it's answered ${reply}`);
   });
   if (!notes.wanted.some(reply => reply !== undefined)) fault(script, "no note of it says what the program replies");
 }
