@@ -2,3 +2,4 @@ mod Unique
 mod Answered
 mod Headers
 mod Written
+mod Framed

@@ -1,5 +1,5 @@
 -- The IPv4 packet in a frame (tcpdump.org/linktypes.html, IEEE 802.3 and 802.1Q).
-use Rattle.std.specs.Prelude.{ℕ, ◌/◌, List, [], ◌∷◌, length, take, drop, Result, Ok, Err, nat_lt, ◌==◌, ◌||◌, if◌then◌else◌}
+use Rattle.std.specs.Prelude.{◌≡◌, ℕ, ◌/◌, ◌≤◌, ◌⊎◌, List, [], ◌∷◌, ◌++◌, length, slice_index, take, drop, Result, Ok, Err, nat_lt, ◌==◌, ◌||◌, if◌then◌else◌}
 use Rattle.std.specs.Int.{w16, w32}
 use Rattle.pcap.specs.File.{number_of}
 use Rattle.pcap.specs.declared.header.Order.TheVariants.{Little, Big}
@@ -63,3 +63,28 @@ packet_of Null frame = by_family host_family frame
 packet_of Loop frame = by_family (number_of Big w32) frame
 packet_of Raw frame = by_version frame
 packet_of Ipv4 frame = Ok (unpadded frame)
+
+-- ---- frames as they are written
+
+-- a packet whose version is 4, and whose total length is how many bytes it has
+pub record IsPacket (packet : List ℕ) : Type 0 where
+  pub version : slice_index packet 0 / 16 ≡ 4
+  pub header : 20 ≤ length packet
+  pub total : number_of Big w16 (drop 2 packet) ≡ length packet
+
+-- what stands for IPv4 between the rest of a header and these bytes: its protocol, behind no VLAN tag, one or two
+abbrev pub IsTagged : List ℕ → List ℕ → Type 0
+IsTagged bytes carried =
+    (bytes ≡ 8 ∷ 0 ∷ carried)
+    ⊎ ((a b : ℕ) × (bytes ≡ 0x81 ∷ 0 ∷ a ∷ b ∷ 8 ∷ 0 ∷ carried))
+    ⊎ ((a b c d : ℕ) × (bytes ≡ 0x88 ∷ 0xa8 ∷ a ∷ b ∷ 0x81 ∷ 0 ∷ c ∷ d ∷ 8 ∷ 0 ∷ carried))
+
+-- the frame of a link type carries these bytes as IPv4
+abbrev pub Carries : LinkType → List ℕ → List ℕ → Type 0
+Carries Ethernet frame carried = (addresses behind : List ℕ) × (length addresses ≡ 12) × IsTagged behind carried × (frame ≡ addresses ++ behind)
+Carries LinuxCooked frame carried = (front behind : List ℕ) × (length front ≡ 14) × IsTagged behind carried × (frame ≡ front ++ behind)
+Carries LinuxCooked2 frame carried = (others : List ℕ) × (length others ≡ 18) × (frame ≡ 8 ∷ 0 ∷ (others ++ carried))
+Carries Null frame carried = (frame ≡ 2 ∷ 0 ∷ 0 ∷ 0 ∷ carried) ⊎ (frame ≡ 0 ∷ 0 ∷ 0 ∷ 2 ∷ carried)
+Carries Loop frame carried = frame ≡ 0 ∷ 0 ∷ 0 ∷ 2 ∷ carried
+Carries Raw frame carried = frame ≡ carried
+Carries Ipv4 frame carried = frame ≡ carried

@@ -2,6 +2,8 @@
 ghost use Rattle.std.specs.Prelude.{◌≡◌, ◌++◌, List, ℕ, Ok, Result, drop};
 ghost use Rattle.std.specs.List.{AllByRecursion};
 ghost use Rattle.pcap.specs.File.{IsHeader, header_bytes, header_of};
+ghost use Rattle.pcap.specs.Frames.{Carries, IsPacket, packet_of};
+ghost use Rattle.pcap.specs.declared.link_type.LinkType.{LinkType};
 ghost use Rattle.pcap.specs.Records.{Captured, Fits, Reads, Whole, records_bytes};
 ghost use Rattle.pcap.specs.declared.header.Header.{Header};
 ghost use Rattle.pcap.specs.declared.fault.Fault.{Fault};
@@ -24,4 +26,12 @@ pub fn written_is_read()
 #[tactic(auto, using(crate::proofs::Unique::same_reading))]
 pub fn one_reading()
     ensures { (file : List ℕ) (a b : Result Whole Fault) → Reads file a → Reads file b → a ≡ b }
+{}
+
+/// A frame that carries a packet with a right version and total length gives just this packet, whatever padding stands
+/// behind it.
+#[tactic(auto, using(crate::proofs::Framed::carried))]
+pub fn frames_hold_packets()
+    ensures { (link : LinkType) (frame packet padding : List ℕ) → IsPacket packet → Carries link frame (packet ++ padding)
+        → packet_of link frame ≡ Ok packet }
 {}

@@ -15,7 +15,7 @@ mod writer;
 
 pub use fault::{Fault, ReadError, Why, WriteError};
 pub use header::{Header, Order, Resolution};
-pub use laws::{headers_are_read, one_reading, written_is_read};
+pub use laws::{frames_hold_packets, headers_are_read, one_reading, written_is_read};
 pub use link::{NoPacket, ipv4_packet};
 pub use link_type::LinkType;
 pub use reader::{Capture, Reader, Record, read};
