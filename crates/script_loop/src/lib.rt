@@ -15,7 +15,7 @@ pub use answers::Answers;
 pub use buffer::Buffer;
 pub use fault::RunFault;
 pub use line_buffers::LineBuffers;
-pub use serve::{HELD, serve_script};
+pub use serve::{HELD, limits, serve_script};
 pub use streams::{Silent, Sink, Source};
 pub use text::{put_hex, put_number};
 pub use words::{bytes, first_word, is_end, number, one, three, two};

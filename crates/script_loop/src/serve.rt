@@ -1,5 +1,5 @@
 //! The loop that reads a script and answers it.
-ghost use Rattle.std.specs.Prelude.{◌≡◌, ◌↔◌, ◌≤◌, ◌<◌, ◌+◌, ◌∷◌, [], ℕ, List, length, IsTrue, IfOk, IfSome, ◌++◌};
+ghost use Rattle.std.specs.Prelude.{◌≡◌, ◌↔◌, ◌≤◌, ◌<◌, ◌+◌, ◌^◌, ◌∷◌, [], ℕ, List, length, IsTrue, IfOk, IfSome, ◌++◌};
 ghost use Rattle.script_loop.specs.Streams.{MoreBy, Sends, reader_failures, writer_failures};
 ghost use Rattle.script_loop.specs.Serves.{Serves, IsServed};
 ghost use Rattle.script_loop.specs.Inside.{Answered, EndsNoLine, HasRoom, TakesPiece, TakesChunk, Flushes, budget};
@@ -22,6 +22,12 @@ pub const HELD: usize = 65_536;
 
 /// How many bytes are read at a time.
 const CHUNK: usize = 8192;
+
+/// The two limits of a script, beside their numbers. It does nothing; its contract is the list.
+pub const fn limits()
+    ensures lines { MOST_LINES ≡ 10000000 }
+    ensures bytes { LONGEST ≡ 2 ^ 20 }
+{}
 
 /// Answers a line.
 fn answer_line<const N: usize, A: Answers<N>, W: Sink>(
