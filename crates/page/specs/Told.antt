@@ -12,7 +12,13 @@ use Rattle.script_loop.specs.declared.fault.RunFault.TheVariants.{Read, Write, M
 
 abbrev pub config_of : PageMachine → Config
 config_of m = record {
-    addr = m.addr; bcast = m.bcast; mtu = m.mtu; mbufs = m.mbufs; clusters = m.clusters; first_id = m.first_id }
+  addr = m.addr;
+  bcast = m.bcast;
+  mtu = m.mtu;
+  mbufs = m.mbufs;
+  clusters = m.clusters;
+  first_id = m.first_id;
+}
 
 abbrev pub sizes_of : PagePool → Sizes
 sizes_of p = record { mbufs = p.mbufs; clusters = p.clusters }

@@ -3,7 +3,8 @@ use Rattle.page.proofs.bsdudp_page_run.Goals as goal
 pub returns : goal.returns
 returns c =
     let s = rw c.config.ensures at c.run-outcome.ensures.served in
-    record { told = record {
+    record {
+      told = record {
         outcome = _;
         replies = _;
         unread = _;
@@ -12,4 +13,6 @@ returns c =
         served = rw c.new-replies.ensures.items at s.1;
         numbered = c.number_of.ensures;
         counted = rw c.as_slice.ensures.value at c.hand_over.ensures.len;
-        handed = rw c.as_slice.ensures.value at c.hand_over.ensures.handed } }
+        handed = rw c.as_slice.ensures.value at c.hand_over.ensures.handed;
+      };
+    }
