@@ -30,29 +30,49 @@ cost_of() { # WORK LINE SIZE TURNS
     echo $(((more - once) / (($4 - 1) * each)))
 }
 
-# A script that sends so many bytes by loopback and receives them, so many times.
-loopback_script() { # SIZE TIMES
-    local bytes
-    bytes="$(printf '%*s' "$1" '' | sed 's/ /61/g')"
+# The digits of so many bytes, and of a packet to 10.0.0.1 that carries them, with no UDP checksum.
+digits() { # SIZE
+    printf '%*s' "$1" '' | sed 's/ /61/g'
+}
+
+packet_digits() { # SIZE
+    local sum=$((0x4500 + 28 + $1 + 1 + 0x4011 + 0x0a00 + 2 + 0x0a00 + 1))
+    printf '4500%04x000100004011%04x0a0000020a000001' $((28 + $1)) $((65535 - (sum & 65535) - (sum >> 16)))
+    printf '13880007%04x0000' $((8 + $1))
+    digits "$1"
+}
+
+# A script of two lines, so many times.
+pairs() { # FIRST SECOND TIMES
     printf 'socket\nbind 3 0.0.0.0 7\n'
-    for ((at = 0; at < $2; at++)); do printf 'sendto 3 127.0.0.1 7 %s\nrecvfrom 3 9216\n' "$bytes"; done
+    for ((at = 0; at < $3; at++)); do printf '%s\n%s\n' "$1" "$2"; done
+}
+
+# The instructions of two lines, as the difference of 101 pairs and one.
+cost_of_pair() { # WORK FIRST SECOND
+    local once more
+    pairs "$2" "$3" 1 > "$1/once"
+    pairs "$2" "$3" 101 > "$1/more"
+    once="$(counted "$program" run < "$1/once")"
+    more="$(counted "$program" run < "$1/more")"
+    echo $(((more - once) / 100))
 }
 
 print_script_lines() { # WORK
-    local program="${PROGRAM:-$crates/bsdudp/out/bsdudp}" sizes="2 64 256 1472 9000" size costs=() once more
+    local program="${PROGRAM:-$crates/bsdudp/out/bsdudp}" sizes="2 64 256 1472 9000" size sends=() arrives=() read=()
     if [ ! -x "$program" ]; then
         echo "bytes of a line: left out, since $program isn't built (rt run in crates/bsdudp)"
         return
     fi
     print_head "bytes of a line" "$sizes"
     for size in $sizes; do
-        loopback_script "$size" 1 > "$1/once"
-        loopback_script "$size" 101 > "$1/more"
-        once="$(counted "$program" run < "$1/once")"
-        more="$(counted "$program" run < "$1/more")"
-        costs+=($(((more - once) / 100)))
+        arrives+=("$(cost_of_pair "$1" "rx $(packet_digits "$size")" 'recvfrom 3 1')")
+        read+=("$(cost_of_pair "$1" "rx $(packet_digits "$size")" 'recvfrom 3 9216')")
+        sends+=("$(cost_of_pair "$1" "sendto 3 127.0.0.1 7 $(digits "$size")" 'recvfrom 3 9216')")
     done
-    print_line "sendto, and its recvfrom" "$sizes" "${costs[*]}"
+    print_line "rx, and recvfrom of one byte" "$sizes" "${arrives[*]}"
+    print_line "rx, and recvfrom of all" "$sizes" "${read[*]}"
+    print_line "sendto, and recvfrom of all" "$sizes" "${sends[*]}"
 }
 
 measure_growth() { # WORK

@@ -6,6 +6,7 @@ mod boot;
 mod cells;
 mod chain;
 mod cksum;
+mod digits;
 mod ops;
 mod output;
 mod pcb;
