@@ -13,6 +13,3 @@ mod region;
 pub use head::{Head, PacketHeader};
 pub use part::{Buffer, Part};
 pub use region::Region;
-
-#[cfg(test)]
-mod tests;
