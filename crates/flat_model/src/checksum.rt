@@ -35,23 +35,3 @@ pub fn fold_law()
     ensures carried { (sum : ℕ) → fold16 (sum / 65536 + sum % 65536) ≡ fold16 sum }
     ensures fits { (sum : ℕ) → sum < 65536 → fold16 sum ≡ sum }
 {}
-
-#[cfg(test)]
-mod tests {
-    use super::fold;
-
-    #[test]
-    fn folds_outside_vectors(rt: HostRuntime) {
-        // RFC 1071 section 3, whole and without its last byte; a word and its complement; no bytes.
-        let vectors: [(&[u8], u16); 5] = [
-            (&[0x00, 0x01, 0xf2, 0x03, 0xf4, 0xf5, 0xf6, 0xf7], 0xddf2),
-            (&[0x00, 0x01, 0xf2, 0x03, 0xf4, 0xf5, 0xf6], 0xdcfb),
-            (&[0x12, 0x34, 0xed, 0xcb], 0xffff),
-            (&[0x01], 0x0100),
-            (&[], 0),
-        ];
-        for (bytes, folded) in vectors {
-            assert_eq!(rt; fold(bytes), folded);
-        }
-    }
-}

@@ -140,21 +140,3 @@ impl Counters {
         self.count(why.counter());
     }
 }
-
-#[cfg(test)]
-mod tests {
-    use super::{Counters, Why};
-    use crate::counter::Counter;
-
-    #[test]
-    fn the_greatest_value_stays(rt: HostRuntime) {
-        let mut counters = Counters::none();
-        counters.count_more(Counter::Nobufs, u64::MAX - 1);
-        for _ in 0..3 {
-            counters.count_ended(Why::NoBufs);
-        }
-        assert_eq!(rt; counters.value(Counter::Nobufs), u64::MAX);
-        assert_eq!(rt; counters.value(Counter::IpTotal), 0);
-        assert_eq!(rt; Counter::all()[25].name(), "nobufs");
-    }
-}

@@ -112,27 +112,3 @@ impl Errno {
         }
     }
 }
-
-#[cfg(test)]
-mod tests {
-    use super::{Errno, Lack};
-    use std::alloc::AllocError;
-
-    #[test]
-    fn displays_the_words_of_the_book(rt: HostRuntime) -> Result<(), AllocError> {
-        // The texts of 4.4BSD's `sys_errlist`, and what was lacking.
-        let rows: [(Errno, &str); 3] = [
-            (Errno::BadDescriptor, "bad file descriptor"),
-            (
-                Errno::NoBufs(Lack::Queue),
-                "no buffer space available (queue)",
-            ),
-            (Errno::HostUnreachable, "no route to host"),
-        ];
-        for (errno, text) in rows {
-            let shown = format!(in rt.alloc(); "{errno}")?;
-            assert_eq!(rt; shown.as_str(), text);
-        }
-        Ok(())
-    }
-}
