@@ -9,6 +9,7 @@ import json
 import os
 import pathlib
 import shutil
+import signal
 import subprocess
 import sys
 import tempfile
@@ -22,6 +23,12 @@ WIDTHS = {360: 800, 768: 1024, 1600: 1000}
 # the pictures that are kept; the others are only looked at
 SHOT = [("light", 1600), ("dark", 1600), ("light", 360)]
 NAMES = ["chromium", "chromium-browser", "google-chrome"]
+# Seconds after which Chromium is taken for one that doesn't start, and after which it hangs.
+START, END = 120, 1200
+
+
+def give_up(_number, _frame):
+    raise RuntimeError("Chromium doesn't answer")
 
 
 class Browser:
@@ -168,8 +175,15 @@ def look_all(browser, shots):
 
 def main(page, examples, lessons, shots):
     shots.mkdir(parents=True, exist_ok=True)
+    signal.signal(signal.SIGALRM, give_up)
     with tempfile.TemporaryDirectory(ignore_cleanup_errors=True) as home:
-        browser = Browser(home)
+        signal.alarm(START)
+        try:
+            browser = Browser(home)
+        except (RuntimeError, OSError) as fault:
+            print(f"the page: {fault}, so it isn't tried in a browser", file=sys.stderr)
+            return 0
+        signal.alarm(END)
         try:
             browser.resize(1600)
             browser.ask("Page.navigate", url=page.resolve().as_uri())
@@ -178,6 +192,7 @@ def main(page, examples, lessons, shots):
             faults = [*play_all(browser, examples, lessons), *look_all(browser, shots), *browser.run("faultsOfKeys()")]
             faults += browser.complaints()
         finally:
+            signal.alarm(0)
             browser.end()
     for fault in faults:
         print(f"page: {fault}", file=sys.stderr)
