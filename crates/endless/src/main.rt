@@ -1,6 +1,10 @@
 //! Both commands of the program, fed with line feeds without end: they answer 10,000,000 lines, and end with a status and a text.
+//! Then scripts of as many lines, and a few bytes more or fewer.
 #![tactic(auto)]
 
+mod last_lines;
+
+use last_lines::play_last_lines;
 use link_script::{Silent, program};
 use std::alloc::Global;
 use std::io::{self, Read, Write};
@@ -56,5 +60,5 @@ fn main(rt: HostRuntime) -> io::Result<()> {
     for command in ["run", "chain"] {
         play(&rt, rt.alloc(), command)?;
     }
-    Ok(())
+    play_last_lines(&rt, rt.alloc())
 }

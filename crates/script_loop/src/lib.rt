@@ -19,6 +19,3 @@ pub use serve::{HELD, limits, serve_script};
 pub use streams::{Silent, Sink, Source};
 pub use text::{put_hex, put_number};
 pub use words::{bytes, first_word, is_end, number, one, three, two};
-
-#[cfg(test)]
-mod tests;
