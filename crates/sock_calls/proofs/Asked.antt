@@ -1,17 +1,14 @@
 -- What the questions about the sockets find, as the flat machine has it.
-use Rattle.std.specs.Prelude.{Result, slice_index_or}
+use Rattle.std.specs.Prelude.{slice_index_or}
 use Rattle.std.proofs.Common.{◌≡◌, ℕ, zero, suc, ◌+◌, ◌*◌, ◌%◌, ◌<◌, ◌≤◌, ◌^◌, Bool, true, false, not, cond, List, [], length, Option, None, Some, option_map, refl, sym, ap, ◌∙◌, subst, ◌==◌, arith}
 use Rattle.std.proofs.lemmas.Nat.{pow_pos}
 use Rattle.std.proofs.Math.Nat.{pow-le-pow_right, mod-eq_of_lt}
-use Rattle.flat_model.specs.Machine.State.{State, Socket, Datagram, socket_at}
-use Rattle.flat_model.specs.declared.errno.Errno.{Errno}
+use Rattle.flat_model.specs.Machine.State.{State, Datagram, socket_at}
 use Rattle.mbuf_chain.specs.Chain.{PoolView}
 use Rattle.pcb_table.specs.declared.block.Block.{Block}
 use Rattle.pcb_table.specs.Table.{Table, Queues, block_at, machine, socket_with}
 use Rattle.pcb_table.proofs.Laws.{socket_found}
 use Rattle.sockbuf.specs.SockBuf.{SockBufView, IsSockBuf, datagrams, no_datagrams}
-use Rattle.sock_calls.specs.declared.questions.SocketName.{SocketName}
-use Rattle.sock_calls.specs.declared.questions.NextDatagram.{NextDatagram}
 use Rattle.sock_calls.specs.Questions.{named, next_in, next_of, next_datagram, socket_name, set_below, waits_in}
 use Rattle.sock_calls.specs.Inside.Asked.{name_in, waits_at}
 use Rattle.sock_calls.specs.Sockets.{IsSocks, from_three, queue_at, queues_of}

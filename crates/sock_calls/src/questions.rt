@@ -1,7 +1,6 @@
 //! What a caller may ask of the sockets. A question changes nothing.
-ghost use Rattle.std.specs.Prelude.{◌≡◌, ◌<◌, ◌^◌, length, nat_lt, ℕ};
+ghost use Rattle.std.specs.Prelude.{◌≡◌, ◌<◌, length, ℕ};
 ghost use Rattle.mbuf_chain.specs.Chain.{PoolView};
-ghost use Rattle.pcb_table.specs.declared.block.Block.{Block};
 ghost use Rattle.pcb_table.specs.Table.{block_at};
 ghost use Rattle.sockbuf.specs.SockBuf.{IsSockBuf, datagrams};
 ghost use Rattle.sock_calls.specs.Questions.{set_below, next_of};

@@ -1,4 +1,4 @@
-use Rattle.std.proofs.Common.{◌≡◌, ◌+◌, ◌<◌, ◌^◌, length, ℕ, cond, true, false, refl, sym, ap, ◌∙◌, subst, suc, arith, Bool}
+use Rattle.std.proofs.Common.{◌≡◌, ◌+◌, ◌<◌, ◌^◌, ℕ, cond, true, false, sym, ap, ◌∙◌, subst, suc, arith, Bool}
 use Rattle.sock_calls.specs.Inside.Asked.{waits_at}
 use Rattle.sock_calls.proofs.Asked.{bit_kept, one_more, set_none}
 use Rattle.sock_calls.proofs.questions.readable.Goals as goal
