@@ -2,6 +2,7 @@
 #![tactic(auto)]
 
 pub mod admission;
+pub mod capture_packets;
 pub mod cell_bytes;
 pub mod chain_lines;
 pub mod cluster_counts;
