@@ -118,8 +118,8 @@ fn all_arrive(pool: &mut Pool, table: &mut Reass, counters: &mut Counters, packe
     whole
 }
 
-/// Packets that lie 1,500 bytes apart arrive in their order as fragments at a pool of so many mbufs, `times` times; what
-/// they make whole is freed. Answers how many datagrams that were:
+/// Packets that lie 1,500 bytes apart arrive in their order as fragments at a pool of so many mbufs, `times` times;
+/// what they make whole is freed. Answers how many datagrams that were:
 /// `uint32_t bsdudp_reassemble(const uint8_t *packets, size_t len, uint32_t mbufs, uint32_t times)`.
 #[unsafe(no_mangle)]
 pub extern "C" fn bsdudp_reassemble(alloc: Global, packets: &[u8], mbufs: u32, times: u32) -> u32 {

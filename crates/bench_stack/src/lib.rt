@@ -98,8 +98,8 @@ fn exchange(sender: &mut Stack, hearer: &mut Stack, at: u8, bytes: &[u8], times:
     well
 }
 
-/// Boots two stacks of so many mbufs and sockets, and `times` times sends a datagram from the oldest socket of one to the
-/// socket `at` of the other (0 is the oldest) and reads it there. Answers how often all of it came:
+/// Boots two stacks of so many mbufs and sockets, and `times` times sends a datagram from the oldest socket of one to
+/// the socket `at` of the other (0 is the oldest) and reads it there. Answers how often all of it came:
 /// `uint32_t bsdudp_send_and_receive(const uint8_t *bytes, size_t len, uint32_t mbufs, uint8_t sockets, uint8_t at,
 /// uint32_t times)`.
 #[unsafe(no_mangle)]

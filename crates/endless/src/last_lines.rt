@@ -32,8 +32,8 @@ impl Answers<131_072> for Passes {
     }
 }
 
-/// A script: what it shows, with how many line feeds it begins, and what comes after these. 10,000,000 lines are served,
-/// and at a byte after them the script ends.
+/// A script: what it shows, with how many line feeds it begins, and what comes after these. 10,000,000 lines are
+/// served, and at a byte after them the script ends.
 static SCRIPTS: [(&str, u32, &str); 6] = [
     ("the last two lines", 9_999_998, "\n\n"),
     ("a line feed after them", 9_999_998, "\n\n\n"),
