@@ -4,6 +4,8 @@
 //! "Volume 2" is TCP/IP Illustrated, volume 2. What is called this project's own is a choice of its own.
 #![tactic(auto)]
 
+ghost use Rattle.std.specs.Prelude.{◌≡◌, ◌+◌, ◌-◌, ◌*◌, ◌^◌};
+
 /// Bytes of an mbuf, its header included (volume 2, chapter 2).
 pub const MSIZE: u32 = 128;
 /// Bytes of an mbuf's header, `m_hdr` (volume 2, chapter 2).
@@ -91,9 +93,21 @@ pub const SOCKADDR_BYTES: u32 = 16;
 /// for the words beside them (this project's own).
 pub const LONGEST_REQUEST: u32 = 131_200;
 
-// What the book's text and the RFCs give for those that are computed.
-const _: () = prove!(MLEN == 108 && MHLEN == 100 && MINCLSIZE == 208);
-
-const _: () = prove!(IP_MAX_DATA == 65_515 && UDP_MAX_DATA == 65_507);
-
-const _: () = prove!(UDP_RECEIVE_SPACE == 41_600 && UDP_RECEIVE_MEMORY == 83_200);
+/// The numbers of this crate, each beside the one that its source gives. It does nothing; its contract is the list.
+pub const fn numbers()
+    ensures mbufs { (MSIZE ≡ 128) × (MBUF_HEADER ≡ 20) × (PACKET_HEADER ≡ 8) × (MLEN ≡ 108) × (MHLEN ≡ 100)
+        × (MINCLSIZE ≡ 208) × (PACKET_START ≡ 28) × (MAX_PROTOCOL_HEADER ≡ 40) }
+    ensures clusters { (MCLBYTES ≡ 2048) × (CLUSTER_LEADING_SPACE ≡ 56) }
+    ensures pool { (MAX_MBUFS ≡ 65535) × (MAX_CLUSTERS ≡ 4096) }
+    ensures packets { (IP_HEADER ≡ 20) × (UDP_HEADER ≡ 8) × (IP_UDP_HEADERS ≡ 28) × (PSEUDO_HEADER ≡ 12)
+        × (IP_MAX_PACKET ≡ 65535) × (IP_MAX_DATA ≡ 65515) × (UDP_MAX_DATA ≡ 65507) × (IP_DEFAULT_TTL ≡ 64)
+        × (PROTOCOL_UDP ≡ 17) }
+    ensures fragments { (FRAGMENT_UNIT ≡ 8) × (FRAGMENT_TICKS ≡ 60) }
+    ensures addresses { (LOOPBACK ≡ 127 * 2 ^ 24 + 1) × (LIMITED_BROADCAST ≡ 2 ^ 32 - 1)
+        × (FIRST_MULTICAST ≡ 224 * 2 ^ 24) }
+    ensures links { (LOOPBACK_MTU ≡ 1536) × (MIN_MTU ≡ 68) × (MAX_MTU ≡ 4352) × (OUTPUT_QUEUE_PACKETS ≡ 50) }
+    ensures ports { (FIRST_EPHEMERAL_PORT ≡ 1024) × (LAST_EPHEMERAL_PORT ≡ 5000) }
+    ensures sockets { (MAX_SOCKETS ≡ 64) × (FIRST_DESCRIPTOR ≡ 3) × (UDP_SEND_SPACE ≡ 9216)
+        × (UDP_RECEIVE_SPACE ≡ 41600) × (UDP_RECEIVE_MEMORY ≡ 83200) × (SOCKADDR_BYTES ≡ 16) }
+    ensures scripts { LONGEST_REQUEST ≡ 131200 }
+{}
