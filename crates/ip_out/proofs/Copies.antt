@@ -115,6 +115,7 @@ first_sent {q} {r} c d t m live ne held =
 -- and then d became a train too
 pub record IsSecond (p s : PoolView) (r : PoolView) (c : ℕ) (t u : TrainView) : Type 0 where
   pub held : IsHeld s t
+  pub same_queued : queued_packets s t ≡ queued_packets r t
   pub same_packets : packets s t ≡ packets r t
   pub moves : Moves p (c ∷ []) s (numbers s t ++ numbers s u)
 
@@ -126,6 +127,7 @@ second_sent {p} {q} {r} {s} c d t u one f m held =
     (λ k. omega (arith, times-append k (numbers s t) (numbers s u), ap (times k) b.numbers)) in
     record {
       held = b.held;
+      same_queued = b.queued_packets;
       same_packets = ap (map (λ (queued_packet : QueuedPacket). item_of queued_packet.entries)) b.queued_packets;
       moves = moves_trans one (moves_trans f.moves last);
     }

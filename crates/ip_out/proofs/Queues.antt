@@ -1,19 +1,20 @@
 -- Packets go from a train to the end of the output queue.
-use Rattle.std.proofs.Common.{◌≡◌, ℕ, zero, suc, ◌+◌, ◌<◌, ◌≤◌, List, [], ◌∷◌, ◌++◌, length, take, map, refl, sym, ap, ◌∙◌, arith, inl, inr}
+use Rattle.std.proofs.Common.{◌≡◌, ℕ, zero, suc, ◌+◌, ◌<◌, ◌≤◌, List, [], ◌∷◌, ◌++◌, length, take, map, None, refl, sym, ap, ◌∙◌, subst, arith, inl, inr}
 use Rattle.std.specs.Prelude.{nat_lt, slice_index_or, ◌⊎◌}
 use Rattle.std.specs.List.{insert, remove}
 use Rattle.std.proofs.lemmas.Bool.{lt-ltb, le-ltb}
 use Rattle.std.proofs.lemmas.List.{map-append, length-map, length-append, append_assoc}
 use Rattle.std.proofs.lemmas.List.Edits.{insert_end}
 use Rattle.flat_model.specs.Amounts.Weight.{Item}
-use Rattle.mbuf_chain.specs.Chain.{PoolView, IsLive, chain_of}
+use Rattle.mbuf_chain.specs.Chain.{Entry, PoolView, IsLive, chain_of, entry_of, no_entry}
 use Rattle.mbuf_chain.specs.Owners.{Moves, IsOwned, times}
 use Rattle.mbuf_chain.specs.Train.{TrainView, QueuedPacket, no_queued_packet, queued_packet_of, queued_packets, queued_packet_at, numbers, IsHeld}
 use Rattle.mbuf_chain.proofs.Laws.Owners.{moves_trans, moves_beside, owned_beside, times-append, live_at_most, live_owned, times_same}
 use Rattle.mbuf_chain.proofs.Laws.Trains.{Beside, beside_moves, length-queued_packets, none_left}
 use Rattle.ledger.specs.Accounts.{item_of}
-use Rattle.ip_out.specs.Packets.{packets}
+use Rattle.ip_out.specs.Packets.{packets, AreBegunPlain, BeginPlain}
 use Rattle.ip_out.specs.Inside.{IsMoving}
+use Rattle.ip_out.proofs.Outputs.{plain_more}
 
 pub packets_len : (p : PoolView) (t : TrainView) → IsHeld p t → length (packets p t) ≡ t.len
 packets_len p t h = length-map (queued_packets p t) (λ (queued_packet : QueuedPacket). item_of queued_packet.entries) ∙ length-queued_packets p t h
@@ -27,6 +28,7 @@ pub record IsTaken (p : PoolView) (t u : TrainView) (r : PoolView) (t' u'' : Tra
   pub owned : IsOwned r (numbers r u'' ++ (c ∷ numbers r t'))
   pub moves : Moves p (numbers p t ++ numbers p u) r (numbers r u'' ++ (c ∷ numbers r t'))
   pub items : packets r t' ++ item_of (chain_of r c).entries ∷ packets r u'' ≡ packets p t ++ packets p u
+  pub plain : BeginPlain p t → BeginPlain p u → BeginPlain r t' × ((entry_of (chain_of r c) 0).cluster ≡ None) × BeginPlain r u''
 
 pub first_out : (p r : PoolView) (u u' : TrainView) (c tag : ℕ) → IsHeld p u → 0 < u.len → queued_packets r u' ≡ remove (queued_packets p u) 0 → queued_packet_at p u 0 ≡ record { number = c; entries = (chain_of r c).entries; tag = tag }
     → packets p u ≡ item_of (chain_of r c).entries ∷ packets r u'
@@ -38,6 +40,18 @@ first_out p r u u' c tag held some left is = go (queued_packets p u) refl
         let one : item_of x.entries ≡ item_of (chain_of r c).entries = ap (λ (y : QueuedPacket). item_of y.entries) (sym (ap (λ (cs : List QueuedPacket). slice_index_or cs 0 no_queued_packet) e) ∙ is) in
         let more : xs ≡ queued_packets r u' = sym (left ∙ ap (λ (cs : List QueuedPacket). remove cs 0) e) in
         ap (map (λ (queued_packet : QueuedPacket). item_of queued_packet.entries)) e ∙ (λ i. one i ∷ map (λ (queued_packet : QueuedPacket). item_of queued_packet.entries) (more i))
+
+-- if all begin in a plain mbuf, so do the first and the others
+pub plain_out : (p r : PoolView) (u u' : TrainView) (c tag : ℕ) → IsHeld p u → 0 < u.len → queued_packets r u' ≡ remove (queued_packets p u) 0 → queued_packet_at p u 0 ≡ record { number = c; entries = (chain_of r c).entries; tag = tag }
+    → BeginPlain p u → ((entry_of (chain_of r c) 0).cluster ≡ None) × BeginPlain r u'
+plain_out p r u u' c tag held some left is plain = go (queued_packets p u) refl plain
+  where
+    go : (xs : List QueuedPacket) → queued_packets p u ≡ xs → AreBegunPlain xs → ((entry_of (chain_of r c) 0).cluster ≡ None) × BeginPlain r u'
+    go [] e begun = absurd (omega (arith, length-queued_packets p u held, some, ap length e))
+    go (x ∷ xs) e begun =
+        let one : x.entries ≡ (chain_of r c).entries = ap (λ (y : QueuedPacket). y.entries) (sym (ap (λ (cs : List QueuedPacket). slice_index_or cs 0 no_queued_packet) e) ∙ is) in
+        let more : xs ≡ queued_packets r u' = sym (left ∙ ap (λ (cs : List QueuedPacket). remove cs 0) e) in
+        (ap (λ (es : List Entry). (slice_index_or es 0 no_entry).cluster) (sym one) ∙ begun.0, subst AreBegunPlain more begun.1)
 
 pub takes : (p q r : PoolView) (t u t' u' u'' : TrainView) (c tag : ℕ) → IsMoving p t u q t' u' → 0 < u'.len → queued_packets r u'' ≡ remove (queued_packets q u') 0 → queued_packet_at q u' 0 ≡ record { number = c; entries = (chain_of r c).entries; tag = tag }
     → IsHeld r u'' → Moves q (numbers q u') r (c ∷ numbers r u'') → IsTaken p t u r t' u'' c
@@ -57,6 +71,10 @@ takes p q r t u t' u' u'' c tag m some left is held moves =
       moves = moves_trans m.moves (moves_beside (numbers q t' ++ numbers q u') (numbers r u'' ++ (c ∷ numbers r t')) (numbers q t') moves
           (λ k. times-append k (numbers q t') (numbers q u')) (λ k. all k ∙ times-append k (numbers q t') (c ∷ numbers r u'')));
       items = (λ i. map (λ (queued_packet : QueuedPacket). item_of queued_packet.entries) (b.queued_packets i) ++ (sym (first_out q r u' u'' c tag m.rest some left is)) i) ∙ m.items;
+      plain = λ queue more.
+          let before = m.plain queue more in
+          let first = plain_out q r u' u'' c tag m.rest some left is before.1 in
+          (subst AreBegunPlain (sym b.queued_packets) before.0, first.0, first.1);
     }
 
 pub puts : (p r s : PoolView) (t u t' u'' w : TrainView) (c : ℕ) → IsTaken p t u r t' u'' c → t'.len < 50 → queued_packets s w ≡ insert (queued_packets r t') t'.len (record { number = c; entries = (chain_of r c).entries; tag = 0 })
@@ -77,6 +95,9 @@ puts p r s t u t' u'' w c m few is held len moves =
       moves = moves_trans m.moves (moves_beside (numbers r u'' ++ (c ∷ numbers r t')) (numbers s w ++ numbers s u'') (numbers r u'') moves
           (λ k. times-append k (numbers r u'') (c ∷ numbers r t')) (λ k. all k ∙ times-append k (numbers r u'') (numbers s w)));
       items = (λ i. items_are i ++ map f (b.queued_packets i)) ∙ append_assoc (packets r t') (f x ∷ []) (packets r u'') ∙ m.items;
+      plain = λ queue more.
+          let before = m.plain queue more in
+          (subst AreBegunPlain (sym queued_packets_are) (plain_more (queued_packets r t') x before.0 before.1), subst AreBegunPlain (sym b.queued_packets) before.2);
       room = omega (arith, len, few);
     }
 
@@ -100,6 +121,7 @@ taken_50 xs ys le h = go 50 xs ys le h
 pub record IsEnqueued (p : PoolView) (t u : TrainView) (s : PoolView) (w : TrainView) : Type 0 where
   pub queue : IsHeld s w
   pub items : packets s w ≡ take 50 (packets p t ++ packets p u)
+  pub plain : BeginPlain p t → BeginPlain p u → BeginPlain s w
   pub moves : Moves p (numbers p t ++ numbers p u) s (numbers s w)
 
 pub enqueued : (p q s : PoolView) (t u t' u' : TrainView) → IsMoving p t u q t' u' → (u'.len ≡ 0) ⊎ (t'.len ≡ 50) → Moves q (numbers q u') s [] → IsEnqueued p t u s t'
@@ -112,6 +134,7 @@ enqueued p q s t u t' u' m ends freed =
         | inl e ↦ inl (omega (arith, packets_len q u' m.rest, e))
         | inr e ↦ inr (omega (arith, packets_len q t' m.queue, e))
       ]));
+      plain = λ queue more. subst AreBegunPlain (sym b.queued_packets) (m.plain queue more).0;
       moves = moves_trans m.moves (moves_beside (numbers q t' ++ numbers q u') (numbers s t') (numbers q t') freed
           (λ k. times-append k (numbers q t') (numbers q u')) (λ k. omega (arith, ap (times k) b.numbers)));
     }

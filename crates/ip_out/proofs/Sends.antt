@@ -23,6 +23,7 @@ use Rattle.ip_out.proofs.Queues.{packets_len, taken_50}
 pub record IsAside (p q : PoolView) (c : ℕ) (ys : List ℕ) (t : TrainView) : Type 0 where
   pub held : IsHeld q t
   pub same_numbers : numbers q t ≡ numbers p t
+  pub same_queued : queued_packets q t ≡ queued_packets p t
   pub same_packets : packets q t ≡ packets p t
   pub owned : IsOwned q (numbers q t ++ ys)
   pub moves : Moves p (c ∷ numbers p t) q (numbers q t ++ ys)
@@ -37,6 +38,7 @@ aside {p} {q} {ys} c t m live held apart =
     record {
       held = b.held;
       same_numbers = b.numbers;
+      same_queued = b.queued_packets;
       same_packets = ap (map (λ (queued_packet : QueuedPacket). item_of queued_packet.entries)) b.queued_packets;
       owned = λ k. omega (arith, same k, after k);
       moves = moves_beside (c ∷ numbers p t) (numbers q t ++ ys) (numbers p t) m (λ k. omega arith) (λ k. same k ∙ times-append k (numbers p t) ys);

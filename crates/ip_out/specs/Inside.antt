@@ -67,4 +67,5 @@ pub record IsMoving (p : PoolView) (t u : TrainView) (q : PoolView) (t' u' : Tra
   pub owned : IsOwned q (numbers q t' ++ numbers q u')
   pub moves : Moves p (numbers p t ++ numbers p u) q (numbers q t' ++ numbers q u')
   pub items : packets q t' ++ packets q u' ≡ packets p t ++ packets p u
+  pub plain : BeginPlain p t → BeginPlain p u → BeginPlain q t' × BeginPlain q u'
   pub room : t'.len ≤ OUTPUT_QUEUE_PACKETS

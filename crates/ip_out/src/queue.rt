@@ -1,10 +1,10 @@
 //! The output queue.
 ghost use Rattle.std.specs.Prelude.{◌≡◌, ℕ, ◌+◌, ◌<◌, ◌≤◌, ◌==◌, ◌++◌, [], ◌∷◌, true, None, IfSome, MatchOption, take, length, nat_lt};
-ghost use Rattle.mbuf_chain.specs.Chain.{PoolView, IsLive, chain_of, string, alone};
+ghost use Rattle.mbuf_chain.specs.Chain.{PoolView, IsLive, chain_of, entry_of, string, alone};
 ghost use Rattle.mbuf_chain.specs.Owners.{Moves, IsOwned, times};
 ghost use Rattle.mbuf_chain.specs.Train.{IsHeld, numbers};
 ghost use Rattle.ledger.specs.Accounts.{item_at};
-ghost use Rattle.ip_out.specs.Packets.{IsDatagram, packets, packets_of};
+ghost use Rattle.ip_out.specs.Packets.{BeginPlain, IsDatagram, packets, packets_of};
 ghost use Rattle.ip_out.specs.Questions.{oldest_length};
 ghost use Rattle.ip_out.specs.Queues.{IsQueue};
 
@@ -32,6 +32,7 @@ fn move_packets(pool: &mut Pool, train: &mut Train, more: Train) -> bool
         ≡ take OUTPUT_QUEUE_PACKETS (packets pool.old train.old ++ packets pool.old more) }
     ensures lost { result
         ≡ nat_lt OUTPUT_QUEUE_PACKETS (length (packets pool.old train.old ++ packets pool.old more)) }
+    ensures plain { BeginPlain pool.old train.old → BeginPlain pool.old more → BeginPlain pool.new train.new }
     ensures queue { IsQueue pool.new train.new }
     ensures moves { Moves pool.old (numbers pool.old train.old ++ numbers pool.old more)
         pool.new (numbers pool.new train.new) }
@@ -60,6 +61,7 @@ impl Queue {
     pub const fn new() -> Queue
         ensures empty { result ≡ record { first = None; last = None; len = 0 } }
         ensures queue { (p : PoolView) → IsQueue p result }
+        ensures plain { (p : PoolView) → BeginPlain p result }
     {
         Queue {
             train: Train::new(),
@@ -99,6 +101,8 @@ impl Queue {
         requires headed { (chain_of pool.old packet).front.header ≡ true }
         requires apart { times packet (numbers pool.old self.old) ≡ 0 }
         ensures packets { packets pool.new self.new ≡ packets pool.old self.old ++ item_at pool.old packet ∷ [] }
+        ensures plain { (entry_of (chain_of pool.old packet) 0).cluster ≡ None → BeginPlain pool.old self.old
+            → BeginPlain pool.new self.new }
         ensures queue { IsQueue pool.new self.new }
         ensures len { self.new.len ≡ self.old.len + 1 }
         ensures moves { Moves pool.old (packet ∷ numbers pool.old self.old) pool.new (numbers pool.new self.new) }
@@ -126,6 +130,7 @@ impl Queue {
             (packets pool.old self.old ++ packets_of (chain_of pool.old chain) head mtu) }
         ensures lost { (mtu : ℕ) → len ≤ mtu → result ≡ nat_lt OUTPUT_QUEUE_PACKETS
             (length (packets pool.old self.old ++ packets_of (chain_of pool.old chain) head mtu)) }
+        ensures plain { BeginPlain pool.old self.old → BeginPlain pool.new self.new }
         ensures queue { IsQueue pool.new self.new }
         ensures moves { Moves pool.old (chain ∷ numbers pool.old self.old) pool.new (numbers pool.new self.new) }
     {
@@ -146,6 +151,8 @@ impl Queue {
             (λ packet. packets pool.old self.old ≡ item_at pool.new packet ∷ packets pool.new self.new) }
         ensures alone { MatchOption result (self.old.len ≡ 0)
             (λ packet. (chain_of pool.new packet).front ≡ alone true) }
+        ensures plain { IfSome result (λ packet. BeginPlain pool.old self.old
+            → ((entry_of (chain_of pool.new packet) 0).cluster ≡ None) × BeginPlain pool.new self.new) }
         ensures live { IfSome result (IsLive pool.new) }
         ensures apart { IfSome result (λ packet. times packet (numbers pool.new self.new) ≡ 0) }
         ensures queue { IsQueue pool.new self.new }
@@ -168,6 +175,7 @@ impl Queue {
             ≡ take OUTPUT_QUEUE_PACKETS (packets pool.old self.old ++ packets pool.old more) }
         ensures lost { result
             ≡ nat_lt OUTPUT_QUEUE_PACKETS (length (packets pool.old self.old ++ packets pool.old more)) }
+        ensures plain { BeginPlain pool.old self.old → BeginPlain pool.old more → BeginPlain pool.new self.new }
         ensures queue { IsQueue pool.new self.new }
         ensures moves { Moves pool.old (numbers pool.old self.old ++ numbers pool.old more)
             pool.new (numbers pool.new self.new) }

@@ -25,7 +25,8 @@ use params::{MIN_MTU, OUTPUT_QUEUE_PACKETS};
 /// length, offset and "more fragments" count for nothing: each packet has its own.
 ///
 /// All packets are made before any is queued. The first is the chain itself, trimmed at its end; each other has an mbuf for
-/// its header, and after it copies that share clusters. It takes one step for each mbuf and each packet.
+/// its header, and after it copies that share clusters. If each packet that waited begins in a plain mbuf, so does each
+/// that waits then. It takes one step for each mbuf and each packet.
 ///
 /// Refused: `Lack::Pool` exactly where fewer mbufs are free than the later packets take; nothing is queued then, and
 /// the chain is freed. `Lack::Queue` where the queue has no room for all; those that fit are queued, the others freed
@@ -48,6 +49,7 @@ pub fn output(
     ensures err { IfErr result (λ lack. IsRefused lack pool.old queue.old chain
         (packets_of (chain_of pool.old chain) head mtu) (later_need (chain_of pool.old chain) mtu)
         pool.new queue.new) }
+    ensures plain { BeginPlain pool.old queue.old → BeginPlain pool.new queue.new }
     ensures queue { IsQueue pool.new queue.new }
     ensures moves { Moves pool.old (chain ∷ numbers pool.old queue.old) pool.new (numbers pool.new queue.new) }
 {
@@ -99,6 +101,7 @@ pub fn send_packets(
     ensures cut { IfOk result (λ s. s.is_cut ≡ nat_lt 1 (length (parts_of (chain_of pool.old chain) mtu))) }
     ensures held { IfOk result (λ s. IsHeld pool.new s.looped) }
     ensures plain { IfOk result (λ s. BeginPlain pool.new s.looped) }
+    ensures link_plain { BeginPlain pool.old queue.old → BeginPlain pool.new queue.new }
     ensures queue { IsQueue pool.new queue.new }
     ensures moves { IfOk result (λ s. Moves pool.old (chain ∷ numbers pool.old queue.old)
         pool.new (numbers pool.new s.looped ++ numbers pool.new queue.new)) }

@@ -44,7 +44,7 @@ fn both_ways(pool: &mut Pool, chain: Chain, head: IpHead, mtu: u16) -> Result<Pa
     ensures looped { IfOk result (λ s. packets pool.new s.looped ≡ packets_of (chain_of pool.old chain) head mtu) }
     ensures cut { IfOk result (λ s. s.is_cut ≡ nat_lt 1 (length (parts_of (chain_of pool.old chain) mtu))) }
     ensures held { IfOk result (λ s. IsHeld pool.new s.link × IsHeld pool.new s.looped) }
-    ensures plain { IfOk result (λ s. BeginPlain pool.new s.looped) }
+    ensures plain { IfOk result (λ s. BeginPlain pool.new s.link × BeginPlain pool.new s.looped) }
     ensures moves { IfOk result (λ s. Moves pool.old (chain ∷ [])
         pool.new (numbers pool.new s.link ++ numbers pool.new s.looped)) }
     ensures enough { OnOk result (HasMbufs pool.old (way_need Way.Both (chain_of pool.old chain) mtu)) }
@@ -94,7 +94,7 @@ pub fn make_packets(
         (λ s. packets pool.new s.looped ≡ to_self way (packets_of (chain_of pool.old chain) head mtu)) }
     ensures cut { IfOk result (λ s. s.is_cut ≡ nat_lt 1 (length (parts_of (chain_of pool.old chain) mtu))) }
     ensures held { IfOk result (λ s. IsHeld pool.new s.link × IsHeld pool.new s.looped) }
-    ensures plain { IfOk result (λ s. BeginPlain pool.new s.looped) }
+    ensures plain { IfOk result (λ s. BeginPlain pool.new s.link × BeginPlain pool.new s.looped) }
     ensures moves { IfOk result (λ s. Moves pool.old (chain ∷ [])
         pool.new (numbers pool.new s.link ++ numbers pool.new s.looped)) }
     ensures enough { OnOk result (HasMbufs pool.old (way_need way (chain_of pool.old chain) mtu)) }

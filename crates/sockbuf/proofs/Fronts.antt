@@ -1,7 +1,7 @@
 -- An mbuf with an address in front of a chain.
-use Rattle.std.proofs.Common.{◌≡◌, ℕ, true, List, [], ◌∷◌, drop, None, refl, ap, ◌∙◌, subst, arith}
+use Rattle.std.proofs.Common.{◌≡◌, ℕ, true, false, List, [], ◌∷◌, drop, None, refl, ap, ◌∙◌, subst, arith}
 use Rattle.flat_model.specs.declared.address.Addr.{Addr}
-use Rattle.mbuf_chain.specs.Chain.{ChainView, PoolView, IsLive, chain_of, with_chain, without, Adds}
+use Rattle.mbuf_chain.specs.Chain.{ChainView, PoolView, IsLive, alone, chain_of, with_chain, without, Adds}
 use Rattle.mbuf_chain.specs.Steps.{one_mbuf, joined, second_part}
 use Rattle.mbuf_chain.specs.Owners.{IsOwned, Moves}
 use Rattle.mbuf_chain.proofs.Laws.Owners.{owned_more, moves_none, moves_without, moves_reordered, then_adds, then_with, then_without, shown_adds, shown_with, kept_with}
@@ -42,10 +42,12 @@ addressed {p} {q} {d} s c a adds live linked =
 -- ---- the mbuf in front taken off again
 pub record Stripped (p : PoolView) (c : ℕ) (q : PoolView) (d : ℕ) : Type 0 where
   pub entries : (chain_of q d).entries ≡ drop 1 (chain_of p c).entries
+  pub front : (chain_of q d).front ≡ alone false
   pub moves : Moves p (c ∷ []) q (d ∷ [])
 
 pub stripped : {p q : PoolView} {c d : ℕ} → IsLive p c → Adds (without p c) q d (second_part 1 (chain_of p c)) → Stripped p c q d
 stripped {p} {q} {c} {d} live adds = record {
   entries = ap (λ (v : ChainView). v.entries) (shown_adds adds);
+  front = ap (λ (v : ChainView). v.front) (shown_adds adds);
   moves = then_adds (moves_without p (without p c) c live refl) adds;
 }

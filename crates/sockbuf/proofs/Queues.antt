@@ -1,5 +1,5 @@
 -- What appending and taking make of a queue.
-use Rattle.std.proofs.Common.{◌≡◌, ℕ, ◌+◌, ◌-◌, ◌<◌, List, [], ◌∷◌, ◌++◌, length, take, drop, None, refl, sym, ap, ◌∙◌, subst, arith, inl, inr, length-append}
+use Rattle.std.proofs.Common.{◌≡◌, ℕ, ◌+◌, ◌-◌, ◌<◌, false, List, [], ◌∷◌, ◌++◌, length, take, drop, None, refl, sym, ap, ◌∙◌, subst, arith, inl, inr, length-append}
 use Rattle.std.specs.Prelude.{slice_index_or}
 use Rattle.std.specs.List.{insert, remove, AllByRecursion as Each}
 use Rattle.std.proofs.lemmas.Bool.{cases_eq}
@@ -9,7 +9,7 @@ use Rattle.flat_model.specs.Amounts.Weight.{mbuf, ◌⊕◌}
 use Rattle.flat_model.specs.Machine.State.{Datagram}
 use Rattle.flat_model.specs.Sockets.Fits.{bytes_queued, memory_queued}
 use Rattle.flat_model.specs.declared.address.Addr.{Addr}
-use Rattle.mbuf_chain.specs.Chain.{Entry, PoolView, IsLive, chain_of, flat_bytes}
+use Rattle.mbuf_chain.specs.Chain.{Entry, PoolView, IsLive, alone, chain_of, flat_bytes}
 use Rattle.mbuf_chain.specs.Owners.{times, IsOwned, Moves}
 use Rattle.mbuf_chain.specs.Frames.{SameAt}
 use Rattle.mbuf_chain.specs.Train.{TrainView, QueuedPacket, no_queued_packet, queued_packets, queued_packet_at, numbers, IsHeld}
@@ -205,10 +205,10 @@ pub record Taken (p : PoolView) (b : SockBufView) (sender : Addr) (d : ℕ) (r :
 
 -- the mbuf in front was taken off chain c, which is chain d now
 pub taken : {p q r : PoolView} {b : SockBufView} {u : TrainView} {c d tag : ℕ} (sender : Addr) (cc mbcnt : ℕ) → IsSockBuf p b → IsTakenOut p b c tag q u
-    → (chain_of r d).entries ≡ drop 1 (chain_of q c).entries → Moves q (c ∷ []) r (d ∷ []) → sender ≡ (datagram_of (chain_of q c).entries).sender
+    → (chain_of r d).entries ≡ drop 1 (chain_of q c).entries → (chain_of r d).front ≡ alone false → Moves q (c ∷ []) r (d ∷ []) → sender ≡ (datagram_of (chain_of q c).entries).sender
     → cc ≡ b.cc - length (flat_bytes (chain_of q c).entries) → mbcnt ≡ b.mbcnt - memory_of (weight_of (chain_of q c).entries)
     → Taken p b sender d r (record { train = u; cc = cc; mbcnt = mbcnt })
-taken {p} {q} {r} {b} {u} {c} {d} sender cc mbcnt ready i entries m is_sender is_cc is_mbcnt =
+taken {p} {q} {r} {b} {u} {c} {d} sender cc mbcnt ready i entries front m is_sender is_cc is_mbcnt =
     let o : Oldest p b c q u = oldest ready i in
     let s : Shape (chain_of q c).entries = o.shape in
     let apart : times c (numbers q u) ≡ 0 = apart_first q c (numbers q u) (owned_after i.moves ready.held.owned) in
@@ -222,6 +222,7 @@ taken {p} {q} {r} {b} {u} {c} {d} sender cc mbcnt ready i entries m is_sender is
     record {
       takes = record {
         datagrams = o.datagrams ∙ (λ j. first j ∷ datagrams_of (sym kept j));
+        front = front;
         moves = subst (λ (xs : List ℕ). Moves p (numbers p b.train) r (d ∷ xs)) (sym (numbers_same q r u same)) (moves_trans i.moves (moves_before (numbers q u) m));
       };
       ready = record {

@@ -8,7 +8,7 @@ use Rattle.flat_model.specs.Packets.Header.{u16_at, u32_at, two_bytes, four_byte
 use Rattle.flat_model.specs.Machine.State.{Datagram}
 use Rattle.flat_model.specs.Sockets.Fits.{bytes_queued, memory_queued, fits}
 use Rattle.flat_model.specs.declared.address.Addr.{Addr}
-use Rattle.mbuf_chain.specs.Chain.{Entry, PoolView, chain_of, flat_bytes, held_mbufs, string}
+use Rattle.mbuf_chain.specs.Chain.{Entry, PoolView, alone, chain_of, flat_bytes, held_mbufs, string}
 use Rattle.mbuf_chain.specs.Owners.{Moves}
 use Rattle.mbuf_chain.specs.Train.{TrainView, QueuedPacket, queued_packets, numbers, IsHeld}
 use Rattle.ledger.specs.Accounts.{weight_of, weight_at}
@@ -95,9 +95,11 @@ AppendsAddr p b sender c (Err (back, Full)) q d = (fits (datagrams p b) (length 
 AppendsAddr p b sender c (Err (back, NoBufs)) q d =
     (fits (datagrams p b) (length (string (chain_of p c))) ≡ true) × (held_mbufs p ≡ p.mbufs) × IsRefused p b c back q d
 
--- the oldest datagram, of this sender and with the entries of chain c, was taken out, and its mbuf for the address freed
+-- The oldest datagram, of this sender and with the entries of chain c, was taken out, and its mbuf for the address freed. The
+-- chain has no packet header and is in no train.
 pub record TakesOldest (p : PoolView) (b : SockBufView) (sender : Addr) (c : ℕ) (q : PoolView) (d : SockBufView) : Type 0 where
   pub datagrams : datagrams p b ≡ datagram_from sender q c ∷ datagrams q d
+  pub front : (chain_of q c).front ≡ alone false
   pub moves : Moves p (chains_of p b) q (c ∷ chains_of q d)
 
 -- there was none

@@ -160,7 +160,7 @@ impl SockBuf {
     }
 
     /// Takes the oldest datagram and answers its sender and its chain, whose mbufs are those that were queued; only its
-    /// packet header is gone. The mbuf with the address is freed. `None` where none waits.
+    /// packet header is gone. The chain is in no train. The mbuf with the address is freed. `None` if none waits.
     // Inlined, since a stack has one place that takes.
     #[inline(always)]
     pub fn take(&mut self, pool: &mut Pool) -> Option<(Addr, Chain)>

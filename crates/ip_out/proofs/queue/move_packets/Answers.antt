@@ -42,6 +42,16 @@ returns-clause-lost c =
     ] in
     ap (nat_lt 0) c.len-is_lost.ensures ∙ full_is _ _ _ _ _ _ m ends
 
+pub returns-clause-plain : goal.returns-clause-plain
+returns-clause-plain c =
+    let m = c.packets.invariant in
+    let ends : (c.packets.rest.len ≡ 0) ⊎ (c.packets.train.len ≡ 50) = elim c.packets-test.branch [
+      | then-packets-test+else-len-gt0 w ↦ inl (omega (arith, w.if-len-gt0, w.len-in-packets.ensures))
+      | else-packets-test w ↦ inr (omega (arith, w.packets-test, c.len.ensures, m.room))
+    ] in
+    let e = enqueued _ _ _ _ _ _ _ m ends c.free.ensures in
+    e.plain
+
 pub returns-clause-queue : goal.returns-clause-queue
 returns-clause-queue c =
     let m = c.packets.invariant in

@@ -1,12 +1,17 @@
-use Rattle.std.proofs.Common.{◌≡◌, ◌++◌, true, false, List, length, take, ap, sym, ◌∙◌}
+use Rattle.std.proofs.Common.{◌≡◌, ◌++◌, true, false, List, length, take, ap, sym, ◌∙◌, subst}
 use Rattle.std.specs.Prelude.{nat_lt}
 use Rattle.std.proofs.lemmas.Bool.{ltb-true}
 use Rattle.flat_model.specs.Amounts.Weight.{Item}
 use Rattle.mbuf_chain.specs.Chain.{chain_of}
-use Rattle.mbuf_chain.proofs.Laws.Owners.{moves_trans}
-use Rattle.ip_out.specs.Packets.{packets, packets_of}
+use Rattle.mbuf_chain.proofs.Laws.Owners.{moves_trans, moves_without}
+use Rattle.ip_out.specs.Packets.{packets, packets_of, AreBegunPlain}
 use Rattle.ip_out.proofs.Sends.{aside, aside_gone, all_fit}
 use Rattle.ip_out.proofs.sending.output.Goals as goal
+
+pub returns-in_default-clause-plain : goal.returns-in_default-clause-plain
+returns-in_default-clause-plain c = λ before.
+    let gone = moves_without c.args.pool.now c.fragments.new.pool c.args.chain c.requires.live c.in_default.ensures.freed in
+    subst AreBegunPlain (sym (aside c.args.chain c.args.queue.now gone c.requires.live c.requires.queue.held c.requires.apart).same_queued) before
 
 pub returns-in_default-clause-queue : goal.returns-in_default-clause-queue
 returns-in_default-clause-queue c = record {
@@ -34,6 +39,11 @@ returns-then-push_all-clause-err c =
     let over : nat_lt 50 (length all) ≡ true = sym (ap (λ (xs : List Item). nat_lt 50 (length xs)) same) ∙ sym c.push_all.ensures.lost ∙ c.if-push_all.true in
     (c.in-Ok.ensures.enough, ltb-true 50 (length all) over, c.push_all.ensures.packets ∙ ap (take 50) same)
 
+pub returns-then-push_all-clause-plain : goal.returns-then-push_all-clause-plain
+returns-then-push_all-clause-plain c = λ before.
+    let a = aside c.args.chain c.args.queue.now c.in-Ok.ensures.moves c.requires.live c.requires.queue.held c.requires.apart in
+    c.push_all.ensures.plain (subst AreBegunPlain (sym a.same_queued) before) c.in-Ok.ensures.plain
+
 pub returns-then-push_all-clause-moves : goal.returns-then-push_all-clause-moves
 returns-then-push_all-clause-moves c = moves_trans (aside c.args.chain c.args.queue.now c.in-Ok.ensures.moves c.requires.live c.requires.queue.held c.requires.apart).moves c.push_all.ensures.moves
 
@@ -44,6 +54,11 @@ returns-clause-ok c =
     let same : packets c.fragments.new.pool c.args.queue.now ++ packets c.fragments.new.pool c.in-Ok.packets ≡ all = λ i. a.same_packets i ++ c.in-Ok.ensures.packets i in
     let within : nat_lt 50 (length all) ≡ false = sym (ap (λ (xs : List Item). nat_lt 50 (length xs)) same) ∙ sym c.push_all.ensures.lost ∙ c.if-push_all.false in
     (c.in-Ok.ensures.enough, c.push_all.ensures.packets ∙ ap (take 50) same ∙ all_fit all within)
+
+pub returns-clause-plain : goal.returns-clause-plain
+returns-clause-plain c = λ before.
+    let a = aside c.args.chain c.args.queue.now c.in-Ok.ensures.moves c.requires.live c.requires.queue.held c.requires.apart in
+    c.push_all.ensures.plain (subst AreBegunPlain (sym a.same_queued) before) c.in-Ok.ensures.plain
 
 pub returns-clause-moves : goal.returns-clause-moves
 returns-clause-moves c = moves_trans (aside c.args.chain c.args.queue.now c.in-Ok.ensures.moves c.requires.live c.requires.queue.held c.requires.apart).moves c.push_all.ensures.moves

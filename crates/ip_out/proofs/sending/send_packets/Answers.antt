@@ -3,6 +3,7 @@ use Rattle.std.specs.Prelude.{nat_lt, sum_by}
 use Rattle.flat_model.specs.Amounts.Weight.{Item}
 use Rattle.flat_model.specs.Fragments.Cuts.{Part}
 use Rattle.mbuf_chain.specs.Chain.{chain_of}
+use Rattle.mbuf_chain.proofs.Laws.Owners.{moves_without}
 use Rattle.ip_out.specs.declared.ways.Way.{Way}
 use Rattle.ip_out.specs.Packets.{packets, packets_of, part_need, AreBegunPlain}
 use Rattle.ip_out.specs.Ways.{to_link, way_need}
@@ -65,7 +66,17 @@ returns-in_ok-link-in_default-clause-held c =
 pub returns-in_ok-link-in_default-clause-plain : goal.returns-in_ok-link-in_default-clause-plain
 returns-in_ok-link-in_default-clause-plain c =
     let a = aside c.args.chain c.args.queue.now c.in_ok-link-in_default.ensures.moves c.requires.live c.requires.queue.held c.requires.apart in
-    subst AreBegunPlain (sym (sent_out c.args.queue.now c.in_ok-link-in_default.field-0.link c.in_ok-link-in_default.field-0.looped c.push_all-is_lost.new.self a c.in_ok-link-in_default.ensures.held.1 c.push_all-is_lost.ensures.moves).same_queued) c.in_ok-link-in_default.ensures.plain
+    subst AreBegunPlain (sym (sent_out c.args.queue.now c.in_ok-link-in_default.field-0.link c.in_ok-link-in_default.field-0.looped c.push_all-is_lost.new.self a c.in_ok-link-in_default.ensures.held.1 c.push_all-is_lost.ensures.moves).same_queued) c.in_ok-link-in_default.ensures.plain.1
+
+pub returns-in_ok-link-in_default-clause-link_plain : goal.returns-in_ok-link-in_default-clause-link_plain
+returns-in_ok-link-in_default-clause-link_plain c = λ before.
+    let a = aside c.args.chain c.args.queue.now c.in_ok-link-in_default.ensures.moves c.requires.live c.requires.queue.held c.requires.apart in
+    c.push_all-is_lost.ensures.plain (subst AreBegunPlain (sym a.same_queued) before) c.in_ok-link-in_default.ensures.plain.0
+
+pub returns-in_err-link-in_default-clause-link_plain : goal.returns-in_err-link-in_default-clause-link_plain
+returns-in_err-link-in_default-clause-link_plain c = λ before.
+    let gone = moves_without c.args.pool.now c.make_packets.new.pool c.args.chain c.requires.live c.in_err-link-in_default.ensures.freed in
+    subst AreBegunPlain (sym (aside c.args.chain c.args.queue.now gone c.requires.live c.requires.queue.held c.requires.apart).same_queued) before
 
 pub returns-in_ok-link-in_default-clause-moves : goal.returns-in_ok-link-in_default-clause-moves
 returns-in_ok-link-in_default-clause-moves c =

@@ -5,7 +5,7 @@ use Rattle.mbuf_chain.proofs.Laws.Owners.{moves_trans}
 use Rattle.mbuf_chain.proofs.Laws.Steps.{live_without, base_new}
 use Rattle.mbuf_chain.proofs.Laws.Trains.{beside_without}
 use Rattle.chain_ops.specs.Rooms.{room_low}
-use Rattle.ip_out.specs.Packets.{IsDatagram, later_need, packets_of}
+use Rattle.ip_out.specs.Packets.{AreBegunPlain, IsDatagram, later_need, packets_of}
 use Rattle.ip_out.proofs.Copies.{copied, length_copied, first_sent, second_sent, then_freed, gone_whole, is_cut}
 use Rattle.ip_out.proofs.ways.both_ways.Goals as goal
 
@@ -85,6 +85,13 @@ returns-clause-held c =
     let first = first_sent c.args.chain c.in-Ok.copy c.in-Ok-fragments.link c.in-Ok-fragments.ensures.moves copy.copy copy.apart c.in-Ok-fragments.ensures.held in
     let second = second_sent c.args.chain c.in-Ok.copy c.in-Ok-fragments.link c.in-Ok-fragments-2.looped copy.moves first c.in-Ok-fragments-2.ensures.moves c.in-Ok-fragments.ensures.held in
     (second.held, c.in-Ok-fragments-2.ensures.held)
+
+pub returns-clause-plain : goal.returns-clause-plain
+returns-clause-plain c =
+    let copy = copied c.args.chain c.in-Ok.copy (room_low (chain_of c.args.pool.now c.args.chain).front.header) (chain_of c.args.pool.now c.args.chain).front.header c.args.head c.args.mtu c.in-Ok.ensures.ok c.requires.datagram.headed c.requires.live c.requires.datagram in
+    let first = first_sent c.args.chain c.in-Ok.copy c.in-Ok-fragments.link c.in-Ok-fragments.ensures.moves copy.copy copy.apart c.in-Ok-fragments.ensures.held in
+    let second = second_sent c.args.chain c.in-Ok.copy c.in-Ok-fragments.link c.in-Ok-fragments-2.looped copy.moves first c.in-Ok-fragments-2.ensures.moves c.in-Ok-fragments.ensures.held in
+    (subst AreBegunPlain (sym second.same_queued) c.in-Ok-fragments.ensures.plain, c.in-Ok-fragments-2.ensures.plain)
 
 pub returns-clause-moves : goal.returns-clause-moves
 returns-clause-moves c =

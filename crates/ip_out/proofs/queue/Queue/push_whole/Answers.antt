@@ -1,8 +1,8 @@
-use Rattle.std.proofs.Common.{◌++◌, ap, ◌∙◌, arith}
+use Rattle.std.proofs.Common.{◌++◌, ap, sym, ◌∙◌, subst, arith}
 use Rattle.mbuf_chain.specs.Chain.{chain_of}
 use Rattle.mbuf_chain.proofs.Laws.Owners.{moves_without}
 use Rattle.mbuf_chain.specs.Train.{TrainView}
-use Rattle.ip_out.specs.Packets.{packets, packets_of}
+use Rattle.ip_out.specs.Packets.{packets, packets_of, AreBegunPlain}
 use Rattle.ip_out.proofs.Sends.{aside, aside_gone, no_room, one_packet, room}
 use Rattle.ip_out.proofs.queue.Queue.push_whole.Goals as goal
 
@@ -15,6 +15,11 @@ pub returns-then-len-ge-OUTPUT_QUEUE_PACKETS-clause-lost : goal.returns-then-len
 returns-then-len-ge-OUTPUT_QUEUE_PACKETS-clause-lost c mtu fits =
     let a = aside c.args.chain c.args.self.now (moves_without c.args.pool.now c.free_chain.new.self c.args.chain c.requires.live c.free_chain.ensures) c.requires.live c.requires.queue.held c.requires.apart in
     (no_room c.args.pool.now c.free_chain.new.self c.args.self.now (packets_of (chain_of c.args.pool.now c.args.chain) c.args.head mtu) c.requires.queue (omega (arith, c.len.ensures, c.if-len-ge-OUTPUT_QUEUE_PACKETS.true)) (one_packet (chain_of c.args.pool.now c.args.chain) c.args.head c.args.len mtu c.requires.datagram c.requires.len fits) a.same_packets).is_lost
+
+pub returns-then-len-ge-OUTPUT_QUEUE_PACKETS-clause-plain : goal.returns-then-len-ge-OUTPUT_QUEUE_PACKETS-clause-plain
+returns-then-len-ge-OUTPUT_QUEUE_PACKETS-clause-plain c = λ before.
+    let a = aside c.args.chain c.args.self.now (moves_without c.args.pool.now c.free_chain.new.self c.args.chain c.requires.live c.free_chain.ensures) c.requires.live c.requires.queue.held c.requires.apart in
+    subst AreBegunPlain (sym a.same_queued) before
 
 pub returns-then-len-ge-OUTPUT_QUEUE_PACKETS-clause-queue : goal.returns-then-len-ge-OUTPUT_QUEUE_PACKETS-clause-queue
 returns-then-len-ge-OUTPUT_QUEUE_PACKETS-clause-queue c = record {

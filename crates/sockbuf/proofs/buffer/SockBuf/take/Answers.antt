@@ -39,7 +39,7 @@ all c =
     let rest = stripped (live_first c.take-whole.new.pool c.take-whole.result.0 _ (owned_after c.take-whole.ensures.moves ready.held.owned)) c.free_first-chain.ensures in
     subst (λ (v : SockBufView). Taken c.args.pool.now v c.sockaddr_in-sender.result c.free_first-chain.result c.free_first-chain.new.self
     (record { train = c.take-whole.new.self; cc = c.self.inside.cc - c.if-is_empty-2.len.0; mbcnt = c.self.inside.mbcnt - c.if-is_empty-2.len.1 })) c.self.view_is
-    (taken _ _ _ ready (taken_out c) rest.entries rest.moves
+    (taken _ _ _ ready (taken_out c) rest.entries rest.front rest.moves
     (c.sockaddr_in-sender.ensures ∙ front.sender _ c.bytes.ensures.value)
     (ap (λ (n : ℕ). c.self.inside.cc - n) (counted c).0) (ap (λ (n : ℕ). c.self.inside.mbcnt - n) (counted c).1))
 
