@@ -109,7 +109,7 @@ aging_kept old now next kept i d y a l t y_is is perm =
       each = λ p h.
           let was = a.each p h in
           let m : IsUnfinished p (get_or now i d) = All-from_recursion (λ (x : Datagram). IsUnfinished p x) now was i d l in
-          let mine : IsUnfinished p (record (get_or now i d) { ticks = (get_or now i d).ticks - 1 }) = record { queue = m.queue; holder = m.holder } in
+          let mine : IsUnfinished p (record (get_or now i d) { ticks = (get_or now i d).ticks - 1 }) = record { queue = m.queue; counted = m.counted; holder = m.holder } in
           recursion_from_All (λ (x : Datagram). IsUnfinished p x) next (All-permutation (λ (x : Datagram). IsUnfinished p x) (set now i y) next perm
           (All-from_recursion (λ (x : Datagram). IsUnfinished p x) (set now i y) (all_set (λ (x : Datagram). IsUnfinished p x) now i y was (subst (λ (x : Datagram). IsUnfinished p x) (sym y_is) mine))));
     }

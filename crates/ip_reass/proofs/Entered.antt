@@ -1,19 +1,18 @@
 -- A fragment laid among those of one datagram of a table, and a datagram taken out of it.
-use Rattle.std.proofs.Common.{◌≡◌, ℕ, zero, suc, ◌+◌, ◌<◌, Bool, true, not, List, [], ◌∷◌, length, map, get_or, set, remove, refl, sym, ap, ◌∙◌, subst, arith}
-use Rattle.std.specs.Bool.{OnTrue, OnFalse}
+use Rattle.std.proofs.Common.{◌≡◌, ℕ, zero, suc, ◌+◌, ◌<◌, Bool, true, List, [], ◌∷◌, length, map, get_or, set, remove, refl, sym, ap, ◌∙◌, subst, arith}
 use Rattle.std.proofs.lemmas.Bool.{OnTrue_at, OnTrue_from, OnFalse_at, OnFalse_from}
 use Rattle.std.proofs.lemmas.List.{get_or_default, get_or-map, get_or-set_same, length-map}
-use Rattle.flat_model.specs.Fragments.Overlay.{Map, overlay, is_covered}
+use Rattle.flat_model.specs.Fragments.Overlay.{Map}
 use Rattle.mbuf_chain.specs.Chain.{ChainView, PoolView, chain_of, alone, without}
 use Rattle.mbuf_chain.specs.Owners.{times, IsOwned, Moves}
 use Rattle.mbuf_chain.specs.Frames.{SameAt}
 use Rattle.mbuf_chain.specs.Train.{TrainView, numbers, IsHeld}
 use Rattle.mbuf_chain.proofs.Laws.Owners.{times_same, chain_same, moves_trans, moves_beside, same_beside, owned_after, live_at_most}
 use Rattle.ledger.specs.Accounts.{weight_of}
-use Rattle.ip_reass.specs.Fragments.{QueuedFragment, fragment_of, fragments, queued, laid, joined, map_of, IsQueue}
+use Rattle.ip_reass.specs.Fragments.{QueuedFragment, fragment_of, fragments, queued, joined, map_of}
 use Rattle.ip_reass.specs.Table.{held, held_all, IsUnfinished, IsTable, unfinished, unfinished_of}
 use Rattle.ip_reass.specs.Layouts.{queue_of, queues}
-use Rattle.ip_reass.specs.Inside.Steps.{datagram_at, no_datagram, LaysIn, TakesOut}
+use Rattle.ip_reass.specs.Inside.Steps.{datagram_at, no_datagram, IsLaid, LaysIn, TakesOut}
 use Rattle.ip_reass.specs.declared.datagram.Datagram.{Datagram}
 use Rattle.ip_reass.proofs.Steps.{fragments_are}
 use Rattle.ip_reass.proofs.Places.{held_at, each_at, each_put, others_each, put_moves, put_shows, put_queues, gone_moves, gone_shows, gone_queues}
@@ -24,38 +23,31 @@ set_same [] i y d l e = absurd (omega arith)
 set_same (x ∷ xs) zero y d l e = ap (λ z. z ∷ xs) (sym e)
 set_same (x ∷ xs) (suc i) y d l e = ap (λ zs. x ∷ zs) (set_same xs i y d (omega arith) e)
 
--- what the train of datagram i became
-pub record Becomes (p : PoolView) (d : Datagram) (c : ℕ) (f : QueuedFragment) (answer : Bool) (q : PoolView) (t : TrainView) : Type 0 where
-  pub covered : is_covered (map_of (fragments p d.fragments)) (fragment_of f) ≡ not answer
-  pub map : OnTrue answer (map_of (fragments q t) ≡ overlay (map_of (fragments p d.fragments)) (fragment_of f))
-  pub laid : OnTrue answer (queued q t ≡ laid f (queued p d.fragments))
-  pub none : OnFalse answer (queued q t ≡ queued p d.fragments)
-  pub queue : IsQueue q t
-  pub moves : Moves p (c ∷ numbers p d.fragments) q (numbers q t)
-
-in_place : (p q : PoolView) (ds : List Datagram) (i c : ℕ) (f : QueuedFragment) (answer : Bool) (t : TrainView) → IsTable p ds → i < length ds → IsOwned p (c ∷ held_all p ds)
-    → Becomes p (datagram_at ds i) c f answer q t → LaysIn p ds i c f answer q (set ds i (record (datagram_at ds i) { fragments = t }))
-in_place p q ds i c f answer t is l owns b =
+in_place : (p q : PoolView) (ds : List Datagram) (i c : ℕ) (f : QueuedFragment) (answer : Bool) (t : TrainView) (n : ℕ) → IsTable p ds → i < length ds → IsOwned p (c ∷ held_all p ds)
+    → IsLaid p (datagram_at ds i) c f answer q (record (datagram_at ds i) { fragments = t; bytes = n }) → LaysIn p ds i c f answer q (set ds i (record (datagram_at ds i) { fragments = t; bytes = n }))
+in_place p q ds i c f answer t n is l owns b =
     let x : Datagram = no_datagram in
     let d : Datagram = datagram_at ds i in
-    let y : Datagram = record (datagram_at ds i) { fragments = t } in
+    let y : Datagram = record (datagram_at ds i) { fragments = t; bytes = n } in
     let one = (each_at p ds i no_datagram l is.each).0 in
-    let m : Moves p (c ∷ held p (datagram_at ds i)) q (held q (record (datagram_at ds i) { fragments = t })) =
-    moves_beside (c ∷ held p (datagram_at ds i)) (held q (record (datagram_at ds i) { fragments = t })) ((datagram_at ds i).holder ∷ []) b.moves (λ k. omega arith) (λ k. omega arith) in
+    let m : Moves p (c ∷ held p (datagram_at ds i)) q (held q (record (datagram_at ds i) { fragments = t; bytes = n })) =
+    moves_beside (c ∷ held p (datagram_at ds i)) (held q (record (datagram_at ds i) { fragments = t; bytes = n })) ((datagram_at ds i).holder ∷ []) b.moves (λ k. omega arith) (λ k. omega arith) in
     let split : (k : ℕ) → times k (held_all p ds) ≡ times k (held p (datagram_at ds i)) + times k (held_all p (remove ds i)) = λ k. held_at p k ds i no_datagram l in
     let holds : SameAt p q ((datagram_at ds i).holder ∷ []) = same_beside ((datagram_at ds i).holder ∷ []) b.moves (λ k. omega (arith, owns k, split k)) (λ k h. omega (arith, owns k, split k, live_at_most p k)) in
-    let mine : IsUnfinished q (record (datagram_at ds i) { fragments = t }) = record {
+    let mine : IsUnfinished q (record (datagram_at ds i) { fragments = t; bytes = n }) = record {
       queue = b.queue;
+      counted = b.counted;
       holder = ap (λ (v : ChainView). weight_of v.entries) (chain_same p q ((datagram_at ds i).holder ∷ []) (datagram_at ds i).holder holds (omega (arith, times_same (datagram_at ds i).holder []))) ∙ one.holder;
     } in
-    let moves : Moves p (c ∷ held_all p ds) q (held_all q (set ds i (record (datagram_at ds i) { fragments = t }))) =
-    put_moves p q ds i no_datagram (c ∷ []) (held q (record (datagram_at ds i) { fragments = t })) l owns is m (record (datagram_at ds i) { fragments = t }) [] (λ k. omega arith) in
-    let shows : unfinished q (set ds i (record (datagram_at ds i) { fragments = t })) ≡ set (unfinished p ds) i (unfinished_of q (record (datagram_at ds i) { fragments = t })) =
-    put_shows p q ds i no_datagram (c ∷ []) (held q (record (datagram_at ds i) { fragments = t })) l owns is m (record (datagram_at ds i) { fragments = t }) in
-    let all : queues q (set ds i (record (datagram_at ds i) { fragments = t })) ≡ set (queues p ds) i (queue_of q (record (datagram_at ds i) { fragments = t })) =
-    put_queues p q ds i no_datagram (c ∷ []) (held q (record (datagram_at ds i) { fragments = t })) l owns is m (record (datagram_at ds i) { fragments = t }) in
+    let moves : Moves p (c ∷ held_all p ds) q (held_all q (set ds i (record (datagram_at ds i) { fragments = t; bytes = n }))) =
+    put_moves p q ds i no_datagram (c ∷ []) (held q (record (datagram_at ds i) { fragments = t; bytes = n })) l owns is m (record (datagram_at ds i) { fragments = t; bytes = n }) [] (λ k. omega arith) in
+    let shows : unfinished q (set ds i (record (datagram_at ds i) { fragments = t; bytes = n })) ≡ set (unfinished p ds) i (unfinished_of q (record (datagram_at ds i) { fragments = t; bytes = n })) =
+    put_shows p q ds i no_datagram (c ∷ []) (held q (record (datagram_at ds i) { fragments = t; bytes = n })) l owns is m (record (datagram_at ds i) { fragments = t; bytes = n }) in
+    let all : queues q (set ds i (record (datagram_at ds i) { fragments = t; bytes = n })) ≡ set (queues p ds) i (queue_of q (record (datagram_at ds i) { fragments = t; bytes = n })) =
+    put_queues p q ds i no_datagram (c ∷ []) (held q (record (datagram_at ds i) { fragments = t; bytes = n })) l owns is m (record (datagram_at ds i) { fragments = t; bytes = n }) in
     record {
       train = t;
+      bytes = n;
       change = refl;
       covered = b.covered;
       shows = OnTrue_from answer _ (λ yes. shows ∙ ap (λ (bytes : Map). set (unfinished p ds) i (record { key = (datagram_at ds i).key; ticks = (datagram_at ds i).ticks; bytes = bytes })) (OnTrue_at yes b.map));
@@ -72,20 +64,23 @@ in_place p q ds i c f answer t is l owns b =
           ∙ set_same (queues p ds) i (queue_of p (datagram_at ds i)) (queue_of p no_datagram) (omega (arith, length-map ds (queue_of p))) (get_or-map (queue_of p) ds i no_datagram (queue_of p no_datagram) l)));
       table = record {
         owned = owned_after moves owns;
-        each = each_put q ds i (record (datagram_at ds i) { fragments = t }) l (others_each p q ds i no_datagram (c ∷ []) (held q (record (datagram_at ds i) { fragments = t })) l owns is m) mine;
+        each = each_put q ds i (record (datagram_at ds i) { fragments = t; bytes = n }) l (others_each p q ds i no_datagram (c ∷ []) (held q (record (datagram_at ds i) { fragments = t; bytes = n })) l owns is m) mine;
       };
       moves = moves;
     }
 
 -- **the same, as the code reads the datagram**
-pub laid_in_table : (p q : PoolView) (ds : List Datagram) (i c : ℕ) (x : Datagram) (f : QueuedFragment) (answer : Bool) (t : TrainView) → IsTable p ds → i < length ds → IsOwned p (c ∷ held_all p ds)
-    → Becomes p (get_or ds i x) c f answer q t → LaysIn p ds i c f answer q (set ds i (record (get_or ds i x) { fragments = t }))
-laid_in_table p q ds i c x f answer t is l owns =
-    let e : get_or ds i no_datagram ≡ get_or ds i x = get_or_default ds i no_datagram x l in
-    subst (λ (d : Datagram). Becomes p d c f answer q t → LaysIn p ds i c f answer q (set ds i (record d { fragments = t }))) e (in_place p q ds i c f answer t is l owns)
+pub laid_in_table : (p q : PoolView) (ds : List Datagram) (i c : ℕ) (x : Datagram) (f : QueuedFragment) (answer : Bool) (e : Datagram) → IsTable p ds → i < length ds → IsOwned p (c ∷ held_all p ds)
+    → IsLaid p (get_or ds i x) c f answer q e → LaysIn p ds i c f answer q (set ds i e)
+laid_in_table p q ds i c x f answer e is l owns b =
+    let here : get_or ds i x ≡ get_or ds i no_datagram = get_or_default ds i x no_datagram l in
+    let laid_here : IsLaid p (datagram_at ds i) c f answer q e = subst (λ (d : Datagram). IsLaid p d c f answer q e) here b in
+    let whole : e ≡ record (datagram_at ds i) { fragments = e.fragments; bytes = e.bytes } = laid_here.same in
+    subst (λ (d : Datagram). LaysIn p ds i c f answer q (set ds i d)) (sym whole)
+    (in_place p q ds i c f answer e.fragments e.bytes is l owns (subst (IsLaid p (datagram_at ds i) c f answer q) whole laid_here))
 
-pub train_put : (ds : List Datagram) (i : ℕ) (x : Datagram) (t : TrainView) → i < length ds → (datagram_at (set ds i (record (get_or ds i x) { fragments = t })) i).fragments ≡ t
-train_put ds i x t l = ap (λ (d : Datagram). d.fragments) (get_or-set_same ds i (record (get_or ds i x) { fragments = t }) no_datagram l)
+pub datagram_put : (ds : List Datagram) (i : ℕ) (e : Datagram) → i < length ds → datagram_at (set ds i e) i ≡ e
+datagram_put ds i e l = get_or-set_same ds i e no_datagram l
 
 -- ---- a datagram taken out
 pub taken_out : (p r q : PoolView) (ds : List Datagram) (i c : ℕ) (d : Datagram) → IsTable p ds → i < length ds → d ≡ get_or ds i d → r ≡ without p d.holder

@@ -1,17 +1,17 @@
 -- A chain laid among the fragments of a train.
-use Rattle.std.proofs.Common.{◌≡◌, ℕ, zero, suc, ◌+◌, ◌-◌, ◌/◌, ◌%◌, ◌<◌, ◌≤◌, Bool, true, false, cond, eqb, List, [], ◌∷◌, ◌++◌, length, map, take, drop, insert, Option, unwrap_or, refl, sym, ap, ◌∙◌, subst, arith, length-append}
+use Rattle.std.proofs.Common.{◌≡◌, ℕ, zero, suc, ◌+◌, ◌-◌, ◌/◌, ◌%◌, ◌<◌, ◌≤◌, min, Bool, true, false, cond, eqb, List, [], ◌∷◌, ◌++◌, length, map, take, drop, insert, Option, unwrap_or, refl, sym, ap, ◌∙◌, subst, arith, length-append}
 use Rattle.std.specs.FinMap as finmap
 use Rattle.std.proofs.lemmas.Bool.{cond-true, cond-false, le-leb, lt-leb}
-use Rattle.std.proofs.lemmas.List.{take-append-drop, take_at, drop_at, length-take-le, take-map, drop-map, map-append}
+use Rattle.std.proofs.lemmas.List.{drop_all, take_all, take-append-drop, take_at, drop_at, length-take-le, take-map, drop-map, map-append}
 use Rattle.flat_model.specs.Fragments.Overlay.{Fragment, overlay, is_covered}
-use Rattle.mbuf_chain.specs.Chain.{ChainView, PoolView, IsLive, chain_of, without, flat_bytes, string, no_chain}
+use Rattle.mbuf_chain.specs.Chain.{Entry, ChainView, PoolView, IsLive, chain_of, without, flat_bytes, string, no_chain}
 use Rattle.mbuf_chain.specs.Owners.{times, Moves}
 use Rattle.mbuf_chain.specs.Train.{TrainView, numbers, queued_packets, IsHeld}
 use Rattle.mbuf_chain.proofs.Laws.Owners.{moves_trans, moves_beside, moves_without, live_same, live_one, live_from}
 use Rattle.mbuf_chain.proofs.Laws.Trains.{Beside, beside_without}
 use Rattle.chain_ops.specs.Trims.{without_first}
 use Rattle.ip_reass.specs.Fragments.{QueuedFragment, queued_of, queued, queued_end, cut, cut_to, laid, laid_after, fragment_of, fragment_in, fragments, map_of, Apart, AllEnd, IsQueue}
-use Rattle.ip_reass.specs.Inside.Walks.{arrived, reach, is_gapless, AllUpto, AllAbove, trimmed, left_from}
+use Rattle.ip_reass.specs.Inside.Walks.{arrived, reach, AllUpto, AllAbove, trimmed, left_from}
 use Rattle.ip_reass.specs.Inside.Known.{apart_left, apart_right, end_trimmed, AllEnd-append, AllEnd-take, AllEnd-drop, AllEnd-left_from}
 use Rattle.ip_reass.proofs.Laid.{Around, laid_is, laid_apart, covered_yes, covered_no}
 use Rattle.chain_ops.proofs.Laws.Strings.{without_first_bytes}
@@ -136,21 +136,41 @@ laid_in p s t w i n c q is upto above n_is some fits done =
           (omega (arith, end_trimmed n (fragment_of q) (omega arith)), AllEnd-left_from 65515 (queued_end q) (drop i (fragments p t)) (AllEnd-drop 65515 i (fragments p t) is.small)));
     }
 
--- ---- what stands in front
-pub record Ahead (s : PoolView) (w : TrainView) (i e : ℕ) (g : Bool) : Type 0 where
-  pub within : i < length (fragments s w)
-  pub gapless : g ≡ is_gapless 0 (take i (fragments s w))
-  pub end : e ≡ reach 0 (take i (fragments s w))
+-- ---- after all others
+without_none : (es : List Entry) → without_first 0 es ≡ es
+without_none [] = refl
+without_none (e ∷ es) =
+    let n : length e.bytes - min 0 (length e.bytes) ≡ length e.bytes = omega arith in
+    let z : 0 - length e.bytes ≡ 0 = omega arith in
+    let s : e.start + min 0 (length e.bytes) ≡ e.start = omega arith in
+    let m : min 0 (length e.bytes) ≡ 0 = omega arith in
+    λ j. record {
+      bytes = ((λ k. take (n k) (drop (m k) e.bytes)) ∙ (take_all (length e.bytes) e.bytes (omega arith))) j;
+      start = s j;
+      cluster = e.cluster;
+    } ∷ (ap (λ (k : ℕ). without_first k es) z ∙ without_none es) j
 
-pub ahead_of : (p s : PoolView) (t w : TrainView) (i n c e : ℕ) (g : Bool) (q : QueuedFragment) → i ≤ length (fragments p t) → e ≡ reach 0 (take i (fragments p t)) → g ≡ is_gapless 0 (take i (fragments p t)) → Settled p t i n c q s w → Ahead s w i e g
-ahead_of p s t w i n c e g q l is_e is_g done =
-    let made : fragments s w ≡ take i (fragments p t) ++ trimmed n (fragment_of q) ∷ left_from (queued_end q) (drop i (fragments p t)) = made_is p s t w i n c q done in
-    let long : length (take i (fragments p t)) ≡ i = length-take-le i (fragments p t) l in
-    let same : take i (fragments s w) ≡ take i (fragments p t) = ap (take i) made ∙ take_at (take i (fragments p t)) (trimmed n (fragment_of q) ∷ left_from (queued_end q) (drop i (fragments p t))) i long in
+pub cut_none : (q : QueuedFragment) → cut 0 q ≡ q
+cut_none q =
+    let z : q.offset + 0 ≡ q.offset = omega arith in
+    λ j. record { offset = z j; more = q.more; entries = without_none q.entries j }
+
+pub appended : (p s : PoolView) (t w : TrainView) (c i offset tag : ℕ) (more : Bool) → i ≡ t.len → IsHeld p t → tag / 2 ≡ offset → eqb (tag % 2) 1 ≡ more
+    → queued_packets s w ≡ insert (queued_packets p t) i (record { number = c; entries = (chain_of p c).entries; tag = tag }) → Moves p (c ∷ numbers p t) s (numbers s w)
+    → Settled p t t.len 0 c (arrived p c offset more) s w
+appended p s t w c i offset tag more is_i held half odd put goes =
+    let f : QueuedFragment = arrived p c offset more in
+    let l : length (queued p t) ≡ t.len = length-queued p t held in
+    let long : length (take t.len (queued p t)) ≡ t.len = length-take-le t.len (queued p t) (omega (arith, l)) in
+    let none : drop t.len (queued p t) ≡ [] = drop_all t.len (queued p t) (omega (arith, l)) in
+    let mine : queued_of (record { number = c; entries = (chain_of p c).entries; tag = tag }) ≡ cut 0 (arrived p c offset more) = (λ j. record { offset = half j; more = odd j; entries = (chain_of p c).entries }) ∙ sym (cut_none (arrived p c offset more)) in
     record {
-      within = omega (arith, ap (λ (fs : List Fragment). length fs) made, length-append (take i (fragments p t)) (trimmed n (fragment_of q) ∷ left_from (queued_end q) (drop i (fragments p t))), long);
-      gapless = is_g ∙ ap (is_gapless 0) (sym same);
-      end = is_e ∙ ap (reach 0) (sym same);
+      queue_is =
+          ap (map queued_of) (put ∙ ap (λ (n : ℕ). insert (queued_packets p t) n (record { number = c; entries = (chain_of p c).entries; tag = tag })) is_i) ∙ (map-insert queued_of (queued_packets p t) t.len _
+          ∙ ((λ j. insert (sym (take-append-drop t.len (queued p t)) j) t.len (mine j))
+          ∙ (insert_at (take t.len (queued p t)) (drop t.len (queued p t)) t.len (cut 0 (arrived p c offset more)) long
+          ∙ ap (λ (rest : List QueuedFragment). take t.len (queued p t) ++ cut 0 (arrived p c offset more) ∷ rest) (none ∙ sym (ap (cut_to (queued_end (arrived p c offset more))) none)))));
+      moves = goes;
     }
 
 -- ---- nothing left of it

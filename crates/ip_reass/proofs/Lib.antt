@@ -4,6 +4,7 @@ mod Walks
 mod Laid
 mod Steps
 mod Lays
+mod Counted
 mod Whole
 mod Joined
 mod Tables

@@ -248,7 +248,7 @@ pub covered_layout : (p q : PoolView) (ds slice es back : List Datagram) (i c n 
     → (queues q back ≡ queues p ds) × (is_covered (map_of (map fragment_of (queue_at (queues p ds) i).fragments)) (fragment_of f) ≡ true)
 covered_layout p q ds slice es back i c n f answer l n_is was refused la back_is =
     let here : LaysIn p ds i c f false q es = subst (λ (zs : List Datagram). LaysIn p zs i c f false q es) was (subst (λ (b : Bool). LaysIn p slice i c f b q es) refused la) in
-    let long : length es ≡ n = omega (arith, ap (λ (zs : List Datagram). length zs) here.change, length-set ds i (record (datagram_at ds i) { fragments = here.train }), n_is) in
+    let long : length es ≡ n = omega (arith, ap (λ (zs : List Datagram). length zs) here.change, length-set ds i (record (datagram_at ds i) { fragments = here.train; bytes = here.bytes }), n_is) in
     let same : back ≡ es = back_is ∙ lent n ds es long in
     let at : map fragment_of (queue_at (queues p ds) i).fragments ≡ fragments p (datagram_at ds i).fragments =
     ap (λ (q : KeyedQueue). map fragment_of q.fragments) (get_or-map (queue_of p) ds i no_datagram no_queue l) ∙ sym (fragments_are p (datagram_at ds i).fragments) in

@@ -98,11 +98,11 @@ pub lent_table : (p q : PoolView) (ds slice es : List Datagram) (i c n : ℕ) (f
     → LaysIn p slice i c f answer q es → back ≡ take n (es ++ drop (length es) ds) → Lent p ds i c f q es back
 lent_table p q ds slice es i c n f answer back l n_is was agrees la back_is =
     let here : LaysIn p ds i c f true q es = subst (λ (zs : List Datagram). LaysIn p zs i c f true q es) was (subst (λ (b : Bool). LaysIn p slice i c f b q es) agrees la) in
-    let long : length es ≡ n = omega (arith, ap (λ (zs : List Datagram). length zs) here.change, length-set ds i (record (datagram_at ds i) { fragments = here.train }), n_is) in
+    let long : length es ≡ n = omega (arith, ap (λ (zs : List Datagram). length zs) here.change, length-set ds i (record (datagram_at ds i) { fragments = here.train; bytes = here.bytes }), n_is) in
     let within : i < length es = omega (arith, long, n_is) in
     let one : IsUnfinished q (datagram_at es i) = (each_at q es i no_datagram within here.table.each).0 in
     let at : (datagram_at es i).fragments ≡ here.train =
-    ap (λ (zs : List Datagram). (get_or zs i no_datagram).fragments) here.change ∙ ap (λ (d : Datagram). d.fragments) (get_or-set_same ds i (record (datagram_at ds i) { fragments = here.train }) no_datagram l) in
+    ap (λ (zs : List Datagram). (get_or zs i no_datagram).fragments) here.change ∙ ap (λ (d : Datagram). d.fragments) (get_or-set_same ds i (record (datagram_at ds i) { fragments = here.train; bytes = here.bytes }) no_datagram l) in
     record {
       lays = here;
       back_is = back_is ∙ lent n ds es long;

@@ -132,6 +132,7 @@ begins p q ds es k c is a e =
     let moves : Moves p (held_all p ds) q (held_all q es) = moves_beside (held_all p ds) (held_all q es) (held_all p ds) (moves_adds a) (λ j. omega arith) times_is in
     let mine : IsUnfinished q d = record {
       queue = record { held = held_none q d.fragments refl; apart = tt; small = tt };
+      counted = refl;
       holder = ap (λ v. weight_of v.entries) (shown_adds a);
     } in
     record {

@@ -1,12 +1,13 @@
 -- Walks over the fragments of a train.
-use Rattle.std.proofs.Common.{◌≡◌, ℕ, zero, suc, ◌+◌, ◌/◌, ◌%◌, ◌<◌, ◌≤◌, Bool, true, false, ◌&&◌, eqb, List, [], ◌∷◌, length, take, drop, remove, refl, sym, ap, ◌∙◌, subst, arith}
+use Rattle.std.proofs.Common.{◌≡◌, ℕ, zero, suc, ◌+◌, ◌/◌, ◌%◌, ◌<◌, ◌≤◌, eqb, List, [], ◌∷◌, length, take, drop, remove, refl, sym, ap, ◌∙◌, subst, arith}
 use Rattle.std.proofs.lemmas.List.{get_or-map, length-map}
 use Rattle.flat_model.specs.Fragments.Overlay.{Fragment}
 use Rattle.mbuf_chain.specs.Chain.{PoolView, flat_bytes}
 use Rattle.mbuf_chain.specs.Train.{TrainView, no_queued_packet, queued_packet_at, queued_packets, IsHeld}
 use Rattle.mbuf_chain.proofs.Laws.Trains.{length-queued_packets}
 use Rattle.ip_reass.specs.Fragments.{fragment_in, fragments, end_of, Apart, AllEnd}
-use Rattle.ip_reass.specs.Inside.Walks.{fragment_at, no_fragment, reach, is_gapless, AllUpto, AllAbove}
+use Rattle.ip_reass.specs.Inside.Walks.{fragment_at, no_fragment, reach, AllUpto, AllAbove}
+use Rattle.ip_reass.specs.Inside.Known.{reach_grows}
 
 -- ---- fragments by place
 pub length-fragments : (p : PoolView) (t : TrainView) → IsHeld p t → length (fragments p t) ≡ t.len
@@ -51,36 +52,33 @@ reach_take low i [] l = absurd (omega arith)
 reach_take low zero (p ∷ ps) l = refl
 reach_take low (suc i) (p ∷ ps) l = reach_take (end_of p) i ps (omega arith)
 
-and_true : (b : Bool) → (b && true) ≡ b
-and_true true = refl
-and_true false = refl
+-- the last of them
+pub reach_last : (low i : ℕ) (ps : List Fragment) → i + 1 ≡ length ps → reach low ps ≡ end_of (fragment_at ps i)
+reach_last low i [] e = absurd (omega arith)
+reach_last low zero (p ∷ []) e = refl
+reach_last low (suc i) (p ∷ []) e = absurd (omega arith)
+reach_last low zero (p ∷ q ∷ ps) e = absurd (omega arith)
+reach_last low (suc i) (p ∷ q ∷ ps) e = reach_last (end_of p) i (q ∷ ps) (omega arith)
 
-and_assoc : (a b c : Bool) → (a && (b && c)) ≡ ((a && b) && c)
-and_assoc true b c = refl
-and_assoc false b c = refl
-
-gapless_more : (low i : ℕ) (ps : List Fragment) → i < length ps → is_gapless low (take (suc i) ps) ≡ (is_gapless low (take i ps) && eqb (fragment_at ps i).offset (reach low (take i ps)))
-gapless_more low i [] l = absurd (omega arith)
-gapless_more low zero (p ∷ ps) l = and_true (eqb p.offset low)
-gapless_more low (suc i) (p ∷ ps) l =
-    ap (λ (b : Bool). eqb p.offset low && b) (gapless_more (end_of p) i ps (omega arith)) ∙ and_assoc (eqb p.offset low) (is_gapless (end_of p) (take i ps)) (eqb (fragment_at ps i).offset (reach (end_of p) (take i ps)))
+-- all begin at most where the last one ends
+pub upto_reach : (a low : ℕ) (ps : List Fragment) → Apart low ps → reach low ps ≤ a → AllUpto a ps
+upto_reach a low [] h l = tt
+upto_reach a low (p ∷ ps) h l = (omega (arith, reach_grows (end_of p) ps h.2), upto_reach a (end_of p) ps h.2 l)
 
 -- ---- the walk to the place
-pub record Found (a i e : ℕ) (g : Bool) (ps : List Fragment) : Type 0 where
+pub record Found (a i e : ℕ) (ps : List Fragment) : Type 0 where
   pub upto : AllUpto a (take i ps)
   pub end : e ≡ reach 0 (take i ps)
-  pub gapless : g ≡ is_gapless 0 (take i ps)
 
-pub found_none : (a i : ℕ) (ps : List Fragment) → i ≡ 0 → Found a i 0 true ps
-found_none a i ps z = subst (λ (n : ℕ). Found a n 0 true ps) (sym z) (record { upto = tt; end = refl; gapless = refl })
+pub found_none : (a i : ℕ) (ps : List Fragment) → i ≡ 0 → Found a i 0 ps
+found_none a i ps z = subst (λ (n : ℕ). Found a n 0 ps) (sym z) (record { upto = tt; end = refl })
 
-pub found_more : (a i n b e f : ℕ) (g t : Bool) (ps : List Fragment) → Found a i e g ps → i < length ps → b ≡ (fragment_at ps i).offset → b ≤ a → f ≡ end_of (fragment_at ps i) → t ≡ (g && eqb b e) → n ≡ i + 1 → Found a n f t ps
-found_more a i n b e f g t ps h l is_b m is is_t is_n =
+pub found_more : (a i n b e f : ℕ) (ps : List Fragment) → Found a i e ps → i < length ps → b ≡ (fragment_at ps i).offset → b ≤ a → f ≡ end_of (fragment_at ps i) → n ≡ i + 1 → Found a n f ps
+found_more a i n b e f ps h l is_b m is is_n =
     let s : suc i ≡ n = omega arith in
-    subst (λ (k : ℕ). Found a k f t ps) s (record {
+    subst (λ (k : ℕ). Found a k f ps) s (record {
       upto = upto_more a i ps h.upto l (omega arith);
       end = is ∙ sym (reach_take 0 i ps l);
-      gapless = is_t ∙ (λ j. h.gapless j && eqb (is_b j) (h.end j)) ∙ sym (gapless_more 0 i ps l);
     })
 
 -- ---- what a walk reads

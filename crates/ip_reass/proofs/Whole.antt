@@ -1,16 +1,15 @@
 -- When fragments make a whole datagram, and its bytes.
-use Rattle.std.proofs.Common.{◌≡◌, ◌≢◌, ℕ, zero, suc, ◌+◌, ◌-◌, ◌<◌, ◌≤◌, Bool, true, false, eqb, List, [], ◌∷◌, ◌++◌, length, get_or, take, drop, Option, None, Some, refl, sym, ap, ◌∙◌, subst, inl, inr, arith, length-append, length-drop}
+use Rattle.std.proofs.Common.{◌≡◌, ℕ, zero, suc, ◌+◌, ◌-◌, ◌<◌, ◌≤◌, Bool, true, false, List, [], ◌∷◌, length, get_or, Option, None, Some, refl, sym, ap, ◌∙◌, subst, inl, inr, arith, length-append}
 use Rattle.std.specs.Prelude.{IsSome, IfSome}
-use Rattle.std.proofs.lemmas.Bool.{cases_lt, false≢true, and_parts, and_from, eqb-true, eq-eqb}
-use Rattle.std.proofs.lemmas.List.{get_or-append_right, get_or_append_left, drop_all, take-append-drop}
+use Rattle.std.proofs.lemmas.Bool.{cases_lt, false≢true}
+use Rattle.std.proofs.lemmas.List.{get_or-append_right, get_or_append_left}
 use Rattle.flat_model.specs.Fragments.Overlay.{Held}
 use Rattle.flat_model.specs.Fragments.Whole.{IsWhole, bytes_below}
 use Rattle.flat_model.proofs.Laws.{whole_bytes}
 use Rattle.flat_model.specs.Fragments.Overlay.{Fragment}
-use Rattle.ip_reass.specs.Fragments.{end_of, own, map_of, AllEnd, Apart}
-use Rattle.ip_reass.specs.Inside.Walks.{reach, is_gapless, bytes_of, fragment_at}
+use Rattle.ip_reass.specs.Fragments.{end_of, own, map_of, bytes_held, AllEnd, Apart}
+use Rattle.ip_reass.specs.Inside.Walks.{reach, bytes_of, fragment_at}
 use Rattle.ip_reass.specs.Inside.Known.{known_here, known_below, known_past, below, within, past, place, nothing_below, nothing_past, reach_grows}
-use Rattle.ip_reass.proofs.Walks.{rest_at}
 
 -- each begins where the one before ends, the first at low
 abbrev pub InRow : ℕ → List Fragment → Type 0
@@ -123,109 +122,55 @@ bytes_are ps n a w =
       len,
     )
 
--- ---- a walk: the rest is in a row exactly where all are
-pub record Row (ps : List Fragment) (i e : ℕ) : Type 0 where
-  pub rest : InRow e (drop i ps) → InRow 0 ps
-  pub all : InRow 0 ps → InRow e (drop i ps)
-  pub end : reach e (drop i ps) ≡ reach 0 ps
-  pub last : i < length ps → last_more (drop i ps) ≡ last_more ps
+-- ---- fragments whose bytes are counted
+-- together they have at most as many bytes as lie below the end of the last
+pub held_most : (low : ℕ) (ps : List Fragment) → Apart low ps → low + bytes_held ps ≤ reach low ps
+held_most low [] a = omega arith
+held_most low (p ∷ ps) a = omega (arith, held_most (end_of p) ps a.2)
 
-last_next : (p : Fragment) (qs : List Fragment) → 0 < length qs → last_more (p ∷ qs) ≡ last_more qs
-last_next p [] l = absurd (omega arith)
-last_next p (q ∷ qs) l = refl
+-- in a row they have as many, and only those in a row have
+row_held : (low : ℕ) (ps : List Fragment) → InRow low ps → low + bytes_held ps ≡ reach low ps
+row_held low [] r = omega arith
+row_held low (p ∷ ps) r = omega (arith, row_held (end_of p) ps r.1)
 
--- it begins where those in front are in a row
-row_from_gapless : (low : ℕ) (ps : List Fragment) → is_gapless low ps ≡ true → InRow low ps
-row_from_gapless low [] g = tt
-row_from_gapless low (p ∷ ps) g =
-    let h = and_parts (eqb p.offset low) (is_gapless (end_of p) ps) g in
-    (eqb-true p.offset low h.0, row_from_gapless (end_of p) ps h.1)
+held_row : (low : ℕ) (ps : List Fragment) → Apart low ps → reach low ps ≤ low + bytes_held ps → InRow low ps
+held_row low [] a l = tt
+held_row low (p ∷ ps) a l = (omega (arith, held_most (end_of p) ps a.2), held_row (end_of p) ps a.2 (omega arith))
 
-gapless_from_row : (low : ℕ) (ps : List Fragment) → InRow low ps → is_gapless low ps ≡ true
-gapless_from_row low [] r = refl
-gapless_from_row low (p ∷ ps) r = and_from _ _ (eq-eqb p.offset low r.0) (gapless_from_row (end_of p) ps r.1)
+last_at : (i : ℕ) (ps : List Fragment) → i + 1 ≡ length ps → last_more ps ≡ (fragment_at ps i).more
+last_at i [] e = absurd (omega arith)
+last_at zero (p ∷ []) e = refl
+last_at (suc i) (p ∷ []) e = absurd (omega arith)
+last_at zero (p ∷ q ∷ ps) e = absurd (omega arith)
+last_at (suc i) (p ∷ q ∷ ps) e = last_at i (q ∷ ps) (omega arith)
 
-row_join : (low : ℕ) (xs ys : List Fragment) → InRow low xs → InRow (reach low xs) ys → InRow low (xs ++ ys)
-row_join low [] ys a b = b
-row_join low (p ∷ xs) ys a b = (a.0, row_join (end_of p) xs ys a.1 b)
-
-row_left : (low : ℕ) (xs ys : List Fragment) → InRow low (xs ++ ys) → InRow low xs
-row_left low [] ys r = tt
-row_left low (p ∷ xs) ys r = (r.0, row_left (end_of p) xs ys r.1)
-
-row_right : (low : ℕ) (xs ys : List Fragment) → InRow low (xs ++ ys) → InRow (reach low xs) ys
-row_right low [] ys r = r
-row_right low (p ∷ xs) ys r = row_right (end_of p) xs ys r.1
-
-reach_join : (low : ℕ) (xs ys : List Fragment) → reach low (xs ++ ys) ≡ reach (reach low xs) ys
-reach_join low [] ys = refl
-reach_join low (p ∷ xs) ys = reach_join (end_of p) xs ys
-
-last_join : (xs ys : List Fragment) → 0 < length ys → last_more ys ≡ last_more (xs ++ ys)
-last_join [] ys l = refl
-last_join (p ∷ xs) ys l = last_join xs ys l ∙ sym (last_next p (xs ++ ys) (omega (arith, length-append xs ys)))
-
-pub row_at : (ps : List Fragment) (i e : ℕ) → is_gapless 0 (take i ps) ≡ true → e ≡ reach 0 (take i ps) → Row ps i e
-row_at ps i e g is_e =
-    let whole : take i ps ++ drop i ps ≡ ps = take-append-drop i ps in
-    record {
-      rest = λ r. subst (InRow 0) whole (row_join 0 (take i ps) (drop i ps) (row_from_gapless 0 (take i ps) g) (subst (λ (n : ℕ). InRow n (drop i ps)) is_e r));
-      all = λ r. subst (λ (n : ℕ). InRow n (drop i ps)) (sym is_e) (row_right 0 (take i ps) (drop i ps) (subst (InRow 0) (sym whole) r));
-      end = ap (λ (n : ℕ). reach n (drop i ps)) is_e ∙ (sym (reach_join 0 (take i ps) (drop i ps)) ∙ ap (reach 0) whole);
-      last = λ l. last_join (take i ps) (drop i ps) (omega (arith, length-drop i ps)) ∙ ap last_more whole;
-    }
-
--- where they aren't, nothing is whole
-pub gap_stops : (ps : List Fragment) (i : ℕ) → Apart 0 ps → is_gapless 0 (take i ps) ≡ false → (n : ℕ) → ¬ IsWhole (map_of ps) n
-gap_stops ps i a g n w =
-    let all : InRow 0 (take i ps ++ drop i ps) = subst (InRow 0) (sym (take-append-drop i ps)) (whole_only n ps a w).0 in
-    false≢true (sym g ∙ gapless_from_row 0 (take i ps) (row_left 0 (take i ps) (drop i ps) all))
-
-pub row_more : (ps : List Fragment) (i n e f : ℕ) → Row ps i e → i < length ps → (fragment_at ps i).offset ≡ e → f ≡ end_of (fragment_at ps i) → n ≡ i + 1 → Row ps n f
-row_more ps i n e f h l is is_f is_n =
-    let s : suc i ≡ n = omega arith in
-    let split : drop i ps ≡ fragment_at ps i ∷ drop (suc i) ps = rest_at ps i l in
-    subst (λ (k : ℕ). Row ps k f) s (subst (Row ps (suc i)) (sym is_f) (record {
-      rest = λ r. h.rest (subst (InRow e) (sym split) (is, r));
-      all = λ r. (subst (InRow e) split (h.all r)).1;
-      end = ap (reach e) (sym split) ∙ h.end;
-      last = λ m. sym (last_next (fragment_at ps i) (drop (suc i) ps) (omega (arith, length-drop' ps i m))) ∙ (ap last_more (sym split) ∙ h.last l);
-    }))
-  where
-    length-drop' : (qs : List Fragment) (j : ℕ) → suc j < length qs → 0 < length (drop (suc j) qs)
-    length-drop' [] j m = absurd (omega arith)
-    length-drop' (q ∷ []) j m = absurd (omega arith)
-    length-drop' (q ∷ r ∷ qs) zero m = omega arith
-    length-drop' (q ∷ r ∷ qs) (suc j) m = length-drop' (r ∷ qs) j (omega arith)
-
--- it stops where one doesn't begin at the end of the one before
-pub row_stops : (ps : List Fragment) (i e : ℕ) → Apart 0 ps → Row ps i e → i < length ps → (fragment_at ps i).offset ≢ e → (n : ℕ) → ¬ IsWhole (map_of ps) n
-row_stops ps i e a h l ne n w =
+-- more come after the last
+pub open_stops : (ps : List Fragment) (i : ℕ) → Apart 0 ps → i + 1 ≡ length ps → (fragment_at ps i).more ≡ true → (n : ℕ) → ¬ IsWhole (map_of ps) n
+open_stops ps i a l m n w =
     let r = whole_only n ps a w in
-    ne (subst (InRow e) (rest_at ps i l) (h.all r.0)).0
+    false≢true (sym r.2 ∙ (last_at i ps l ∙ m))
 
--- the end of the walk
-pub last_here : (ps : List Fragment) (i e : ℕ) → Row ps i e → i + 1 ≡ length ps → last_more ps ≡ (fragment_at ps i).more
-last_here ps i e h l =
-    let split : drop i ps ≡ fragment_at ps i ∷ drop (suc i) ps = rest_at ps i (omega arith) in
-    sym (h.last (omega arith)) ∙ (ap last_more split ∙ ap (λ (qs : List Fragment). last_more (fragment_at ps i ∷ qs)) (drop_all (suc i) ps (omega arith)))
-
-pub row_open : (ps : List Fragment) (i e : ℕ) → Apart 0 ps → Row ps i e → i + 1 ≡ length ps → (fragment_at ps i).more ≡ true → (n : ℕ) → ¬ IsWhole (map_of ps) n
-row_open ps i e a h l m n w =
+-- some are missing
+pub gap_stops : (ps : List Fragment) → Apart 0 ps → bytes_held ps < reach 0 ps → (n : ℕ) → ¬ IsWhole (map_of ps) n
+gap_stops ps a l n w =
     let r = whole_only n ps a w in
-    false≢true (sym r.2 ∙ (last_here ps i e h l ∙ m))
+    absurd (omega (arith, row_held 0 ps r.0))
 
-pub row_whole : (ps : List Fragment) (i e f : ℕ) → Apart 0 ps → Row ps i e → i + 1 ≡ length ps → (fragment_at ps i).offset ≡ e → f ≡ end_of (fragment_at ps i) → (fragment_at ps i).more ≡ false → IsWhole (map_of ps) f
-row_whole ps i e f a h l is is_f m =
-    let split : drop i ps ≡ fragment_at ps i ∷ drop (suc i) ps = rest_at ps i (omega arith) in
-    let none : drop (suc i) ps ≡ [] = drop_all (suc i) ps (omega arith) in
-    let end : reach 0 ps ≡ f = sym h.end ∙ (ap (reach e) split ∙ (ap (λ (qs : List Fragment). reach (end_of (fragment_at ps i)) qs) none ∙ sym is_f)) in
-    whole_from ps f a (h.rest (subst (InRow e) (sym split) (is, subst (InRow (end_of (fragment_at ps i))) (sym none) tt))) (last_here ps i e h l ∙ m) (sym end)
+-- **none is missing**
+pub whole_held : (ps : List Fragment) (i : ℕ) → Apart 0 ps → i + 1 ≡ length ps → (fragment_at ps i).more ≡ false → reach 0 ps ≤ bytes_held ps → IsWhole (map_of ps) (bytes_held ps)
+whole_held ps i a l m most = whole_from ps (bytes_held ps) a (held_row 0 ps a (omega arith)) (last_at i ps l ∙ m) (omega (arith, held_most 0 ps a))
 
--- what is whole ends within the limit, and isn't empty
+reach_within : (low : ℕ) (qs : List Fragment) → low ≤ 65515 → AllEnd 65515 qs → reach low qs ≤ 65515
+reach_within low [] l s = l
+reach_within low (q ∷ qs) l s = reach_within (end_of q) qs s.0 s.1
+
+-- they end within the limit, and so they have no more bytes
+pub ends_within : (ps : List Fragment) → AllEnd 65515 ps → reach 0 ps ≤ 65515
+ends_within ps small = reach_within 0 ps (omega arith) small
+
+pub held_within : (ps : List Fragment) → Apart 0 ps → AllEnd 65515 ps → bytes_held ps ≤ 65515
+held_within ps a small = omega (arith, held_most 0 ps a, ends_within ps small)
+
+-- what is whole ends within the limit
 pub whole_most : (ps : List Fragment) (n : ℕ) → Apart 0 ps → AllEnd 65515 ps → IsWhole (map_of ps) n → n ≤ 65515
-whole_most ps n a small w = omega (arith, (whole_only n ps a w).1, reach_within 0 ps (omega arith) small)
-  where
-    reach_within : (low : ℕ) (qs : List Fragment) → low ≤ 65515 → AllEnd 65515 qs → reach low qs ≤ 65515
-    reach_within low [] l s = l
-    reach_within low (q ∷ qs) l s = reach_within (end_of q) qs s.0 s.1
+whole_most ps n a small w = omega (arith, (whole_only n ps a w).1, ends_within ps small)

@@ -97,6 +97,11 @@ abbrev pub Apart : ℕ → List Fragment → Type 0
 Apart low [] = Unit {0}
 Apart low (f ∷ fs) = (low ≤ f.offset) × (0 < length f.bytes) × Apart (end_of f) fs
 
+-- how many bytes they have together
+abbrev pub bytes_held : List Fragment → ℕ
+bytes_held [] = 0
+bytes_held (f ∷ fs) = length f.bytes + bytes_held fs
+
 -- none ends beyond n
 abbrev pub AllEnd : ℕ → List Fragment → Type 0
 AllEnd n [] = Unit {0}

@@ -10,13 +10,13 @@ use Rattle.flat_model.specs.Fragments.Whole.{weight_of_pieces}
 use Rattle.mbuf_chain.specs.Chain.{PoolView}
 use Rattle.mbuf_chain.specs.Owners.{IsOwned}
 use Rattle.mbuf_chain.specs.Frames.{SameAt}
-use Rattle.mbuf_chain.specs.Train.{TrainView, queued_packet_of, numbers, queued_packets}
+use Rattle.mbuf_chain.specs.Train.{TrainView, QueuedPacket, queued_packet_of, numbers, queued_packets}
 use Rattle.mbuf_chain.proofs.Laws.Owners.{times-append, times_same, chain_same, same_part, owned_same}
 use Rattle.mbuf_chain.specs.Kept.{numbers_same, queued_packets_same, held_same}
 use Rattle.ledger.specs.Accounts.{weight_of, weight_at, weight_owned}
 use Rattle.flat_model.proofs.Laws.{times-both, all_of-append}
 use Rattle.flat_model.specs.Fragments.Overlay.{Fragment}
-use Rattle.ip_reass.specs.Fragments.{queued_of, fragment_in, fragments, map_of, Apart, AllEnd, IsQueue}
+use Rattle.ip_reass.specs.Fragments.{queued_of, fragment_in, bytes_held, fragments, map_of, Apart, AllEnd, IsQueue}
 use Rattle.ip_reass.specs.Layouts.{queues}
 use Rattle.ip_reass.specs.Table.{held, held_all, IsUnfinished, AllUnfinished, AreDistinct, IsTable, TableView, IsReady, unfinished_of, unfinished}
 use Rattle.ip_reass.specs.declared.datagram.Datagram.{Datagram}
@@ -53,6 +53,7 @@ held_all_same p q (d ∷ ds) s =
 one_same : (p q : PoolView) (d : Datagram) → SameAt p q (held p d) → IsUnfinished p d → IsUnfinished q d
 one_same p q d s is = record {
   queue = queue_same p q d.fragments (train_same p q d s) is.queue;
+  counted = is.counted ∙ ap (λ (cs : List QueuedPacket). bytes_held (map fragment_in cs)) (sym (queued_packets_same p q d.fragments (train_same p q d s)));
   holder = ap (λ v. weight_of v.entries) (chain_same p q (held p d) d.holder s (omega (arith, times_same d.holder (numbers p d.fragments)))) ∙ is.holder;
 }
 

@@ -8,7 +8,7 @@ use Rattle.mbuf_chain.specs.Chain.{PoolView}
 use Rattle.mbuf_chain.specs.Owners.{times, IsOwned}
 use Rattle.mbuf_chain.specs.Train.{numbers}
 use Rattle.ledger.specs.Accounts.{weight_at}
-use Rattle.ip_reass.specs.Fragments.{IsQueue, fragments, map_of}
+use Rattle.ip_reass.specs.Fragments.{IsQueue, bytes_held, fragments, map_of}
 use Rattle.ip_reass.specs.declared.datagram.Datagram.{Datagram}
 
 -- what the flat machine sees of a datagram
@@ -35,9 +35,10 @@ held_all p (d ∷ ds) = held p d ++ held_all p ds
 abbrev pub holds : PoolView → ℕ → Datagram → ℕ
 holds p k d = times k (held p d)
 
--- a datagram's fragments are in order, and its key has one plain mbuf
+-- a datagram's fragments are in order, their bytes are counted, and its key has one plain mbuf
 pub record IsUnfinished (p : PoolView) (d : Datagram) : Type 0 where
   pub queue : IsQueue p d.fragments
+  pub counted : d.bytes ≡ bytes_held (fragments p d.fragments)
   pub holder : weight_at p d.holder ≡ mbuf
 
 abbrev pub AllUnfinished : PoolView → List Datagram → Type 0
@@ -49,7 +50,7 @@ has_key k d = (d.key.source == k.source) && (d.key.destination == k.destination)
 
 -- one that has just begun, with the mbuf of its key
 abbrev pub new_datagram : Key → ℕ → Datagram
-new_datagram k c = record { key = k; holder = c; ticks = FRAGMENT_TICKS; fragments = record { first = None; last = None; len = 0 } }
+new_datagram k c = record { key = k; holder = c; ticks = FRAGMENT_TICKS; fragments = record { first = None; last = None; len = 0 }; bytes = 0 }
 
 -- the chains are the pool's, once each, and the fragments are in order
 pub record IsTable (p : PoolView) (ds : List Datagram) : Type 0 where

@@ -17,6 +17,8 @@ pub struct Datagram {
     pub ticks: u8,
     /// Its fragments: a chain's tag is its offset times 2, plus 1 where more come after it.
     pub fragments: Train,
+    /// How many bytes they have together: this many lie below the end of the last exactly if none is missing.
+    pub bytes: u32,
 }
 
 /// Frees a datagram's fragments and its key's mbuf.
@@ -30,6 +32,7 @@ pub(crate) fn free_datagram(pool: &mut Pool, datagram: Datagram)
         holder,
         ticks: _,
         fragments,
+        bytes: _,
     } = datagram;
     pool.free_chain(holder);
     fragments.free(pool);

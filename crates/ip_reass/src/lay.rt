@@ -41,7 +41,7 @@ pub(crate) fn lay_in(
     ensures whole { TellsWhole (map_of (fragments pool.new (datagram_at table.new i).fragments)) result }
 {
     let datagram = &mut table[i];
-    lay(pool, &mut datagram.fragments, chain, offset, more)
+    lay(pool, datagram, chain, offset, more)
 }
 
 /// Takes a datagram out of the table, frees its key's mbuf and joins its fragments.
@@ -58,6 +58,7 @@ pub(crate) fn take_out(pool: &mut Pool, table: &mut Vec<Datagram>, i: usize) -> 
         holder,
         ticks: _,
         fragments,
+        bytes: _,
     } = table.remove(i);
     pool.free_chain(holder);
     join(pool, fragments)

@@ -1,13 +1,13 @@
 //! The fragments of an unfinished datagram, in order of offset, as a train (TCP/IP Illustrated, volume 2, chapter 10).
-ghost use Rattle.std.specs.Bool.{OnTrue, OnFalse};
-ghost use Rattle.std.specs.Prelude.{◌≡◌, ℕ, ◌+◌, ◌-◌, ◌*◌, ◌/◌, ◌%◌, ◌==◌, ◌<◌, ◌≤◌, ◌++◌, ◌∷◌, [], true, length, not, take, drop, remove, slice_set};
-ghost use Rattle.flat_model.specs.Fragments.Overlay.{overlay, is_covered};
+ghost use Rattle.std.specs.Prelude.{◌≡◌, ℕ, ◌+◌, ◌-◌, ◌*◌, ◌/◌, ◌%◌, ◌==◌, ◌<◌, ◌≤◌, ◌++◌, ◌∷◌, [], true, length, take, drop, remove, slice_set};
 ghost use Rattle.mbuf_chain.specs.Chain.{IsLive, chain_of, string, alone, flat_bytes};
 ghost use Rattle.mbuf_chain.specs.Owners.{times, Moves};
 ghost use Rattle.mbuf_chain.specs.Train.{numbers, IsQueuedPlace, IsHeld};
-ghost use Rattle.ip_reass.specs.Fragments.{AllEnd, IsQueue, cut, cut_to, fragment_of, fragments, joined, laid, map_of, queued, queued_end};
-ghost use Rattle.ip_reass.specs.Inside.Walks.{AllAbove, AllUpto, IsFront, TellsWhole, arrived, after, is_gapless, is_left, queued_at, reach};
+ghost use Rattle.ip_reass.specs.Fragments.{AllEnd, IsQueue, bytes_held, cut, cut_to, fragments, joined, map_of, queued, queued_end};
+ghost use Rattle.ip_reass.specs.Inside.Walks.{AllAbove, AllUpto, IsFront, TellsWhole, arrived, after, is_left, queued_at, reach};
+ghost use Rattle.ip_reass.specs.Inside.Steps.{IsLaid};
 
+use crate::datagram::Datagram;
 use crate::place::{insert_after, next_after, take_after};
 use chain_ops::{cat_after, trim_front};
 use mbuf_chain::{Chain, Pool, QueuedPlace, Train};
@@ -20,8 +20,6 @@ struct Before {
     front: Option<QueuedPlace>,
     /// Where it ends.
     end: u32,
-    /// Whether they follow one another from 0 on.
-    gapless: bool,
 }
 
 /// The fragments that begin no later than an offset.
@@ -31,12 +29,10 @@ fn find(pool: &Pool, train: &Train, offset: u32) -> Before
     ensures upto { AllUpto offset (take (after result.front) (fragments pool.now train.now)) }
     ensures above { AllAbove offset (drop (after result.front) (fragments pool.now train.now)) }
     ensures end { result.end ≡ reach 0 (take (after result.front) (fragments pool.now train.now)) }
-    ensures gapless { result.gapless ≡ is_gapless 0 (take (after result.front) (fragments pool.now train.now)) }
 {
     let mut before = Before {
         front: None,
         end: 0,
-        gapless: true,
     };
     'fragments: while let Some(at) = next_after(pool, train, before.front) {
         let begin = train.tag_at(pool, at) / 2;
@@ -46,10 +42,21 @@ fn find(pool: &Pool, train: &Train, offset: u32) -> Before
         before = Before {
             front: Some(at),
             end: begin + train.len_at(pool, at),
-            gapless: before.gapless && begin == before.end,
         };
     }
     before
+}
+
+/// Where the last of the fragments ends: 0 if there is none. This is no walk, since a train knows its last.
+fn end_of_last(pool: &Pool, train: &Train) -> u32
+    requires { IsQueue pool.now train.now }
+    ensures { result ≡ reach 0 (fragments pool.now train.now) }
+{
+    if train.is_empty() {
+        return 0;
+    }
+    let last = train.len() - 1;
+    train.tag(pool, last) / 2 + train.chain_len(pool, last)
 }
 
 /// Where the fragment at a place begins.
@@ -106,29 +113,36 @@ fn trim_after(pool: &mut Pool, train: &mut Train, front: Option<QueuedPlace>, n:
     insert_after(pool, train, front, chain, moved);
 }
 
-/// What lies below an offset goes from the fragments after a place: whole fragments, and the front of one.
-fn clear(pool: &mut Pool, train: &mut Train, front: Option<QueuedPlace>, end: u32)
+/// What lies below an offset goes from the fragments after a place: whole fragments, and the front of one. Answers how
+/// many bytes that are.
+fn clear(pool: &mut Pool, train: &mut Train, front: Option<QueuedPlace>, end: u32) -> u32
     requires front { IsFront pool.old train.old front }
     requires held { IsHeld pool.old train.old }
     requires small { AllEnd IP_MAX_DATA (fragments pool.old train.old) }
+    requires few { bytes_held (fragments pool.old train.old) ≤ IP_MAX_DATA }
     ensures queue { queued pool.new train.new ≡
         take (after front) (queued pool.old train.old) ++ cut_to end (drop (after front) (queued pool.old train.old)) }
     ensures front { IsFront pool.new train.new front }
     ensures held { IsHeld pool.new train.new }
     ensures len { train.new.len ≤ train.old.len }
+    ensures gone { result + bytes_held (fragments pool.new train.new) ≡ bytes_held (fragments pool.old train.old) }
     ensures moves { Moves pool.old (numbers pool.old train.old) pool.new (numbers pool.new train.new) }
 {
+    let mut gone = 0;
     'fragments: while let Some(at) = next_after(pool, train, front) {
         let begin = begins(pool, train, at);
         if end <= begin {
-            return;
+            return gone;
         }
-        if end < ends(pool, train, at) {
+        let limit = ends(pool, train, at);
+        if end < limit {
             trim_after(pool, train, front, end - begin);
-            return;
+            return gone + (end - begin);
         }
         free_after(pool, train, front);
+        gone += limit - begin;
     }
+    gone
 }
 
 /// The tag of a fragment: its offset times 2, plus 1 where more come after it.
@@ -140,7 +154,8 @@ fn tag_of(offset: u32, more: bool) -> u32
     if more { 2 * offset + 1 } else { 2 * offset }
 }
 
-/// Puts what is left of a chain after a place, and takes what it holds from the fragments after it.
+/// Puts what is left of a chain after a place, and takes what it holds from the fragments after it. Answers how many
+/// bytes these lose.
 fn settle(
     pool: &mut Pool,
     train: &mut Train,
@@ -150,10 +165,11 @@ fn settle(
     skip: u32,
     len: u32,
     more: bool,
-)
+) -> u32
     requires front { IsFront pool.old train.old front }
     requires held { IsHeld pool.old train.old }
     requires small { AllEnd IP_MAX_DATA (fragments pool.old train.old) }
+    requires few { bytes_held (fragments pool.old train.old) ≤ IP_MAX_DATA }
     requires live { IsLive pool.old chain }
     requires headed { (chain_of pool.old chain).front.header ≡ true }
     requires apart { times chain (numbers pool.old train.old) ≡ 0 }
@@ -165,12 +181,15 @@ fn settle(
         ++ cut skip f ∷ cut_to (queued_end f) (drop (after front) (queued pool.old train.old)) }
     ensures front { IsFront pool.new train.new front }
     ensures held { IsHeld pool.new train.new }
+    ensures gone { result + bytes_held (fragments pool.new train.new)
+        ≡ bytes_held (fragments pool.old train.old) + (len - skip) }
     ensures moves { Moves pool.old (chain ∷ numbers pool.old train.old) pool.new (numbers pool.new train.new) }
 {
     let tag = tag_of(offset + skip, more);
     trim_front(pool, &chain, skip);
-    clear(pool, train, front, offset + len);
+    let gone = clear(pool, train, front, offset + len);
     insert_after(pool, train, front, chain, tag);
+    gone
 }
 
 /// What became of a fragment that was laid among those of its datagram.
@@ -183,76 +202,104 @@ pub(crate) enum Laying {
     Whole(u32),
 }
 
-/// Whether the fragments are a whole datagram: they follow one another from 0, and no more come after the last. Those in
-/// front of a place were passed before.
-fn whole_after(pool: &Pool, train: &Train, before: Before) -> Laying
-    requires queue { IsQueue pool.now train.now }
-    requires front { IsFront pool.now train.now before.front }
-    requires more { after before.front < train.now.len }
-    requires end { before.end ≡ reach 0 (take (after before.front) (fragments pool.now train.now)) }
-    requires gapless { before.gapless ≡ is_gapless 0 (take (after before.front) (fragments pool.now train.now)) }
+/// Whether the fragments are a whole datagram: no more come after the last, and together they have as many bytes as lie
+/// below its end, so that none is missing.
+fn whole(pool: &Pool, datagram: &Datagram) -> Laying
+    requires queue { IsQueue pool.now datagram.now.fragments }
+    requires some { 0 < datagram.now.fragments.len }
+    requires counted { datagram.now.bytes ≡ bytes_held (fragments pool.now datagram.now.fragments) }
     ensures left { is_left result ≡ true }
-    ensures whole { TellsWhole (map_of (fragments pool.now train.now)) result }
+    ensures whole { TellsWhole (map_of (fragments pool.now datagram.now.fragments)) result }
 {
-    if !before.gapless {
+    let train = &datagram.fragments;
+    if train.tag(pool, train.len() - 1) % 2 == 1 {
         return Laying::Waits;
     }
-    let Some(mut at) = next_after(pool, train, before.front) else {
+    if datagram.bytes < end_of_last(pool, train) {
         return Laying::Waits;
-    };
-    let mut end = before.end;
-    'fragments: loop {
-        let tag = train.tag_at(pool, at);
-        if tag / 2 != end {
-            return Laying::Waits;
-        }
-        end += train.len_at(pool, at);
-        let Some(next) = train.next(pool, at) else {
-            if tag % 2 == 1 {
-                return Laying::Waits;
-            }
-            return Laying::Whole(end);
-        };
-        at = next;
     }
+    Laying::Whole(datagram.bytes)
 }
 
-/// Lays a fragment among those held: what precedes it keeps its bytes, what follows loses its own to it. A fragment of which
-/// nothing is left is freed, and those held stay as they were. The fragments are walked once: to the place, and on from
-/// there to the first gap where there is none in front.
-pub(crate) fn lay(
+/// Puts a fragment after all others, which end no later than it begins.
+fn append(pool: &mut Pool, datagram: &mut Datagram, chain: Chain, offset: u32, more: bool)
+    requires queue { IsQueue pool.old datagram.old.fragments }
+    requires counted { datagram.old.bytes ≡ bytes_held (fragments pool.old datagram.old.fragments) }
+    requires live { IsLive pool.old chain }
+    requires headed { (chain_of pool.old chain).front.header ≡ true }
+    requires apart { times chain (numbers pool.old datagram.old.fragments) ≡ 0 }
+    requires some { 0 < length (string (chain_of pool.old chain)) }
+    requires small { offset + length (string (chain_of pool.old chain)) ≤ IP_MAX_DATA }
+    requires past { reach 0 (fragments pool.old datagram.old.fragments) ≤ offset }
+    ensures { IsLaid pool.old datagram.old chain (arrived pool.old chain offset more) true pool.new datagram.new }
+{
+    datagram.bytes += pool.len(&chain);
+    let end = datagram.fragments.len();
+    datagram
+        .fragments
+        .insert(pool, end, chain, tag_of(offset, more));
+}
+
+/// Lays a fragment at its place, to which the fragments are walked: what precedes it keeps its bytes, what follows loses
+/// its own to it. A fragment of which nothing is left is freed, and those held stay as they were. Answers whether
+/// something was left.
+fn lay_between(
     pool: &mut Pool,
-    train: &mut Train,
+    datagram: &mut Datagram,
     chain: Chain,
     offset: u32,
     more: bool,
-) -> Laying
-    requires queue { IsQueue pool.old train.old }
+) -> bool
+    requires queue { IsQueue pool.old datagram.old.fragments }
+    requires counted { datagram.old.bytes ≡ bytes_held (fragments pool.old datagram.old.fragments) }
     requires live { IsLive pool.old chain }
     requires headed { (chain_of pool.old chain).front.header ≡ true }
-    requires apart { times chain (numbers pool.old train.old) ≡ 0 }
+    requires apart { times chain (numbers pool.old datagram.old.fragments) ≡ 0 }
     requires some { 0 < length (string (chain_of pool.old chain)) }
     requires small { offset + length (string (chain_of pool.old chain)) ≤ IP_MAX_DATA }
-    ensures covered { is_covered (map_of (fragments pool.old train.old))
-        (fragment_of (arrived pool.old chain offset more)) ≡ not (is_left result) }
-    ensures map { OnTrue (is_left result) (map_of (fragments pool.new train.new)
-        ≡ overlay (map_of (fragments pool.old train.old)) (fragment_of (arrived pool.old chain offset more))) }
-    ensures whole { TellsWhole (map_of (fragments pool.new train.new)) result }
-    ensures laid { OnTrue (is_left result) (queued pool.new train.new
-        ≡ laid (arrived pool.old chain offset more) (queued pool.old train.old)) }
-    ensures none { OnFalse (is_left result) (queued pool.new train.new ≡ queued pool.old train.old) }
-    ensures queue { IsQueue pool.new train.new }
-    ensures moves { Moves pool.old (chain ∷ numbers pool.old train.old) pool.new (numbers pool.new train.new) }
+    ensures { IsLaid pool.old datagram.old chain (arrived pool.old chain offset more) result pool.new datagram.new }
 {
     let len = pool.len(&chain);
+    let train = &mut datagram.fragments;
     let before = find(pool, train, offset);
     let skip = before.end.saturating_sub(offset);
     if len <= skip {
         pool.free_chain(chain);
+        return false;
+    }
+    let gone = settle(pool, train, chain, before.front, offset, skip, len, more);
+    datagram.bytes = datagram.bytes + (len - skip) - gone;
+    true
+}
+
+/// Lays a fragment among those held. Nearly every fragment comes in order: it goes after the last, whose end is looked at
+/// first, and so it passes none of the others.
+pub(crate) fn lay(
+    pool: &mut Pool,
+    datagram: &mut Datagram,
+    chain: Chain,
+    offset: u32,
+    more: bool,
+) -> Laying
+    requires queue { IsQueue pool.old datagram.old.fragments }
+    requires counted { datagram.old.bytes ≡ bytes_held (fragments pool.old datagram.old.fragments) }
+    requires live { IsLive pool.old chain }
+    requires headed { (chain_of pool.old chain).front.header ≡ true }
+    requires apart { times chain (numbers pool.old datagram.old.fragments) ≡ 0 }
+    requires some { 0 < length (string (chain_of pool.old chain)) }
+    requires small { offset + length (string (chain_of pool.old chain)) ≤ IP_MAX_DATA }
+    ensures laid { IsLaid pool.old datagram.old chain (arrived pool.old chain offset more) (is_left result)
+        pool.new datagram.new }
+    ensures whole { TellsWhole (map_of (fragments pool.new datagram.new.fragments)) result }
+{
+    if end_of_last(pool, &datagram.fragments) <= offset {
+        append(pool, datagram, chain, offset, more);
+        return whole(pool, datagram);
+    }
+    if !lay_between(pool, datagram, chain, offset, more) {
         return Laying::Covered;
     }
-    settle(pool, train, chain, before.front, offset, skip, len, more);
-    whole_after(pool, train, before)
+    whole(pool, datagram)
 }
 
 /// Joins the fragments, in their order, as one chain, as `m_cat` does.

@@ -163,6 +163,7 @@ pub(crate) fn begin(table: &mut Vec<Datagram>, key: FragmentKey, holder: Chain)
         holder,
         ticks: FRAGMENT_TICKS as u8,
         fragments: Train::new(),
+        bytes: 0,
     });
 }
 

@@ -1,5 +1,5 @@
 -- Words of the crate's own for the walks over the fragments of a datagram (this project's own).
-use Rattle.std.specs.Prelude.{ℕ, ◌+◌, ◌-◌, ◌<◌, ◌≤◌, Bool, true, false, ◌==◌, ◌&&◌, nat_le, if◌then◌else◌, List, [], ◌∷◌, ◌++◌, length, slice_index_or, drop, Option, None, Some}
+use Rattle.std.specs.Prelude.{ℕ, ◌+◌, ◌-◌, ◌<◌, ◌≤◌, Bool, true, false, nat_le, if◌then◌else◌, List, [], ◌∷◌, ◌++◌, length, slice_index_or, drop, Option, None, Some}
 use Rattle.std.specs.List.{AllByRecursion}
 use Rattle.chain_ops.specs.Weights.{AreFit}
 use Rattle.flat_model.specs.Amounts.Weight.{nothing}
@@ -30,11 +30,6 @@ after (Some at) = at.index + 1
 abbrev pub reach : ℕ → List Fragment → ℕ
 reach low [] = low
 reach low (f ∷ fs) = reach (end_of f) fs
-
--- each begins where the one before ends, the first at low
-abbrev pub is_gapless : ℕ → List Fragment → Bool
-is_gapless low [] = true
-is_gapless low (f ∷ fs) = (f.offset == low) && is_gapless (end_of f) fs
 
 -- all begin at most at a;  all begin above a
 abbrev pub AllUpto : ℕ → List Fragment → Type 0

@@ -1,5 +1,4 @@
-use Rattle.std.proofs.Common.{◌≡◌, ◌+◌, ◌/◌, ℕ, Bool, ◌&&◌, eqb, drop, refl, sym, ap, ◌∙◌, subst, arith}
-use Rattle.std.proofs.lemmas.Bool.{and_left}
+use Rattle.std.proofs.Common.{◌+◌, ◌/◌, ℕ, drop, refl, sym, subst, arith}
 use Rattle.ip_reass.specs.Fragments.{fragments}
 use Rattle.ip_reass.specs.Inside.Walks.{AllAbove}
 use Rattle.ip_reass.proofs.Walks.{Found, found_none, found_more, length-fragments, starts_at, ends_at, end_at, above_from}
@@ -26,25 +25,14 @@ overflow_add-before c =
       end_at 65515 (fragments c.args.pool.now c.args.train.now) c.in-Some.at.index c.requires.small (omega arith),
     )
 
--- one more fragment was passed
-passed : (c : goal.After-len_at) (t : Bool) → t ≡ (c.fragments.before.gapless && eqb (c.tag_at-begin.result / 2) c.fragments.before.end)
-    → Found c.args.offset (c.in-Some.at.index + 1) (c.tag_at-begin.result / 2 + c.len_at.result) t (fragments c.args.pool.now c.args.train.now)
-passed c t is_t =
+pub fragments-preserved : goal.fragments-preserved
+fragments-preserved c =
     let l = length-fragments c.args.pool.now c.args.train.now c.requires.held in
     let more = c.in-Some.ensures.1.within in
-    found_more c.args.offset c.in-Some.at.index (c.in-Some.at.index + 1) (c.tag_at-begin.result / 2) c.fragments.before.end (c.tag_at-begin.result / 2 + c.len_at.result) c.fragments.before.gapless t (fragments c.args.pool.now c.args.train.now)
-    (subst (λ (n : ℕ). Found c.args.offset n c.fragments.before.end c.fragments.before.gapless (fragments c.args.pool.now c.args.train.now)) (sym c.in-Some.ensures.0) c.fragments.invariant.found) (omega arith)
-    (starts_at c.args.pool.now c.args.train.now c.in-Some.at.index c.tag_at-begin.result c.requires.held more c.tag_at-begin.ensures) c.if-begin-offset.false
-    (ends_at c.args.pool.now c.args.train.now c.in-Some.at.index c.tag_at-begin.result c.len_at.result c.requires.held more c.tag_at-begin.ensures c.len_at.ensures) is_t refl
-
-pub fragments-preserved-then-before : goal.fragments-preserved-then-before
-fragments-preserved-then-before c = record {
-  place = c.in-Some.ensures.1;
-  found = passed c.before _ (sym (ap (λ (b : Bool). b && eqb (c.tag_at-begin.result / 2) c.fragments.before.end) c.if-before.true));
-}
-
-pub fragments-preserved : goal.fragments-preserved
-fragments-preserved c = record {
-  place = c.in-Some.ensures.1;
-  found = passed c.before _ (c.if-before.false ∙ sym (and_left _ _ c.if-before.false));
-}
+    record {
+      place = c.in-Some.ensures.1;
+      found = found_more c.args.offset c.in-Some.at.index (c.in-Some.at.index + 1) (c.tag_at-begin.result / 2) c.fragments.before.end (c.tag_at-begin.result / 2 + c.len_at.result) (fragments c.args.pool.now c.args.train.now)
+          (subst (λ (n : ℕ). Found c.args.offset n c.fragments.before.end (fragments c.args.pool.now c.args.train.now)) (sym c.in-Some.ensures.0) c.fragments.invariant.found) (omega arith)
+          (starts_at c.args.pool.now c.args.train.now c.in-Some.at.index c.tag_at-begin.result c.requires.held more c.tag_at-begin.ensures) c.if-begin-offset.false
+          (ends_at c.args.pool.now c.args.train.now c.in-Some.at.index c.tag_at-begin.result c.len_at.result c.requires.held more c.tag_at-begin.ensures c.len_at.ensures) refl;
+    }

@@ -7,7 +7,7 @@ use Rattle.ip_reass.proofs.queue.find.Given as goal
 abbrev pub invariant-fragments : goal.invariant-fragments
 invariant-fragments l = record {
   place : IsFront l.pool l.train l.before.front;
-  found : Found l.offset (after l.before.front) l.before.end l.before.gapless (fragments l.pool l.train);
+  found : Found l.offset (after l.before.front) l.before.end (fragments l.pool l.train);
 }
 
 abbrev pub decreases-fragments : goal.decreases-fragments

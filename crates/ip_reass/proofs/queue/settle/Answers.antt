@@ -1,10 +1,12 @@
-use Rattle.std.proofs.Common.{◌+◌, ℕ, map, subst, ap, ◌∙◌, sym}
-use Rattle.mbuf_chain.specs.Chain.{ChainView, chain_of}
+use Rattle.std.proofs.Common.{◌≡◌, ◌+◌, ◌-◌, ◌++◌, ◌∷◌, ℕ, List, length, map, take, drop, subst, ap, ◌∙◌, sym, arith}
+use Rattle.mbuf_chain.specs.Chain.{ChainView, chain_of, flat_bytes}
+use Rattle.mbuf_chain.specs.Train.{QueuedPacket}
 use Rattle.chain_ops.specs.Trims.{without_first}
-use Rattle.ip_reass.specs.Fragments.{AllEnd, fragment_in}
+use Rattle.ip_reass.specs.Fragments.{AllEnd, bytes_held, cut, cut_to, fragment_in, fragments, queued, queued_of}
 use Rattle.ip_reass.specs.Inside.Walks.{arrived, after}
 use Rattle.ip_reass.proofs.Fronts.{front_beside, front_within}
 use Rattle.ip_reass.proofs.Steps.{Changed, changed}
+use Rattle.ip_reass.proofs.Counted.{held_between}
 use Rattle.ip_reass.proofs.Lays.{Waits, waits, Settled, settled}
 use Rattle.ip_reass.proofs.queue.settle.Goals as goal
 
@@ -12,23 +14,23 @@ use Rattle.ip_reass.proofs.queue.settle.Goals as goal
 change : (c : goal.After-clear-arg-2-1) → Changed c.args.pool.now c.args.train.now c.args.chain (record (chain_of c.args.pool.now c.args.chain) { entries = without_first c.args.skip (chain_of c.args.pool.now c.args.chain).entries }) c.trim_front.new.pool
 change c = changed c.args.pool.now c.trim_front.new.pool c.args.train.now c.args.chain _ c.requires.live c.requires.apart c.requires.held c.trim_front.ensures
 
-pub clear-requires-clause-held : goal.clear-requires-clause-held
-clear-requires-clause-held c = (change c).held
+pub clear-gone-requires-clause-held : goal.clear-gone-requires-clause-held
+clear-gone-requires-clause-held c = (change c).held
 
-pub clear-requires-clause-small : goal.clear-requires-clause-small
-clear-requires-clause-small c = subst (AllEnd 65515) (sym (ap (map fragment_in) (change c).queued_packets_are)) c.requires.small
+pub clear-gone-requires-clause-small : goal.clear-gone-requires-clause-small
+clear-gone-requires-clause-small c = subst (AllEnd 65515) (sym (ap (map fragment_in) (change c).queued_packets_are)) c.requires.small
 
-wait : (c : goal.After-insert_after-arg-2-1) → Waits c.args.chain (record (chain_of c.args.pool.now c.args.chain) { entries = without_first c.args.skip (chain_of c.args.pool.now c.args.chain).entries }) c.clear.new.pool c.clear.new.train
+wait : (c : goal.After-insert_after-arg-2-1) → Waits c.args.chain (record (chain_of c.args.pool.now c.args.chain) { entries = without_first c.args.skip (chain_of c.args.pool.now c.args.chain).entries }) c.clear-gone.new.pool c.clear-gone.new.train
 wait c =
     let v : ChainView = record (chain_of c.args.pool.now c.args.chain) { entries = without_first c.args.skip (chain_of c.args.pool.now c.args.chain).entries } in
     let change = changed c.args.pool.now c.trim_front.new.pool c.args.train.now c.args.chain v c.requires.live c.requires.apart c.requires.held c.trim_front.ensures in
-    waits c.trim_front.new.pool c.clear.new.pool c.args.train.now c.clear.new.train c.args.chain v change.live change.shown change.apart c.clear.ensures.moves
+    waits c.trim_front.new.pool c.clear-gone.new.pool c.args.train.now c.clear-gone.new.train c.args.chain v change.live change.shown change.apart c.clear-gone.ensures.moves
 
 pub insert_after-requires-clause-front : goal.insert_after-requires-clause-front
-insert_after-requires-clause-front c = c.clear.ensures.front
+insert_after-requires-clause-front c = c.clear-gone.ensures.front
 
-pub clear-requires-clause-front : goal.clear-requires-clause-front
-clear-requires-clause-front c = front_beside c.args.pool.now c.trim_front.new.pool c.args.train.now c.args.front ((change c).queued_packets_are) c.requires.front
+pub clear-gone-requires-clause-front : goal.clear-gone-requires-clause-front
+clear-gone-requires-clause-front c = front_beside c.args.pool.now c.trim_front.new.pool c.args.train.now c.args.front ((change c).queued_packets_are) c.requires.front
 
 pub insert_after-requires-clause-live : goal.insert_after-requires-clause-live
 insert_after-requires-clause-live c = (wait c).live
@@ -41,13 +43,37 @@ insert_after-requires-clause-apart c = (wait c).apart
 
 all : (c : goal.After-insert_after) → Settled c.args.pool.now c.args.train.now (after c.args.front) c.args.skip c.args.chain (arrived c.args.pool.now c.args.chain c.args.offset c.args.more) c.insert_after.new.pool c.insert_after.new.train
 all c =
-    settled c.args.pool.now c.trim_front.new.pool c.clear.new.pool c.insert_after.new.pool c.args.train.now c.clear.new.train c.insert_after.new.train c.args.chain (after c.args.front) c.args.skip c.args.offset (c.args.offset + c.args.len) c.tag_of-tag.result c.args.more
+    settled c.args.pool.now c.trim_front.new.pool c.clear-gone.new.pool c.insert_after.new.pool c.args.train.now c.clear-gone.new.train c.insert_after.new.train c.args.chain (after c.args.front) c.args.skip c.args.offset (c.args.offset + c.args.len) c.tag_of-tag.result c.args.more
     (front_within c.args.pool.now c.args.train.now c.args.front c.requires.front) c.requires.held
     (changed c.args.pool.now c.trim_front.new.pool c.args.train.now c.args.chain _ c.requires.live c.requires.apart c.requires.held c.trim_front.ensures)
-    c.clear.ensures.queue c.clear.ensures.moves (ap (λ (n : ℕ). c.args.offset + n) c.requires.len) c.tag_of-tag.ensures.half c.tag_of-tag.ensures.odd c.insert_after.ensures.queued_packets c.insert_after.ensures.moves
+    c.clear-gone.ensures.queue c.clear-gone.ensures.moves (ap (λ (n : ℕ). c.args.offset + n) c.requires.len) c.tag_of-tag.ensures.half c.tag_of-tag.ensures.odd c.insert_after.ensures.queued_packets c.insert_after.ensures.moves
 
 pub returns-clause-queue : goal.returns-clause-queue
 returns-clause-queue c = (all c).queue_is
 
 pub returns-clause-moves : goal.returns-clause-moves
 returns-clause-moves c = (all c).moves
+
+counted : (c : goal.After-insert_after) → bytes_held (fragments c.insert_after.new.pool c.insert_after.new.train) ≡ bytes_held (fragments c.clear-gone.new.pool c.clear-gone.new.train) + (length (flat_bytes (chain_of c.args.pool.now c.args.chain).entries) - c.args.skip)
+counted c =
+    let is : queued c.trim_front.new.pool c.args.train.now ≡ queued c.args.pool.now c.args.train.now = ap (map queued_of) (changed c.args.pool.now c.trim_front.new.pool c.args.train.now c.args.chain _ c.requires.live c.requires.apart c.requires.held c.trim_front.ensures).queued_packets_are in
+    held_between c.clear-gone.new.pool c.insert_after.new.pool c.clear-gone.new.train c.insert_after.new.train c.args.skip (take (after c.args.front) (queued c.args.pool.now c.args.train.now)) (cut_to (c.args.offset + c.args.len) (drop (after c.args.front) (queued c.args.pool.now c.args.train.now)))
+    (arrived c.args.pool.now c.args.chain c.args.offset c.args.more) (c.clear-gone.ensures.queue ∙ λ j. take (after c.args.front) (is j) ++ cut_to (c.args.offset + c.args.len) (drop (after c.args.front) (is j)))
+    ((all c).queue_is ∙ ap (λ (n : ℕ). take (after c.args.front) (queued c.args.pool.now c.args.train.now) ++ cut c.args.skip (arrived c.args.pool.now c.args.chain c.args.offset c.args.more) ∷ cut_to (c.args.offset + n) (drop (after c.args.front) (queued c.args.pool.now c.args.train.now))) (sym c.requires.len))
+
+-- the fragments held weren't touched when the chain was trimmed
+kept : (c : goal.After-clear-arg-2-1) → bytes_held (fragments c.trim_front.new.pool c.args.train.now) ≡ bytes_held (fragments c.args.pool.now c.args.train.now)
+kept c = ap (λ (cs : List QueuedPacket). bytes_held (map fragment_in cs)) (change c).queued_packets_are
+
+pub clear-gone-requires-clause-few : goal.clear-gone-requires-clause-few
+clear-gone-requires-clause-few c = omega (arith, kept c, c.requires.few)
+
+pub returns-clause-gone : goal.returns-clause-gone
+returns-clause-gone c =
+    omega (
+      arith,
+      counted c,
+      c.clear-gone.ensures.gone,
+      ap (λ (cs : List QueuedPacket). bytes_held (map fragment_in cs)) (changed c.args.pool.now c.trim_front.new.pool c.args.train.now c.args.chain _ c.requires.live c.requires.apart c.requires.held c.trim_front.ensures).queued_packets_are,
+      c.requires.len,
+    )
