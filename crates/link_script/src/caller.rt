@@ -119,10 +119,13 @@ fn put_answer<M: Machine>(
     }
 }
 
-/// A machine, and the memory for the work on one line.
-pub(crate) struct Caller<M> {
-    pub(crate) machine: M,
-    pub(crate) buffers: LineBuffers,
+/// A machine, and the memory for the work on one line. A line makes the call that it asks for, and its answer is the
+/// text of the reply, or `? line` if it asks for nothing. The machine must be spent by `end`.
+pub struct Caller<M> {
+    /// What the calls are made of.
+    pub machine: M,
+    /// Where the bytes of a line and the digits of its reply stand.
+    pub buffers: LineBuffers,
 }
 
 impl<M: Machine> Answers<TEXT> for Caller<M> {

@@ -13,8 +13,11 @@ mod request;
 mod runs;
 mod stack;
 
+pub use caller::Caller;
 pub use command_line::program;
 pub use flat_model::Config;
 pub use laws::{lines_law, prints_law};
+pub use machine::Machine;
+pub use reply::TEXT;
 pub use runs::run;
 pub use script_loop::{RunFault, Silent, Sink, Source};

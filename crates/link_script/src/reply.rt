@@ -12,7 +12,7 @@ use params::LONGEST_REQUEST;
 use script_loop::{Buffer, HELD, put_hex, put_number};
 
 /// Room for the longest line of reply, after those that are held.
-pub(crate) const TEXT: usize = HELD + LONGEST_REQUEST as usize;
+pub const TEXT: usize = HELD + LONGEST_REQUEST as usize;
 
 fn put_address(text: &mut Buffer<TEXT>, ip: u32)
     requires { length text.old + 43 ≤ TEXT }

@@ -1,0 +1,102 @@
+//! The program that plays scripts for people: it reads its command line, opens the scripts, and has `play_script` play each on
+//! a machine of its own.
+#![tactic(auto)]
+
+use clap::{Arg, ArgAction, ArgMatches, Command};
+use play_script::{Config, Played, Silent, Style, play};
+use std::alloc::{AllocError, Global};
+use std::process::ExitCode;
+use std::{env, fs, io};
+
+/// The machine that a script is played on.
+const MACHINE: Config = Config {
+    addr: 0x0a00_0001,
+    bcast: 0x0a00_00ff,
+    mtu: 1500,
+    mbufs: 512,
+    clusters: 64,
+    first_id: 1,
+};
+
+/// The status of a script that can't be opened.
+const UNREAD: u8 = 4;
+
+/// The command line.
+fn command<'a>(alloc: Global) -> Result<Command<'a>, AllocError> {
+    let quiet = Arg::new(alloc, "quiet")
+        .short('q')
+        .long("quiet")
+        .help("Print replies and differences alone, without the lines")
+        .action(ArgAction::SetTrue);
+    let files = Arg::new(alloc, "FILE")
+        .help("Scripts, each played on a new machine; '-' or none: standard input")
+        .action(ArgAction::Append);
+    Command::new(alloc, "bsdplay")
+        .version("0.1.0")
+        .about("Plays scripts of socket calls, packets and ticks, and says what came of each line")
+        .arg(quiet)?
+        .arg(files)
+}
+
+/// Says why a script ended early, or why its expectations failed.
+fn report(rt: &HostRuntime, name: &str, played: &Played) -> io::Result<()> {
+    if let Err(fault) = played.outcome {
+        eprintln!(rt; "bsdplay: {name}: {fault}")?;
+    }
+    Ok(())
+}
+
+/// Plays standard input.
+fn play_input(rt: &HostRuntime, quiet: bool) -> io::Result<u8> {
+    let (mut reader, mut writer) = (Silent(rt.stdin()), Silent(rt.stdout()));
+    let style = Style { quiet, name: b"-" };
+    let played = play(rt.alloc(), MACHINE, style, &mut reader, &mut writer);
+    report(rt, "-", &played)?;
+    Ok(played.status())
+}
+
+/// Plays a script that stands in a file, or standard input if its name is `-`.
+fn play_file(rt: &HostRuntime, name: &str, quiet: bool) -> io::Result<u8> {
+    if name == "-" {
+        return play_input(rt, quiet);
+    }
+    let Ok(file) = fs::open(rt, name) else {
+        eprintln!(rt; "bsdplay: {name}: it can't be opened")?;
+        return Ok(UNREAD);
+    };
+    let (mut reader, mut writer) = (Silent(file), Silent(rt.stdout()));
+    let style = Style {
+        quiet,
+        name: name.as_bytes(),
+    };
+    let played = play(rt.alloc(), MACHINE, style, &mut reader, &mut writer);
+    report(rt, name, &played)?;
+    Ok(played.status())
+}
+
+/// Plays all scripts, and answers the greatest of their statuses.
+fn play_all(rt: &HostRuntime, found: &ArgMatches<'_>) -> io::Result<u8> {
+    let quiet = found.get_flag("quiet");
+    let Some(names) = found.get_strs("FILE") else {
+        return play_input(rt, quiet);
+    };
+    let mut worst = 0;
+    for name in names {
+        let status = play_file(rt, name, quiet)?;
+        if status > worst {
+            worst = status;
+        }
+    }
+    Ok(worst)
+}
+
+fn main(rt: HostRuntime) -> anyhow::Result<ExitCode> {
+    let words: Vec<String> = env::args(&rt)?.collect(rt.alloc())?;
+    match command(rt.alloc())?.try_get_matches_from(words.as_slice()) {
+        Ok(found) => Ok(ExitCode::from(play_all(&rt, &found)?)),
+        Err(error) => {
+            error.print(&rt)?;
+            Ok(ExitCode::from(error.exit_code() as u8))
+        }
+    }
+}

@@ -1,0 +1,4 @@
+mod SpacedLemmas
+mod TextLemmas
+mod FitLemmas
+mod RunLemmas

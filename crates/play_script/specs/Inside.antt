@@ -1,0 +1,16 @@
+-- What only this crate reads.
+use Rattle.std.specs.Prelude.{ℕ, Bool, true, false, List, Option, Some, None}
+use Rattle.play_script.specs.Lines.{Reading, Nothing, TooLong, Asks}
+use Rattle.play_script.specs.declared.line.Kind.{Kind}
+use Rattle.play_script.specs.declared.line.Kind.TheVariants as kind
+
+-- a text, if there is one
+abbrev pub if_there : Bool → List ℕ → Option (List ℕ)
+if_there true text = Some text
+if_there false text = None
+
+-- a line of some kind, with its words and those that are expected
+abbrev pub is_reading : Kind → List ℕ → List ℕ → Reading
+is_reading kind.Nothing words wanted = Nothing
+is_reading kind.TooLong words wanted = TooLong
+is_reading (kind.Asks expects) words wanted = Asks words (if_there expects wanted)

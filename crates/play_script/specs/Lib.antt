@@ -1,0 +1,4 @@
+pub mod Lines
+pub mod Outcomes
+pub mod Tells
+pub mod Inside

@@ -1,0 +1,116 @@
+-- What a player of commented scripts may tell for a line, by a machine's steps (this project's own).
+use Rattle.std.specs.Prelude.{◌≡◌, ◌⊎◌, ℕ, zero, suc, ◌&&◌, Bool, true, false, List, [], ◌++◌, if◌then◌else◌, codes, decimal, Option, Some, None, Result, Ok, Err}
+use Rattle.flat_model.specs.Machine.Count.{more_by}
+use Rattle.flat_model.specs.Machine.Event.{Event, Reply, Tick, Ask_counters, Done, Counted}
+use Rattle.flat_model.specs.Machine.State.{State}
+use Rattle.flat_model.specs.Scripts.Script as script
+use Rattle.flat_model.specs.Scripts.Script.{all_events}
+use Rattle.flat_model.specs.declared.counters.Counters.{Counters}
+use Rattle.script_loop.specs.declared.fault.RunFault.{RunFault}
+use Rattle.script_loop.specs.declared.fault.RunFault.TheVariants.{Read, Write, Memory, TooManyLines, BadSizes, BadConfig}
+use Rattle.play_script.specs.Lines.{Reading, Nothing, TooLong, Asks, IsTicks, reading}
+use Rattle.play_script.specs.Outcomes.{outcome, meets}
+
+-- What a player has in hand: its machine; how many lines it has seen; whether all of them could be read and all expectations
+-- held; and how it prints: replies and differences alone if it's quiet, and differences under the script's name.
+pub record Play : Type 0 where
+  pub machine : State
+  pub number : ℕ
+  pub sound : Bool
+  pub quiet : Bool
+  pub name : List ℕ
+
+-- before the first line
+abbrev pub started : State → Bool → List ℕ → Play
+started machine quiet name = record { machine = machine; number = 0; sound = true; quiet = quiet; name = name }
+
+-- ---- texts
+
+-- where a line stands
+abbrev pub place_text : List ℕ → ℕ → List ℕ
+place_text name number = name ++ codes ":" ++ decimal number ++ codes ": "
+
+abbrev pub fault_text : List ℕ → ℕ → List ℕ → List ℕ
+fault_text name number what = place_text name number ++ what ++ codes "\n"
+
+-- the line with its number and what is told of it
+abbrev pub line_text : Bool → ℕ → List ℕ → List ℕ → List ℕ
+line_text true number plain told = told ++ codes "\n"
+line_text false number plain told = decimal number ++ codes "  " ++ plain ++ codes " => " ++ told ++ codes "\n"
+
+abbrev pub differs_text : List ℕ → ℕ → List ℕ → List ℕ → List ℕ
+differs_text name number wanted told =
+    place_text name number ++ codes "expected " ++ wanted ++ codes ", got " ++ told ++ codes "\n"
+
+abbrev pub difference_text : List ℕ → ℕ → Option (List ℕ) → List ℕ → List ℕ
+difference_text name number None told = []
+difference_text name number (Some wanted) told = if meets wanted told then [] else differs_text name number wanted told
+
+-- what is told of a line, and the difference if something else was expected
+abbrev pub told_text : Bool → List ℕ → ℕ → List ℕ → Option (List ℕ) → List ℕ → List ℕ
+told_text quiet name number plain wanted told = line_text quiet number plain told ++ difference_text name number wanted told
+
+-- the text of a line that asks for something, or for nothing
+abbrev pub printed : Bool → List ℕ → ℕ → List ℕ → Option (List ℕ) → Option (List ℕ) → List ℕ
+printed quiet name number plain wanted None = fault_text name number (codes "this asks for nothing")
+printed quiet name number plain wanted (Some told) = told_text quiet name number plain wanted told
+
+-- the line could be read, and what was told is what was expected
+abbrev pub is_sound : Option (List ℕ) → Option (List ℕ) → Bool
+is_sound wanted None = false
+is_sound None (Some told) = true
+is_sound (Some wanted) (Some told) = meets wanted told
+
+-- ---- steps
+
+-- the next line
+abbrev pub next_line : Play → Play
+next_line old = record old { number = more_by 1 old.number }
+
+module _ (step : State → Event → Reply → State → Type 0) where
+  -- so many ticks, one after another
+  abbrev pub Ticks : ℕ → State → State → Type 0
+  Ticks zero old new = new ≡ old
+  Ticks (suc n) old new = (mid : State) × Ticks n old mid × step mid Tick Done new
+
+  -- From old, a line may have this reply and lead to new: that of the event that it asks for, or of so many ticks. A line that
+  -- asks for neither changes nothing.
+  abbrev pub Does : State → List ℕ → Option Reply → State → Type 0
+  Does old plain (Some reply) new =
+      script.Answers all_events step old plain (Some reply) new
+      ⊎ ((n : ℕ) × IsTicks plain n × (reply ≡ Done) × Ticks n old new)
+  Does old plain None new = script.Answers all_events step old plain None new × ((n : ℕ) → ¬ IsTicks plain n)
+
+  -- what the counters of a machine are
+  abbrev pub Counts : State → Counters → Type 0
+  Counts s counters = step s Ask_counters (Counted counters) s
+
+  -- what a line of some kind may have as its text, where `now` has its number
+  abbrev pub TellsReading : Play → Reading → List ℕ → Play → Type 0
+  TellsReading now Nothing text new = (text ≡ []) × (new ≡ now)
+  TellsReading now TooLong text new =
+      (text ≡ fault_text now.name now.number (codes "the line is too long")) × (new ≡ record now { sound = false })
+  TellsReading now (Asks plain wanted) text new =
+      (reply : Option Reply) × (machine : State) × (before after : Counters)
+      × Does now.machine plain reply machine × Counts now.machine before × Counts machine after
+      × (text ≡ printed now.quiet now.name now.number plain wanted (outcome reply before after))
+      × (new ≡ record now { machine = machine; sound = now.sound && is_sound wanted (outcome reply before after) })
+
+  abbrev pub Tells : Play → List ℕ → List ℕ → Play → Type 0
+  Tells old line text new = TellsReading (next_line old) (reading line) text new
+
+-- ---- the status
+
+abbrev pub fault_status : RunFault → ℕ
+fault_status Memory = 3
+fault_status BadSizes = 3
+fault_status BadConfig = 3
+fault_status Read = 4
+fault_status Write = 4
+fault_status TooManyLines = 4
+
+-- 0 exactly if all lines were served, all of them asked for something, and all expectations held
+abbrev pub status_of : Result Unit RunFault → Bool → ℕ
+status_of (Ok done) true = 0
+status_of (Ok done) false = 1
+status_of (Err fault) sound = fault_status fault

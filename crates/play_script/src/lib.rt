@@ -1,0 +1,14 @@
+//! Scripts for people: the lines of `bsdudp run` with comments, several ticks in one line, and the replies that are
+//! expected. What is told of a line is its reply, and why packets were dropped.
+#![tactic(auto)]
+
+mod fits;
+mod line;
+mod outcome;
+mod player;
+mod print;
+mod runs;
+
+pub use flat_model::Config;
+pub use runs::{Played, Style, play};
+pub use script_loop::{RunFault, Silent, Sink, Source};

@@ -1,0 +1,107 @@
+//! What a line is made of: words, a comment, and what is expected.
+ghost use Rattle.std.specs.Prelude.{◌≡◌, ◌≤◌, ◌==◌, length, position, IfSome, option_map};
+ghost use Rattle.play_script.specs.Lines.{is_blank, spaced, without_comment, asked, expected, reading};
+ghost use Rattle.play_script.specs.Inside.{is_reading};
+
+use script_loop::Buffer;
+
+/// The most bytes that a line may have.
+pub(crate) const LONGEST: usize = 262_144;
+
+/// What a line is. Its words stand in a buffer beside it, and so does what is expected.
+#[derive(Clone, Copy)]
+pub(crate) enum Kind {
+    /// A blank line, or a comment alone.
+    Nothing,
+    /// It has more bytes than a line may have.
+    TooLong,
+    /// A line, and whether something is expected.
+    Asks(bool),
+}
+
+/// Whether a byte is a space, a tab or a carriage return.
+fn is_blank_byte(byte: u8) -> bool
+    ensures { result ≡ is_blank byte }
+{
+    byte == b' ' || (byte == b'\t' || byte == b'\r')
+}
+
+/// Puts the words of a text into an empty buffer, with one space between each two.
+pub(crate) fn put_spaced(text: &[u8], words: &mut Buffer<LONGEST>)
+    requires { length text.now ≤ LONGEST }
+    ensures { words.new ≡ spaced text.now }
+{
+    words.clear();
+    let mut gap = false;
+    for byte in text {
+        if is_blank_byte(*byte) {
+            gap = true;
+        } else {
+            if gap && !words.is_empty() {
+                words.push(b' ');
+            }
+            words.push(*byte);
+            gap = false;
+        }
+    }
+}
+
+/// Where a byte is first.
+fn place_of(text: &[u8], sought: u8) -> Option<usize>
+    ensures { result ≡ position (λ byte. byte == sought) text.now }
+{
+    text.iter().position(|byte| *byte == sought)
+}
+
+/// A line without the comment at its end, which begins with `#`.
+fn before_comment(line: &[u8]) -> &[u8]
+    ensures is { result.now ≡ without_comment line.now }
+    ensures shorter { length result.now ≤ length line.now }
+{
+    match place_of(line, b'#') {
+        Some(at) => &line[..at],
+        None => line,
+    }
+}
+
+/// Cuts a text at `=>`, which has to be its first `=`.
+fn cut(text: &[u8]) -> (&[u8], Option<&[u8]>)
+    ensures front { result.0.now ≡ asked text.now }
+    ensures back { option_map (λ t. t.now) result.1 ≡ expected text.now }
+    ensures shorter { length result.0.now ≤ length text.now }
+    ensures back_shorter { IfSome result.1 (λ t. length t.now ≤ length text.now) }
+{
+    match place_of(text, b'=') {
+        Some(at) => {
+            if at + 1 < text.len() && text[at + 1] == b'>' {
+                (&text[..at], Some(&text[at + 2..]))
+            } else {
+                (text, None)
+            }
+        }
+        None => (text, None),
+    }
+}
+
+/// Reads a line. Its words stand in `words` then, and those that are expected in `wanted`.
+pub(crate) fn read_line(
+    line: &[u8],
+    words: &mut Buffer<LONGEST>,
+    wanted: &mut Buffer<LONGEST>,
+) -> Kind
+    ensures { reading line.now ≡ is_reading result words.new wanted.new }
+{
+    if line.len() > LONGEST {
+        return Kind::TooLong;
+    }
+    let (front, back) = cut(before_comment(line));
+    put_spaced(front, words);
+    match back {
+        Some(text) => {
+            put_spaced(text, wanted);
+            Kind::Asks(true)
+        }
+        None if words.is_empty() => Kind::Nothing,
+        None => Kind::Asks(false),
+    }
+}

@@ -1,0 +1,256 @@
+//! What plays a script line by line.
+ghost use Rattle.std.specs.Prelude.{◌≡◌, ◌<◌, ◌≤◌, ◌++◌, ◌+◌, ℕ, [], length, List, Option, Some, MatchOption};
+ghost use Rattle.flat_model.specs.Machine.Event.{Reply};
+ghost use Rattle.flat_model.specs.declared.counters.Counters.{Counters};
+ghost use Rattle.flat_model.specs.Scripts.Texts.{answer_text};
+ghost use Rattle.play_script.specs.Lines.{IsTicks};
+ghost use Rattle.play_script.specs.Outcomes.{outcome, drops_text};
+ghost use Rattle.play_script.specs.Tells.{Play, Ticks, Does, Counts, Tells, told_text, printed, is_sound};
+ghost use Rattle.play_script.specs.Inside.{if_there};
+
+use crate::fits::meets;
+use crate::line::{Kind, LONGEST, read_line};
+use crate::outcome::{DROPS, TOLD, put_drops, put_told};
+use crate::print::{NAME, ROOM, put_difference, put_fault, put_line};
+use link_script::{Caller, Machine, TEXT};
+use script_loop::{Answers, Buffer, HELD, first_word, number, one};
+
+/// The most ticks that a line asks for.
+const MOST_TICKS: u32 = 65_535;
+
+/// The bytes of a buffer.
+fn bytes_of<const N: usize>(buffer: &Buffer<N>) -> &[u8]
+    ensures is { result.now ≡ buffer.now }
+    ensures most { length result.now ≤ N }
+{
+    let len = buffer.len();
+    &buffer.as_slice()[..len]
+}
+
+/// How many ticks a line asks for.
+fn ticks_of(words: &[u8]) -> Option<u32>
+    ensures { MatchOption result ((n : ℕ) → IsTicks words.now n → ⊥) (IsTicks words.now) }
+{
+    let (word, rest) = first_word(words);
+    if word != b"tick".as_slice() {
+        return None;
+    }
+    let count = number(one(rest)?, MOST_TICKS)?;
+    if count == 0 {
+        return None;
+    }
+    Some(count)
+}
+
+/// Lets so many ticks pass.
+fn tick_all<M: Machine>(machine: &mut M, count: u32)
+    ensures { Ticks M.may_step count (M.state machine.old) (M.state machine.new) }
+{
+    let mut passed = 0;
+    while passed < count {
+        machine.tick();
+        passed += 1;
+    }
+}
+
+/// Does what a line asks for, and puts the text of its answer into a buffer.
+fn do_line<M: Machine>(caller: &mut Caller<M>, words: &[u8], reply: &mut Buffer<TEXT>)
+    ensures { (answer : Option Reply)
+        × Does M.may_step (M.state caller.old.machine) words.now answer (M.state caller.new.machine)
+        × (reply.new ≡ answer_text answer) }
+{
+    reply.clear();
+    match ticks_of(words) {
+        Some(count) => {
+            tick_all(&mut caller.machine, count);
+            reply.append(b"ok\n");
+        }
+        None => caller.answer(words, reply),
+    }
+}
+
+/// Puts what is told of the text of an answer into a buffer, and answers whether it's a reply.
+fn tell_answer(answer: &[u8], drops: &[u8], told: &mut Buffer<TOLD>) -> bool
+    requires answer { length answer.now ≤ TEXT }
+    requires drops { length drops.now ≤ DROPS }
+    ensures { (reply : Option Reply) (before after : Counters) → answer.now ≡ answer_text reply → drops.now ≡ drops_text before after
+        → if_there result told.new ≡ outcome reply before after }
+{
+    if answer == b"? line\n".as_slice() || answer.is_empty() {
+        return false;
+    }
+    put_told(told, &answer[..answer.len() - 1], drops);
+    true
+}
+
+/// Memory for what comes of a line.
+#[derive(Drop)]
+pub(crate) struct Notes {
+    pub(crate) reply: Buffer<TEXT>,
+    pub(crate) drops: Buffer<DROPS>,
+    pub(crate) told: Buffer<TOLD>,
+}
+
+/// Does a line, puts what is told of it into the notes, and answers whether it asks for something.
+fn tell_line<M: Machine>(caller: &mut Caller<M>, words: &[u8], notes: &mut Notes) -> bool
+    ensures { (reply : Option Reply) × (before after : Counters)
+        × Does M.may_step (M.state caller.old.machine) words.now reply (M.state caller.new.machine)
+        × Counts M.may_step (M.state caller.old.machine) before × Counts M.may_step (M.state caller.new.machine) after
+        × (if_there result notes.new.told ≡ outcome reply before after) }
+{
+    let before = caller.machine.counters();
+    do_line(caller, words, &mut notes.reply);
+    let after = caller.machine.counters();
+    put_drops(&mut notes.drops, &before, &after);
+    tell_answer(
+        bytes_of(&notes.reply),
+        bytes_of(&notes.drops),
+        &mut notes.told,
+    )
+}
+
+/// The words of a line, and those that are expected.
+#[derive(Drop)]
+pub(crate) struct Desk {
+    pub(crate) words: Buffer<LONGEST>,
+    pub(crate) wanted: Buffer<LONGEST>,
+}
+
+/// How a player prints, and how many lines it has seen.
+#[derive(Drop)]
+pub(crate) struct Sheet {
+    pub(crate) quiet: bool,
+    pub(crate) name: Buffer<NAME>,
+    pub(crate) number: u64,
+}
+
+/// What plays a script.
+pub(crate) struct Player<M> {
+    pub(crate) caller: Caller<M>,
+    pub(crate) desk: Desk,
+    pub(crate) notes: Notes,
+    pub(crate) sheet: Sheet,
+    /// Whether all lines so far could be read, and all expectations held.
+    pub(crate) sound: bool,
+}
+
+/// Prints what is told of a line, and answers whether that's what was expected.
+fn print_told(
+    sheet: &Sheet,
+    desk: &Desk,
+    expects: bool,
+    told: &Buffer<TOLD>,
+    text: &mut Buffer<ROOM>,
+) -> bool
+    requires { length text.old ≤ HELD }
+    ensures text { text.new ≡ text.old ++ told_text sheet.now.quiet sheet.now.name sheet.now.number desk.now.words (if_there expects desk.now.wanted) told.now }
+    ensures sound { result ≡ is_sound (if_there expects desk.now.wanted) (Some told.now) }
+{
+    put_line(
+        text,
+        sheet.quiet,
+        sheet.number,
+        bytes_of(&desk.words),
+        bytes_of(told),
+    );
+    if !expects || meets(bytes_of(&desk.wanted), bytes_of(told)) {
+        return true;
+    }
+    put_difference(
+        text,
+        bytes_of(&sheet.name),
+        sheet.number,
+        bytes_of(&desk.wanted),
+        bytes_of(told),
+    );
+    false
+}
+
+/// Does the line whose words stand on the desk, prints what is told of it, and answers whether it asks for something, and
+/// what is told of it is what was expected.
+fn play_line<M: Machine>(
+    caller: &mut Caller<M>,
+    desk: &Desk,
+    notes: &mut Notes,
+    sheet: &Sheet,
+    expects: bool,
+    text: &mut Buffer<ROOM>,
+) -> bool
+    requires { length text.old ≤ HELD }
+    ensures { (reply : Option Reply) × (before after : Counters)
+        × Does M.may_step (M.state caller.old.machine) desk.now.words reply (M.state caller.new.machine)
+        × Counts M.may_step (M.state caller.old.machine) before × Counts M.may_step (M.state caller.new.machine) after
+        × (text.new ≡ text.old ++ printed sheet.now.quiet sheet.now.name sheet.now.number desk.now.words (if_there expects desk.now.wanted) (outcome reply before after))
+        × (result ≡ is_sound (if_there expects desk.now.wanted) (outcome reply before after)) }
+{
+    if tell_line(caller, bytes_of(&desk.words), notes) {
+        print_told(sheet, desk, expects, &notes.told, text)
+    } else {
+        put_fault(
+            text,
+            bytes_of(&sheet.name),
+            sheet.number,
+            b"this asks for nothing",
+        );
+        false
+    }
+}
+
+impl<M: Machine> Player<M> {
+    /// Spends the player and its machine.
+    pub(crate) fn end(self) {
+        let Player {
+            caller,
+            desk: _desk,
+            notes: _notes,
+            sheet: _sheet,
+            sound: _sound,
+        } = self;
+        let Caller {
+            machine,
+            buffers: _buffers,
+        } = caller;
+        machine.end();
+    }
+}
+
+impl<M: Machine> Answers<ROOM> for Player<M> {
+    ghost State = { Play };
+
+    ghost state = { λ p. record {
+        machine = M.state p.caller.machine;
+        number = p.sheet.number;
+        sound = p.sound;
+        quiet = p.sheet.quiet;
+        name = p.sheet.name;
+    } };
+
+    ghost may_answer = { Tells M.may_step };
+
+    fn answer(&mut self, line: &[u8], text: &mut Buffer<ROOM>) {
+        self.sheet.number = self.sheet.number.saturating_add(1);
+        match read_line(line, &mut self.desk.words, &mut self.desk.wanted) {
+            Kind::Nothing => {}
+            Kind::TooLong => {
+                put_fault(
+                    text,
+                    bytes_of(&self.sheet.name),
+                    self.sheet.number,
+                    b"the line is too long",
+                );
+                self.sound = false;
+            }
+            Kind::Asks(expects) => {
+                let sound = play_line(
+                    &mut self.caller,
+                    &self.desk,
+                    &mut self.notes,
+                    &self.sheet,
+                    expects,
+                    text,
+                );
+                self.sound = self.sound && sound;
+            }
+        }
+    }
+}

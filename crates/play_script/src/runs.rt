@@ -1,0 +1,204 @@
+//! The scripts that callers have played.
+ghost use Rattle.std.specs.Prelude.{◌≡◌, ◌≤◌, length, take, IfOk};
+ghost use Rattle.flat_model.specs.Machine.State.{boot};
+ghost use Rattle.flat_model.specs.Machine.Step.{Step};
+ghost use Rattle.script_loop.specs.Streams.{MoreBy, reader_failures, writer_failures};
+ghost use Rattle.script_loop.specs.Serves.{Serves, IsServed};
+ghost use Rattle.link_script.specs.Boots.{Boots};
+ghost use Rattle.play_script.specs.declared.print.TheConstants.{NAME};
+ghost use Rattle.play_script.specs.Tells.{Play, Tells, started, status_of};
+
+use crate::player::{Desk, Notes, Player, Sheet};
+use crate::print::NAME;
+use flat_model::Config;
+use link_script::{Caller, Machine};
+use net_stack::Stack;
+use script_loop::{Buffer, LineBuffers, RunFault, Sink, Source, serve_script};
+use std::alloc::{AllocError, Global};
+
+/// How a script is printed.
+#[derive(Clone, Copy)]
+pub struct Style<'a> {
+    /// Whether replies and differences are printed alone, without the lines.
+    pub quiet: bool,
+    /// The script's name, in front of what is wrong with a line. Its first 4,096 bytes are printed.
+    pub name: &'a [u8],
+}
+
+/// What came of a script.
+#[derive(Clone, Copy)]
+pub struct Played {
+    /// How it ended.
+    pub outcome: Result<(), RunFault>,
+    /// Whether all lines asked for something, and all expectations held.
+    pub sound: bool,
+}
+
+impl Played {
+    /// The status that the program ends with: 0 if all lines asked for something and all expectations held, 1 if not; 3 if
+    /// there is no machine, 4 if reading or writing failed or the script has too many lines (this project's own).
+    pub fn status(&self) -> u8
+        ensures { result ≡ status_of self.now.outcome self.now.sound }
+    {
+        match self.outcome {
+            Ok(()) if self.sound => 0,
+            Ok(()) => 1,
+            Err(RunFault::Memory | RunFault::BadSizes | RunFault::BadConfig) => 3,
+            Err(RunFault::Read | RunFault::Write | RunFault::TooManyLines) => 4,
+        }
+    }
+}
+
+/// All memory for playing a script.
+#[derive(Drop)]
+struct Parts {
+    buffers: LineBuffers,
+    desk: Desk,
+    notes: Notes,
+    sheet: Sheet,
+}
+
+/// The part of a name that is printed.
+fn front_of(name: &[u8]) -> &[u8]
+    ensures is { result.now ≡ take NAME name.now }
+    ensures most { length result.now ≤ NAME }
+{
+    if name.len() <= NAME {
+        return name;
+    }
+    let (front, _) = name.split_at(NAME);
+    front
+}
+
+/// How a player prints whose script has this style.
+fn sheet_for(alloc: Global, style: Style<'_>) -> Result<Sheet, AllocError>
+    ensures { IfOk result (λ s. (s.quiet ≡ style.entry.quiet) × (s.number ≡ 0) × (s.name ≡ take NAME style.entry.name.now)) }
+{
+    let mut name = Buffer::new(alloc)?;
+    name.append(front_of(style.name));
+    Ok(Sheet {
+        quiet: style.quiet,
+        name,
+        number: 0,
+    })
+}
+
+/// Takes all memory for playing a script.
+fn parts_for(alloc: Global, style: Style<'_>) -> Result<Parts, AllocError>
+    ensures { IfOk result (λ p. (p.sheet.quiet ≡ style.entry.quiet) × (p.sheet.number ≡ 0) × (p.sheet.name ≡ take NAME style.entry.name.now)) }
+{
+    Ok(Parts {
+        buffers: LineBuffers::new(alloc)?,
+        desk: Desk {
+            words: Buffer::new(alloc)?,
+            wanted: Buffer::new(alloc)?,
+        },
+        notes: Notes {
+            reply: Buffer::new(alloc)?,
+            drops: Buffer::new(alloc)?,
+            told: Buffer::new(alloc)?,
+        },
+        sheet: sheet_for(alloc, style)?,
+    })
+}
+
+/// Plays a script on a machine, and spends it.
+fn play_machine<M: Machine, R: Source, W: Sink>(
+    alloc: Global,
+    machine: M,
+    style: Style<'_>,
+    reader: &mut R,
+    writer: &mut W,
+) -> Played
+    ensures read { MoreBy (reader_failures result.outcome) (R.failures reader.old) (R.failures reader.new) }
+    ensures wrote { MoreBy (writer_failures result.outcome) (W.failures writer.old) (W.failures writer.new) }
+    ensures served { (new : Play)
+        × Serves (Tells M.may_step) (started (M.state machine) style.entry.quiet (take NAME style.entry.name.now)) new
+        (R.remaining reader.old) (R.remaining reader.new) (W.contents writer.old) (W.contents writer.new) result.outcome
+        × (result.sound ≡ new.sound) }
+    ensures started { IsServed result.outcome }
+{
+    let Ok(parts) = parts_for(alloc, style) else {
+        machine.end();
+        return Played {
+            outcome: Err(RunFault::Memory),
+            sound: true,
+        };
+    };
+    let Parts {
+        buffers,
+        desk,
+        notes,
+        sheet,
+    } = parts;
+    let mut player = Player {
+        caller: Caller { machine, buffers },
+        desk,
+        notes,
+        sheet,
+        sound: true,
+    };
+    let outcome = serve_script(alloc, &mut player, reader, writer);
+    let sound = player.sound;
+    player.end();
+    Played { outcome, sound }
+}
+
+/// Plays a script on a new machine, which is spent then.
+fn play_on<M: Machine, R: Source, W: Sink>(
+    alloc: Global,
+    config: Config,
+    style: Style<'_>,
+    reader: &mut R,
+    writer: &mut W,
+) -> Played
+    ensures booted { Boots config result.outcome }
+    ensures read { MoreBy (reader_failures result.outcome) (R.failures reader.old) (R.failures reader.new) }
+    ensures wrote { MoreBy (writer_failures result.outcome) (W.failures writer.old) (W.failures writer.new) }
+    ensures served { (new : Play)
+        × Serves (Tells M.may_step) (started (boot config) style.entry.quiet (take NAME style.entry.name.now)) new
+        (R.remaining reader.old) (R.remaining reader.new) (W.contents writer.old) (W.contents writer.new) result.outcome
+        × (result.sound ≡ new.sound) }
+{
+    match M::boot(alloc, config) {
+        Ok(machine) => play_machine(alloc, machine, style, reader, writer),
+        Err(fault) => Played {
+            outcome: Err(fault),
+            sound: true,
+        },
+    }
+}
+
+/// Plays a script on a new stack. Each line is answered when its end was read: by the reply to what it asks for, with the
+/// causes for which packets were dropped, and by the difference if something else was expected. The stack is spent then.
+///
+/// `sound` tells whether all lines that were read asked for something, and all that was expected came.
+///
+/// # Errors
+///
+/// `BadSizes` if `config` has no mbuf, more than 65,535 of them or more than 4,096 clusters; else `BadConfig` if its MTU
+/// isn't 68 to 4352, an address isn't that of a host, or both addresses are the same; else `Memory` if host memory is
+/// lacking. Nothing was read or written then.
+///
+/// `Read` if the reader answers an error: each whole line before it was answered. `Write` if the writer answers an error,
+/// or takes none of the bytes that it is given: a front of the answers was written. `TooManyLines` at a byte after the
+/// 10,000,000th line, or one that makes a line longer than 1,048,576 bytes: each whole line before it was answered.
+pub fn play<R: Source, W: Sink>(
+    alloc: Global,
+    config: Config,
+    style: Style<'_>,
+    reader: &mut R,
+    writer: &mut W,
+) -> Played
+    ensures booted { Boots config result.outcome }
+    // The reader failed once if the fault is `Read`, and the writer if it is `Write`; else they didn't.
+    ensures read { MoreBy (reader_failures result.outcome) (R.failures reader.old) (R.failures reader.new) }
+    ensures wrote { MoreBy (writer_failures result.outcome) (W.failures writer.old) (W.failures writer.new) }
+    // What is written is told on the way of the machine with exact accounts from boot, over the lines of what is read.
+    ensures served { (new : Play)
+        × Serves (Tells Step) (started (boot config) style.entry.quiet (take NAME style.entry.name.now)) new
+        (R.remaining reader.old) (R.remaining reader.new) (W.contents writer.old) (W.contents writer.new) result.outcome
+        × (result.sound ≡ new.sound) }
+{
+    play_on::<Stack, R, W>(alloc, config, style, reader, writer)
+}
