@@ -2,3 +2,4 @@ mod SpacedLemmas
 mod TextLemmas
 mod FitLemmas
 mod RunLemmas
+mod TurnLemmas

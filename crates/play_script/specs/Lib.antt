@@ -1,4 +1,5 @@
 pub mod Lines
 pub mod Outcomes
 pub mod Tells
+pub mod Runs
 pub mod Inside

@@ -3,6 +3,7 @@
 #![tactic(auto)]
 
 mod fits;
+mod laws;
 mod line;
 mod outcome;
 mod player;
@@ -10,5 +11,6 @@ mod print;
 mod runs;
 
 pub use flat_model::Config;
+pub use laws::runs_law;
 pub use runs::{Played, Style, play};
 pub use script_loop::{RunFault, Silent, Sink, Source};

@@ -1,0 +1,33 @@
+-- The run that a script makes (this project's own).
+use Rattle.std.specs.Prelude.{◌≡◌, ◌⊎◌, ℕ, List, [], ◌∷◌, ◌++◌, replicate}
+use Rattle.flat_model.specs.Machine.Event.{Event, Reply, Tick, Done}
+use Rattle.flat_model.specs.Machine.Ledger.{exact_ledger}
+use Rattle.flat_model.specs.Runs.Run.{Turn, Leads}
+use Rattle.flat_model.specs.Scripts.Script.{all_events}
+use Rattle.flat_model.specs.Scripts.Script as script
+use Rattle.play_script.specs.Lines.{Reading, Nothing, TooLong, Asks, IsTicks, reading}
+use Rattle.play_script.specs.Tells.{Play}
+
+abbrev pub turn_of : Event → Reply → Turn
+turn_of event reply = record { event = event; reply = reply }
+
+-- The turns that a line makes: one for the event that it asks for, so many ticks, or none if it asks for nothing.
+abbrev pub AreTurns : Reading → List Turn → Type 0
+AreTurns Nothing turns = turns ≡ []
+AreTurns TooLong turns = turns ≡ []
+AreTurns (Asks plain wanted) turns =
+    ((event : Event) × (reply : Reply) × script.Asks all_events plain event × (turns ≡ turn_of event reply ∷ []))
+    ⊎ ((n : ℕ) × IsTicks plain n × (turns ≡ replicate n (turn_of Tick Done)))
+    ⊎ (((event : Event) → ¬ script.Asks all_events plain event) × ((n : ℕ) → ¬ IsTicks plain n) × (turns ≡ []))
+
+-- the turns that these lines make, one after another
+abbrev pub AreAllTurns : List (List ℕ) → List Turn → Type 0
+AreAllTurns [] turns = turns ≡ []
+AreAllTurns (line ∷ lines) turns =
+    (first rest : List Turn) × AreTurns (reading line) first × AreAllTurns lines rest × (turns ≡ first ++ rest)
+
+-- the turns of these lines are a run of the machine that keeps exact accounts
+pub record IsRunOf (old : Play) (lines : List (List ℕ)) (new : Play) : Type 0 where
+  pub turns : List Turn
+  pub are : AreAllTurns lines turns
+  pub leads : Leads exact_ledger old.machine turns new.machine
