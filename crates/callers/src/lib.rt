@@ -6,6 +6,7 @@ pub mod capture_packets;
 pub mod cell_bytes;
 pub mod chain_lines;
 pub mod cluster_counts;
+pub mod commented_lines;
 pub mod counting;
 pub mod datagram_sizes;
 pub mod echo_host;

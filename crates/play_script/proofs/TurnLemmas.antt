@@ -29,7 +29,7 @@ Ticks-lead : (n : ℕ) (old new : State) → Ticks Step n old new → Leads exac
 Ticks-lead zero old new h = h
 Ticks-lead (suc n) old new (mid, before, step) =
     subst (λ (ts : List Turn). Leads exact_ledger old ts new) (one_more n (turn_of Tick Done))
-        (one_more_turn exact_ledger old mid new (replicate n (turn_of Tick Done)) (turn_of Tick Done) (Ticks-lead n old mid before) tt step)
+    (one_more_turn exact_ledger old mid new (replicate n (turn_of Tick Done)) (turn_of Tick Done) (Ticks-lead n old mid before) tt step)
 
 Leads-append : (old mid new : State) (first rest : List Turn) → Leads exact_ledger old first mid → Leads exact_ledger mid rest new
     → Leads exact_ledger old (first ++ rest) new

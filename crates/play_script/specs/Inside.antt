@@ -3,6 +3,7 @@ use Rattle.std.specs.Prelude.{ℕ, Bool, true, false, List, Option, Some, None}
 use Rattle.play_script.specs.Lines.{Reading, Nothing, TooLong, Asks}
 use Rattle.play_script.specs.declared.line.Kind.{Kind}
 use Rattle.play_script.specs.declared.line.Kind.TheVariants as kind
+use Rattle.play_script.specs.declared.player.Desk.{Desk}
 
 -- a text, if there is one
 abbrev pub if_there : Bool → List ℕ → Option (List ℕ)
@@ -14,3 +15,7 @@ abbrev pub is_reading : Kind → List ℕ → List ℕ → Reading
 is_reading kind.Nothing words wanted = Nothing
 is_reading kind.TooLong words wanted = TooLong
 is_reading (kind.Asks expects) words wanted = Asks words (if_there expects wanted)
+
+-- what is expected of the line on a desk
+abbrev pub expected_on : Desk → Option (List ℕ)
+expected_on desk = if_there desk.expects desk.wanted

@@ -39,7 +39,8 @@ fn fits_unnumbered(wanted: &[u8], told: &[u8]) -> bool
     };
     let (_, rest) = first_word(rest);
     match (more, rest) {
-        (Some(more), Some(rest)) => word == b"error".as_slice() && (got == b"error".as_slice() && fits(more, rest)),
+        (Some(more), Some(rest)) => word == b"error".as_slice()
+            && (got == b"error".as_slice() && fits(more, rest)),
         (None, None) => word == b"error".as_slice() && got == b"error".as_slice(),
         (Some(_), None) | (None, Some(_)) => false,
     }

@@ -6,7 +6,7 @@ ghost use Rattle.flat_model.specs.Scripts.Texts.{answer_text};
 ghost use Rattle.play_script.specs.Lines.{IsTicks};
 ghost use Rattle.play_script.specs.Outcomes.{outcome, drops_text};
 ghost use Rattle.play_script.specs.Tells.{Play, Ticks, Does, Counts, Tells, told_text, printed, is_sound};
-ghost use Rattle.play_script.specs.Inside.{if_there};
+ghost use Rattle.play_script.specs.Inside.{if_there, expected_on};
 
 use crate::fits::meets;
 use crate::line::{Kind, LONGEST, read_line};
@@ -73,8 +73,8 @@ fn do_line<M: Machine>(caller: &mut Caller<M>, words: &[u8], reply: &mut Buffer<
 fn tell_answer(answer: &[u8], drops: &[u8], told: &mut Buffer<TOLD>) -> bool
     requires answer { length answer.now ≤ TEXT }
     requires drops { length drops.now ≤ DROPS }
-    ensures { (reply : Option Reply) (before after : Counters) → answer.now ≡ answer_text reply → drops.now ≡ drops_text before after
-        → if_there result told.new ≡ outcome reply before after }
+    ensures { (reply : Option Reply) (before after : Counters) → answer.now ≡ answer_text reply
+        → drops.now ≡ drops_text before after → if_there result told.new ≡ outcome reply before after }
 {
     if answer == b"? line\n".as_slice() || answer.is_empty() {
         return false;
@@ -95,7 +95,8 @@ pub(crate) struct Notes {
 fn tell_line<M: Machine>(caller: &mut Caller<M>, words: &[u8], notes: &mut Notes) -> bool
     ensures { (reply : Option Reply) × (before after : Counters)
         × Does M.may_step (M.state caller.old.machine) words.now reply (M.state caller.new.machine)
-        × Counts M.may_step (M.state caller.old.machine) before × Counts M.may_step (M.state caller.new.machine) after
+        × Counts M.may_step (M.state caller.old.machine) before
+        × Counts M.may_step (M.state caller.new.machine) after
         × (if_there result notes.new.told ≡ outcome reply before after) }
 {
     let before = caller.machine.counters();
@@ -114,6 +115,8 @@ fn tell_line<M: Machine>(caller: &mut Caller<M>, words: &[u8], notes: &mut Notes
 pub(crate) struct Desk {
     pub(crate) words: Buffer<LONGEST>,
     pub(crate) wanted: Buffer<LONGEST>,
+    /// Whether something is expected.
+    pub(crate) expects: bool,
 }
 
 /// How a player prints, and how many lines it has seen.
@@ -138,13 +141,13 @@ pub(crate) struct Player<M> {
 fn print_told(
     sheet: &Sheet,
     desk: &Desk,
-    expects: bool,
     told: &Buffer<TOLD>,
     text: &mut Buffer<ROOM>,
 ) -> bool
     requires { length text.old ≤ HELD }
-    ensures text { text.new ≡ text.old ++ told_text sheet.now.quiet sheet.now.name sheet.now.number desk.now.words (if_there expects desk.now.wanted) told.now }
-    ensures sound { result ≡ is_sound (if_there expects desk.now.wanted) (Some told.now) }
+    ensures text { text.new ≡ text.old ++ told_text sheet.now.quiet sheet.now.name sheet.now.number
+        desk.now.words (expected_on desk.now) told.now }
+    ensures sound { result ≡ is_sound (expected_on desk.now) (Some told.now) }
 {
     put_line(
         text,
@@ -153,7 +156,7 @@ fn print_told(
         bytes_of(&desk.words),
         bytes_of(told),
     );
-    if !expects || meets(bytes_of(&desk.wanted), bytes_of(told)) {
+    if !desk.expects || meets(bytes_of(&desk.wanted), bytes_of(told)) {
         return true;
     }
     put_difference(
@@ -173,18 +176,19 @@ fn play_line<M: Machine>(
     desk: &Desk,
     notes: &mut Notes,
     sheet: &Sheet,
-    expects: bool,
     text: &mut Buffer<ROOM>,
 ) -> bool
     requires { length text.old ≤ HELD }
     ensures { (reply : Option Reply) × (before after : Counters)
         × Does M.may_step (M.state caller.old.machine) desk.now.words reply (M.state caller.new.machine)
-        × Counts M.may_step (M.state caller.old.machine) before × Counts M.may_step (M.state caller.new.machine) after
-        × (text.new ≡ text.old ++ printed sheet.now.quiet sheet.now.name sheet.now.number desk.now.words (if_there expects desk.now.wanted) (outcome reply before after))
-        × (result ≡ is_sound (if_there expects desk.now.wanted) (outcome reply before after)) }
+        × Counts M.may_step (M.state caller.old.machine) before
+        × Counts M.may_step (M.state caller.new.machine) after
+        × (text.new ≡ text.old ++ printed sheet.now.quiet sheet.now.name sheet.now.number
+        desk.now.words (expected_on desk.now) (outcome reply before after))
+        × (result ≡ is_sound (expected_on desk.now) (outcome reply before after)) }
 {
     if tell_line(caller, bytes_of(&desk.words), notes) {
-        print_told(sheet, desk, expects, &notes.told, text)
+        print_told(sheet, desk, &notes.told, text)
     } else {
         put_fault(
             text,
@@ -218,11 +222,11 @@ impl<M: Machine> Answers<ROOM> for Player<M> {
     ghost State = { Play };
 
     ghost state = { λ p. record {
-        machine = M.state p.caller.machine;
-        number = p.sheet.number;
-        sound = p.sound;
-        quiet = p.sheet.quiet;
-        name = p.sheet.name;
+      machine = M.state p.caller.machine;
+      number = p.sheet.number;
+      sound = p.sound;
+      quiet = p.sheet.quiet;
+      name = p.sheet.name;
     } };
 
     ghost may_answer = { Tells M.may_step };
@@ -241,12 +245,12 @@ impl<M: Machine> Answers<ROOM> for Player<M> {
                 self.sound = false;
             }
             Kind::Asks(expects) => {
+                self.desk.expects = expects;
                 let sound = play_line(
                     &mut self.caller,
                     &self.desk,
                     &mut self.notes,
                     &self.sheet,
-                    expects,
                     text,
                 );
                 self.sound = self.sound && sound;

@@ -72,7 +72,8 @@ fn front_of(name: &[u8]) -> &[u8]
 
 /// How a player prints whose script has this style.
 fn sheet_for(alloc: Global, style: Style<'_>) -> Result<Sheet, AllocError>
-    ensures { IfOk result (λ s. (s.quiet ≡ style.entry.quiet) × (s.number ≡ 0) × (s.name ≡ take NAME style.entry.name.now)) }
+    ensures { IfOk result (λ s. (s.quiet ≡ style.entry.quiet) × (s.number ≡ 0)
+        × (s.name ≡ take NAME style.entry.name.now)) }
 {
     let mut name = Buffer::new(alloc)?;
     name.append(front_of(style.name));
@@ -85,13 +86,15 @@ fn sheet_for(alloc: Global, style: Style<'_>) -> Result<Sheet, AllocError>
 
 /// Takes all memory for playing a script.
 fn parts_for(alloc: Global, style: Style<'_>) -> Result<Parts, AllocError>
-    ensures { IfOk result (λ p. (p.sheet.quiet ≡ style.entry.quiet) × (p.sheet.number ≡ 0) × (p.sheet.name ≡ take NAME style.entry.name.now)) }
+    ensures { IfOk result (λ p. (p.sheet.quiet ≡ style.entry.quiet) × (p.sheet.number ≡ 0)
+        × (p.sheet.name ≡ take NAME style.entry.name.now)) }
 {
     Ok(Parts {
         buffers: LineBuffers::new(alloc)?,
         desk: Desk {
             words: Buffer::new(alloc)?,
             wanted: Buffer::new(alloc)?,
+            expects: false,
         },
         notes: Notes {
             reply: Buffer::new(alloc)?,
@@ -113,8 +116,10 @@ fn play_machine<M: Machine, R: Source, W: Sink>(
     ensures read { MoreBy (reader_failures result.outcome) (R.failures reader.old) (R.failures reader.new) }
     ensures wrote { MoreBy (writer_failures result.outcome) (W.failures writer.old) (W.failures writer.new) }
     ensures served { (new : Play)
-        × Serves (Tells M.may_step) (started (M.state machine) style.entry.quiet (take NAME style.entry.name.now)) new
-        (R.remaining reader.old) (R.remaining reader.new) (W.contents writer.old) (W.contents writer.new) result.outcome
+        × Serves (Tells M.may_step)
+        (started (M.state machine) style.entry.quiet (take NAME style.entry.name.now)) new
+        (R.remaining reader.old) (R.remaining reader.new)
+        (W.contents writer.old) (W.contents writer.new) result.outcome
         × (result.sound ≡ new.sound) }
     ensures started { IsServed result.outcome }
 {
@@ -157,7 +162,8 @@ fn play_on<M: Machine, R: Source, W: Sink>(
     ensures wrote { MoreBy (writer_failures result.outcome) (W.failures writer.old) (W.failures writer.new) }
     ensures served { (new : Play)
         × Serves (Tells M.may_step) (started (boot config) style.entry.quiet (take NAME style.entry.name.now)) new
-        (R.remaining reader.old) (R.remaining reader.new) (W.contents writer.old) (W.contents writer.new) result.outcome
+        (R.remaining reader.old) (R.remaining reader.new)
+        (W.contents writer.old) (W.contents writer.new) result.outcome
         × (result.sound ≡ new.sound) }
 {
     match M::boot(alloc, config) {
@@ -197,7 +203,8 @@ pub fn play<R: Source, W: Sink>(
     // What is written is told on the way of the machine with exact accounts from boot, over the lines of what is read.
     ensures served { (new : Play)
         × Serves (Tells Step) (started (boot config) style.entry.quiet (take NAME style.entry.name.now)) new
-        (R.remaining reader.old) (R.remaining reader.new) (W.contents writer.old) (W.contents writer.new) result.outcome
+        (R.remaining reader.old) (R.remaining reader.new)
+        (W.contents writer.old) (W.contents writer.new) result.outcome
         × (result.sound ≡ new.sound) }
 {
     play_on::<Stack, R, W>(alloc, config, style, reader, writer)

@@ -1,0 +1,26 @@
+//! A script with a comment, and with the replies that are expected.
+use flat_model::Config;
+use play_script::{Style, play};
+use std::alloc::Global;
+
+/// The host 10.0.0.1 of the network 10.0.0.0/24.
+const HOST: Config = Config {
+    addr: 0x0a00_0001,
+    bcast: 0x0a00_00ff,
+    mtu: 1500,
+    mbufs: 512,
+    clusters: 64,
+    first_id: 1,
+};
+
+/// Whether all that the script expects comes.
+pub fn holds(alloc: Global, script: &[u8]) -> bool {
+    let style = Style {
+        quiet: true,
+        name: b"script",
+    };
+    let mut reader = script;
+    let mut written = Vec::new(alloc);
+    let played = play(alloc, HOST, style, &mut reader, &mut written);
+    played.status() == 0
+}
