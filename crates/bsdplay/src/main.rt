@@ -1,5 +1,5 @@
-//! The program that plays scripts for people: it reads its command line, opens the scripts, and has `play_script` play each on
-//! a machine of its own.
+//! The program that plays scripts for people: it reads its command line, opens the scripts, and has `play_script` play
+//! each on a machine of its own.
 #![tactic(auto)]
 
 use clap::{Arg, ArgAction, ArgMatches, Command};

@@ -169,8 +169,8 @@ fn print_told(
     false
 }
 
-/// Does the line whose words stand on the desk, prints what is told of it, and answers whether it asks for something, and
-/// what is told of it is what was expected.
+/// Does the line whose words stand on the desk, prints what is told of it, and answers whether it asks for something,
+/// and what is told of it is what was expected.
 fn play_line<M: Machine>(
     caller: &mut Caller<M>,
     desk: &Desk,

@@ -35,8 +35,8 @@ pub struct Played {
 }
 
 impl Played {
-    /// The status that the program ends with: 0 if all lines asked for something and all expectations held, 1 if not; 3 if
-    /// there is no machine, 4 if reading or writing failed or the script has too many lines (this project's own).
+    /// The status that the program ends with: 0 if all lines asked for something and all expectations held, 1 if not; 3
+    /// if there is no machine, 4 if reading or writing failed or the script has too many lines (this project's own).
     pub fn status(&self) -> u8
         ensures { result ≡ status_of self.now.outcome self.now.sound }
     {
@@ -175,20 +175,22 @@ fn play_on<M: Machine, R: Source, W: Sink>(
     }
 }
 
-/// Plays a script on a new stack. Each line is answered when its end was read: by the reply to what it asks for, with the
-/// causes for which packets were dropped, and by the difference if something else was expected. The stack is spent then.
+/// Plays a script on a new stack. Each line is answered when its end was read: by the reply to what it asks for, with
+/// the causes for which packets were dropped, and by the difference if something else was expected. The stack is spent
+/// then.
 ///
 /// `sound` tells whether all lines that were read asked for something, and all that was expected came.
 ///
 /// # Errors
 ///
-/// `BadSizes` if `config` has no mbuf, more than 65,535 of them or more than 4,096 clusters; else `BadConfig` if its MTU
-/// isn't 68 to 4352, an address isn't that of a host, or both addresses are the same; else `Memory` if host memory is
-/// lacking. Nothing was read or written then.
+/// `BadSizes` if `config` has no mbuf, more than 65,535 of them or more than 4,096 clusters; else `BadConfig` if its
+/// MTU isn't 68 to 4352, an address isn't that of a host, or both addresses are the same; else `Memory` if host memory
+/// is lacking. Nothing was read or written then.
 ///
-/// `Read` if the reader answers an error: each whole line before it was answered. `Write` if the writer answers an error,
-/// or takes none of the bytes that it is given: a front of the answers was written. `TooManyLines` at a byte after the
-/// 10,000,000th line, or one that makes a line longer than 1,048,576 bytes: each whole line before it was answered.
+/// `Read` if the reader answers an error: each whole line before it was answered. `Write` if the writer answers an
+/// error, or takes none of the bytes that it is given: a front of the answers was written. `TooManyLines` at a byte
+/// after the 10,000,000th line, or one that makes a line longer than 1,048,576 bytes: each whole line before it was
+/// answered.
 pub fn play<R: Source, W: Sink>(
     alloc: Global,
     config: Config,
