@@ -4,6 +4,7 @@ mod fragments;
 mod questions;
 mod traffic;
 mod two;
+mod wire;
 
 use flat_model::{Addr, Config, Counter, Counters, Errno, Mbstat, Opt};
 use net_stack::{BootFault, Stack};
