@@ -18,7 +18,10 @@ const MACHINE: Config = Config {
     first_id: 1,
 };
 
-/// The status of a script that can't be opened.
+/// The status if the command line can't be read.
+const USAGE: u8 = 2;
+
+/// The status if a script can't be opened, or something can't be printed.
 const UNREAD: u8 = 4;
 
 /// The command line.
@@ -38,7 +41,7 @@ fn command<'a>(alloc: Global) -> Result<Command<'a>, AllocError> {
         .arg(files)
 }
 
-/// Says why a script ended early, or why its expectations failed.
+/// Says why a script ended early.
 fn report(rt: &HostRuntime, name: &str, played: &Played) -> io::Result<()> {
     if let Err(fault) = played.outcome {
         eprintln!(rt; "bsdplay: {name}: {fault}")?;
@@ -90,13 +93,32 @@ fn play_all(rt: &HostRuntime, found: &ArgMatches<'_>) -> io::Result<u8> {
     Ok(worst)
 }
 
-fn main(rt: HostRuntime) -> anyhow::Result<ExitCode> {
-    let words: Vec<String> = env::args(&rt)?.collect(rt.alloc())?;
+/// The words that the program was called with, its name first.
+fn words(rt: &HostRuntime) -> io::Result<Vec<String>> {
+    Ok(env::args(rt)?.collect(rt.alloc())?)
+}
+
+/// Does what the command line asks for, and answers the status.
+fn serve(rt: &HostRuntime) -> io::Result<u8> {
+    let Ok(words) = words(rt) else {
+        eprintln!(rt; "bsdplay: the command line can't be read")?;
+        return Ok(USAGE);
+    };
     match command(rt.alloc())?.try_get_matches_from(words.as_slice()) {
-        Ok(found) => Ok(ExitCode::from(play_all(&rt, &found)?)),
+        Ok(found) => play_all(rt, &found),
         Err(error) => {
-            error.print(&rt)?;
-            Ok(ExitCode::from(error.exit_code() as u8))
+            error.print(rt)?;
+            Ok(error.exit_code() as u8)
+        }
+    }
+}
+
+fn main(rt: HostRuntime) -> ExitCode {
+    match serve(&rt) {
+        Ok(status) => ExitCode::from(status),
+        Err(error) => {
+            let _ = eprintln!(rt; "bsdplay: {error}");
+            ExitCode::from(UNREAD)
         }
     }
 }
