@@ -1,0 +1,2 @@
+mod Boxes
+mod Answered

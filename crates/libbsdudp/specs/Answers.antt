@@ -1,0 +1,58 @@
+-- The numbers that C is answered (4.4BSD's `errno.h`; that a refusal is its number negated, and that a full output
+-- queue has a number of its own, is this project's own).
+use Rattle.std.specs.Prelude.{ℕ, ℤ, pos, negsuc, min, Option, Some, None, Result, Ok, Err}
+use Rattle.flat_model.specs.declared.address.Addr.{Addr}
+use Rattle.flat_model.specs.declared.errno.Errno.{Errno}
+use Rattle.flat_model.specs.declared.errno.Errno.TheVariants.{BadDescriptor, Access, Invalid, TooManyFiles, WouldBlock, DestinationRequired, MessageSize, AddressInUse, AddressNotAvailable, NoBufs, IsConnected, HostUnreachable}
+use Rattle.flat_model.specs.declared.errno.Lack.TheVariants.{Pool, Queue}
+
+-- ENXIO, 6
+abbrev pub no_stack : ℤ
+no_stack = negsuc 5
+
+-- EMSGSIZE, 40
+abbrev pub bad_length : ℤ
+bad_length = negsuc 39
+
+-- EINVAL, 22
+abbrev pub invalid : ℤ
+invalid = negsuc 21
+
+-- a count, which stops at 2 ^ 31 - 1
+abbrev pub count_code : ℕ → ℤ
+count_code n = pos (min n 2147483647)
+
+abbrev pub refusal_code : Errno → ℤ
+refusal_code BadDescriptor = negsuc 8
+refusal_code Access = negsuc 12
+refusal_code Invalid = negsuc 21
+refusal_code TooManyFiles = negsuc 23
+refusal_code WouldBlock = negsuc 34
+refusal_code DestinationRequired = negsuc 38
+refusal_code MessageSize = negsuc 39
+refusal_code AddressInUse = negsuc 47
+refusal_code AddressNotAvailable = negsuc 48
+refusal_code (NoBufs Pool) = negsuc 54
+refusal_code (NoBufs Queue) = negsuc 154
+refusal_code IsConnected = negsuc 55
+refusal_code HostUnreachable = negsuc 64
+
+-- of a call that says nothing but whether it went well
+abbrev pub done_code : Result (Unit {0}) Errno → ℤ
+done_code (Ok done) = pos 0
+done_code (Err errno) = refusal_code errno
+
+-- of `socket`, with a descriptor, and of a send, with how many bytes it has
+abbrev pub counted_code : Result ℕ Errno → ℤ
+counted_code (Ok n) = count_code n
+counted_code (Err errno) = refusal_code errno
+
+-- of `recvfrom`, with how many bytes were copied
+abbrev pub received_code : Result (Addr × ℕ) Errno → ℤ
+received_code (Ok got) = count_code got.1
+received_code (Err errno) = refusal_code errno
+
+-- of `tx` and of the question for the next packet: 0 if none waits
+abbrev pub given_code : Option ℕ → ℤ
+given_code None = pos 0
+given_code (Some n) = count_code n

@@ -1,0 +1,94 @@
+-- What a call on a handle does to the stack in it: which step of the flat machine it is, and how its answer tells the
+-- reply (this project's own).
+use Rattle.std.specs.Prelude.{◌≡◌, ℕ, ℤ, pos, ◌<◌, ◌≤◌, ◌==◌, if◌then◌else◌, List, length, drop, Option, Some, None, option_map, IfSome, IfNone, Result, Ok, Err, IfOk, OnErr}
+use Rattle.params.specs.declared.TheConstants.{IP_MAX_PACKET, MAX_MTU}
+use Rattle.flat_model.specs.declared.errno.Errno.{Errno}
+use Rattle.flat_model.specs.declared.address.Addr.{Addr}
+use Rattle.flat_model.specs.Machine.Event.{Event, Reply, Open, Receive, Comes, Transmit, Done}
+use Rattle.flat_model.specs.Machine.Replies.{done_reply, opened_reply, sent_reply, received_reply, given_reply, FitsRoom}
+use Rattle.flat_model.specs.Machine.Step.{Step}
+use Rattle.net_stack.specs.Stack.{StackView, state_of}
+use Rattle.libbsdudp.specs.declared.handle.Handle.{Handle}
+use Rattle.libbsdudp.specs.declared.plain.CAddr.{CAddr}
+use Rattle.libbsdudp.specs.Answers.{no_stack, bad_length, counted_code, done_code, given_code, received_code}
+use Rattle.libbsdudp.specs.Plain.{whom}
+
+-- the stack that a handle holds
+abbrev pub stack_in : Handle → Option StackView
+stack_in h = if h.live == 1651729525 then option_map (λ b. b.stack) h.held.kept else None
+
+-- The answer of a handle without a stack is -ENXIO, it stays without one, and `idle` says that all else is as it was. If
+-- the handle has one, `call` says what becomes of it.
+abbrev pub Answers : Option StackView → ℤ → Option StackView → Type 0 → (StackView → StackView → Type 0) → Type 0
+Answers None answer after idle call = (answer ≡ no_stack) × (after ≡ None) × idle
+Answers (Some s) answer after idle call = (n : StackView) × (after ≡ Some n) × call s n
+
+-- ---- the calls, each as one fact that nothing opens by itself
+
+-- one step
+pub record StepsTo (event : Event) (reply : Reply) (s n : StackView) : Type 0 where
+  pub step : Step (state_of s) event reply (state_of n)
+
+-- `tick`: the answer is 0
+pub record HasTicked (answer : ℤ) (event : Event) (s n : StackView) : Type 0 where
+  pub is : answer ≡ pos 0
+  pub step : StepsTo event Done s n
+
+-- `bind`, `connect`, `close` and `setsockopt`: the answer is 0, or why it's refused
+pub record IsDone (event : Event) (answer : ℤ) (s n : StackView) : Type 0 where
+  pub told : Result (Unit {0}) Errno
+  pub is : answer ≡ done_code told
+  pub step : StepsTo event (done_reply told) s n
+
+-- `socket`: the answer is the descriptor, or why it's refused
+pub record IsOpened (answer : ℤ) (s n : StackView) : Type 0 where
+  pub told : Result ℕ Errno
+  pub is : answer ≡ counted_code told
+  pub step : StepsTo Open (opened_reply told) s n
+
+-- `sendto` and `send`: the answer is how many bytes were sent, or why it's refused
+pub record IsSent (event : Event) (answer : ℤ) (s n : StackView) : Type 0 where
+  pub told : Result ℕ Errno
+  pub is : answer ≡ counted_code told
+  pub step : StepsTo event (sent_reply told) s n
+
+-- the sender is told if a datagram was received, and else left as it was
+abbrev pub sender_after : Result (Addr × ℕ) Errno → CAddr → CAddr
+sender_after (Ok got) old = whom got.0
+sender_after (Err errno) old = old
+
+-- `recvfrom`: the answer is how many bytes stand in front of the room, or why it's refused; the rest of the room stays
+-- as it was
+pub record IsReceived (fd : ℕ) (answer : ℤ) (before room : List ℕ) (old from : CAddr) (s n : StackView) : Type 0 where
+  pub told : Result (Addr × ℕ) Errno
+  pub is : answer ≡ received_code told
+  pub sender : from ≡ sender_after told old
+  pub fits : FitsRoom told room
+  pub same : OnErr told (room ≡ before)
+  pub rest : IfOk told (λ got. drop got.1 room ≡ drop got.1 before)
+  pub step : StepsTo (Receive fd (length before)) (received_reply told room) s n
+
+-- `rx`: the answer is 0, or -EMSGSIZE of what is longer than a packet, and then nothing changes
+pub record HasCome (packet : List ℕ) (answer : ℤ) (s n : StackView) : Type 0 where
+  pub long : IP_MAX_PACKET < length packet → (answer ≡ bad_length) × (n ≡ s)
+  pub comes : length packet ≤ IP_MAX_PACKET → (answer ≡ pos 0) × StepsTo (Comes packet) Done s n
+
+-- a packet for the link stands in front of the room, or none waits; the rest of the room stays as it was
+pub record Gives (before room : List ℕ) (answer : ℤ) (s n : StackView) : Type 0 where
+  pub told : Option ℕ
+  pub is : answer ≡ given_code told
+  pub fits : IfSome told (λ len. len ≤ length room)
+  pub same : IfNone told (room ≡ before)
+  pub rest : IfSome told (λ len. drop len room ≡ drop len before)
+  pub step : StepsTo Transmit (given_reply told room) s n
+
+-- `tx`: the answer is the packet's length, 0 if none waits, or -EMSGSIZE if the room is shorter than 4,352 bytes, and
+-- then nothing changes
+pub record IsGiven (before room : List ℕ) (answer : ℤ) (s n : StackView) : Type 0 where
+  pub short : length before < MAX_MTU → (answer ≡ bad_length) × (n ≡ s) × (room ≡ before)
+  pub gives : MAX_MTU ≤ length before → Gives before room answer s n
+
+-- a question: the stack is as it was, and the answer says something of it
+pub record IsAsked (Says : StackView → Type 0) (s n : StackView) : Type 0 where
+  pub same : n ≡ s
+  pub says : Says s

@@ -1,0 +1,43 @@
+-- What `boot` and `end` leave in a handle, by their answers (this project's own).
+use Rattle.std.specs.Prelude.{◌≡◌, ℤ, pos, negsuc, Option, Some, None, Result, Ok, Err}
+use Rattle.flat_model.specs.Machine.State.{HasSizes, IsConfig, boot}
+use Rattle.net_stack.specs.Stack.{StackView, state_of}
+use Rattle.net_stack.specs.declared.stack.BootFault.{BootFault}
+use Rattle.net_stack.specs.declared.stack.BootFault.TheVariants.{Memory, BadSizes, BadConfig}
+use Rattle.libbsdudp.specs.declared.plain.CConfig.{CConfig}
+use Rattle.libbsdudp.specs.Answers.{no_stack, invalid}
+use Rattle.libbsdudp.specs.Plain.{config_of}
+
+-- 0, -ENOMEM, -EDOM or -EINVAL
+abbrev pub boot_code : Result StackView BootFault → ℤ
+boot_code (Ok s) = pos 0
+boot_code (Err Memory) = negsuc 11
+boot_code (Err BadSizes) = negsuc 32
+boot_code (Err BadConfig) = invalid
+
+abbrev pub booted : Result StackView BootFault → Option StackView
+booted (Ok s) = Some s
+booted (Err fault) = None
+
+-- what a configuration gives: a stack in the state of boot, or why there is none
+abbrev pub Boots : CConfig → Result StackView BootFault → Type 0
+Boots config (Ok s) = IsConfig (config_of config) × (state_of s ≡ boot (config_of config))
+Boots config (Err BadSizes) = ¬ HasSizes (config_of config)
+Boots config (Err BadConfig) = HasSizes (config_of config) × ¬ IsConfig (config_of config)
+Boots config (Err Memory) = IsConfig (config_of config)
+
+pub record HasBooted (config : CConfig) (answer : ℤ) (after : Option StackView) : Type 0 where
+  pub told : Result StackView BootFault
+  pub boots : Boots config told
+  pub is : answer ≡ boot_code told
+  pub leaves : after ≡ booted told
+
+-- A stack is booted into a handle without one. If it has one, that stays as it was, and the answer is -ENXIO.
+abbrev pub IsBooted : Option StackView → CConfig → ℤ → Option StackView → Type 0
+IsBooted (Some s) config answer after = (answer ≡ no_stack) × (after ≡ Some s)
+IsBooted None config answer after = HasBooted config answer after
+
+-- A stack goes. If there was none, the answer is -ENXIO.
+abbrev pub IsEnded : Option StackView → ℤ → Option StackView → Type 0
+IsEnded (Some s) answer after = (answer ≡ pos 0) × (after ≡ None)
+IsEnded None answer after = (answer ≡ no_stack) × (after ≡ None)

@@ -1,0 +1,44 @@
+-- What C's structs say (this project's own).
+use Rattle.std.specs.Prelude.{ℕ, Bool, if◌then◌else◌, unwrap_or}
+use Rattle.flat_model.specs.declared.address.Addr.{Addr}
+use Rattle.flat_model.specs.declared.config.Config.{Config}
+use Rattle.flat_model.specs.declared.usage.Mbstat.{Mbstat}
+use Rattle.sock_calls.specs.declared.questions.SocketName.{SocketName}
+use Rattle.sock_calls.specs.declared.questions.NextDatagram.{NextDatagram}
+use Rattle.libbsdudp.specs.declared.plain.CAddr.{CAddr}
+use Rattle.libbsdudp.specs.declared.plain.CConfig.{CConfig}
+use Rattle.libbsdudp.specs.declared.plain.CMbstat.{CMbstat}
+use Rattle.libbsdudp.specs.declared.plain.CName.{CName}
+use Rattle.libbsdudp.specs.declared.plain.CNext.{CNext}
+
+abbrev pub config_of : CConfig → Config
+config_of c = record { addr = c.addr; bcast = c.bcast; mtu = c.mtu; mbufs = c.mbufs; clusters = c.clusters; first_id = c.first_id }
+
+abbrev pub addr_of : CAddr → Addr
+addr_of a = record { ip = a.ip; port = a.port }
+
+abbrev pub whom : Addr → CAddr
+whom a = record { ip = a.ip; port = a.port }
+
+abbrev pub usage_told : Mbstat → CMbstat
+usage_told m = record { free_mbufs = m.free_mbufs; mbufs = m.mbufs; free_clusters = m.free_clusters; clusters = m.clusters; refs = m.refs; most = m.most }
+
+-- 1 for yes
+abbrev pub flag : Bool → ℕ
+flag b = if b then 1 else 0
+
+-- 0 for what is unset
+abbrev pub name_told : SocketName → CName
+name_told n =
+    let peer : Addr = unwrap_or n.peer (record { ip = 0; port = 0 }) in
+    record {
+      local_ip = unwrap_or n.local 0;
+      peer_ip = peer.ip;
+      local_port = unwrap_or n.port 0;
+      peer_port = peer.port;
+      broadcast = flag n.broadcast;
+      reuse_port = flag n.reuse_port;
+    }
+
+abbrev pub next_told : NextDatagram → CNext
+next_told n = record { ip = n.sender.ip; port = n.sender.port; len = n.len; waiting = n.waiting }

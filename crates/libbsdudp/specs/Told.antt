@@ -1,0 +1,65 @@
+-- What the questions tell C, each as one fact that nothing opens by itself (this project's own).
+use Rattle.std.specs.Prelude.{◌≡◌, ℕ, ℤ, pos, length, Option, Some, None, Result, Ok, Err, slice_get}
+use Rattle.flat_model.specs.declared.counter.Counter.{Counter}
+use Rattle.flat_model.specs.declared.counters.Counters.{Counters}
+use Rattle.flat_model.specs.declared.errno.Errno.{Errno}
+use Rattle.flat_model.specs.declared.usage.Mbstat.{Mbstat}
+use Rattle.flat_model.specs.Machine.Count.{value_of, all_counters}
+use Rattle.flat_model.specs.Machine.Event.{Ask_counters, Ask_usage, Counted, Shown}
+use Rattle.flat_model.specs.Machine.Step.{Step}
+use Rattle.ip_out.specs.Questions.{oldest_length}
+use Rattle.net_stack.specs.Stack.{StackView, state_of}
+use Rattle.sock_calls.specs.Questions.{next_datagram, readable, socket_name}
+use Rattle.sock_calls.specs.declared.questions.SocketName.{SocketName}
+use Rattle.sock_calls.specs.declared.questions.NextDatagram.{NextDatagram}
+use Rattle.libbsdudp.specs.declared.plain.CMbstat.{CMbstat}
+use Rattle.libbsdudp.specs.declared.plain.CName.{CName}
+use Rattle.libbsdudp.specs.declared.plain.CNext.{CNext}
+use Rattle.libbsdudp.specs.Answers.{invalid, refusal_code, count_code, given_code}
+use Rattle.libbsdudp.specs.Plain.{name_told, next_told, usage_told}
+
+-- a name is told, or why there is none
+abbrev pub IsName : Result SocketName Errno → ℤ → CName → CName → Type 0
+IsName (Ok name) answer old new = (answer ≡ pos 0) × (new ≡ name_told name)
+IsName (Err errno) answer old new = (answer ≡ refusal_code errno) × (new ≡ old)
+
+pub record TellsName (fd : ℕ) (answer : ℤ) (old new : CName) (s : StackView) : Type 0 where
+  pub is : IsName (socket_name fd (state_of s)) answer old new
+
+-- the oldest datagram is told, or why there is none
+abbrev pub IsNext : Result NextDatagram Errno → ℤ → CNext → CNext → Type 0
+IsNext (Ok next) answer old new = (answer ≡ pos 0) × (new ≡ next_told next)
+IsNext (Err errno) answer old new = (answer ≡ refusal_code errno) × (new ≡ old)
+
+pub record TellsNext (fd : ℕ) (answer : ℤ) (old new : CNext) (s : StackView) : Type 0 where
+  pub is : IsNext (next_datagram fd (state_of s)) answer old new
+
+-- which sockets are readable
+pub record TellsReadable (answer : ℤ) (set : ℕ) (s : StackView) : Type 0 where
+  pub is : answer ≡ pos 0
+  pub sockets : set ≡ readable (state_of s)
+
+-- how many packets wait for the link
+pub record TellsOutput (answer : ℤ) (s : StackView) : Type 0 where
+  pub is : answer ≡ count_code (length (state_of s).output)
+
+-- how long the packet is that has waited longest, or 0
+pub record TellsPacket (answer : ℤ) (s : StackView) : Type 0 where
+  pub is : answer ≡ given_code (oldest_length (state_of s).output)
+
+-- a counter's value, or -EINVAL if there is none with this number
+abbrev pub IsValue : Option Counter → Counters → ℤ → ℕ → ℕ → Type 0
+IsValue (Some counter) counters answer old new = (answer ≡ pos 0) × (new ≡ value_of counter counters)
+IsValue None counters answer old new = (answer ≡ invalid) × (new ≡ old)
+
+pub record TellsCounter (which : ℕ) (answer : ℤ) (old new : ℕ) (s : StackView) : Type 0 where
+  pub told : Counters
+  pub step : Step (state_of s) Ask_counters (Counted told) (state_of s)
+  pub value : IsValue (slice_get all_counters which) told answer old new
+
+-- how much of the pool is in use
+pub record TellsUsage (answer : ℤ) (usage : CMbstat) (s : StackView) : Type 0 where
+  pub told : Mbstat
+  pub is : answer ≡ pos 0
+  pub shown : usage ≡ usage_told told
+  pub step : Step (state_of s) Ask_usage (Shown told) (state_of s)

@@ -1,0 +1,127 @@
+//! The calls that change a stack, as C gives their arguments and takes their answers.
+ghost use Rattle.std.specs.Prelude.{◌≤◌, length};
+ghost use Rattle.params.specs.declared.TheConstants.{IP_MAX_PACKET, MAX_MTU};
+ghost use Rattle.flat_model.specs.Machine.Event.{Bind, Close, Comes, Connect, Done, Send, Set_option, Tick};
+ghost use Rattle.libbsdudp.specs.Calls.{Gives, HasCome, HasTicked, IsDone, IsGiven, IsOpened, IsReceived, IsSent, StepsTo};
+
+use crate::errors::{BAD_LENGTH, count, done, refused};
+use crate::plain::CAddr;
+use flat_model::{Addr, Opt};
+use net_stack::Stack;
+use params::{IP_MAX_PACKET, MAX_MTU};
+
+/// Opens a socket.
+pub(crate) fn socket(stack: &mut Stack) -> i32
+    ensures { IsOpened result stack.old stack.new }
+{
+    match stack.socket() {
+        Ok(fd) => count(fd as usize),
+        Err(errno) => refused(errno),
+    }
+}
+
+/// Gives a socket its local address and port.
+pub(crate) fn bind(stack: &mut Stack, fd: u32, local: Addr) -> i32
+    ensures { IsDone (Bind fd local) result stack.old stack.new }
+{
+    done(stack.bind(fd, local))
+}
+
+/// Connects a socket.
+pub(crate) fn connect(stack: &mut Stack, fd: u32, to: Addr) -> i32
+    ensures { IsDone (Connect fd to) result stack.old stack.new }
+{
+    done(stack.connect(fd, to))
+}
+
+/// Closes a socket.
+pub(crate) fn close(stack: &mut Stack, fd: u32) -> i32
+    ensures { IsDone (Close fd) result stack.old stack.new }
+{
+    done(stack.close(fd))
+}
+
+/// Sets or clears an option.
+pub(crate) fn set(stack: &mut Stack, fd: u32, option: Opt, on: bool) -> i32
+    ensures { IsDone (Set_option fd option on) result stack.old stack.new }
+{
+    done(stack.setsockopt(fd, option, on))
+}
+
+/// Sends a datagram to an address, or without one to the peer.
+pub(crate) fn send(stack: &mut Stack, fd: u32, to: Option<Addr>, bytes: &[u8]) -> i32
+    ensures { IsSent (Send fd to bytes.now) result stack.old stack.new }
+{
+    match stack.sendto(fd, to, bytes) {
+        Ok(len) => count(len),
+        Err(errno) => refused(errno),
+    }
+}
+
+/// Takes the oldest datagram that waits.
+pub(crate) fn receive(stack: &mut Stack, fd: u32, room: &mut [u8], from: &mut CAddr) -> i32
+    ensures { IsReceived fd result room.old room.new from.old from.new stack.old stack.new }
+{
+    match stack.recvfrom(fd, room) {
+        Ok((sender, len)) => {
+            *from = CAddr::of(sender);
+            count(len)
+        }
+        Err(errno) => refused(errno),
+    }
+}
+
+/// A packet comes that isn't too long.
+fn come(stack: &mut Stack, packet: &[u8])
+    requires { length packet.now ≤ IP_MAX_PACKET }
+    ensures { StepsTo (Comes packet.now) Done stack.old stack.new }
+{
+    stack.rx(packet);
+}
+
+/// A packet comes.
+pub(crate) fn rx(stack: &mut Stack, packet: &[u8]) -> i32
+    ensures { HasCome packet.now result stack.old stack.new }
+{
+    if packet.len() > IP_MAX_PACKET as usize {
+        return BAD_LENGTH;
+    }
+    come(stack, packet);
+    0
+}
+
+/// The packet that has waited longest, into a room that is long enough.
+fn give(stack: &mut Stack, room: &mut [u8]) -> i32
+    requires { MAX_MTU ≤ length room.old }
+    ensures { Gives room.old room.new result stack.old stack.new }
+{
+    match stack.tx(room) {
+        Some(len) => count(len),
+        None => 0,
+    }
+}
+
+/// The packet that has waited longest.
+pub(crate) fn tx(stack: &mut Stack, room: &mut [u8]) -> i32
+    ensures { IsGiven room.old room.new result stack.old stack.new }
+{
+    if room.len() < MAX_MTU as usize {
+        return BAD_LENGTH;
+    }
+    give(stack, room)
+}
+
+/// The clock ticks.
+fn pass(stack: &mut Stack)
+    ensures { StepsTo Tick Done stack.old stack.new }
+{
+    stack.tick();
+}
+
+/// Half a second passed.
+pub(crate) fn tick(stack: &mut Stack) -> i32
+    ensures { HasTicked result Tick stack.old stack.new }
+{
+    pass(stack);
+    0
+}

@@ -1,0 +1,48 @@
+//! How a stack is taken out of a handle, and put back.
+ghost use Rattle.std.specs.Prelude.{◌≡◌, MatchOption, None, Some};
+ghost use Rattle.libbsdudp.specs.Calls.{stack_in};
+
+use crate::handle::Handle;
+use crate::held::Held;
+use crate::owned::Owned;
+use crate::parts::{open, shut};
+use std::alloc::Global;
+use std::mem::replace;
+
+/// The mark of a handle that holds a stack.
+const LIVE: u32 = 0x6273_6475;
+
+impl Handle {
+    /// A handle without a stack.
+    fn empty(alloc: Global) -> Handle
+        ensures { result.live ≡ 0 }
+    {
+        Handle {
+            live: 0,
+            held: Held::nothing(alloc),
+        }
+    }
+
+    /// Takes out the stack, and leaves the handle without one. `None` if it has none, and then it stays without.
+    pub(crate) fn take(&mut self, alloc: Global) -> Option<Box<Owned, Global>>
+        ensures taken { MatchOption result (stack_in self.old ≡ None)
+            (λ b. stack_in self.old ≡ Some b.value.stack) }
+        ensures left { stack_in self.new ≡ None }
+    {
+        if self.live != LIVE {
+            return None;
+        }
+        let Handle { live: _, held } = replace(self, Handle::empty(alloc));
+        Some(shut(held.into_parts()))
+    }
+
+    /// Puts a stack in. The handle has to be without one, or that one isn't ended.
+    pub(crate) fn put(&mut self, boxed: Box<Owned, Global>)
+        ensures { stack_in self.new ≡ Some boxed.value.stack }
+    {
+        *self = Handle {
+            live: LIVE,
+            held: Held::of_parts(open(boxed)),
+        };
+    }
+}

@@ -1,0 +1,58 @@
+//! A boxed stack as C keeps it: an address and nothing else.
+ghost use Rattle.std.specs.Prelude.{◌≡◌, None, Some};
+ghost use Rattle.libbsdudp.specs.Held.{IsFull, Kept, kept_coded, kept_owns};
+
+use crate::owned::Owned;
+use crate::parts::Parts;
+use std::alloc::Global;
+use std::marker::Model;
+use std::ptr::null_mut;
+
+/// The place of a boxed stack, or none. A contract sees what the box holds. Its type names no type of the stack, since
+/// an export may not take one that does.
+#[repr(C)]
+#[derive(Drop)]
+pub struct Held {
+    at: *mut u8,
+    alloc: Global,
+    pub(crate) ghost kept: { Kept } by { kept_coded },
+}
+
+impl Model for Held {
+    ghost also_owns = { λ h. kept_owns h.alloc h.at h.kept };
+}
+
+impl Held {
+    /// No box.
+    pub(crate) fn nothing(alloc: Global) -> Held
+        ensures { result.kept ≡ None }
+    {
+        Held {
+            at: null_mut(),
+            alloc,
+        }
+    }
+
+    /// The place of the box that these parts make.
+    pub(crate) fn of_parts(parts: Parts<Owned, Global>) -> Held
+        ensures { result.kept ≡ Some parts.value }
+    {
+        let Parts { at, alloc } = parts;
+        Held {
+            at: at as *mut u8,
+            alloc,
+        }
+    }
+
+    /// The parts of the box at the place. There has to be one.
+    pub(crate) fn into_parts(self) -> Parts<Owned, Global>
+        requires { IsFull self.kept }
+        ensures { self.kept ≡ Some result.value }
+    {
+        let Held { at, alloc } = self;
+        Parts {
+            at: at as *mut Owned,
+            alloc,
+        }
+    }
+}

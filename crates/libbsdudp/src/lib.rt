@@ -1,0 +1,260 @@
+//! The stack as a C program calls it. Each call takes a handle, which C holds: it has no stack if all its bytes are 0,
+//! and none after `bsdudp_core_end`. A call on such a handle answers -ENXIO and does nothing.
+#![tactic(auto)]
+
+ghost use Rattle.std.specs.Prelude.{◌≡◌, None, Some, ⊤};
+ghost use Rattle.flat_model.specs.Machine.Event.{Bind, Close, Connect, Send, Set_option, Tick};
+ghost use Rattle.flat_model.specs.declared.option.Opt.TheVariants.{Broadcast, ReusePort};
+ghost use Rattle.libbsdudp.specs.Calls.{Answers, HasCome, HasTicked, IsDone, IsGiven, IsOpened, IsReceived, IsSent, stack_in};
+ghost use Rattle.libbsdudp.specs.Plain.{addr_of};
+
+mod asks;
+mod calls;
+mod convert;
+mod errors;
+mod exchange;
+mod handle;
+mod held;
+mod life;
+mod owned;
+mod parts;
+mod plain;
+mod questions;
+
+use errors::NO_STACK;
+use flat_model::Opt;
+use handle::Handle;
+use plain::CAddr;
+use std::alloc::Global;
+
+/// A packet comes. 0, or -EMSGSIZE of more than 65,535 bytes.
+///
+///     int bsdudp_core_rx(struct bsdudp_core *, const uint8_t *packet, size_t len)
+#[tactic(auto, using(crate::proofs::Answered::answered))]
+#[unsafe(no_mangle)]
+pub extern "C" fn bsdudp_core_rx(alloc: Global, handle: &mut Handle, packet: &[u8]) -> i32
+    ensures { Answers (stack_in handle.old) result (stack_in handle.new) ⊤ (HasCome packet.now result) }
+{
+    let Some(mut boxed) = handle.take(alloc) else {
+        return NO_STACK;
+    };
+    let answer = calls::rx(&mut boxed.stack, packet);
+    handle.put(boxed);
+    answer
+}
+
+/// The packet that has waited longest for the link: how many bytes it has, or 0 if none waits; -EMSGSIZE for a room of
+/// fewer than 4,352 bytes.
+///
+///     int bsdudp_core_tx(struct bsdudp_core *, uint8_t *room, size_t len)
+#[tactic(auto, using(crate::proofs::Answered::answered))]
+#[unsafe(no_mangle)]
+pub extern "C" fn bsdudp_core_tx(alloc: Global, handle: &mut Handle, room: &mut [u8]) -> i32
+    ensures { Answers (stack_in handle.old) result (stack_in handle.new) (room.new ≡ room.old)
+        (IsGiven room.old room.new result) }
+{
+    let Some(mut boxed) = handle.take(alloc) else {
+        return NO_STACK;
+    };
+    let answer = calls::tx(&mut boxed.stack, room);
+    handle.put(boxed);
+    answer
+}
+
+/// Half a second passed. 0.
+///
+///     int bsdudp_core_tick(struct bsdudp_core *)
+#[tactic(auto, using(crate::proofs::Answered::answered))]
+#[unsafe(no_mangle)]
+pub extern "C" fn bsdudp_core_tick(alloc: Global, handle: &mut Handle) -> i32
+    ensures { Answers (stack_in handle.old) result (stack_in handle.new) ⊤ (HasTicked result Tick) }
+{
+    let Some(mut boxed) = handle.take(alloc) else {
+        return NO_STACK;
+    };
+    let answer = calls::tick(&mut boxed.stack);
+    handle.put(boxed);
+    answer
+}
+
+/// Opens a socket: its descriptor, or why it is refused.
+///
+///     int bsdudp_core_socket(struct bsdudp_core *)
+#[tactic(auto, using(crate::proofs::Answered::answered))]
+#[unsafe(no_mangle)]
+pub extern "C" fn bsdudp_core_socket(alloc: Global, handle: &mut Handle) -> i32
+    ensures { Answers (stack_in handle.old) result (stack_in handle.new) ⊤ (IsOpened result) }
+{
+    let Some(mut boxed) = handle.take(alloc) else {
+        return NO_STACK;
+    };
+    let answer = calls::socket(&mut boxed.stack);
+    handle.put(boxed);
+    answer
+}
+
+/// Gives a socket its local address and port. 0, or why it is refused.
+///
+///     int bsdudp_core_bind(struct bsdudp_core *, uint32_t fd, const struct bsdudp_addr *)
+#[tactic(auto, using(crate::proofs::Answered::answered))]
+#[unsafe(no_mangle)]
+pub extern "C" fn bsdudp_core_bind(
+    alloc: Global,
+    handle: &mut Handle,
+    fd: u32,
+    local: &CAddr,
+) -> i32
+    ensures { Answers (stack_in handle.old) result (stack_in handle.new) ⊤
+        (IsDone (Bind fd (addr_of local.now)) result) }
+{
+    let Some(mut boxed) = handle.take(alloc) else {
+        return NO_STACK;
+    };
+    let answer = calls::bind(&mut boxed.stack, fd, local.addr());
+    handle.put(boxed);
+    answer
+}
+
+/// Connects a socket. 0, or why it is refused.
+///
+///     int bsdudp_core_connect(struct bsdudp_core *, uint32_t fd, const struct bsdudp_addr *)
+#[tactic(auto, using(crate::proofs::Answered::answered))]
+#[unsafe(no_mangle)]
+pub extern "C" fn bsdudp_core_connect(
+    alloc: Global,
+    handle: &mut Handle,
+    fd: u32,
+    to: &CAddr,
+) -> i32
+    ensures { Answers (stack_in handle.old) result (stack_in handle.new) ⊤
+        (IsDone (Connect fd (addr_of to.now)) result) }
+{
+    let Some(mut boxed) = handle.take(alloc) else {
+        return NO_STACK;
+    };
+    let answer = calls::connect(&mut boxed.stack, fd, to.addr());
+    handle.put(boxed);
+    answer
+}
+
+/// Sends a datagram to an address: how many bytes it has, or why it is refused.
+///
+///     int bsdudp_core_sendto(struct bsdudp_core *, uint32_t fd, const struct bsdudp_addr *, const uint8_t *, size_t)
+#[tactic(auto, using(crate::proofs::Answered::answered))]
+#[unsafe(no_mangle)]
+pub extern "C" fn bsdudp_core_sendto(
+    alloc: Global,
+    handle: &mut Handle,
+    fd: u32,
+    to: &CAddr,
+    bytes: &[u8],
+) -> i32
+    ensures { Answers (stack_in handle.old) result (stack_in handle.new) ⊤
+        (IsSent (Send fd (Some (addr_of to.now)) bytes.now) result) }
+{
+    let Some(mut boxed) = handle.take(alloc) else {
+        return NO_STACK;
+    };
+    let answer = calls::send(&mut boxed.stack, fd, Some(to.addr()), bytes);
+    handle.put(boxed);
+    answer
+}
+
+/// Sends a datagram to the peer: how many bytes it has, or why it is refused.
+///
+///     int bsdudp_core_send(struct bsdudp_core *, uint32_t fd, const uint8_t *, size_t)
+#[tactic(auto, using(crate::proofs::Answered::answered))]
+#[unsafe(no_mangle)]
+pub extern "C" fn bsdudp_core_send(alloc: Global, handle: &mut Handle, fd: u32, bytes: &[u8]) -> i32
+    ensures { Answers (stack_in handle.old) result (stack_in handle.new) ⊤ (IsSent (Send fd None bytes.now) result) }
+{
+    let Some(mut boxed) = handle.take(alloc) else {
+        return NO_STACK;
+    };
+    let answer = calls::send(&mut boxed.stack, fd, None, bytes);
+    handle.put(boxed);
+    answer
+}
+
+/// Takes the oldest datagram that waits: how many bytes stand in front of the room, or why it is refused.
+///
+///     int bsdudp_core_recvfrom(struct bsdudp_core *, uint32_t fd, uint8_t *, size_t, struct bsdudp_addr *)
+#[tactic(auto, using(crate::proofs::Answered::answered))]
+#[unsafe(no_mangle)]
+pub extern "C" fn bsdudp_core_recvfrom(
+    alloc: Global,
+    handle: &mut Handle,
+    fd: u32,
+    room: &mut [u8],
+    from: &mut CAddr,
+) -> i32
+    ensures { Answers (stack_in handle.old) result (stack_in handle.new)
+        ((room.new ≡ room.old) × (from.new ≡ from.old)) (IsReceived fd result room.old room.new from.old from.new) }
+{
+    let Some(mut boxed) = handle.take(alloc) else {
+        return NO_STACK;
+    };
+    let answer = calls::receive(&mut boxed.stack, fd, room, from);
+    handle.put(boxed);
+    answer
+}
+
+/// Closes a socket. 0, or why it is refused.
+///
+///     int bsdudp_core_close(struct bsdudp_core *, uint32_t fd)
+#[tactic(auto, using(crate::proofs::Answered::answered))]
+#[unsafe(no_mangle)]
+pub extern "C" fn bsdudp_core_close(alloc: Global, handle: &mut Handle, fd: u32) -> i32
+    ensures { Answers (stack_in handle.old) result (stack_in handle.new) ⊤ (IsDone (Close fd) result) }
+{
+    let Some(mut boxed) = handle.take(alloc) else {
+        return NO_STACK;
+    };
+    let answer = calls::close(&mut boxed.stack, fd);
+    handle.put(boxed);
+    answer
+}
+
+/// Whether a socket may send broadcasts. 0, or why it is refused.
+///
+///     int bsdudp_core_set_broadcast(struct bsdudp_core *, uint32_t fd, bool on)
+#[tactic(auto, using(crate::proofs::Answered::answered))]
+#[unsafe(no_mangle)]
+pub extern "C" fn bsdudp_core_set_broadcast(
+    alloc: Global,
+    handle: &mut Handle,
+    fd: u32,
+    on: bool,
+) -> i32
+    ensures { Answers (stack_in handle.old) result (stack_in handle.new) ⊤
+        (IsDone (Set_option fd Broadcast on) result) }
+{
+    let Some(mut boxed) = handle.take(alloc) else {
+        return NO_STACK;
+    };
+    let answer = calls::set(&mut boxed.stack, fd, Opt::Broadcast, on);
+    handle.put(boxed);
+    answer
+}
+
+/// Whether a socket's address and port may be shared. 0, or why it is refused.
+///
+///     int bsdudp_core_set_reuse_port(struct bsdudp_core *, uint32_t fd, bool on)
+#[tactic(auto, using(crate::proofs::Answered::answered))]
+#[unsafe(no_mangle)]
+pub extern "C" fn bsdudp_core_set_reuse_port(
+    alloc: Global,
+    handle: &mut Handle,
+    fd: u32,
+    on: bool,
+) -> i32
+    ensures { Answers (stack_in handle.old) result (stack_in handle.new) ⊤
+        (IsDone (Set_option fd ReusePort on) result) }
+{
+    let Some(mut boxed) = handle.take(alloc) else {
+        return NO_STACK;
+    };
+    let answer = calls::set(&mut boxed.stack, fd, Opt::ReusePort, on);
+    handle.put(boxed);
+    answer
+}

@@ -1,0 +1,142 @@
+//! The questions, which leave the stack as it is.
+ghost use Rattle.std.specs.Prelude.{◌≡◌, ⊤};
+ghost use Rattle.libbsdudp.specs.Calls.{Answers, IsAsked, stack_in};
+ghost use Rattle.libbsdudp.specs.Told.{TellsCounter, TellsName, TellsNext, TellsOutput, TellsPacket, TellsReadable, TellsUsage};
+
+use crate::asks;
+use crate::errors::NO_STACK;
+use crate::handle::Handle;
+use crate::plain::{CMbstat, CName, CNext};
+use std::alloc::Global;
+
+/// What a socket is bound and connected to, and its options. 0, or -EBADF.
+///
+///     int bsdudp_core_name(struct bsdudp_core *, uint32_t fd, struct bsdudp_name *)
+#[tactic(auto, using(crate::proofs::Answered::asked))]
+#[unsafe(no_mangle)]
+pub extern "C" fn bsdudp_core_name(
+    alloc: Global,
+    handle: &mut Handle,
+    fd: u32,
+    name: &mut CName,
+) -> i32
+    ensures { Answers (stack_in handle.old) result (stack_in handle.new) (name.new ≡ name.old)
+        (IsAsked (TellsName fd result name.old name.new)) }
+{
+    let Some(boxed) = handle.take(alloc) else {
+        return NO_STACK;
+    };
+    let answer = asks::name(&boxed.stack, fd, name);
+    handle.put(boxed);
+    answer
+}
+
+/// The oldest datagram that waits in a socket. 0, or why there is none.
+///
+///     int bsdudp_core_next(struct bsdudp_core *, uint32_t fd, struct bsdudp_next *)
+#[tactic(auto, using(crate::proofs::Answered::asked))]
+#[unsafe(no_mangle)]
+pub extern "C" fn bsdudp_core_next(
+    alloc: Global,
+    handle: &mut Handle,
+    fd: u32,
+    next: &mut CNext,
+) -> i32
+    ensures { Answers (stack_in handle.old) result (stack_in handle.new) (next.new ≡ next.old)
+        (IsAsked (TellsNext fd result next.old next.new)) }
+{
+    let Some(boxed) = handle.take(alloc) else {
+        return NO_STACK;
+    };
+    let answer = asks::next(&boxed.stack, fd, next);
+    handle.put(boxed);
+    answer
+}
+
+/// The sockets in which a datagram waits: bit k stands for descriptor 3 + k. 0.
+///
+///     int bsdudp_core_readable(struct bsdudp_core *, uint64_t *set)
+#[tactic(auto, using(crate::proofs::Answered::asked))]
+#[unsafe(no_mangle)]
+pub extern "C" fn bsdudp_core_readable(alloc: Global, handle: &mut Handle, set: &mut u64) -> i32
+    ensures { Answers (stack_in handle.old) result (stack_in handle.new) (set.new ≡ set.old)
+        (IsAsked (TellsReadable result set.new)) }
+{
+    let Some(boxed) = handle.take(alloc) else {
+        return NO_STACK;
+    };
+    let answer = asks::readable(&boxed.stack, set);
+    handle.put(boxed);
+    answer
+}
+
+/// How many packets wait for the link.
+///
+///     int bsdudp_core_output_len(struct bsdudp_core *)
+#[tactic(auto, using(crate::proofs::Answered::asked))]
+#[unsafe(no_mangle)]
+pub extern "C" fn bsdudp_core_output_len(alloc: Global, handle: &mut Handle) -> i32
+    ensures { Answers (stack_in handle.old) result (stack_in handle.new) ⊤ (IsAsked (TellsOutput result)) }
+{
+    let Some(boxed) = handle.take(alloc) else {
+        return NO_STACK;
+    };
+    let answer = asks::output_len(&boxed.stack);
+    handle.put(boxed);
+    answer
+}
+
+/// How many bytes the packet has that `tx` gives next, or 0 if none waits.
+///
+///     int bsdudp_core_next_packet(struct bsdudp_core *)
+#[tactic(auto, using(crate::proofs::Answered::asked))]
+#[unsafe(no_mangle)]
+pub extern "C" fn bsdudp_core_next_packet(alloc: Global, handle: &mut Handle) -> i32
+    ensures { Answers (stack_in handle.old) result (stack_in handle.new) ⊤ (IsAsked (TellsPacket result)) }
+{
+    let Some(boxed) = handle.take(alloc) else {
+        return NO_STACK;
+    };
+    let answer = asks::next_packet(&boxed.stack);
+    handle.put(boxed);
+    answer
+}
+
+/// A counter, by its place in the order in which they are printed. 0, or -EINVAL if there is none.
+///
+///     int bsdudp_core_counter(struct bsdudp_core *, uint32_t which, uint64_t *value)
+#[tactic(auto, using(crate::proofs::Answered::asked))]
+#[unsafe(no_mangle)]
+pub extern "C" fn bsdudp_core_counter(
+    alloc: Global,
+    handle: &mut Handle,
+    which: u32,
+    value: &mut u64,
+) -> i32
+    ensures { Answers (stack_in handle.old) result (stack_in handle.new) (value.new ≡ value.old)
+        (IsAsked (TellsCounter which result value.old value.new)) }
+{
+    let Some(boxed) = handle.take(alloc) else {
+        return NO_STACK;
+    };
+    let answer = asks::counter(&boxed.stack, which, value);
+    handle.put(boxed);
+    answer
+}
+
+/// How much of the pool is in use. 0.
+///
+///     int bsdudp_core_mbstat(struct bsdudp_core *, struct bsdudp_mbstat *)
+#[tactic(auto, using(crate::proofs::Answered::asked))]
+#[unsafe(no_mangle)]
+pub extern "C" fn bsdudp_core_mbstat(alloc: Global, handle: &mut Handle, usage: &mut CMbstat) -> i32
+    ensures { Answers (stack_in handle.old) result (stack_in handle.new) (usage.new ≡ usage.old)
+        (IsAsked (TellsUsage result usage.new)) }
+{
+    let Some(boxed) = handle.take(alloc) else {
+        return NO_STACK;
+    };
+    let answer = asks::mbstat(&boxed.stack, usage);
+    handle.put(boxed);
+    answer
+}
