@@ -1,0 +1,219 @@
+/*
+ * bsdudp: the datagram half of a 4.4BSD network stack (TCP/IP Illustrated, volume 2), proved.
+ *
+ * A stack is a value that you hold. There are no threads, files, clocks or errno: every call gets the stack as its
+ * first argument and returns at once. Two stacks know nothing of each other.
+ *
+ * Answers. A call answers 0 or a count if it went well, and else the negative of one of the BSDUDP_E numbers below. A
+ * refused call changes nothing, unless its text says what it leaves.
+ *
+ * Numbers. Addresses and ports are in the host's order: 10.0.0.1 is 0x0a000001. A packet begins with its IPv4 header.
+ * A descriptor is 3 to 66.
+ *
+ * What you must uphold, of every call:
+ *   - A `struct bsdudp` has all bytes 0 before its first boot (BSDUDP_NONE), and then is as the library left it. Don't
+ *     copy it, and don't touch its members.
+ *   - One call at a time on a stack. Calls on other stacks may run meanwhile, but for boot and end: only one of these
+ *     runs at a time in the whole program. No call from a signal handler or an interrupt.
+ *   - No pointer is null, each points to as many bytes as the text says, and no two arguments of a call overlap.
+ * All else is answered: a handle without a stack, a wrong descriptor, a wrong length, a damaged packet.
+ */
+#ifndef BSDUDP_H
+#define BSDUDP_H
+
+#include <stddef.h>
+#include <stdint.h>
+
+#ifdef __cplusplus
+extern "C" {
+#endif
+
+/* A stack, or none. Its members are the library's. */
+struct bsdudp_core {
+    uint32_t live;
+    void *at;
+};
+struct bsdudp {
+    struct bsdudp_core core;
+    void *block;
+};
+#define BSDUDP_NONE {{0, NULL}, NULL}
+
+/* What a stack is booted with. */
+struct bsdudp_config {
+    uint32_t addr;     /* the address of its interface: 1.0.0.0 to 223.255.255.255, not in 127/8 */
+    uint32_t bcast;    /* the broadcast address of its network: in the same range, another one */
+    uint32_t mbufs;    /* how many mbufs of 128 bytes its pool has: 1 to 65535 */
+    uint32_t clusters; /* how many clusters of 2,048 bytes: 0 to 4096 */
+    uint16_t mtu;      /* the longest packet of the link: 68 to 4352 bytes */
+    uint16_t first_id; /* the IP identification of the first datagram that it sends */
+};
+
+/* An address with a port. */
+struct bsdudp_addr {
+    uint32_t ip;
+    uint16_t port;
+};
+
+/* How much of the pool is in use. */
+struct bsdudp_mbstat {
+    uint32_t free_mbufs, mbufs;       /* free, and all */
+    uint32_t free_clusters, clusters; /* free, and all */
+    uint32_t refs;                    /* the sum of the clusters' counts */
+    uint32_t most;                    /* the greatest of them */
+};
+
+/* What a socket is bound and connected to, with 0 for what is unset, and its options, 1 or 0. */
+struct bsdudp_name {
+    uint32_t local_ip, peer_ip;
+    uint16_t local_port, peer_port;
+    uint8_t broadcast, reuse_port;
+};
+
+/* The oldest datagram that waits in a socket. */
+struct bsdudp_next {
+    uint32_t ip;      /* its sender's address */
+    uint16_t port;    /* and port */
+    uint32_t len;     /* how many bytes it has: with less room recvfrom cuts it */
+    uint32_t waiting; /* how many datagrams wait, this one among them */
+};
+
+/* Refusals, by 4.4BSD's numbers: a call answers the negative of one. */
+enum {
+    BSDUDP_ENXIO = 6,           /* the handle has no stack; of boot: it has one */
+    BSDUDP_EBADF = 9,           /* no socket has this descriptor */
+    BSDUDP_ENOMEM = 12,         /* boot: too little memory */
+    BSDUDP_EACCES = 13,         /* a broadcast without BSDUDP_SO_BROADCAST */
+    BSDUDP_EINVAL = 22,         /* boot: no such configuration; bind: the socket has a name; counter: no such number */
+    BSDUDP_EMFILE = 24,         /* 64 sockets are open */
+    BSDUDP_EDOM = 33,           /* boot: sizes that no pool has */
+    BSDUDP_EWOULDBLOCK = 35,    /* nothing waits */
+    BSDUDP_EDESTADDRREQ = 39,   /* a send without an address on an unconnected socket */
+    BSDUDP_EMSGSIZE = 40,       /* too long, or too little room */
+    BSDUDP_ENOPROTOOPT = 42,    /* no such option */
+    BSDUDP_EADDRINUSE = 48,     /* another socket stands in the way */
+    BSDUDP_EADDRNOTAVAIL = 49,  /* no address of this machine; a destination with port 0 */
+    BSDUDP_ENOBUFS = 55,        /* the pool has too few buffers; nothing was sent or spent */
+    BSDUDP_EISCONN = 56,        /* a send with an address on a connected socket */
+    BSDUDP_EHOSTUNREACH = 65,   /* nothing leads there */
+    BSDUDP_EQUEUE = 155         /* 4.4BSD's ENOBUFS of a full output queue: see bsdudp_sendto */
+};
+
+enum {
+    BSDUDP_SO_BROADCAST = 0x20, /* the socket may send to the broadcast address */
+    BSDUDP_SO_REUSEPORT = 0x200 /* others that have it too may bind to the same address and port */
+};
+
+enum {
+    BSDUDP_FIRST_FD = 3,    /* the least descriptor; bit k of bsdudp_readable stands for BSDUDP_FIRST_FD + k */
+    BSDUDP_SOCKETS = 64,    /* how many sockets are open at most */
+    BSDUDP_QUEUE = 50,      /* how many packets wait for the link at most */
+    BSDUDP_TX_ROOM = 4352,  /* the room that bsdudp_tx wants */
+    BSDUDP_DATAGRAM = 9216, /* the longest datagram that is sent */
+    BSDUDP_PACKET = 65535,  /* the longest packet that may come */
+    BSDUDP_ALIGNMENT = 16,  /* of the memory of a stack */
+    BSDUDP_COUNTERS = 26
+};
+
+/* How many bytes of memory a stack takes with so many mbufs and clusters: a constant if they are, so that
+   `static unsigned char memory[BSDUDP_MEMORY(64, 16)]` works. */
+#define BSDUDP_MEMORY(mbufs, clusters) (4608 + 176 * (size_t)(mbufs) + 2064 * (size_t)(clusters))
+
+/* How many bytes of memory a stack of this configuration takes: BSDUDP_MEMORY of its sizes. */
+size_t bsdudp_memory(const struct bsdudp_config *config);
+
+/* Boots a stack in memory that you give: `len` bytes from `memory` on, aligned to BSDUDP_ALIGNMENT. The memory is the
+   stack's until bsdudp_end. No other call takes memory. The answer is 0.
+   ENXIO: the handle has a stack, which goes on. EDOM: the mbufs aren't 1 to 65535, or the clusters more than 4096.
+   EINVAL: the MTU, or an address, isn't in its range, or both addresses are the same. ENOMEM: `len` is too little. */
+int bsdudp_boot_in(struct bsdudp *, const struct bsdudp_config *, void *memory, size_t len);
+
+/* The same with memory from malloc, which bsdudp_end gives back. It's in an object of its own: a program that doesn't
+   call it needs no malloc. ENOMEM also if malloc refuses. */
+int bsdudp_boot(struct bsdudp *, const struct bsdudp_config *);
+
+/* Ends the stack: all that it holds is gone, and the handle is free for another. The answer is 0. ENXIO. */
+int bsdudp_end(struct bsdudp *);
+
+/* A packet came from the link. It's delivered, kept for the other fragments of its datagram, or dropped and counted;
+   that is no refusal. Bytes after its total length are ignored. `packet` isn't kept. The answer is 0.
+   ENXIO. EMSGSIZE: `len` is above 65535. */
+int bsdudp_rx(struct bsdudp *, const uint8_t *packet, size_t len);
+
+/* Gives the packet that has waited longest for the link: its bytes stand in front of `room`, and the answer is its
+   length, at most the MTU; 0 if none waits. What stands behind it in the room stays.
+   ENXIO. EMSGSIZE: `len` is below BSDUDP_TX_ROOM. */
+int bsdudp_tx(struct bsdudp *, uint8_t *room, size_t len);
+
+/* Half a second passed. A datagram of which fragments are missing is dropped after 60 of these. The answer is 0.
+   ENXIO. */
+int bsdudp_tick(struct bsdudp *);
+
+/* Opens a UDP socket. The answer is its descriptor, the least that is free. ENXIO. EMFILE. */
+int bsdudp_socket(struct bsdudp *);
+
+/* Gives a socket its local address, or with 0 all of the machine, and its port, or with 0 the next free one of 1024 to
+   5000, which bsdudp_getsockname tells. The answer is 0. Refused, in this order:
+   ENXIO. EBADF. EINVAL: it has a port or an address already. EADDRNOTAVAIL. EADDRINUSE. */
+int bsdudp_bind(struct bsdudp *, uint32_t fd, const struct bsdudp_addr *local);
+
+/* Connects a socket: it sends to this address and hears from it alone. One that is connected is disconnected first, and
+   stays so if the call is refused. The answer is 0. Refused, in this order:
+   ENXIO. EBADF. EADDRNOTAVAIL: port 0. EHOSTUNREACH. EADDRINUSE: another socket has the same four values. */
+int bsdudp_connect(struct bsdudp *, uint32_t fd, const struct bsdudp_addr *to);
+
+/* Sends `len` bytes as one datagram. The answer is `len`. What goes to the link waits for bsdudp_tx. What goes to this
+   machine has arrived when the call returns. Refused, in this order:
+   ENXIO. EBADF. EMSGSIZE: more than 9,216 bytes. EISCONN. EADDRNOTAVAIL: port 0. EHOSTUNREACH. EADDRINUSE. EACCES.
+   EMSGSIZE: a broadcast longer than a packet of the link. ENOBUFS: the pool; datagrams that waited for fragments are
+   dropped then. EQUEUE: not all packets found room in the output queue; those that did go out, and the identification
+   is spent. */
+int bsdudp_sendto(struct bsdudp *, uint32_t fd, const struct bsdudp_addr *to, const uint8_t *bytes, size_t len);
+
+/* The same to the peer of a connected socket; EDESTADDRREQ in the place of the refusals of an address. */
+int bsdudp_send(struct bsdudp *, uint32_t fd, const uint8_t *bytes, size_t len);
+
+/* Takes the oldest datagram that waits in a socket: up to `len` bytes of it stand in `room`, the others are lost, and
+   `from` tells the sender. The answer is how many bytes were copied. It doesn't block.
+   ENXIO. EBADF. EWOULDBLOCK. Then room and `from` are as they were. */
+int bsdudp_recvfrom(struct bsdudp *, uint32_t fd, uint8_t *room, size_t len, struct bsdudp_addr *from);
+
+/* Closes a socket; what waits in it is lost. The answer is 0. ENXIO. EBADF. */
+int bsdudp_close(struct bsdudp *, uint32_t fd);
+
+/* Sets an option, or with `on` 0 clears it. The answer is 0. ENXIO. EBADF. ENOPROTOOPT. */
+int bsdudp_setsockopt(struct bsdudp *, uint32_t fd, int option, int on);
+
+/* ---- questions: they change nothing */
+
+/* What a socket is bound and connected to, and its options. The answer is 0. ENXIO. EBADF: `name` is as it was. */
+int bsdudp_getsockname(struct bsdudp *, uint32_t fd, struct bsdudp_name *name);
+
+/* The oldest datagram that waits in a socket. The answer is 0. ENXIO. EBADF. EWOULDBLOCK. Then `next` is as it was. */
+int bsdudp_next(struct bsdudp *, uint32_t fd, struct bsdudp_next *next);
+
+/* In which sockets a datagram waits: bit k of `*set` stands for descriptor 3 + k. The answer is 0. ENXIO. */
+int bsdudp_readable(struct bsdudp *, uint64_t *set);
+
+/* How many packets wait for the link, 0 to 50. ENXIO. */
+int bsdudp_output_len(struct bsdudp *);
+
+/* How many bytes the packet has that bsdudp_tx gives next; 0 if none waits. ENXIO. */
+int bsdudp_next_packet(struct bsdudp *);
+
+/* A counter, by its number, 0 to 25, in the order of bsdudp_counter_name. The answer is 0. ENXIO. EINVAL. */
+int bsdudp_counter(struct bsdudp *, uint32_t which, uint64_t *value);
+
+/* How much of the pool is in use. The answer is 0. ENXIO. */
+int bsdudp_mbstat(struct bsdudp *, struct bsdudp_mbstat *usage);
+
+/* The name of a counter, as "ip.total"; NULL from 26 on. */
+const char *bsdudp_counter_name(uint32_t which);
+
+/* What an answer says, as "no buffers"; "ok" of 0 and above. */
+const char *bsdudp_strerror(int answer);
+
+#ifdef __cplusplus
+}
+#endif
+#endif

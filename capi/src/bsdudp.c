@@ -1,0 +1,158 @@
+/* What stands between the header and the proved core: the memory of a stack, one export for each call, and two tables
+   of names. The core asks for memory in boot alone, by rattle_alloc, and gives it back in end, by rattle_dealloc. */
+#include "bsdudp.h"
+
+#include <stdbool.h>
+
+/* The core's exports. */
+int bsdudp_core_boot(struct bsdudp_core *, const struct bsdudp_config *);
+int bsdudp_core_end(struct bsdudp_core *);
+int bsdudp_core_rx(struct bsdudp_core *, const uint8_t *, size_t);
+int bsdudp_core_tx(struct bsdudp_core *, uint8_t *, size_t);
+int bsdudp_core_tick(struct bsdudp_core *);
+int bsdudp_core_socket(struct bsdudp_core *);
+int bsdudp_core_bind(struct bsdudp_core *, uint32_t, const struct bsdudp_addr *);
+int bsdudp_core_connect(struct bsdudp_core *, uint32_t, const struct bsdudp_addr *);
+int bsdudp_core_sendto(struct bsdudp_core *, uint32_t, const struct bsdudp_addr *, const uint8_t *, size_t);
+int bsdudp_core_send(struct bsdudp_core *, uint32_t, const uint8_t *, size_t);
+int bsdudp_core_recvfrom(struct bsdudp_core *, uint32_t, uint8_t *, size_t, struct bsdudp_addr *);
+int bsdudp_core_close(struct bsdudp_core *, uint32_t);
+int bsdudp_core_set_broadcast(struct bsdudp_core *, uint32_t, bool);
+int bsdudp_core_set_reuse_port(struct bsdudp_core *, uint32_t, bool);
+int bsdudp_core_name(struct bsdudp_core *, uint32_t, struct bsdudp_name *);
+int bsdudp_core_next(struct bsdudp_core *, uint32_t, struct bsdudp_next *);
+int bsdudp_core_readable(struct bsdudp_core *, uint64_t *);
+int bsdudp_core_output_len(struct bsdudp_core *);
+int bsdudp_core_next_packet(struct bsdudp_core *);
+int bsdudp_core_counter(struct bsdudp_core *, uint32_t, uint64_t *);
+int bsdudp_core_mbstat(struct bsdudp_core *, struct bsdudp_mbstat *);
+
+/* ---- memory: blocks one after another in what boot was given, for as long as boot runs */
+
+struct tried {
+    bool ok;
+    void *at;
+};
+
+static unsigned char *arena;
+static size_t left;
+
+/* A block of `size` bytes, aligned to 16; `alignment` is at most that. */
+struct tried rattle_alloc(size_t size, size_t alignment);
+struct tried rattle_alloc(size_t size, size_t alignment)
+{
+    static unsigned char none;
+    struct tried answer = {false, &none};
+    (void)alignment;
+    if (size > left || (size + 15) / 16 * 16 > left)
+        return answer;
+    answer.ok = true;
+    answer.at = arena;
+    arena += (size + 15) / 16 * 16;
+    left -= (size + 15) / 16 * 16;
+    return answer;
+}
+
+/* A block comes back: the memory is the caller's again once all have. */
+void rattle_dealloc(void *block);
+void rattle_dealloc(void *block)
+{
+    (void)block;
+}
+
+size_t bsdudp_memory(const struct bsdudp_config *config)
+{
+    return BSDUDP_MEMORY(config->mbufs, config->clusters);
+}
+
+int bsdudp_boot_in(struct bsdudp *stack, const struct bsdudp_config *config, void *memory, size_t len)
+{
+    int answer;
+    arena = memory;
+    left = len / 16 * 16;
+    answer = bsdudp_core_boot(&stack->core, config);
+    arena = NULL;
+    left = 0;
+    return answer;
+}
+
+/* What bsdudp_boot's object puts here gives a block of malloc back. */
+void (*bsdudp_give_back)(void *) = NULL;
+
+int bsdudp_end(struct bsdudp *stack)
+{
+    int answer = bsdudp_core_end(&stack->core);
+    if (answer == 0 && stack->block != NULL) {
+        bsdudp_give_back(stack->block);
+        stack->block = NULL;
+    }
+    return answer;
+}
+
+/* ---- the calls */
+
+int bsdudp_rx(struct bsdudp *s, const uint8_t *packet, size_t len) { return bsdudp_core_rx(&s->core, packet, len); }
+int bsdudp_tx(struct bsdudp *s, uint8_t *room, size_t len) { return bsdudp_core_tx(&s->core, room, len); }
+int bsdudp_tick(struct bsdudp *s) { return bsdudp_core_tick(&s->core); }
+int bsdudp_socket(struct bsdudp *s) { return bsdudp_core_socket(&s->core); }
+int bsdudp_close(struct bsdudp *s, uint32_t fd) { return bsdudp_core_close(&s->core, fd); }
+
+int bsdudp_bind(struct bsdudp *s, uint32_t fd, const struct bsdudp_addr *local)
+{
+    return bsdudp_core_bind(&s->core, fd, local);
+}
+
+int bsdudp_connect(struct bsdudp *s, uint32_t fd, const struct bsdudp_addr *to)
+{
+    return bsdudp_core_connect(&s->core, fd, to);
+}
+
+int bsdudp_sendto(struct bsdudp *s, uint32_t fd, const struct bsdudp_addr *to, const uint8_t *bytes, size_t len)
+{
+    return bsdudp_core_sendto(&s->core, fd, to, bytes, len);
+}
+
+int bsdudp_send(struct bsdudp *s, uint32_t fd, const uint8_t *bytes, size_t len)
+{
+    return bsdudp_core_send(&s->core, fd, bytes, len);
+}
+
+int bsdudp_recvfrom(struct bsdudp *s, uint32_t fd, uint8_t *room, size_t len, struct bsdudp_addr *from)
+{
+    return bsdudp_core_recvfrom(&s->core, fd, room, len, from);
+}
+
+int bsdudp_setsockopt(struct bsdudp *s, uint32_t fd, int option, int on)
+{
+    struct bsdudp_name name;
+    int answer;
+    switch (option) {
+    case BSDUDP_SO_BROADCAST:
+        return bsdudp_core_set_broadcast(&s->core, fd, on != 0);
+    case BSDUDP_SO_REUSEPORT:
+        return bsdudp_core_set_reuse_port(&s->core, fd, on != 0);
+    default: /* a handle without a stack and a wrong descriptor are told first */
+        answer = bsdudp_core_name(&s->core, fd, &name);
+        return answer < 0 ? answer : -BSDUDP_ENOPROTOOPT;
+    }
+}
+
+int bsdudp_getsockname(struct bsdudp *s, uint32_t fd, struct bsdudp_name *name)
+{
+    return bsdudp_core_name(&s->core, fd, name);
+}
+
+int bsdudp_next(struct bsdudp *s, uint32_t fd, struct bsdudp_next *next)
+{
+    return bsdudp_core_next(&s->core, fd, next);
+}
+
+int bsdudp_readable(struct bsdudp *s, uint64_t *set) { return bsdudp_core_readable(&s->core, set); }
+int bsdudp_output_len(struct bsdudp *s) { return bsdudp_core_output_len(&s->core); }
+int bsdudp_next_packet(struct bsdudp *s) { return bsdudp_core_next_packet(&s->core); }
+int bsdudp_mbstat(struct bsdudp *s, struct bsdudp_mbstat *usage) { return bsdudp_core_mbstat(&s->core, usage); }
+
+int bsdudp_counter(struct bsdudp *s, uint32_t which, uint64_t *value)
+{
+    return bsdudp_core_counter(&s->core, which, value);
+}

@@ -1,0 +1,224 @@
+/* Every call on its plain path, and every refusal that it can have. It compiles as C99 and as C++, says the line of the
+   first answer that is wrong, and then exits with 1. */
+#include "bsdudp.h"
+
+#include <stdio.h>
+#include <string.h>
+
+#define WANT(call, answer) \
+    do { \
+        long got_ = (long)(call); \
+        if (got_ != (long)(answer)) { \
+            fprintf(stderr, "capi/tests/calls.c:%d: %s: %ld, not %ld\n", __LINE__, #call, got_, (long)(answer)); \
+            return 1; \
+        } \
+    } while (0)
+
+#define ALIGNED __attribute__((aligned(BSDUDP_ALIGNMENT)))
+
+static unsigned char memory[BSDUDP_MEMORY(64, 16)] ALIGNED, other[BSDUDP_MEMORY(64, 16)] ALIGNED;
+static uint8_t bytes[BSDUDP_DATAGRAM + 1], room[BSDUDP_DATAGRAM], packet[BSDUDP_PACKET + 1];
+static struct bsdudp near_ = BSDUDP_NONE, far_ = BSDUDP_NONE;
+static const struct bsdudp_addr any = {0, 7}, to_far = {0x0a000002, 7}, to_all = {0x0a0000ff, 7};
+
+static struct bsdudp_config config(void)
+{
+    struct bsdudp_config c = {0x0a000001, 0x0a0000ff, 64, 16, 1500, 1};
+    return c;
+}
+
+/* A handle without a stack answers ENXIO to every call. */
+static int without_a_stack(struct bsdudp *s)
+{
+    struct bsdudp_addr from = {1, 2};
+    struct bsdudp_name name;
+    struct bsdudp_next next;
+    struct bsdudp_mbstat usage;
+    uint64_t number = 99;
+    WANT(bsdudp_end(s), -BSDUDP_ENXIO);
+    WANT(bsdudp_rx(s, packet, 20), -BSDUDP_ENXIO);
+    WANT(bsdudp_tx(s, packet, sizeof packet), -BSDUDP_ENXIO);
+    WANT(bsdudp_tick(s), -BSDUDP_ENXIO);
+    WANT(bsdudp_socket(s), -BSDUDP_ENXIO);
+    WANT(bsdudp_bind(s, 3, &any), -BSDUDP_ENXIO);
+    WANT(bsdudp_connect(s, 3, &to_far), -BSDUDP_ENXIO);
+    WANT(bsdudp_sendto(s, 3, &to_far, bytes, 1), -BSDUDP_ENXIO);
+    WANT(bsdudp_send(s, 3, bytes, 1), -BSDUDP_ENXIO);
+    WANT(bsdudp_recvfrom(s, 3, room, sizeof room, &from), -BSDUDP_ENXIO);
+    WANT(bsdudp_close(s, 3), -BSDUDP_ENXIO);
+    WANT(bsdudp_setsockopt(s, 3, BSDUDP_SO_BROADCAST, 1), -BSDUDP_ENXIO);
+    WANT(bsdudp_setsockopt(s, 3, 1, 1), -BSDUDP_ENXIO);
+    WANT(bsdudp_getsockname(s, 3, &name), -BSDUDP_ENXIO);
+    WANT(bsdudp_next(s, 3, &next), -BSDUDP_ENXIO);
+    WANT(bsdudp_readable(s, &number), -BSDUDP_ENXIO);
+    WANT(bsdudp_output_len(s), -BSDUDP_ENXIO);
+    WANT(bsdudp_next_packet(s), -BSDUDP_ENXIO);
+    WANT(bsdudp_counter(s, 0, &number), -BSDUDP_ENXIO);
+    WANT(bsdudp_mbstat(s, &usage), -BSDUDP_ENXIO);
+    WANT(from.ip == 1 && from.port == 2 && number == 99, 1);
+    return 0;
+}
+
+/* What boot refuses, and how much memory it takes. */
+static int boots(void)
+{
+    struct bsdudp_config c = config();
+    size_t len;
+    c.mbufs = 0;
+    WANT(bsdudp_boot_in(&near_, &c, memory, sizeof memory), -BSDUDP_EDOM);
+    c = config(), c.clusters = 4097;
+    WANT(bsdudp_boot_in(&near_, &c, memory, sizeof memory), -BSDUDP_EDOM);
+    WANT(bsdudp_boot(&near_, &c), -BSDUDP_EDOM);
+    c = config(), c.mtu = 67;
+    WANT(bsdudp_boot_in(&near_, &c, memory, sizeof memory), -BSDUDP_EINVAL);
+    WANT(bsdudp_boot(&near_, &c), -BSDUDP_EINVAL);
+    c = config(), c.mtu = 4353;
+    WANT(bsdudp_boot_in(&near_, &c, memory, sizeof memory), -BSDUDP_EINVAL);
+    c = config(), c.addr = 0x7f000001;
+    WANT(bsdudp_boot_in(&near_, &c, memory, sizeof memory), -BSDUDP_EINVAL);
+    c = config(), c.bcast = c.addr;
+    WANT(bsdudp_boot_in(&near_, &c, memory, sizeof memory), -BSDUDP_EINVAL);
+    c = config();
+    WANT(bsdudp_memory(&c), sizeof memory);
+    for (len = 0; len < 40000; len += 97) /* each block of boot is refused in turn */
+        WANT(bsdudp_boot_in(&near_, &c, memory, len), -BSDUDP_ENOMEM);
+    WANT(bsdudp_boot_in(&near_, &c, memory, sizeof memory), 0);
+    WANT(bsdudp_boot_in(&near_, &c, other, sizeof other), -BSDUDP_ENXIO);
+    WANT(bsdudp_boot(&near_, &c), -BSDUDP_ENXIO);
+    c.addr = 0x0a000002;
+    WANT(bsdudp_boot_in(&far_, &c, other, sizeof other), 0);
+    return 0;
+}
+
+/* Sockets, their names and options. */
+static int sockets(void)
+{
+    struct bsdudp_addr wrong = {0x0b000001, 7}, nowhere = {0xe0000001, 7}, portless = {0x0a000002, 0};
+    struct bsdudp_name name;
+    int fd;
+    WANT(bsdudp_socket(&near_), 3);
+    WANT(bsdudp_socket(&far_), 3);
+    WANT(bsdudp_getsockname(&near_, 4, &name), -BSDUDP_EBADF);
+    WANT(bsdudp_bind(&far_, 4, &any), -BSDUDP_EBADF);
+    WANT(bsdudp_bind(&far_, 3, &wrong), -BSDUDP_EADDRNOTAVAIL);
+    WANT(bsdudp_bind(&far_, 3, &any), 0);
+    WANT(bsdudp_bind(&far_, 3, &any), -BSDUDP_EINVAL);
+    WANT(bsdudp_socket(&far_), 4);
+    WANT(bsdudp_bind(&far_, 4, &any), -BSDUDP_EADDRINUSE);
+    WANT(bsdudp_connect(&near_, 5, &to_far), -BSDUDP_EBADF);
+    WANT(bsdudp_connect(&near_, 3, &portless), -BSDUDP_EADDRNOTAVAIL);
+    WANT(bsdudp_connect(&near_, 3, &nowhere), -BSDUDP_EHOSTUNREACH);
+    WANT(bsdudp_setsockopt(&near_, 5, BSDUDP_SO_BROADCAST, 1), -BSDUDP_EBADF);
+    WANT(bsdudp_setsockopt(&near_, 5, 1, 1), -BSDUDP_EBADF);
+    WANT(bsdudp_setsockopt(&near_, 3, 1, 1), -BSDUDP_ENOPROTOOPT);
+    WANT(bsdudp_setsockopt(&near_, 3, BSDUDP_SO_REUSEPORT, 1), 0);
+    WANT(bsdudp_connect(&near_, 3, &to_far), 0);
+    WANT(bsdudp_getsockname(&near_, 3, &name), 0);
+    WANT(name.local_ip, 0x0a000001);
+    WANT(name.local_port, 1024);
+    WANT(name.peer_ip, 0x0a000002);
+    WANT(name.peer_port, 7);
+    WANT(name.broadcast, 0);
+    WANT(name.reuse_port, 1);
+    for (fd = 4; fd < 67; fd++)
+        WANT(bsdudp_socket(&near_), fd);
+    WANT(bsdudp_socket(&near_), -BSDUDP_EMFILE);
+    for (fd = 66; fd > 3; fd--)
+        WANT(bsdudp_close(&near_, (uint32_t)fd), 0);
+    WANT(bsdudp_close(&near_, 4), -BSDUDP_EBADF);
+    return 0;
+}
+
+/* Datagrams from one stack to the other. */
+static int traffic(void)
+{
+    struct bsdudp_addr from = {0, 0};
+    struct bsdudp_next next;
+    uint64_t set;
+    int i, len;
+    for (i = 0; i < BSDUDP_DATAGRAM; i++)
+        bytes[i] = (uint8_t)(i % 251);
+    WANT(bsdudp_send(&near_, 4, bytes, 1), -BSDUDP_EBADF);
+    WANT(bsdudp_sendto(&near_, 3, &to_far, bytes, 1), -BSDUDP_EISCONN);
+    WANT(bsdudp_send(&near_, 3, bytes, BSDUDP_DATAGRAM + 1), -BSDUDP_EMSGSIZE);
+    WANT(bsdudp_send(&far_, 3, bytes, 1), -BSDUDP_EDESTADDRREQ);
+    WANT(bsdudp_sendto(&far_, 3, &to_all, bytes, 1), -BSDUDP_EACCES);
+    WANT(bsdudp_setsockopt(&far_, 3, BSDUDP_SO_BROADCAST, 1), 0);
+    WANT(bsdudp_sendto(&far_, 3, &to_all, bytes, 1473), -BSDUDP_EMSGSIZE);
+    WANT(bsdudp_output_len(&near_), 0);
+    WANT(bsdudp_next_packet(&near_), 0);
+    WANT(bsdudp_send(&near_, 3, bytes, 3000), 3000);
+    WANT(bsdudp_output_len(&near_), 3);
+    WANT(bsdudp_next_packet(&near_), 1500);
+    WANT(bsdudp_tx(&near_, packet, BSDUDP_TX_ROOM - 1), -BSDUDP_EMSGSIZE);
+    while ((len = bsdudp_tx(&near_, packet, sizeof packet)) > 0)
+        WANT(bsdudp_rx(&far_, packet, (size_t)len), 0);
+    WANT(len, 0);
+    WANT(bsdudp_readable(&far_, &set), 0);
+    WANT(set, 1);
+    WANT(bsdudp_next(&far_, 3, &next), 0);
+    WANT(next.ip, 0x0a000001);
+    WANT(next.port, 1024);
+    WANT(next.len, 3000);
+    WANT(next.waiting, 1);
+    WANT(bsdudp_recvfrom(&far_, 5, room, sizeof room, &from), -BSDUDP_EBADF);
+    WANT(bsdudp_recvfrom(&far_, 3, room, 2999, &from), 2999);
+    WANT(memcmp(room, bytes, 2999), 0);
+    WANT(from.ip == 0x0a000001 && from.port == 1024, 1);
+    WANT(bsdudp_recvfrom(&far_, 3, room, sizeof room, &from), -BSDUDP_EWOULDBLOCK);
+    WANT(bsdudp_next(&far_, 3, &next), -BSDUDP_EWOULDBLOCK);
+    WANT(bsdudp_next(&far_, 5, &next), -BSDUDP_EBADF);
+    WANT(bsdudp_send(&near_, 3, bytes, 0), 0);
+    WANT(bsdudp_tx(&near_, packet, sizeof packet), 28);
+    WANT(bsdudp_rx(&near_, packet, BSDUDP_PACKET + 1), -BSDUDP_EMSGSIZE);
+    WANT(bsdudp_rx(&near_, packet, 0), 0);
+    WANT(bsdudp_tick(&near_), 0);
+    return 0;
+}
+
+/* A pool and a queue that are full, and what the stack counts. */
+static int limits(void)
+{
+    struct bsdudp_mbstat usage;
+    uint64_t value = 0;
+    int i;
+    for (i = 0; i < BSDUDP_QUEUE; i++)
+        WANT(bsdudp_send(&near_, 3, bytes, 10), 10);
+    WANT(bsdudp_send(&near_, 3, bytes, 10), -BSDUDP_EQUEUE);
+    WANT(bsdudp_send(&near_, 3, bytes, BSDUDP_DATAGRAM), -BSDUDP_ENOBUFS);
+    WANT(bsdudp_mbstat(&near_, &usage), 0);
+    WANT(usage.mbufs, 64);
+    WANT(usage.clusters, 16);
+    WANT(usage.free_mbufs, 64 - BSDUDP_QUEUE);
+    WANT(usage.free_clusters, 16);
+    WANT(usage.refs, 0);
+    WANT(usage.most, 0);
+    WANT(bsdudp_counter(&near_, 0, &value), 0);
+    WANT(value, 1);
+    WANT(bsdudp_counter(&near_, BSDUDP_COUNTERS, &value), -BSDUDP_EINVAL);
+    WANT(strcmp(bsdudp_counter_name(0), "ip.total"), 0);
+    WANT(strcmp(bsdudp_counter_name(25), "nobufs"), 0);
+    WANT(bsdudp_counter_name(26) == NULL, 1);
+    WANT(strcmp(bsdudp_strerror(-BSDUDP_EQUEUE), "output queue full"), 0);
+    WANT(strcmp(bsdudp_strerror(3), "ok"), 0);
+    return 0;
+}
+
+/* A stack ends once, and another may be booted after it. */
+static int ends(void)
+{
+    struct bsdudp_config c = config();
+    WANT(bsdudp_end(&near_), 0);
+    if (without_a_stack(&near_))
+        return 1;
+    WANT(bsdudp_boot(&near_, &c), 0);
+    WANT(bsdudp_socket(&near_), 3);
+    WANT(bsdudp_end(&near_), 0);
+    WANT(bsdudp_end(&far_), 0);
+    return without_a_stack(&far_);
+}
+
+int main(void)
+{
+    return without_a_stack(&near_) || boots() || sockets() || traffic() || limits() || ends();
+}

@@ -1,0 +1,103 @@
+#!/usr/bin/env python3
+"""Linux as the peer of capi/examples/tun_echo.c: kernel.py TUN_ECHO, in a network namespace of its own (unshare -n).
+
+Datagrams of many lengths go to the echo at 10.0.0.1 port 7 and come back, at three MTUs, with and without a checksum,
+to the broadcast address, and of random lengths. Then the kernel's own counters have no error, and the pool is full again.
+It says the first thing that is wrong, and then exits with 1."""
+import os
+import random
+import re
+import signal
+import socket
+import subprocess
+import sys
+import time
+
+LENGTHS = [0, 1, 27, 28, 29, 72, 73, 207, 208, 1472, 1473, 2047, 2048, 2049, 4096, 9216]
+NEAR, BROADCAST = ("10.0.0.1", 7), ("10.0.0.255", 7)
+IP_MTU_DISCOVER, SO_NO_CHECK, SO_RCVBUFFORCE = 10, 11, 33
+
+
+class Wrong(Exception):
+    """What is to be said."""
+
+
+def client(without_checksum):
+    it = socket.socket(socket.AF_INET, socket.SOCK_DGRAM)
+    it.setsockopt(socket.SOL_SOCKET, SO_RCVBUFFORCE, 1 << 23)
+    it.setsockopt(socket.SOL_SOCKET, socket.SO_BROADCAST, 1)
+    it.setsockopt(socket.IPPROTO_IP, IP_MTU_DISCOVER, 0)
+    if without_checksum:
+        it.setsockopt(socket.SOL_SOCKET, SO_NO_CHECK, 1)
+    it.settimeout(5)
+    return it
+
+
+def echo(it, to, data, what):
+    it.sendto(data, to)
+    try:
+        back, sender = it.recvfrom(65536)
+    except TimeoutError:
+        raise Wrong(f"{what}: {len(data)} bytes didn't come back") from None
+    if sender != NEAR:
+        raise Wrong(f"{what}: {len(data)} bytes came back from {sender}")
+    if back != data:
+        raise Wrong(f"{what}: {len(data)} bytes came back as {len(back)} others")
+
+
+def datagrams(mtu):
+    """What is tried at this MTU: the output queue holds 50 packets."""
+    rng = random.Random(mtu)
+    most = min(9216, 50 * ((mtu - 20) // 8 * 8) - 8)
+    lengths = [n for n in LENGTHS if n <= most]
+    for name, bare in (("", False), (", no checksum", True)):
+        it = client(bare)
+        for n in lengths:
+            echo(it, NEAR, rng.randbytes(n), f"MTU {mtu}{name}")
+    it = client(False)
+    echo(it, BROADCAST, rng.randbytes(20), f"MTU {mtu}, broadcast")
+    for _ in range(2000 if mtu == 1500 else 200):
+        echo(it, NEAR, rng.randbytes(rng.randint(0, most)), f"MTU {mtu}, random")
+
+
+def errors():
+    """The kernel's counters of datagrams that it refused."""
+    with open("/proc/net/snmp", encoding="ascii") as it:
+        names, values = [line.split() for line in it if line.startswith("Udp:")]
+    counted = dict(zip(names, values))
+    return {name: counted[name] for name in ("InErrors", "InCsumErrors") if counted[name] != "0"}
+
+
+def wait_for_device():
+    for _ in range(200):
+        shown = subprocess.run(["ip", "addr", "show", "bsdudp0"], capture_output=True, text=True, check=False).stdout
+        if "10.0.0.2" in shown and "UP" in shown:
+            return
+        time.sleep(0.05)
+    raise Wrong("the device doesn't come up")
+
+
+def run(program, mtu):
+    with subprocess.Popen([program, str(mtu)], stdout=subprocess.PIPE, text=True) as host:
+        try:
+            wait_for_device()
+            datagrams(mtu)
+        finally:
+            host.send_signal(signal.SIGTERM)
+            said = host.communicate()[0]
+    free = re.fullmatch(r"free: mbufs (\d+) of (\d+), clusters (\d+) of (\d+)\n", said)
+    if host.returncode or not free or free[1] != free[2] or free[3] != free[4]:
+        raise Wrong(f"MTU {mtu}: the host left {host.returncode} and said {said.strip()!r}")
+    if errors():
+        raise Wrong(f"MTU {mtu}: the kernel counted {errors()}")
+
+
+def main():
+    try:
+        for mtu in (1500, 576, 68):
+            run(os.path.abspath(sys.argv[1]), mtu)
+    except Wrong as what:
+        sys.exit(f"kernel.py: {what}")
+
+
+main()
