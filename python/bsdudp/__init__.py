@@ -1,0 +1,34 @@
+"""bsdudp: the datagram half of a 4.4BSD network stack (TCP/IP Illustrated, volume 2), proved, from Python.
+
+    >>> import bsdudp
+    >>> with bsdudp.Stack("10.0.0.1") as a, bsdudp.Stack("10.0.0.2") as b:
+    ...     to = b.socket()
+    ...     to.bind(("", 7))
+    ...     sent = a.socket().sendto(b"hi", ("10.0.0.2", 7))
+    ...     quiet = bsdudp.Wire([a, b]).run()
+    ...     to.recvfrom()
+    (b'hi', ('10.0.0.1', 1024))
+
+`Stack` is a machine, `Socket` a socket of it, `Wire` joins machines and loses packets, `sweep` runs a scenario for many
+seeds. What the stack itself does is proved; this package hands bytes to it and back, and is tested."""
+from ._counters import Counters, MbStat
+from ._library import NoBuffersError
+from ._packet import Packet
+from ._socket import CutDatagramWarning, Socket, Waiting
+from ._stack import Stack
+from ._sweep import sweep
+from ._wire import Carried, Wire
+
+__all__ = [
+    "Carried",
+    "Counters",
+    "CutDatagramWarning",
+    "MbStat",
+    "NoBuffersError",
+    "Packet",
+    "Socket",
+    "Stack",
+    "Waiting",
+    "Wire",
+    "sweep",
+]

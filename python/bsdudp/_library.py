@@ -1,0 +1,201 @@
+"""The shared library libbsdudp, and its calls as ctypes sees them."""
+from __future__ import annotations
+
+import ctypes
+import ctypes.util
+import errno
+import os
+import pathlib
+from typing import Any, Callable, Dict, List, NamedTuple
+
+NAME = "libbsdudp.so.0"
+ENVIRONMENT = "BSDUDP_LIBRARY"
+
+COUNTERS = 26
+FIRST_DESCRIPTOR = 3
+MAX_SOCKETS = 64
+MAX_PACKET = 65_535
+TX_ROOM = 4_352
+ALIGNMENT = 16
+
+SO_BROADCAST = 0x20
+SO_REUSEPORT = 0x200
+
+
+class Handle(ctypes.Structure):
+    """`struct bsdudp`: its members are the library's. All bytes are 0 before the first boot."""
+
+    _fields_ = [("words", ctypes.c_uint64 * 8)]
+
+
+class Config(ctypes.Structure):
+    """`struct bsdudp_config`."""
+
+    _fields_ = [
+        ("addr", ctypes.c_uint32),
+        ("bcast", ctypes.c_uint32),
+        ("mbufs", ctypes.c_uint32),
+        ("clusters", ctypes.c_uint32),
+        ("mtu", ctypes.c_uint16),
+        ("first_id", ctypes.c_uint16),
+    ]
+
+
+class Address(ctypes.Structure):
+    """`struct bsdudp_addr`: an address and a port, both in the host's order."""
+
+    _fields_ = [("ip", ctypes.c_uint32), ("port", ctypes.c_uint16)]
+
+
+class Usage(ctypes.Structure):
+    """`struct bsdudp_mbstat`."""
+
+    _fields_ = [
+        (name, ctypes.c_uint32) for name in ("free_mbufs", "mbufs", "free_clusters", "clusters", "refs", "most")
+    ]
+
+
+class Name(ctypes.Structure):
+    """`struct bsdudp_name`."""
+
+    _fields_ = [
+        ("local_ip", ctypes.c_uint32),
+        ("peer_ip", ctypes.c_uint32),
+        ("local_port", ctypes.c_uint16),
+        ("peer_port", ctypes.c_uint16),
+        ("broadcast", ctypes.c_uint8),
+        ("reuse_port", ctypes.c_uint8),
+    ]
+
+
+class Next(ctypes.Structure):
+    """`struct bsdudp_next`: the oldest datagram that waits in a socket."""
+
+    _fields_ = [
+        ("ip", ctypes.c_uint32),
+        ("port", ctypes.c_uint16),
+        ("len", ctypes.c_uint32),
+        ("waiting", ctypes.c_uint32),
+    ]
+
+
+class Refusal(NamedTuple):
+    """What a refusal of the library is called here: the host's error of that name, and a text."""
+
+    name: str
+    text: str
+
+
+# 4.4BSD's numbers, as the header has them. The host's numbers differ; the names are the same.
+REFUSALS = {
+    6: Refusal("ENXIO", "the stack has ended"),
+    9: Refusal("EBADF", "the socket isn't open"),
+    12: Refusal("ENOMEM", "too little memory"),
+    13: Refusal("EACCES", "a broadcast needs the option SO_BROADCAST"),
+    22: Refusal("EINVAL", "the socket has a name already"),
+    24: Refusal("EMFILE", "64 sockets are open"),
+    33: Refusal("EDOM", "no pool has these sizes"),
+    35: Refusal("EAGAIN", "no datagram waits"),
+    39: Refusal("EDESTADDRREQ", "the socket isn't connected, and no address is given"),
+    40: Refusal("EMSGSIZE", "the datagram is too long"),
+    42: Refusal("ENOPROTOOPT", "there's no such option"),
+    48: Refusal("EADDRINUSE", "another socket stands in the way"),
+    49: Refusal("EADDRNOTAVAIL", "no address of this machine, or port 0 as a destination"),
+    55: Refusal("ENOBUFS", "the pool has too few buffers; nothing was sent"),
+    56: Refusal("EISCONN", "the socket is connected, and an address is given"),
+    65: Refusal("EHOSTUNREACH", "nothing leads there"),
+    155: Refusal("ENOBUFS", "the output queue is full; a part of the datagram, or nothing of it, was queued"),
+}
+
+QUEUE_IS_FULL = 155
+POOL_LACKS = 55
+
+
+class NoBuffersError(OSError):
+    """A send found no room: `lack` is "pool" if the pool has too few buffers, and "queue" if the output queue is full.
+    `errno` is the host's ENOBUFS."""
+
+    def __init__(self, number: int, text: str, lack: str) -> None:
+        super().__init__(number, text)
+        self.lack = lack
+
+
+def refused(answer: int) -> OSError:
+    """The exception of a negative answer. OSError makes its subclasses by the number: EAGAIN is a BlockingIOError."""
+    refusal = REFUSALS[-answer]
+    number = getattr(errno, refusal.name)
+    if -answer in (POOL_LACKS, QUEUE_IS_FULL):
+        return NoBuffersError(number, refusal.text, "pool" if -answer == POOL_LACKS else "queue")
+    return OSError(number, refusal.text)
+
+
+_handle = ctypes.POINTER(Handle)
+_bytes = ctypes.c_char_p
+_u32 = ctypes.c_uint32
+_size = ctypes.c_size_t
+
+# What each call takes after the handle. All answer an int.
+CALLS: Dict[str, List[Any]] = {
+    "boot_in": [ctypes.POINTER(Config), ctypes.c_void_p, _size],
+    "end": [],
+    "rx": [_bytes, _size],
+    "tx": [ctypes.c_void_p, _size],
+    "tick": [],
+    "socket": [],
+    "bind": [_u32, ctypes.POINTER(Address)],
+    "connect": [_u32, ctypes.POINTER(Address)],
+    "sendto": [_u32, ctypes.POINTER(Address), _bytes, _size],
+    "send": [_u32, _bytes, _size],
+    "recvfrom": [_u32, ctypes.c_void_p, _size, ctypes.POINTER(Address)],
+    "close": [_u32],
+    "setsockopt": [_u32, ctypes.c_int, ctypes.c_int],
+    "getsockname": [_u32, ctypes.POINTER(Name)],
+    "next": [_u32, ctypes.POINTER(Next)],
+    "readable": [ctypes.POINTER(ctypes.c_uint64)],
+    "output_len": [],
+    "next_packet": [],
+    "counter": [_u32, ctypes.POINTER(ctypes.c_uint64)],
+    "mbstat": [ctypes.POINTER(Usage)],
+}
+
+
+def _open() -> ctypes.CDLL:
+    here = pathlib.Path(__file__).with_name(NAME)
+    named = os.environ.get(ENVIRONMENT)
+    found = named or (str(here) if here.exists() else ctypes.util.find_library("bsdudp") or NAME)
+    try:
+        return ctypes.CDLL(found)
+    except OSError as fault:
+        raise ImportError(
+            f"{found} can't be loaded ({fault}). Install the library by `capi/install PREFIX`, and name it by"
+            f" {ENVIRONMENT}=PREFIX/lib/{NAME}, or install the wheel, which has it"
+        ) from None
+
+
+class Library:
+    """The calls of libbsdudp, each with the types of its arguments."""
+
+    def __init__(self) -> None:
+        self._library = _open()
+        self._calls: Dict[str, Callable[..., int]] = {}
+        for name, arguments in CALLS.items():
+            function = getattr(self._library, f"bsdudp_{name}")
+            function.argtypes = [_handle, *arguments]
+            function.restype = ctypes.c_int
+            self._calls[name] = function
+        self._library.bsdudp_memory.argtypes = [ctypes.POINTER(Config)]
+        self._library.bsdudp_memory.restype = _size
+        self._library.bsdudp_counter_name.argtypes = [_u32]
+        self._library.bsdudp_counter_name.restype = ctypes.c_char_p
+        self.counter_names = tuple(self._library.bsdudp_counter_name(which).decode() for which in range(COUNTERS))
+
+    def call(self, name: str, handle: Handle, *arguments: Any) -> int:
+        """Makes the call `bsdudp_NAME` of the stack that a handle has."""
+        return int(self._calls[name](ctypes.byref(handle), *arguments))
+
+    def memory(self, config: Config) -> int:
+        """How many bytes a stack of this configuration takes."""
+        return int(self._library.bsdudp_memory(ctypes.byref(config)))
+
+
+LIBRARY = Library()

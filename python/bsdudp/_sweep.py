@@ -1,0 +1,99 @@
+"""The same scenario for many seeds: in this process, on all cores, or on a Dask cluster."""
+from __future__ import annotations
+
+import concurrent.futures
+import concurrent.futures.process
+import importlib
+import sys
+from typing import Any, Callable, Dict, Iterable, List, Optional, TypeVar
+
+Result = TypeVar("Result")
+
+CORES = "cores"
+# How often a seed is tried before a fault of the workers is told, and not of the scenario.
+TRIES = 5
+
+
+class _Progress:
+    """A line on standard error, written anew as seeds end."""
+
+    def __init__(self, total: int, shown: bool) -> None:
+        self._total, self._shown, self._done = total, shown, 0
+
+    def one(self) -> None:
+        self._done += 1
+        if self._shown:
+            print(f"\r{self._done} of {self._total} seeds", end="", file=sys.stderr, flush=True)
+
+    def end(self) -> None:
+        if self._shown and self._done:
+            print(file=sys.stderr)
+
+
+def _here(scenario: Callable[[int], Result], seeds: List[int], progress: _Progress) -> List[Result]:
+    results = []
+    for seed in seeds:
+        results.append(scenario(seed))
+        progress.one()
+    return results
+
+
+def _on_cores(scenario: Callable[[int], Result], seeds: List[int], progress: _Progress) -> List[Result]:
+    """Each seed that a lost worker had is asked of new ones."""
+    results: Dict[int, Result] = {}
+    for _ in range(TRIES):
+        left = [at for at in range(len(seeds)) if at not in results]
+        if not left:
+            break
+        with concurrent.futures.ProcessPoolExecutor() as pool:
+            futures = {pool.submit(scenario, seeds[at]): at for at in left}
+            for future in concurrent.futures.as_completed(futures):
+                try:
+                    results[futures[future]] = future.result()
+                except concurrent.futures.process.BrokenProcessPool:
+                    continue
+                progress.one()
+    if len(results) < len(seeds):
+        raise RuntimeError(f"workers ended {TRIES} times: {len(seeds) - len(results)} seeds have no result")
+    return [results[at] for at in range(len(seeds))]
+
+
+def _on_dask(scenario: Callable[[int], Result], seeds: List[int], client: Any, progress: _Progress) -> List[Result]:
+    distributed: Any = importlib.import_module("distributed")
+    own = isinstance(client, str)
+    asked = distributed.Client(client) if own else client
+    try:
+        futures = asked.map(scenario, seeds, pure=False, retries=TRIES)
+        for _ in distributed.as_completed(futures):
+            progress.one()
+        return list(asked.gather(futures))
+    finally:
+        if own:
+            asked.close()
+
+
+def sweep(
+    scenario: Callable[[int], Result],
+    seeds: Iterable[int] = range(1000),
+    client: Any = None,
+    progress: Optional[bool] = None,
+) -> List[Result]:
+    """Calls `scenario(seed)` for each seed, and answers the results in the order of the seeds, whichever way they came.
+
+    client    None: in this process. "cores": on all cores of this machine. A `distributed.Client`, or the address of a
+              scheduler as "tcp://10.0.0.9:8786": on a Dask cluster, whose workers have this package.
+    progress  whether a line on standard error tells how many seeds have ended; if it isn't given, it does if that is a
+              terminal
+
+    A worker that ends in the middle costs a retry and no result. An exception of the scenario is raised here. A scenario that
+    goes to other processes is a function of a module, and what it answers can be pickled."""
+    wanted = list(seeds)
+    shown = _Progress(len(wanted), sys.stderr.isatty() if progress is None else progress)
+    try:
+        if client is None:
+            return _here(scenario, wanted, shown)
+        if client == CORES:
+            return _on_cores(scenario, wanted, shown)
+        return _on_dask(scenario, wanted, client, shown)
+    finally:
+        shown.end()

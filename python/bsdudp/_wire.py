@@ -1,0 +1,161 @@
+"""A wire between stacks, which loses, repeats and reorders packets by a seed."""
+from __future__ import annotations
+
+from typing import Dict, List, NamedTuple, Optional, Sequence, Tuple
+
+from ._addresses import in_range, number_of
+from ._packet import Packet
+from ._pcg import Chance, Pcg32, limit_of
+from ._stack import Stack
+
+LIMITED_BROADCAST = 0xFFFF_FFFF
+
+
+class InFlight(NamedTuple):
+    """A packet on the wire: when it's due, counted in carries, and which stack sent it."""
+
+    due: int
+    sender: int
+    packet: Packet
+
+
+class Carried(NamedTuple):
+    """What a wire did with packets so far."""
+
+    sent: int
+    """Packets that stacks put on the wire."""
+    lost: int
+    repeated: int
+    swapped: int
+    delivered: int
+    """Packets handed to a stack: a broadcast counts once for each."""
+    nobody: int
+    """Packets that were due, and that no stack on the wire is the destination of."""
+
+
+class Wire:
+    """A segment that joins stacks. A packet goes to the stack whose address is its destination, and a broadcast to all
+    but its sender.
+
+    loss     the chance that a packet is lost: 0 to 1
+    repeat   the chance that it goes twice
+    reorder  the chance that a packet that is due changes places with the one after it
+    delay    the least and the most carries that a packet stays under way
+    seed     makes the choices: the same seed makes the same ones
+
+    The choices, in this order, each by one number of 32 bits of `Pcg32`: as a packet is put on the wire, whether it's lost;
+    if it isn't, whether it's repeated; for each copy its delay. As a carry begins, for each packet that is due but for the
+    last, from the first on, whether it changes places with the one after it."""
+
+    def __init__(
+        self,
+        stacks: Sequence[Stack],
+        loss: Chance = 0,
+        repeat: Chance = 0,
+        reorder: Chance = 0,
+        delay: Tuple[int, int] = (0, 0),
+        seed: int = 1,
+    ) -> None:
+        self.stacks = list(stacks)
+        self._at: Dict[int, int] = {number_of(stack.addr): at for at, stack in enumerate(self.stacks)}
+        if len(self._at) != len(self.stacks):
+            raise ValueError("two stacks on a wire have the same address")
+        self._broadcasts = {number_of(stack.bcast) for stack in self.stacks} | {LIMITED_BROADCAST}
+        self._loss, self._repeat = limit_of("loss", loss), limit_of("repeat", repeat)
+        self._reorder = limit_of("reorder", reorder)
+        self._least, self._most = delay
+        in_range("the most delay", self._most, in_range("the least delay", self._least, 0, 1_000_000), 1_000_000)
+        self._random = Pcg32(in_range("seed", seed, 0, (1 << 64) - 1))
+        self._now = 0
+        self._flight: List[InFlight] = []
+        self._record: Optional[List[Tuple[int, Packet]]] = None
+        self._counts = dict.fromkeys(Carried._fields, 0)
+
+    @property
+    def carried(self) -> Carried:
+        """What it did so far."""
+        return Carried(**self._counts)
+
+    @property
+    def in_flight(self) -> int:
+        """How many packets are under way."""
+        return len(self._flight)
+
+    def _put(self, sender: int, packet: Packet) -> None:
+        self._counts["sent"] += 1
+        if self._random.happens(self._loss):
+            self._counts["lost"] += 1
+            return
+        twice = self._random.happens(self._repeat)
+        self._counts["repeated"] += twice
+        for _ in range(1 + twice):
+            wait = self._least + self._random.below(self._most - self._least + 1)
+            self._flight.append(InFlight(self._now + wait, sender, packet))
+
+    def _due(self) -> List[InFlight]:
+        due = [it for it in self._flight if it.due <= self._now]
+        self._flight = [it for it in self._flight if it.due > self._now]
+        for at in range(len(due) - 1):
+            if self._random.happens(self._reorder):
+                due[at], due[at + 1] = due[at + 1], due[at]
+                self._counts["swapped"] += 1
+        return due
+
+    def _receivers(self, it: InFlight) -> List[int]:
+        to = number_of(it.packet.destination)
+        if to in self._broadcasts:
+            return [at for at in range(len(self.stacks)) if at != it.sender]
+        at = self._at.get(to)
+        return [] if at is None or at == it.sender else [at]
+
+    def carry(self) -> int:
+        """Empties the output queues onto the wire, and hands over what is due. The answer is how many packets were handed to
+        a stack."""
+        for sender, stack in enumerate(self.stacks):
+            for packet in stack.packets():
+                self._put(sender, packet)
+        handed = 0
+        for it in self._due():
+            if self._record is not None:
+                self._record.append((self._now, it.packet))
+            receivers = self._receivers(it)
+            for at in receivers:
+                self.stacks[at].rx(it.packet)
+            handed += len(receivers)
+            self._counts["nobody"] += not receivers
+        self._counts["delivered"] += handed
+        self._now += 1
+        return handed
+
+    def run(self, until_quiet: bool = True, carries: int = 10_000) -> bool:
+        """Carries until nothing is under way and no packet waits, at most `carries` times; with `until_quiet=False` exactly
+        so many times. The answer is whether nothing is left."""
+        for _ in range(in_range("carries", carries, 0, 1 << 31)):
+            if until_quiet and self._is_quiet():
+                break
+            self.carry()
+        return self._is_quiet()
+
+    def _is_quiet(self) -> bool:
+        return not self._flight and not any(stack.output_len for stack in self.stacks)
+
+    def record(self) -> None:
+        """Keeps what is handed over from now on, for `pcap`."""
+        self._record = []
+
+    def pcap(self, path: str) -> None:
+        """Writes what was handed over since `record` as a capture, by scapy. A packet's time is its carry, in seconds.
+        RuntimeError: nothing was recorded."""
+        if self._record is None:
+            raise RuntimeError("call record() before the packets go")
+        from scapy.layers.inet import IP
+        from scapy.utils import PcapWriter
+
+        with PcapWriter(path, linktype=228) as writer:
+            for now, packet in self._record:
+                layer = IP(bytes(packet))
+                layer.time = now
+                writer.write(layer)
+
+    def __repr__(self) -> str:
+        return f"<Wire of {len(self.stacks)} stacks, {self.in_flight} packets under way, {self.carried}>"

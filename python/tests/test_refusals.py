@@ -1,0 +1,208 @@
+"""Each refusal by its number of the host, and each wrong argument before the library is called."""
+import errno
+import socket as host
+import threading
+
+import bsdudp
+import pytest
+
+
+def refused(number, call, *arguments):
+    with pytest.raises(OSError) as fault:
+        call(*arguments)
+    assert fault.value.errno == number
+    return fault.value
+
+
+@pytest.fixture
+def stack():
+    with bsdudp.Stack() as it:
+        yield it
+
+
+def test_nothing_waits(stack):
+    with pytest.raises(BlockingIOError):
+        stack.socket().recvfrom()
+
+
+def test_sockets_run_out(stack):
+    assert [stack.socket().fileno() for _ in range(64)] == list(range(3, 67))
+    refused(errno.EMFILE, stack.socket)
+
+
+def test_bind(stack):
+    first, second = stack.socket(), stack.socket()
+    first.bind(("", 7))
+    refused(errno.EINVAL, first.bind, ("", 8))
+    refused(errno.EADDRINUSE, second.bind, ("", 7))
+    refused(errno.EADDRNOTAVAIL, second.bind, ("10.0.0.9", 7))
+    second.bind(("", 0))
+    assert second.getsockname() == ("0.0.0.0", 1024)
+
+
+def test_connect(stack):
+    it = stack.socket()
+    refused(errno.ENOTCONN, it.getpeername)
+    refused(errno.EADDRNOTAVAIL, it.connect, ("10.0.0.2", 0))
+    refused(errno.EHOSTUNREACH, it.connect, ("224.0.0.1", 7))
+    it.connect(("10.0.0.2", 7))
+    assert it.getpeername() == ("10.0.0.2", 7)
+    assert it.getsockname() == ("10.0.0.1", 1024)
+
+
+def test_send(stack):
+    it = stack.socket()
+    refused(errno.EDESTADDRREQ, it.send, b"hi")
+    refused(errno.EMSGSIZE, it.sendto, bytes(9217), ("10.0.0.2", 7))
+    refused(errno.EADDRNOTAVAIL, it.sendto, b"hi", ("10.0.0.2", 0))
+    refused(errno.EHOSTUNREACH, it.sendto, b"hi", ("224.0.0.1", 7))
+    refused(errno.EACCES, it.sendto, b"hi", ("10.0.0.255", 7))
+    it.setsockopt(host.SOL_SOCKET, host.SO_BROADCAST, 1)
+    assert it.getsockopt(host.SOL_SOCKET, host.SO_BROADCAST) == 1
+    assert it.sendto(b"hi", ("10.0.0.255", 7)) == 2
+    it.connect(("10.0.0.2", 7))
+    refused(errno.EISCONN, it.sendto, b"hi", ("10.0.0.2", 7))
+    assert it.send(b"hi") == 2
+
+
+def test_option(stack):
+    it = stack.socket()
+    refused(errno.ENOPROTOOPT, it.setsockopt, host.SOL_SOCKET, host.SO_KEEPALIVE, 1)
+    refused(errno.ENOPROTOOPT, it.getsockopt, host.SOL_SOCKET, host.SO_KEEPALIVE)
+
+
+def test_buffers_lack():
+    with bsdudp.Stack(mbufs=4, clusters=0) as stack:
+        assert refused(errno.ENOBUFS, stack.socket().sendto, bytes(1000), ("10.0.0.2", 7)).lack == "pool"
+
+
+def test_queue_is_full(stack):
+    it = stack.socket()
+    for _ in range(50):
+        it.sendto(b"hi", ("10.0.0.2", 7))
+    fault = refused(errno.ENOBUFS, it.sendto, b"hi", ("10.0.0.2", 7))
+    assert isinstance(fault, bsdudp.NoBuffersError) and fault.lack == "queue"
+
+
+def test_cut_datagram(stack):
+    it = stack.socket()
+    it.bind(("", 7))
+    for _ in range(3):
+        it.sendto(b"hello", ("127.0.0.1", 7))
+    assert it.waiting == bsdudp.Waiting(("127.0.0.1", 7), 5, 3)
+    with pytest.warns(bsdudp.CutDatagramWarning):
+        assert it.recvfrom(2) == (b"he", ("127.0.0.1", 7))
+    assert it.recvmsg(2) == (b"he", [], host.MSG_TRUNC, ("127.0.0.1", 7))
+    assert it.recv() == b"hello"
+    assert it.waiting is None
+
+
+@pytest.mark.parametrize(
+    "config, fault",
+    [
+        ({"addr": "10.0.0"}, ValueError),
+        ({"addr": 7}, TypeError),
+        ({"addr": "127.0.0.1"}, ValueError),
+        ({"addr": "224.0.0.1"}, ValueError),
+        ({"addr": "10.0.0.1", "bcast": "10.0.0.1"}, ValueError),
+        ({"mtu": 67}, ValueError),
+        ({"mtu": 4353}, ValueError),
+        ({"mtu": "1500"}, TypeError),
+        ({"mtu": True}, TypeError),
+        ({"mbufs": 0}, ValueError),
+        ({"mbufs": 65536}, ValueError),
+        ({"clusters": -1}, ValueError),
+        ({"clusters": 4097}, ValueError),
+        ({"first_id": 65536}, ValueError),
+    ],
+)
+def test_configuration(config, fault):
+    with pytest.raises(fault):
+        bsdudp.Stack(**config)
+
+
+def test_arguments(stack):
+    it = stack.socket()
+    for address in [("10.0.0.2", 65536), ("10.0.0.2", -1), ("example.com", 7)]:
+        with pytest.raises(ValueError):
+            it.sendto(b"hi", address)
+    for address in ["10.0.0.2", ("10.0.0.2",), (7, 7), ("10.0.0.2", "7"), None]:
+        with pytest.raises(TypeError):
+            it.sendto(b"hi", address)
+    with pytest.raises(TypeError):
+        it.sendto("hi", ("10.0.0.2", 7))
+    with pytest.raises(TypeError):
+        stack.rx("hi")
+    with pytest.raises(ValueError):
+        stack.rx(bytes(65536))
+    with pytest.raises(ValueError):
+        stack.tick(-1)
+    with pytest.raises(ValueError):
+        it.recvfrom(-1)
+
+
+def test_after_close_and_end(stack):
+    it, other = stack.socket(), stack.socket()
+    it.close()
+    it.close()
+    assert it.fileno() == -1
+    with pytest.raises(ValueError):
+        it.send(b"hi")
+    stack.end()
+    stack.end()
+    for call in [stack.tick, stack.tx, stack.socket, other.recvfrom, lambda: stack.counters, lambda: stack.rx(b"")]:
+        with pytest.raises(ValueError):
+            call()
+
+
+def test_second_thread(stack):
+    """A thread that finds another in the stack is refused, and disturbs nothing."""
+    found = []
+
+    def try_it():
+        try:
+            stack.tick()
+        except RuntimeError as fault:
+            found.append(fault)
+
+    with stack._turn:
+        thread = threading.Thread(target=try_it)
+        thread.start()
+        thread.join()
+    assert len(found) == 1
+    stack.tick()
+
+
+def test_pictures(stack):
+    it = stack.socket()
+    it.bind(("", 7))
+    it.sendto(b"hi", ("10.0.0.2", 9))
+    assert "0.0.0.0:7" in stack._repr_html_()
+    packet = stack.tx()
+    assert "identification 1" in packet._repr_html_()
+    assert repr(packet) == "<Packet 10.0.0.1 > 10.0.0.2 udp 7 > 9, id 1, 30 bytes>"
+
+
+def test_why(stack):
+    before = stack.counters
+    stack.rx(b"short")
+    assert stack.why(before) == ["packet shorter than a header"]
+    assert dict(stack.counters.since(before)) == {"ip.total": 1, "ip.toosmall": 1}
+
+
+def test_memory_does_not_grow(stack):
+    resource = pytest.importorskip("resource")
+    it = stack.socket()
+    it.bind(("", 7))
+
+    def send(count):
+        for _ in range(count):
+            it.sendto(b"x" * 100, ("127.0.0.1", 7))
+            it.recvfrom()
+
+    send(10_000)
+    before = resource.getrusage(resource.RUSAGE_SELF).ru_maxrss
+    send(100_000)
+    assert resource.getrusage(resource.RUSAGE_SELF).ru_maxrss - before < 1024
+    usage = stack.mbstat
+    assert (usage.free_mbufs, usage.free_clusters) == (usage.mbufs, usage.clusters)

@@ -1,0 +1,137 @@
+"""Random wires: what was received was sent, whole, to that address and port; every pool is full again at the end."""
+import bsdudp
+import pytest
+from bsdudp._pcg import Pcg32, limit_of
+from hypothesis import given, settings
+from hypothesis import strategies as st
+
+
+def test_numbers():
+    """The numbers of PCG's own demonstration program, for the state 42 and the stream 54."""
+    random = Pcg32(42, 54)
+    wanted = [0xA15C02B7, 0x7B47F409, 0xBA1D3330, 0x83D2F293, 0xBFA4784B, 0xCBED606E]
+    assert [random.next_u32() for _ in range(6)] == wanted
+
+
+def test_limits():
+    assert limit_of("loss", 0.5) == 1 << 31
+    assert limit_of("loss", 1) == 1 << 32
+    assert limit_of("loss", "0.05") == (1 << 32) // 20
+    for wrong in (1.5, -0.1, float("nan"), "much"):
+        with pytest.raises(ValueError):
+            limit_of("loss", wrong)
+
+
+@settings(max_examples=60, deadline=None, derandomize=True)
+@given(
+    seed=st.integers(0, 2**64 - 1),
+    loss=st.sampled_from([0, 0.05, 0.3, 1]),
+    repeat=st.sampled_from([0, 0.1, 1]),
+    reorder=st.sampled_from([0, 0.2, 1]),
+    delay=st.sampled_from([(0, 0), (0, 3), (2, 5)]),
+    sends=st.lists(st.tuples(st.integers(0, 2), st.integers(0, 2), st.integers(0, 9_216)), max_size=20),
+)
+def test_what_comes_was_sent(seed, loss, repeat, reorder, delay, sends):
+    stacks = [bsdudp.Stack(f"10.0.0.{at + 1}", mtu=(576, 1500, 296)[at], first_id=at * 1000) for at in range(3)]
+    sockets = []
+    for stack in stacks:
+        it = stack.socket()
+        it.bind(("", 7))
+        sockets.append(it)
+    wire = bsdudp.Wire(stacks, loss, repeat, reorder, delay, seed)
+    sent, received = set(), []
+    for number, (source, to, length) in enumerate(sends):
+        data = bytes((number + at) % 251 for at in range(length))
+        sockets[source].sendto(data, (stacks[to].addr, 7))
+        sent.add((stacks[source].addr, to, data))
+        wire.carry()
+        for at, it in enumerate(sockets):
+            while it.waiting:
+                data, (sender, port) = it.recvfrom()
+                received.append((sender, at, data))
+                assert port == 7
+    assert wire.run()
+    for at, it in enumerate(sockets):
+        while it.waiting:
+            data, (sender, _) = it.recvfrom()
+            received.append((sender, at, data))
+    assert set(received) <= sent
+    if not loss and not reorder and delay[0] == delay[1]:
+        assert set(received) == sent
+    for stack, it in zip(stacks, sockets):
+        it.close()
+        stack.tick(60)
+        usage = stack.mbstat
+        assert (usage.free_mbufs, usage.free_clusters) == (usage.mbufs, usage.clusters)
+        stack.end()
+
+
+def scene(seed):
+    """How many of ten datagrams of three fragments come through."""
+    with bsdudp.Stack("10.0.0.1") as one, bsdudp.Stack("10.0.0.2") as other:
+        to = other.socket()
+        to.bind(("", 7))
+        sender = one.socket()
+        wire = bsdudp.Wire([one, other], loss=0.2, seed=seed)
+        for _ in range(10):
+            sender.sendto(bytes(4000), ("10.0.0.2", 7))
+            wire.run()
+        count = 0
+        while to.waiting:
+            to.recv()
+            count += 1
+        return count, wire.carried
+
+
+def test_same_seed_same_choices():
+    assert scene(7) == scene(7)
+    assert len({scene(seed) for seed in range(5)}) > 1
+
+
+def test_broadcast():
+    stacks = [bsdudp.Stack(f"10.0.0.{at}") for at in (1, 2, 3)]
+    sockets = []
+    for stack in stacks:
+        it = stack.socket()
+        it.bind(("", 7))
+        sockets.append(it)
+    import socket as host
+
+    sockets[0].setsockopt(host.SOL_SOCKET, host.SO_BROADCAST, 1)
+    sockets[0].sendto(b"all", ("10.0.0.255", 7))
+    wire = bsdudp.Wire(stacks)
+    assert wire.run()
+    assert [it.recv() for it in sockets] == [b"all"] * 3
+    assert wire.carried.delivered == 2
+
+
+def test_nobody_is_there():
+    with bsdudp.Stack() as stack:
+        stack.socket().sendto(b"hi", ("10.0.0.9", 7))
+        wire = bsdudp.Wire([stack])
+        assert wire.run()
+        assert wire.carried.nobody == 1
+
+
+def test_arguments():
+    with bsdudp.Stack() as stack, bsdudp.Stack() as other:
+        for wrong in [{"loss": 2}, {"delay": (3, 1)}, {"seed": -1}]:
+            with pytest.raises(ValueError):
+                bsdudp.Wire([stack], **wrong)
+        with pytest.raises(ValueError):
+            bsdudp.Wire([stack, other])
+
+
+def test_pcap(tmp_path):
+    scapy = pytest.importorskip("scapy.all")
+    with bsdudp.Stack("10.0.0.1") as one, bsdudp.Stack("10.0.0.2") as other:
+        wire = bsdudp.Wire([one, other])
+        with pytest.raises(RuntimeError):
+            wire.pcap(str(tmp_path / "none.pcap"))
+        wire.record()
+        one.socket().sendto(bytes(3000), ("10.0.0.2", 7))
+        wire.run()
+        wire.pcap(str(tmp_path / "wire.pcap"))
+    packets = scapy.rdpcap(str(tmp_path / "wire.pcap"))
+    assert [packet["IP"].frag for packet in packets] == [0, 185, 370]
+    assert all(packet["IP"].chksum == scapy.IP(bytes(packet["IP"])).chksum for packet in packets)
