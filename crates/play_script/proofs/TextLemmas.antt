@@ -1,5 +1,5 @@
 -- The texts of answers, and what a line does.
-use Rattle.std.proofs.Common.{◌≡◌, ℕ, ◌-◌, List, [], ◌++◌, length, take, get_or, codes, Option, Some, None, inl, inr, refl, ap, ap₂, ◌∙◌, arith}
+use Rattle.std.proofs.Common.{◌≡◌, ℕ, ◌-◌, List, [], ◌++◌, length, take, get_or, codes, Option, Some, None, inl, ap, ap₂, ◌∙◌, arith}
 use Rattle.std.proofs.lemmas.Grind.{common_steps}
 use Rattle.flat_model.specs.Machine.Event.{Event, Reply, Done, Opened, Sent, Received, Given, Counted, Shown, Refused}
 use Rattle.flat_model.specs.Machine.State.{State}

@@ -1,8 +1,7 @@
 -- The turns that lines make.
-use Rattle.std.proofs.Common.{◌≡◌, ℕ, zero, suc, ◌<◌, ◌^◌, List, [], ◌∷◌, ◌++◌, replicate, codes, Option, Some, None, inl, inr, refl, sym, ap, ◌∙◌, arith, subst}
-use Rattle.std.specs.Fmt.{decimal}
+use Rattle.std.proofs.Common.{◌≡◌, ℕ, zero, suc, List, [], ◌∷◌, ◌++◌, replicate, codes, Option, Some, None, inl, inr, refl, sym, ap, ◌∙◌, arith, subst}
 use Rattle.std.proofs.lemmas.Fmt.{decimal_injective}
-use Rattle.flat_model.specs.Machine.Event.{Event, Reply, Tick, Done}
+use Rattle.flat_model.specs.Machine.Event.{Reply, Tick, Done}
 use Rattle.flat_model.specs.Machine.Ledger.{exact_ledger}
 use Rattle.flat_model.specs.Machine.State.{State}
 use Rattle.flat_model.specs.Machine.Step.{Step}
@@ -10,7 +9,7 @@ use Rattle.flat_model.specs.Runs.Run.{Turn, Leads}
 use Rattle.flat_model.proofs.Laws.{in_range, one_more_turn}
 use Rattle.script_loop.specs.Printed.{Prints}
 use Rattle.play_script.specs.Lines.{Reading, Nothing, TooLong, Asks, IsTicks, reading}
-use Rattle.play_script.specs.Runs.{AreTurns, AreAllTurns, IsRunOf, turn_of}
+use Rattle.play_script.specs.Runs.{AreTurns, IsRunOf, turn_of}
 use Rattle.play_script.specs.Tells.{Play, Tells, TellsReading, Ticks, Does, next_line}
 
 -- a line asks for one number of ticks at most

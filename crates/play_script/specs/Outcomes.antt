@@ -1,5 +1,5 @@
 -- What is told of a line: its reply, and why packets were dropped (this project's own).
-use Rattle.std.specs.Prelude.{◌≡◌, ℕ, ◌&&◌, ◌||◌, Bool, true, false, not, List, [], ◌∷◌, ◌++◌, drop, flat_map, if◌then◌else◌, codes, bytes_eq, nat_lt, Option, Some, None}
+use Rattle.std.specs.Prelude.{ℕ, ◌&&◌, ◌||◌, Bool, true, false, List, [], ◌∷◌, ◌++◌, drop, flat_map, if◌then◌else◌, codes, bytes_eq, nat_lt, Option, Some, None}
 use Rattle.flat_model.specs.Machine.Count.{value_of, counter_of}
 use Rattle.flat_model.specs.Machine.Event.{Reply}
 use Rattle.flat_model.specs.Scripts.Grammar.{words}

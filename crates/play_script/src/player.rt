@@ -138,12 +138,7 @@ pub(crate) struct Player<M> {
 }
 
 /// Prints what is told of a line, and answers whether that's what was expected.
-fn print_told(
-    sheet: &Sheet,
-    desk: &Desk,
-    told: &Buffer<TOLD>,
-    text: &mut Buffer<ROOM>,
-) -> bool
+fn print_told(sheet: &Sheet, desk: &Desk, told: &Buffer<TOLD>, text: &mut Buffer<ROOM>) -> bool
     requires { length text.old ≤ HELD }
     ensures text { text.new ≡ text.old ++ told_text sheet.now.quiet sheet.now.name sheet.now.number
         desk.now.words (expected_on desk.now) told.now }
