@@ -3,14 +3,15 @@ use Rattle.std.proofs.Common.{◌≡◌, ℕ, zero, suc, ◌+◌, ◌-◌, ◌*�
 use Rattle.std.proofs.lemmas.Bool.{cond-true, cond-false, le-leb, lt-leb}
 use Rattle.std.proofs.lemmas.List.{get_or-map, drop_all, set_split, length-map, take-append-drop}
 use Rattle.flat_model.specs.Fragments.Overlay.{Fragment}
-use Rattle.mbuf_chain.specs.Chain.{Entry, ChainView, PoolView, IsLive, chain_of, with_chain}
+use Rattle.mbuf_chain.specs.Chain.{Entry, flat_bytes, ChainView, PoolView, IsLive, chain_of, with_chain}
 use Rattle.mbuf_chain.specs.Owners.{times, Moves}
 use Rattle.mbuf_chain.specs.Train.{TrainView, QueuedPacket, no_queued_packet, queued_packet_at, numbers, queued_packets, IsHeld}
 use Rattle.mbuf_chain.proofs.Laws.Owners.{moves_trans, moves_beside, moves_with, live_with, shown_with}
 use Rattle.mbuf_chain.proofs.Laws.Trains.{Beside, beside_with, FreedPacket, length-queued_packets}
 use Rattle.chain_ops.specs.Trims.{without_first}
-use Rattle.ip_reass.specs.Fragments.{QueuedFragment, queued_of, queued, queued_end, cut, cut_to, fragment_of, fragment_in, fragments, AllEnd}
-use Rattle.ip_reass.specs.Inside.Walks.{queued_at, no_queued}
+use Rattle.ip_reass.specs.Fragments.{QueuedFragment, queued_of, queued, queued_end, cut, cut_to, fragment_of, fragment_in, fragments, end_of, AllEnd}
+use Rattle.ip_reass.specs.Inside.Walks.{queued_at, no_queued, fragment_at}
+use Rattle.ip_reass.proofs.Walks.{fragment_is}
 use Rattle.ip_reass.proofs.Edits.{insert_remove, take-remove, drop-remove, map-remove, map-insert}
 
 -- ---- fragments by place
@@ -19,6 +20,13 @@ length-queued p t h = length-map (queued_packets p t) queued_of ∙ length-queue
 
 pub queued_is : (p : PoolView) (t : TrainView) (i : ℕ) → IsHeld p t → i < t.len → queued_at (queued p t) i ≡ queued_of (queued_packet_at p t i)
 queued_is p t i h l = get_or-map queued_of (queued_packets p t) i no_queued_packet no_queued (omega (arith, length-queued_packets p t h))
+
+-- where one begins, and where it ends
+pub begin_is : (p : PoolView) (t : TrainView) (i : ℕ) → IsHeld p t → i < t.len → (queued_at (queued p t) i).offset ≡ (fragment_at (fragments p t) i).offset
+begin_is p t i h l = ap (λ (q : QueuedFragment). q.offset) (queued_is p t i h l) ∙ ap (λ (f : Fragment). f.offset) (sym (fragment_is p t i h l))
+
+pub end_is : (p : PoolView) (t : TrainView) (i b n : ℕ) → IsHeld p t → i < t.len → b ≡ (queued_at (queued p t) i).offset → n ≡ length (flat_bytes (queued_packet_at p t i).entries) → b + n ≡ end_of (fragment_at (fragments p t) i)
+end_is p t i b n h l e f = omega (arith, begin_is p t i h l, e, f, ap (λ (g : Fragment). length g.bytes) (fragment_is p t i h l))
 
 -- the fragments of a queue
 pub fragments_are : (p : PoolView) (t : TrainView) → fragments p t ≡ map fragment_of (queued p t)

@@ -14,7 +14,7 @@ ghost use Rattle.ip_reass.specs.Table.{IsReady, has_key, held_all};
 ghost use Rattle.ip_reass.specs.Inside.Walks.{arrived};
 
 use crate::arrival::Arrival;
-use crate::lay::settle;
+use crate::lay::{Fragment, lay_and_count};
 use crate::table::{Reass, begin, find};
 use chain_ops::{m_pullup, trim_front};
 use flat_model::{Counter, Counters, FragmentKey, Why};
@@ -85,11 +85,17 @@ impl Reass {
         };
         let i = self.datagrams.as_slice().len();
         begin(&mut self.datagrams, key_of(&head), holder);
-        settle(pool, &mut self.datagrams, counters, i, chain, head)
+        lay_and_count(
+            pool,
+            &mut self.datagrams,
+            counters,
+            i,
+            Fragment { chain, head },
+        )
     }
 
     /// Lets a fragment join the others of its datagram, or begin it.
-    fn join_others(
+    fn lay_or_begin(
         &mut self,
         pool: &mut Pool,
         counters: &mut Counters,
@@ -116,7 +122,15 @@ impl Reass {
             (in_hand result ++ held_all pool.new self.new.datagrams) }
     {
         match find(self.datagrams.as_slice(), key_of(&head)) {
-            Some(i) => settle(pool, &mut self.datagrams, counters, i, chain, head),
+            Some(i) => {
+                lay_and_count(
+                    pool,
+                    &mut self.datagrams,
+                    counters,
+                    i,
+                    Fragment { chain, head },
+                )
+            }
             None => self.begin_with(pool, counters, chain, head),
         }
     }
@@ -213,6 +227,6 @@ impl Reass {
             return Arrival::Dropped(Why::NoBufs);
         };
         trim_front(pool, &chain, IP_HEADER);
-        self.join_others(pool, counters, chain, head)
+        self.lay_or_begin(pool, counters, chain, head)
     }
 }

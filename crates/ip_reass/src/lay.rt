@@ -16,7 +16,8 @@ ghost use Rattle.ip_reass.specs.Inside.Steps.{LaysIn, TakesOut, datagram_at};
 
 use crate::arrival::Arrival;
 use crate::datagram::Datagram;
-use crate::queue::{Laying, join, lay};
+use crate::queue::{Laying, join_all, lay};
+use crate::span::Span;
 use flat_model::{Counter, Counters, Why};
 use ip_out::IpHead;
 use mbuf_chain::{Chain, Pool};
@@ -28,20 +29,19 @@ pub(crate) fn lay_in(
     table: &mut [Datagram],
     i: usize,
     chain: Chain,
-    offset: u32,
-    more: bool,
+    span: Span,
 ) -> Laying
     requires table { IsTable pool.old table.old }
     requires place { i < length table.old }
     requires owned { IsOwned pool.old (chain ∷ held_all pool.old table.old) }
     requires headed { (chain_of pool.old chain).front.header ≡ true }
     requires some { 0 < length (string (chain_of pool.old chain)) }
-    requires small { offset + length (string (chain_of pool.old chain)) ≤ IP_MAX_DATA }
-    ensures lays { LaysIn pool.old table.old i chain (arrived pool.old chain offset more) (is_left result) pool.new table.new }
+    requires small { span.offset + length (string (chain_of pool.old chain)) ≤ IP_MAX_DATA }
+    ensures lays { LaysIn pool.old table.old i chain (arrived pool.old chain span.offset span.more) (is_left result) pool.new table.new }
     ensures whole { TellsWhole (map_of (fragments pool.new (datagram_at table.new i).fragments)) result }
 {
     let datagram = &mut table[i];
-    lay(pool, datagram, chain, offset, more)
+    lay(pool, datagram, chain, span)
 }
 
 /// Takes a datagram out of the table, frees its key's mbuf and joins its fragments.
@@ -61,41 +61,51 @@ pub(crate) fn take_out(pool: &mut Pool, table: &mut Vec<Datagram>, i: usize) -> 
         bytes: _,
     } = table.remove(i);
     pool.free_chain(holder);
-    join(pool, fragments)
+    join_all(pool, fragments)
+}
+
+/// A fragment that came, without its IP header, and what that said.
+pub(crate) struct Fragment {
+    pub(crate) chain: Chain,
+    pub(crate) head: IpHead,
 }
 
 /// Lays a fragment among those of the datagram at a place, and counts. The datagram is taken out where it is whole then.
-pub(crate) fn settle(
+pub(crate) fn lay_and_count(
     pool: &mut Pool,
     table: &mut Vec<Datagram>,
     counters: &mut Counters,
     i: usize,
-    chain: Chain,
-    head: IpHead,
+    fragment: Fragment,
 ) -> Arrival
     requires table { IsTable pool.old table.old.items }
     requires place { i < length table.old.items }
-    requires owned { IsOwned pool.old (chain ∷ held_all pool.old table.old.items) }
-    requires headed { (chain_of pool.old chain).front.header ≡ true }
-    requires some { 0 < length (string (chain_of pool.old chain)) }
-    requires small { head.offset + length (string (chain_of pool.old chain)) ≤ IP_MAX_DATA }
+    requires owned { IsOwned pool.old (fragment.chain ∷ held_all pool.old table.old.items) }
+    requires headed { (chain_of pool.old fragment.chain).front.header ≡ true }
+    requires some { 0 < length (string (chain_of pool.old fragment.chain)) }
+    requires small { fragment.head.offset + length (string (chain_of pool.old fragment.chain)) ≤ IP_MAX_DATA }
     ensures step { (rest : State) (held : Weight) (new : State) →
-        is_key (key_in head) (unfinished_of pool.old (datagram_at table.old.items i)) ≡ true →
-        count_by (is_key (key_in head)) (unfinished pool.old table.old.items) ≤ 1 →
+        is_key (key_in fragment.head) (unfinished_of pool.old (datagram_at table.old.items i)) ≡ true →
+        count_by (is_key (key_in fragment.head)) (unfinished pool.old table.old.items) ≤ 1 →
         GoesOn held pool.new result (machine pool.new table.new.items counters.new rest) new →
-        Lays exact_ledger held (key_in head) (fragment_of (arrived pool.old chain head.offset head.more))
+        Lays exact_ledger held (key_in fragment.head) (fragment_of (arrived pool.old fragment.chain fragment.head.offset fragment.head.more))
         (unfinished_of pool.old (datagram_at table.old.items i)) (machine pool.old table.old.items counters.old rest) new }
-    ensures whole { HasWhole pool.new head result }
-    ensures layout { LeavesAt i (arrived pool.old chain head.offset head.more) (queues pool.old table.old.items)
+    ensures whole { HasWhole pool.new fragment.head result }
+    ensures layout { LeavesAt i (arrived pool.old fragment.chain fragment.head.offset fragment.head.more) (queues pool.old table.old.items)
         pool.new result (queues pool.new table.new.items) }
     ensures cause { HasCause FragmentDropped result }
     ensures table { IsTable pool.new table.new.items }
-    ensures moves { Moves pool.old (chain ∷ held_all pool.old table.old.items) pool.new
+    ensures moves { Moves pool.old (fragment.chain ∷ held_all pool.old table.old.items) pool.new
         (in_hand result ++ held_all pool.new table.new.items) }
     ensures len { vec_len table.new ≤ vec_len table.old }
     ensures capacity { vec_capacity table.new ≡ vec_capacity table.old }
 {
-    let len = match lay_in(pool, table.as_mut_slice(), i, chain, head.offset, head.more) {
+    let Fragment { chain, head } = fragment;
+    let span = Span {
+        offset: head.offset,
+        more: head.more,
+    };
+    let len = match lay_in(pool, table.as_mut_slice(), i, chain, span) {
         Laying::Covered => {
             counters.count_ended(Why::FragmentDropped);
             return Arrival::Dropped(Why::FragmentDropped);

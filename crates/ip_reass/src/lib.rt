@@ -10,6 +10,7 @@ mod datagram;
 mod lay;
 mod place;
 mod queue;
+mod span;
 mod table;
 
 pub use arrival::Arrival;

@@ -1,17 +1,18 @@
 //! The fragments of an unfinished datagram, in order of offset, as a train (TCP/IP Illustrated, volume 2, chapter 10).
-ghost use Rattle.std.specs.Prelude.{◌≡◌, ℕ, ◌+◌, ◌-◌, ◌*◌, ◌/◌, ◌%◌, ◌==◌, ◌<◌, ◌≤◌, ◌++◌, ◌∷◌, [], true, length, take, drop, remove, slice_set};
+ghost use Rattle.std.specs.Prelude.{◌≡◌, ℕ, ◌+◌, ◌-◌, ◌<◌, ◌≤◌, ◌++◌, ◌∷◌, [], true, length, take, drop, remove, slice_set};
 ghost use Rattle.mbuf_chain.specs.Chain.{IsLive, chain_of, string, alone, flat_bytes};
 ghost use Rattle.mbuf_chain.specs.Owners.{times, Moves};
-ghost use Rattle.mbuf_chain.specs.Train.{numbers, IsQueuedPlace, IsHeld};
+ghost use Rattle.mbuf_chain.specs.Train.{numbers, queued_packet_at, IsQueuedPlace, IsHeld};
 ghost use Rattle.ip_reass.specs.Fragments.{AllEnd, IsQueue, bytes_held, cut, cut_to, fragments, joined, map_of, queued, queued_end};
 ghost use Rattle.ip_reass.specs.Inside.Walks.{AllAbove, AllUpto, IsFront, TellsWhole, arrived, after, is_left, queued_at, reach};
 ghost use Rattle.ip_reass.specs.Inside.Steps.{IsLaid};
 
 use crate::datagram::Datagram;
 use crate::place::{insert_after, next_after, take_after};
+use crate::span::{Span, Tag};
 use chain_ops::{cat_after, trim_front};
 use mbuf_chain::{Chain, Pool, QueuedPlace, Train};
-use params::{IP_MAX_DATA, IP_MAX_PACKET};
+use params::IP_MAX_DATA;
 
 /// What stands in front of the place where a fragment goes.
 #[derive(Clone, Copy)]
@@ -22,29 +23,40 @@ struct Before {
     end: u32,
 }
 
-/// The fragments that begin no later than an offset.
-fn find(pool: &Pool, train: &Train, offset: u32) -> Before
+/// What begins no later than an offset.
+fn walk_to(pool: &Pool, train: &Train, offset: u32) -> Before
     requires { IsQueue pool.now train.now }
     ensures front { IsFront pool.now train.now result.front }
     ensures upto { AllUpto offset (take (after result.front) (fragments pool.now train.now)) }
     ensures above { AllAbove offset (drop (after result.front) (fragments pool.now train.now)) }
     ensures end { result.end ≡ reach 0 (take (after result.front) (fragments pool.now train.now)) }
 {
-    let mut before = Before {
+    let mut found = Before {
         front: None,
         end: 0,
     };
-    'fragments: while let Some(at) = next_after(pool, train, before.front) {
-        let begin = train.tag_at(pool, at) / 2;
+    'fragments: while let Some(at) = next_after(pool, train, found.front) {
+        let begin = begins(pool, train, at);
         if begin > offset {
-            return before;
+            return found;
         }
-        before = Before {
+        found = Before {
             front: Some(at),
             end: begin + train.len_at(pool, at),
         };
     }
-    before
+    found
+}
+
+/// The tag of the fragment that has so many in front of it.
+fn tag_of(pool: &Pool, train: &Train, i: u32) -> Tag
+    requires place { i < train.now.len }
+    requires held { IsHeld pool.now train.now }
+    ensures { result.bits ≡ (queued_packet_at pool.now train.now i).tag }
+{
+    Tag {
+        bits: train.tag(pool, i),
+    }
 }
 
 /// Where the last of the fragments ends: 0 if there is none. This is no walk, since a train knows its last.
@@ -56,7 +68,7 @@ fn end_of_last(pool: &Pool, train: &Train) -> u32
         return 0;
     }
     let last = train.len() - 1;
-    train.tag(pool, last) / 2 + train.chain_len(pool, last)
+    tag_of(pool, train, last).offset() + train.chain_len(pool, last)
 }
 
 /// Where the fragment at a place begins.
@@ -65,7 +77,10 @@ fn begins(pool: &Pool, train: &Train, at: QueuedPlace) -> u32
     requires held { IsHeld pool.now train.now }
     ensures { result ≡ (queued_at (queued pool.now train.now) at.index).offset }
 {
-    train.tag_at(pool, at) / 2
+    let tag = Tag {
+        bits: train.tag_at(pool, at),
+    };
+    tag.offset()
 }
 
 /// The first offset after the fragment at a place.
@@ -108,9 +123,9 @@ fn trim_after(pool: &mut Pool, train: &mut Train, front: Option<QueuedPlace>, n:
     ensures moves { Moves pool.old (numbers pool.old train.old) pool.new (numbers pool.new train.new) }
 {
     let (chain, tag) = take_after(pool, train, front);
-    let moved = tag + 2 * n;
+    let moved = Tag { bits: tag }.moved(n);
     trim_front(pool, &chain, n);
-    insert_after(pool, train, front, chain, moved);
+    insert_after(pool, train, front, chain, moved.bits);
 }
 
 /// What lies below an offset goes from the fragments after a place: whole fragments, and the front of one. Answers how
@@ -145,50 +160,37 @@ fn clear(pool: &mut Pool, train: &mut Train, front: Option<QueuedPlace>, end: u3
     gone
 }
 
-/// The tag of a fragment: its offset times 2, plus 1 where more come after it.
-fn tag_of(offset: u32, more: bool) -> u32
-    requires { offset ≤ IP_MAX_PACKET }
-    ensures half { result / 2 ≡ offset }
-    ensures odd { (result % 2 == 1) ≡ more }
-{
-    if more { 2 * offset + 1 } else { 2 * offset }
-}
-
-/// Puts what is left of a chain after a place, and takes what it holds from the fragments after it. Answers how many
-/// bytes these lose.
-fn settle(
-    pool: &mut Pool,
-    train: &mut Train,
-    chain: Chain,
-    front: Option<QueuedPlace>,
-    offset: u32,
-    skip: u32,
-    len: u32,
-    more: bool,
-) -> u32
-    requires front { IsFront pool.old train.old front }
+/// Puts what is left of a fragment after those that begin no later, and takes what it holds from those after it.
+/// Answers how many bytes these lose.
+fn lay_after(pool: &mut Pool, train: &mut Train, chain: Chain, before: Before, span: Span) -> u32
+    requires front { IsFront pool.old train.old before.front }
     requires held { IsHeld pool.old train.old }
     requires small { AllEnd IP_MAX_DATA (fragments pool.old train.old) }
     requires few { bytes_held (fragments pool.old train.old) ≤ IP_MAX_DATA }
     requires live { IsLive pool.old chain }
     requires headed { (chain_of pool.old chain).front.header ≡ true }
     requires apart { times chain (numbers pool.old train.old) ≡ 0 }
-    requires len { len ≡ length (string (chain_of pool.old chain)) }
-    requires left { skip < len }
-    requires within { offset + len ≤ IP_MAX_DATA }
-    ensures queue { let f = arrived pool.old chain offset more in
-        queued pool.new train.new ≡ take (after front) (queued pool.old train.old)
-        ++ cut skip f ∷ cut_to (queued_end f) (drop (after front) (queued pool.old train.old)) }
-    ensures front { IsFront pool.new train.new front }
+    requires left { before.end - span.offset < length (string (chain_of pool.old chain)) }
+    requires within { span.offset + length (string (chain_of pool.old chain)) ≤ IP_MAX_DATA }
+    ensures queue { let f = arrived pool.old chain span.offset span.more in
+        queued pool.new train.new ≡ take (after before.front) (queued pool.old train.old)
+        ++ cut (before.end - span.offset) f ∷ cut_to (queued_end f)
+        (drop (after before.front) (queued pool.old train.old)) }
+    ensures front { IsFront pool.new train.new before.front }
     ensures held { IsHeld pool.new train.new }
-    ensures gone { result + bytes_held (fragments pool.new train.new)
-        ≡ bytes_held (fragments pool.old train.old) + (len - skip) }
+    ensures gone { result + bytes_held (fragments pool.new train.new) ≡ bytes_held (fragments pool.old train.old)
+        + (length (string (chain_of pool.old chain)) - (before.end - span.offset)) }
     ensures moves { Moves pool.old (chain ∷ numbers pool.old train.old) pool.new (numbers pool.new train.new) }
 {
-    let tag = tag_of(offset + skip, more);
+    let end = span.offset + pool.len(&chain);
+    let skip = before.end.saturating_sub(span.offset);
+    let tag = Tag::new(Span {
+        offset: span.offset + skip,
+        ..span
+    });
     trim_front(pool, &chain, skip);
-    let gone = clear(pool, train, front, offset + len);
-    insert_after(pool, train, front, chain, tag);
+    let gone = clear(pool, train, before.front, end);
+    insert_after(pool, train, before.front, chain, tag.bits);
     gone
 }
 
@@ -212,7 +214,7 @@ fn whole(pool: &Pool, datagram: &Datagram) -> Laying
     ensures whole { TellsWhole (map_of (fragments pool.now datagram.now.fragments)) result }
 {
     let train = &datagram.fragments;
-    if train.tag(pool, train.len() - 1) % 2 == 1 {
+    if tag_of(pool, train, train.len() - 1).more() {
         return Laying::Waits;
     }
     if datagram.bytes < end_of_last(pool, train) {
@@ -222,88 +224,75 @@ fn whole(pool: &Pool, datagram: &Datagram) -> Laying
 }
 
 /// Puts a fragment after all others, which end no later than it begins.
-fn append(pool: &mut Pool, datagram: &mut Datagram, chain: Chain, offset: u32, more: bool)
+fn append(pool: &mut Pool, datagram: &mut Datagram, chain: Chain, span: Span)
     requires queue { IsQueue pool.old datagram.old.fragments }
     requires counted { datagram.old.bytes ≡ bytes_held (fragments pool.old datagram.old.fragments) }
     requires live { IsLive pool.old chain }
     requires headed { (chain_of pool.old chain).front.header ≡ true }
     requires apart { times chain (numbers pool.old datagram.old.fragments) ≡ 0 }
     requires some { 0 < length (string (chain_of pool.old chain)) }
-    requires small { offset + length (string (chain_of pool.old chain)) ≤ IP_MAX_DATA }
-    requires past { reach 0 (fragments pool.old datagram.old.fragments) ≤ offset }
-    ensures { IsLaid pool.old datagram.old chain (arrived pool.old chain offset more) true pool.new datagram.new }
+    requires small { span.offset + length (string (chain_of pool.old chain)) ≤ IP_MAX_DATA }
+    requires past { reach 0 (fragments pool.old datagram.old.fragments) ≤ span.offset }
+    ensures { IsLaid pool.old datagram.old chain (arrived pool.old chain span.offset span.more) true pool.new datagram.new }
 {
     datagram.bytes += pool.len(&chain);
     let end = datagram.fragments.len();
-    datagram
-        .fragments
-        .insert(pool, end, chain, tag_of(offset, more));
+    let tag = Tag::new(span);
+    datagram.fragments.insert(pool, end, chain, tag.bits);
 }
 
 /// Lays a fragment at its place, to which the fragments are walked: what precedes it keeps its bytes, what follows loses
 /// its own to it. A fragment of which nothing is left is freed, and those held stay as they were. Answers whether
 /// something was left.
-fn lay_between(
-    pool: &mut Pool,
-    datagram: &mut Datagram,
-    chain: Chain,
-    offset: u32,
-    more: bool,
-) -> bool
+fn lay_between(pool: &mut Pool, datagram: &mut Datagram, chain: Chain, span: Span) -> bool
     requires queue { IsQueue pool.old datagram.old.fragments }
     requires counted { datagram.old.bytes ≡ bytes_held (fragments pool.old datagram.old.fragments) }
     requires live { IsLive pool.old chain }
     requires headed { (chain_of pool.old chain).front.header ≡ true }
     requires apart { times chain (numbers pool.old datagram.old.fragments) ≡ 0 }
     requires some { 0 < length (string (chain_of pool.old chain)) }
-    requires small { offset + length (string (chain_of pool.old chain)) ≤ IP_MAX_DATA }
-    ensures { IsLaid pool.old datagram.old chain (arrived pool.old chain offset more) result pool.new datagram.new }
+    requires small { span.offset + length (string (chain_of pool.old chain)) ≤ IP_MAX_DATA }
+    ensures { IsLaid pool.old datagram.old chain (arrived pool.old chain span.offset span.more) result pool.new datagram.new }
 {
     let len = pool.len(&chain);
     let train = &mut datagram.fragments;
-    let before = find(pool, train, offset);
-    let skip = before.end.saturating_sub(offset);
-    if len <= skip {
+    let before = walk_to(pool, train, span.offset);
+    let lost = before.end.saturating_sub(span.offset);
+    if len <= lost {
         pool.free_chain(chain);
         return false;
     }
-    let gone = settle(pool, train, chain, before.front, offset, skip, len, more);
-    datagram.bytes = datagram.bytes + (len - skip) - gone;
+    let gone = lay_after(pool, train, chain, before, span);
+    datagram.bytes = datagram.bytes + (len - lost) - gone;
     true
 }
 
 /// Lays a fragment among those held. Nearly every fragment comes in order: it goes after the last, whose end is looked at
 /// first, and so it passes none of the others.
-pub(crate) fn lay(
-    pool: &mut Pool,
-    datagram: &mut Datagram,
-    chain: Chain,
-    offset: u32,
-    more: bool,
-) -> Laying
+pub(crate) fn lay(pool: &mut Pool, datagram: &mut Datagram, chain: Chain, span: Span) -> Laying
     requires queue { IsQueue pool.old datagram.old.fragments }
     requires counted { datagram.old.bytes ≡ bytes_held (fragments pool.old datagram.old.fragments) }
     requires live { IsLive pool.old chain }
     requires headed { (chain_of pool.old chain).front.header ≡ true }
     requires apart { times chain (numbers pool.old datagram.old.fragments) ≡ 0 }
     requires some { 0 < length (string (chain_of pool.old chain)) }
-    requires small { offset + length (string (chain_of pool.old chain)) ≤ IP_MAX_DATA }
-    ensures laid { IsLaid pool.old datagram.old chain (arrived pool.old chain offset more) (is_left result)
+    requires small { span.offset + length (string (chain_of pool.old chain)) ≤ IP_MAX_DATA }
+    ensures laid { IsLaid pool.old datagram.old chain (arrived pool.old chain span.offset span.more) (is_left result)
         pool.new datagram.new }
     ensures whole { TellsWhole (map_of (fragments pool.new datagram.new.fragments)) result }
 {
-    if end_of_last(pool, &datagram.fragments) <= offset {
-        append(pool, datagram, chain, offset, more);
+    if end_of_last(pool, &datagram.fragments) <= span.offset {
+        append(pool, datagram, chain, span);
         return whole(pool, datagram);
     }
-    if !lay_between(pool, datagram, chain, offset, more) {
+    if !lay_between(pool, datagram, chain, span) {
         return Laying::Covered;
     }
     whole(pool, datagram)
 }
 
 /// Joins the fragments, in their order, as one chain, as `m_cat` does.
-pub(crate) fn join(pool: &mut Pool, train: Train) -> Chain
+pub(crate) fn join_all(pool: &mut Pool, train: Train) -> Chain
     requires held { IsHeld pool.old train }
     requires some { 0 < train.len }
     ensures entries { (chain_of pool.new result).entries ≡ joined (queued pool.old train) }

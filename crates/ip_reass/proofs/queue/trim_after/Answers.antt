@@ -1,7 +1,7 @@
-use Rattle.std.proofs.Common.{◌∷◌, ◌≤◌, ◌+◌, ◌*◌, ap, ◌∙◌, arith}
+use Rattle.std.proofs.Common.{◌∷◌, ℕ, insert, ap, ◌∙◌, arith}
 use Rattle.mbuf_chain.specs.Chain.{ChainView, chain_of}
 use Rattle.mbuf_chain.specs.Owners.{IsOwned}
-use Rattle.mbuf_chain.specs.Train.{numbers}
+use Rattle.mbuf_chain.specs.Train.{numbers, queued_packets}
 use Rattle.mbuf_chain.proofs.Laws.Owners.{owned_after, live_first, apart_first}
 use Rattle.chain_ops.specs.Trims.{without_first}
 use Rattle.ip_reass.specs.Fragments.{QueuedFragment, queued, queued_of}
@@ -10,18 +10,8 @@ use Rattle.ip_reass.proofs.Fronts.{front_beside}
 use Rattle.ip_reass.proofs.Steps.{Changed, changed, Trimmed, trimmed_at, end_at, queued_is, length-queued, within_of}
 use Rattle.ip_reass.proofs.queue.trim_after.Goals as goal
 
--- the fragment ends within the limit
-bound : (c : goal.After-take_after-chain) → c.take_after-chain.result.1 + 2 * c.args.n ≤ 131031
-bound c =
-    let was = queued_is c.args.pool.now c.args.train.now (after c.args.front) c.requires.held c.requires.more ∙ ap queued_of c.take_after-chain.ensures.taken in
-    let ends = end_at 65515 (queued c.args.pool.now c.args.train.now) (after c.args.front) (within_of 65515 c.args.pool.now c.args.train.now c.requires.small) (omega (arith, length-queued c.args.pool.now c.args.train.now c.requires.held)) in
-    omega (arith, ends, ap (λ (p : QueuedFragment). p.offset) was, c.requires.within)
-
-pub overflow_mul-moved : goal.overflow_mul-moved
-overflow_mul-moved c = omega (arith, bound c)
-
-pub overflow_add-moved : goal.overflow_add-moved
-overflow_add-moved c =
+pub moved-moved-requires : goal.moved-moved-requires
+moved-moved-requires c =
     let was = queued_is c.args.pool.now c.args.train.now (after c.args.front) c.requires.held c.requires.more ∙ ap queued_of c.take_after-chain.ensures.taken in
     let ends = end_at 65515 (queued c.args.pool.now c.args.train.now) (after c.args.front) (within_of 65515 c.args.pool.now c.args.train.now c.requires.small) (omega (arith, length-queued c.args.pool.now c.args.train.now c.requires.held)) in
     omega (arith, ends, ap (λ (p : QueuedFragment). p.offset) was, c.requires.within)
@@ -51,7 +41,7 @@ all c =
     c.requires.more c.requires.held c.take_after-chain.ensures.queued_packets c.take_after-chain.ensures.taken c.take_after-chain.ensures.moves
     (changed c.take_after-chain.new.pool c.trim_front.new.pool c.take_after-chain.new.train c.take_after-chain.result.0 _ (live_first c.take_after-chain.new.pool c.take_after-chain.result.0 (numbers c.take_after-chain.new.pool c.take_after-chain.new.train) o)
     (apart_first c.take_after-chain.new.pool c.take_after-chain.result.0 (numbers c.take_after-chain.new.pool c.take_after-chain.new.train) o) c.take_after-chain.ensures.held c.trim_front.ensures)
-    c.insert_after.ensures.queued_packets c.insert_after.ensures.moves
+    (c.insert_after.ensures.queued_packets ∙ ap (λ (n : ℕ). insert (queued_packets c.trim_front.new.pool c.take_after-chain.new.train) (after c.args.front) (record { number = c.take_after-chain.result.0; entries = (chain_of c.trim_front.new.pool c.take_after-chain.result.0).entries; tag = n })) c.moved-moved.ensures) c.insert_after.ensures.moves
 
 pub returns-clause-queue : goal.returns-clause-queue
 returns-clause-queue c = (all c).queue_is

@@ -1,15 +1,14 @@
-use Rattle.std.proofs.Common.{ℕ, ◌-◌, ◌%◌, ◌∙◌, sym, subst, arith}
-use Rattle.std.proofs.lemmas.Bool.{eq-eqb, ne_eqb}
+use Rattle.std.proofs.Common.{ℕ, ◌-◌, ◌∙◌, sym, subst, arith}
 use Rattle.flat_model.specs.Fragments.Whole.{IsWhole}
 use Rattle.ip_reass.specs.Fragments.{fragments, map_of}
 use Rattle.ip_reass.proofs.Walks.{length-fragments, more_at}
 use Rattle.ip_reass.proofs.Whole.{open_stops, gap_stops, whole_held}
 use Rattle.ip_reass.proofs.queue.whole.Goals as goal
 
-pub returns-then-tag-eq1-clause-whole : goal.returns-then-tag-eq1-clause-whole
-returns-then-tag-eq1-clause-whole c =
+pub returns-then-more-clause-whole : goal.returns-then-more-clause-whole
+returns-then-more-clause-whole c =
     open_stops (fragments c.args.pool.now c.args.datagram.now.fragments) (c.len.result - 1) c.requires.queue.apart (omega (arith, c.len.ensures, c.requires.some, length-fragments c.args.pool.now c.args.datagram.now.fragments c.requires.queue.held))
-    (sym (more_at c.args.pool.now c.args.datagram.now.fragments (c.len.result - 1) c.tag.result c.requires.queue.held (omega (arith, c.len.ensures, c.requires.some)) c.tag.ensures) ∙ eq-eqb (c.tag.result % 2) 1 c.if-tag-eq1.true)
+    (sym (more_at c.args.pool.now c.args.datagram.now.fragments (c.len.result - 1) c.tag_of.result.bits c.requires.queue.held (omega (arith, c.len.ensures, c.requires.some)) c.tag_of.ensures) ∙ (sym c.more.ensures ∙ c.if-more.true))
 
 pub returns-then-datagram-end_of_last-clause-whole : goal.returns-then-datagram-end_of_last-clause-whole
 returns-then-datagram-end_of_last-clause-whole c = gap_stops (fragments c.args.pool.now c.args.datagram.now.fragments) c.requires.queue.apart (omega (arith, c.requires.counted, c.end_of_last.ensures, c.if-datagram-end_of_last.true))
@@ -18,5 +17,5 @@ pub returns-clause-whole : goal.returns-clause-whole
 returns-clause-whole c =
     subst (λ (n : ℕ). IsWhole (map_of (fragments c.args.pool.now c.args.datagram.now.fragments)) n) (sym c.requires.counted)
     (whole_held (fragments c.args.pool.now c.args.datagram.now.fragments) (c.len.result - 1) c.requires.queue.apart (omega (arith, c.len.ensures, c.requires.some, length-fragments c.args.pool.now c.args.datagram.now.fragments c.requires.queue.held))
-    (sym (more_at c.args.pool.now c.args.datagram.now.fragments (c.len.result - 1) c.tag.result c.requires.queue.held (omega (arith, c.len.ensures, c.requires.some)) c.tag.ensures) ∙ ne_eqb (c.tag.result % 2) 1 c.if-tag-eq1.false)
+    (sym (more_at c.args.pool.now c.args.datagram.now.fragments (c.len.result - 1) c.tag_of.result.bits c.requires.queue.held (omega (arith, c.len.ensures, c.requires.some)) c.tag_of.ensures) ∙ (sym c.more.ensures ∙ c.if-more.false))
     (omega (arith, c.requires.counted, c.end_of_last.ensures, c.if-datagram-end_of_last.false)))

@@ -56,8 +56,8 @@ returns-in_default-clause-accounts c = λ rest held acc.
     let m = subst (λ (o : Option ℕ). Moves c.args.pool.now (c.args.chain ∷ held_all c.args.pool.now c.args.self.now.datagrams) c.pull_up.new.pool (option_to_list o ++ held_all c.pull_up.new.pool c.pull_up.new.self.datagrams)) c.in_default.is c.pull_up.ensures.moves in
     accounts c.args.pool.now c.pull_up.new.pool (c.args.chain ∷ []) [] rest held (weight_at c.args.pool.now c.args.chain) nothing c.args.self.now.datagrams c.pull_up.new.self.datagrams c.args.counters.now c.pull_up.new.counters acc m c.requires.owned c.requires.ready.table c.pull_up.ensures.ready.table (one_weighs c.args.pool.now c.args.chain) (same_weight nothing)
 
-pub join_others-requires-clause-ready : goal.join_others-requires-clause-ready
-join_others-requires-clause-ready c =
+pub lay_or_begin-requires-clause-ready : goal.lay_or_begin-requires-clause-ready
+lay_or_begin-requires-clause-ready c =
     let m = subst (λ (o : Option ℕ). Moves c.args.pool.now (c.args.chain ∷ held_all c.args.pool.now c.args.self.now.datagrams) c.pull_up.new.pool (option_to_list o ++ held_all c.pull_up.new.pool c.pull_up.new.self.datagrams)) c.in-Some.is c.pull_up.ensures.moves in
     let t = trimmed_off c.pull_up.new.pool c.trim_front.new.pool c.pull_up.new.self.datagrams c.in-Some.chain c.pull_up.ensures.ready.table (owned_after m c.requires.owned) c.trim_front.ensures in
     record {
@@ -66,20 +66,20 @@ join_others-requires-clause-ready c =
       distinct = distinct_same c.pull_up.new.pool c.trim_front.new.pool c.pull_up.new.self.datagrams c.pull_up.new.self.datagrams t.shows c.pull_up.ensures.ready.distinct;
     }
 
-pub join_others-requires-clause-owned : goal.join_others-requires-clause-owned
-join_others-requires-clause-owned c =
+pub lay_or_begin-requires-clause-owned : goal.lay_or_begin-requires-clause-owned
+lay_or_begin-requires-clause-owned c =
     let m = subst (λ (o : Option ℕ). Moves c.args.pool.now (c.args.chain ∷ held_all c.args.pool.now c.args.self.now.datagrams) c.pull_up.new.pool (option_to_list o ++ held_all c.pull_up.new.pool c.pull_up.new.self.datagrams)) c.in-Some.is c.pull_up.ensures.moves in
     let t = trimmed_off c.pull_up.new.pool c.trim_front.new.pool c.pull_up.new.self.datagrams c.in-Some.chain c.pull_up.ensures.ready.table (owned_after m c.requires.owned) c.trim_front.ensures in
     t.owned
 
-pub join_others-requires-clause-headed : goal.join_others-requires-clause-headed
-join_others-requires-clause-headed c =
+pub lay_or_begin-requires-clause-headed : goal.lay_or_begin-requires-clause-headed
+lay_or_begin-requires-clause-headed c =
     let m = subst (λ (o : Option ℕ). Moves c.args.pool.now (c.args.chain ∷ held_all c.args.pool.now c.args.self.now.datagrams) c.pull_up.new.pool (option_to_list o ++ held_all c.pull_up.new.pool c.pull_up.new.self.datagrams)) c.in-Some.is c.pull_up.ensures.moves in
     let t = trimmed_off c.pull_up.new.pool c.trim_front.new.pool c.pull_up.new.self.datagrams c.in-Some.chain c.pull_up.ensures.ready.table (owned_after m c.requires.owned) c.trim_front.ensures in
     ap (λ (v : ChainView). v.front.header) t.chain ∙ c.in-Some.ensures.headed
 
-pub join_others-requires-clause-some : goal.join_others-requires-clause-some
-join_others-requires-clause-some c =
+pub lay_or_begin-requires-clause-some : goal.lay_or_begin-requires-clause-some
+lay_or_begin-requires-clause-some c =
     let m = subst (λ (o : Option ℕ). Moves c.args.pool.now (c.args.chain ∷ held_all c.args.pool.now c.args.self.now.datagrams) c.pull_up.new.pool (option_to_list o ++ held_all c.pull_up.new.pool c.pull_up.new.self.datagrams)) c.in-Some.is c.pull_up.ensures.moves in
     let t = trimmed_off c.pull_up.new.pool c.trim_front.new.pool c.pull_up.new.self.datagrams c.in-Some.chain c.pull_up.ensures.ready.table (owned_after m c.requires.owned) c.trim_front.ensures in
     let long : length (string (chain_of c.args.pool.now c.args.chain)) ≡ 20 + (c.len-len.result - 20) = omega (arith, c.len-len.ensures, c.requires.total, c.requires.header) in
@@ -88,8 +88,8 @@ join_others-requires-clause-some c =
     let some = good_some c.args.head (c.len-len.result - 20) good in
     omega (arith, size, some)
 
-pub join_others-requires-clause-small : goal.join_others-requires-clause-small
-join_others-requires-clause-small c =
+pub lay_or_begin-requires-clause-small : goal.lay_or_begin-requires-clause-small
+lay_or_begin-requires-clause-small c =
     let m = subst (λ (o : Option ℕ). Moves c.args.pool.now (c.args.chain ∷ held_all c.args.pool.now c.args.self.now.datagrams) c.pull_up.new.pool (option_to_list o ++ held_all c.pull_up.new.pool c.pull_up.new.self.datagrams)) c.in-Some.is c.pull_up.ensures.moves in
     let t = trimmed_off c.pull_up.new.pool c.trim_front.new.pool c.pull_up.new.self.datagrams c.in-Some.chain c.pull_up.ensures.ready.table (owned_after m c.requires.owned) c.trim_front.ensures in
     let long : length (string (chain_of c.args.pool.now c.args.chain)) ≡ 20 + (c.len-len.result - 20) = omega (arith, c.len-len.ensures, c.requires.total, c.requires.header) in
@@ -105,7 +105,7 @@ returns-clause-step c = λ rest held new acc goes.
     let good : is_bad_fragment (flat_head c.args.head) (c.args.head.total - 20) ≡ false = ap (λ (n : ℕ). is_bad_fragment (flat_head c.args.head) (n - 20)) (sym c.requires.total ∙ sym c.len-len.ensures) ∙ (sym c.is_bad.ensures ∙ c.if-is_bad.false) in
     let acc' = accounts c.args.pool.now c.trim_front.new.pool (c.args.chain ∷ []) (c.in-Some.chain ∷ []) rest held (weight_at c.args.pool.now c.args.chain) (weight_at c.trim_front.new.pool c.in-Some.chain) c.args.self.now.datagrams c.pull_up.new.self.datagrams c.args.counters.now c.pull_up.new.counters acc
     (moves_trans m t.moves) c.requires.owned c.requires.ready.table t.table (one_weighs c.args.pool.now c.args.chain) (one_weighs c.trim_front.new.pool c.in-Some.chain) in
-    let joins = c.join_others.ensures.step rest held new acc' goes in
+    let joins = c.lay_or_begin.ensures.step rest held new acc' goes in
     elim (cases_Bool (is_some (entry_of (chain_of c.args.pool.now c.args.chain) 0).cluster)) [
       | inr plain ↦
           let same = c.pull_up.ensures.plain plain in
@@ -122,17 +122,17 @@ pub returns-clause-moves : goal.returns-clause-moves
 returns-clause-moves c =
     let m = subst (λ (o : Option ℕ). Moves c.args.pool.now (c.args.chain ∷ held_all c.args.pool.now c.args.self.now.datagrams) c.pull_up.new.pool (option_to_list o ++ held_all c.pull_up.new.pool c.pull_up.new.self.datagrams)) c.in-Some.is c.pull_up.ensures.moves in
     let t = trimmed_off c.pull_up.new.pool c.trim_front.new.pool c.pull_up.new.self.datagrams c.in-Some.chain c.pull_up.ensures.ready.table (owned_after m c.requires.owned) c.trim_front.ensures in
-    moves_trans m (moves_trans t.moves c.join_others.ensures.moves)
+    moves_trans m (moves_trans t.moves c.lay_or_begin.ensures.moves)
 
 pub returns-clause-accounts : goal.returns-clause-accounts
 returns-clause-accounts c = λ rest held acc.
     let m = subst (λ (o : Option ℕ). Moves c.args.pool.now (c.args.chain ∷ held_all c.args.pool.now c.args.self.now.datagrams) c.pull_up.new.pool (option_to_list o ++ held_all c.pull_up.new.pool c.pull_up.new.self.datagrams)) c.in-Some.is c.pull_up.ensures.moves in
     let t = trimmed_off c.pull_up.new.pool c.trim_front.new.pool c.pull_up.new.self.datagrams c.in-Some.chain c.pull_up.ensures.ready.table (owned_after m c.requires.owned) c.trim_front.ensures in
-    accounts c.args.pool.now c.join_others.new.pool (c.args.chain ∷ []) (in_hand c.join_others.result) rest held (weight_at c.args.pool.now c.args.chain) (weight_owned c.join_others.new.pool (in_hand c.join_others.result)) c.args.self.now.datagrams c.join_others.new.self.datagrams c.args.counters.now c.join_others.new.counters acc
-    (moves_trans m (moves_trans t.moves c.join_others.ensures.moves)) c.requires.owned c.requires.ready.table c.join_others.ensures.ready.table (one_weighs c.args.pool.now c.args.chain) (same_weight _)
+    accounts c.args.pool.now c.lay_or_begin.new.pool (c.args.chain ∷ []) (in_hand c.lay_or_begin.result) rest held (weight_at c.args.pool.now c.args.chain) (weight_owned c.lay_or_begin.new.pool (in_hand c.lay_or_begin.result)) c.args.self.now.datagrams c.lay_or_begin.new.self.datagrams c.args.counters.now c.lay_or_begin.new.counters acc
+    (moves_trans m (moves_trans t.moves c.lay_or_begin.ensures.moves)) c.requires.owned c.requires.ready.table c.lay_or_begin.ensures.ready.table (one_weighs c.args.pool.now c.args.chain) (same_weight _)
 
 pub returns-clause-whole : goal.returns-clause-whole
-returns-clause-whole c = c.join_others.ensures.whole
+returns-clause-whole c = c.lay_or_begin.ensures.whole
 
 pub returns-then-is_bad-clause-layout : goal.returns-then-is_bad-clause-layout
 returns-then-is_bad-clause-layout c = record {
@@ -145,8 +145,8 @@ pub returns-clause-layout : goal.returns-clause-layout
 returns-clause-layout c =
     let m = subst (λ (o : Option ℕ). Moves c.args.pool.now (c.args.chain ∷ held_all c.args.pool.now c.args.self.now.datagrams) c.pull_up.new.pool (option_to_list o ++ held_all c.pull_up.new.pool c.pull_up.new.self.datagrams)) c.in-Some.is c.pull_up.ensures.moves in
     let t = trimmed_off c.pull_up.new.pool c.trim_front.new.pool c.pull_up.new.self.datagrams c.in-Some.chain c.pull_up.ensures.ready.table (owned_after m c.requires.owned) c.trim_front.ensures in
-    arrived_layout c.args.pool.now c.pull_up.new.pool c.trim_front.new.pool c.join_others.new.pool c.args.self.now.datagrams c.pull_up.new.self.datagrams c.join_others.new.self.datagrams c.args.chain c.in-Some.chain c.args.head c.join_others.result
-    c.pull_up.ensures.waits t.rows (ap (λ (v : ChainView). v.entries) t.chain ∙ ap (without_first 20) c.in-Some.ensures.entries) c.join_others.ensures.layout
+    arrived_layout c.args.pool.now c.pull_up.new.pool c.trim_front.new.pool c.lay_or_begin.new.pool c.args.self.now.datagrams c.pull_up.new.self.datagrams c.lay_or_begin.new.self.datagrams c.args.chain c.in-Some.chain c.args.head c.lay_or_begin.result
+    c.pull_up.ensures.waits t.rows (ap (λ (v : ChainView). v.entries) t.chain ∙ ap (without_first 20) c.in-Some.ensures.entries) c.lay_or_begin.ensures.layout
 
 pub returns-then-is_bad-clause-cause : goal.returns-then-is_bad-clause-cause
 returns-then-is_bad-clause-cause c =
@@ -165,6 +165,6 @@ pub returns-clause-cause : goal.returns-clause-cause
 returns-clause-cause c =
     let m = subst (λ (o : Option ℕ). Moves c.args.pool.now (c.args.chain ∷ held_all c.args.pool.now c.args.self.now.datagrams) c.pull_up.new.pool (option_to_list o ++ held_all c.pull_up.new.pool c.pull_up.new.self.datagrams)) c.in-Some.is c.pull_up.ensures.moves in
     let t = trimmed_off c.pull_up.new.pool c.trim_front.new.pool c.pull_up.new.self.datagrams c.in-Some.chain c.pull_up.ensures.ready.table (owned_after m c.requires.owned) c.trim_front.ensures in
-    arrived_cause c.args.pool.now c.trim_front.new.pool c.args.chain c.in-Some.chain c.args.head (under (key_in c.args.head) (queues c.join_others.new.pool c.join_others.new.self.datagrams)) c.join_others.result
+    arrived_cause c.args.pool.now c.trim_front.new.pool c.args.chain c.in-Some.chain c.args.head (under (key_in c.args.head) (queues c.lay_or_begin.new.pool c.lay_or_begin.new.self.datagrams)) c.lay_or_begin.result
     (ap (λ (n : ℕ). is_bad_fragment (flat_head c.args.head) (n - 20)) (sym c.requires.total ∙ sym c.len-len.ensures) ∙ (sym c.is_bad.ensures ∙ c.if-is_bad.false))
-    (ap (λ (v : ChainView). v.entries) t.chain ∙ ap (without_first 20) c.in-Some.ensures.entries) c.join_others.ensures.cause
+    (ap (λ (v : ChainView). v.entries) t.chain ∙ ap (without_first 20) c.in-Some.ensures.entries) c.lay_or_begin.ensures.cause

@@ -52,35 +52,35 @@ begin-requires c =
       room c.reserve.new.pool c.reserve.new.waiting.datagrams c.args.chain c.laws.ensures (stays c.args.pool.now c.reserve.new.pool c.args.self.now.datagrams c.reserve.new.waiting.datagrams c.args.chain c.requires.owned c.reserve.ensures.moves).owned,
     )
 
-begun : (c : goal.After-settle-arg-3-1) → Began c.reserve.new.pool c.reserve.new.waiting.datagrams c.args.chain (key_in c.args.head) c.new_chain.new.self c.begin.new.table.items (length c.as_slice-i.result.now)
+begun : (c : goal.After-lay_and_count-arg-3-1) → Began c.reserve.new.pool c.reserve.new.waiting.datagrams c.args.chain (key_in c.args.head) c.new_chain.new.self c.begin.new.table.items (length c.as_slice-i.result.now)
 begun c =
     began c.reserve.new.pool c.new_chain.new.self c.reserve.new.waiting.datagrams c.begin.new.table.items c.args.chain c.in-Ok.holder (length c.as_slice-i.result.now) (key_in c.args.head) c.reserve.ensures.ready.table
     (stays c.args.pool.now c.reserve.new.pool c.args.self.now.datagrams c.reserve.new.waiting.datagrams c.args.chain c.requires.owned c.reserve.ensures.moves).owned c.in-Ok.ensures.ok
     (c.begin.ensures.items ∙ (λ j. ((ap (λ (r : TableView). r.datagrams) c.self.view_is) j) ++ new_datagram (c.key_of.ensures j) c.in-Ok.holder ∷ [])) (ap (λ (ds : List Datagram). length ds) (c.as_slice-i.ensures.value ∙ (ap (λ (r : TableView). r.datagrams) c.self.view_is)))
 
-same_chain : (c : goal.After-settle-arg-3-1) → chain_of c.new_chain.new.self c.args.chain ≡ chain_of c.args.pool.now c.args.chain
+same_chain : (c : goal.After-lay_and_count-arg-3-1) → chain_of c.new_chain.new.self c.args.chain ≡ chain_of c.args.pool.now c.args.chain
 same_chain c = (begun c).stays.chain ∙ (stays c.args.pool.now c.reserve.new.pool c.args.self.now.datagrams c.reserve.new.waiting.datagrams c.args.chain c.requires.owned c.reserve.ensures.moves).chain
 
-pub settle-requires-clause-table : goal.settle-requires-clause-table
-settle-requires-clause-table c = (begun c).table
+pub lay_and_count-requires-clause-table : goal.lay_and_count-requires-clause-table
+lay_and_count-requires-clause-table c = (begun c).table
 
-pub settle-requires-clause-owned : goal.settle-requires-clause-owned
-settle-requires-clause-owned c = (begun c).stays.owned
+pub lay_and_count-requires-clause-owned : goal.lay_and_count-requires-clause-owned
+lay_and_count-requires-clause-owned c = (begun c).stays.owned
 
-pub settle-requires-clause-headed : goal.settle-requires-clause-headed
-settle-requires-clause-headed c = ap (λ (v : ChainView). v.front.header) (same_chain c) ∙ c.requires.headed
+pub lay_and_count-requires-clause-headed : goal.lay_and_count-requires-clause-headed
+lay_and_count-requires-clause-headed c = ap (λ (v : ChainView). v.front.header) (same_chain c) ∙ c.requires.headed
 
-pub settle-requires-clause-some : goal.settle-requires-clause-some
-settle-requires-clause-some c = subst (λ (v : ChainView). 0 < length (string v)) (sym (same_chain c)) c.requires.some
+pub lay_and_count-requires-clause-some : goal.lay_and_count-requires-clause-some
+lay_and_count-requires-clause-some c = subst (λ (v : ChainView). 0 < length (string v)) (sym (same_chain c)) c.requires.some
 
-pub settle-requires-clause-small : goal.settle-requires-clause-small
-settle-requires-clause-small c = subst (λ (v : ChainView). c.args.head.offset + length (string v) ≤ 65515) (sym (same_chain c)) c.requires.small
+pub lay_and_count-requires-clause-small : goal.lay_and_count-requires-clause-small
+lay_and_count-requires-clause-small c = subst (λ (v : ChainView). c.args.head.offset + length (string v) ≤ 65515) (sym (same_chain c)) c.requires.small
 
 pub invariant_of-self : goal.invariant_of-self
 invariant_of-self c =
     let few = room c.reserve.new.pool c.reserve.new.waiting.datagrams c.args.chain c.laws.ensures (stays c.args.pool.now c.reserve.new.pool c.args.self.now.datagrams c.reserve.new.waiting.datagrams c.args.chain c.requires.owned c.reserve.ensures.moves).owned in
     let same : c.self.inside.datagrams.len ≡ length c.reserve.new.waiting.datagrams = omega (arith, c.as_slice-i.ensures.len, ap (λ (ds : List Datagram). length ds) (c.as_slice-i.ensures.value ∙ (ap (λ (r : TableView). r.datagrams) c.self.view_is))) in
-    omega (arith, c.settle.ensures.len, c.begin.ensures.len, few, same, c.laws.ensures.small)
+    omega (arith, c.lay_and_count.ensures.len, c.begin.ensures.len, few, same, c.laws.ensures.small)
 
 pub returns-clause-step : goal.returns-clause-step
 returns-clause-step c = λ rest held new acc goes.
@@ -88,15 +88,15 @@ returns-clause-step c = λ rest held new acc goes.
     let st = stays c.args.pool.now c.reserve.new.pool c.args.self.now.datagrams c.reserve.new.waiting.datagrams c.args.chain c.requires.owned c.reserve.ensures.moves in
     let b = began c.reserve.new.pool c.new_chain.new.self c.reserve.new.waiting.datagrams c.begin.new.table.items c.args.chain c.in-Ok.holder (length c.as_slice-i.result.now) (key_in c.args.head) c.reserve.ensures.ready.table st.owned c.in-Ok.ensures.ok
     (c.begin.ensures.items ∙ (λ j. ((ap (λ (r : TableView). r.datagrams) c.self.view_is) j) ++ new_datagram (c.key_of.ensures j) c.in-Ok.holder ∷ [])) (ap (λ (ds : List Datagram). length ds) (c.as_slice-i.ensures.value ∙ (ap (λ (r : TableView). r.datagrams) c.self.view_is))) in
-    begins_here rest held new (key_in c.args.head) (weight_at c.args.pool.now c.args.chain) c.args.pool.now c.reserve.new.pool c.new_chain.new.self c.args.self.now.datagrams c.reserve.new.waiting.datagrams c.begin.new.table.items c.args.counters.now c.reserve.new.counters c.settle.new.counters c.args.chain (length c.as_slice-i.result.now) c.args.head.offset c.args.head.more c.settle.result c.settle.new.pool c.settle.new.table.items c.reserve.result c.if-not-reserve.false
-    (none_by_key c.args.pool.now (key_in c.args.head) c.args.self.now.datagrams c.requires.fresh) r.has_buffers (b.stays.chain ∙ st.chain) b (λ here most. c.settle.ensures.step rest held new here most goes)
+    begins_here rest held new (key_in c.args.head) (weight_at c.args.pool.now c.args.chain) c.args.pool.now c.reserve.new.pool c.new_chain.new.self c.args.self.now.datagrams c.reserve.new.waiting.datagrams c.begin.new.table.items c.args.counters.now c.reserve.new.counters c.lay_and_count.new.counters c.args.chain (length c.as_slice-i.result.now) c.args.head.offset c.args.head.more c.lay_and_count.result c.lay_and_count.new.pool c.lay_and_count.new.table.items c.reserve.result c.if-not-reserve.false
+    (none_by_key c.args.pool.now (key_in c.args.head) c.args.self.now.datagrams c.requires.fresh) r.has_buffers (b.stays.chain ∙ st.chain) b (λ here most. c.lay_and_count.ensures.step rest held new here most goes)
 
-moved : (c : goal.After-settle) → Moves c.args.pool.now (c.args.chain ∷ held_all c.args.pool.now c.args.self.now.datagrams) c.settle.new.pool (in_hand c.settle.result ++ held_all c.settle.new.pool c.settle.new.table.items)
+moved : (c : goal.After-lay_and_count) → Moves c.args.pool.now (c.args.chain ∷ held_all c.args.pool.now c.args.self.now.datagrams) c.lay_and_count.new.pool (in_hand c.lay_and_count.result ++ held_all c.lay_and_count.new.pool c.lay_and_count.new.table.items)
 moved c =
     let st = stays c.args.pool.now c.reserve.new.pool c.args.self.now.datagrams c.reserve.new.waiting.datagrams c.args.chain c.requires.owned c.reserve.ensures.moves in
     let b = began c.reserve.new.pool c.new_chain.new.self c.reserve.new.waiting.datagrams c.begin.new.table.items c.args.chain c.in-Ok.holder (length c.as_slice-i.result.now) (key_in c.args.head) c.reserve.ensures.ready.table st.owned c.in-Ok.ensures.ok
     (c.begin.ensures.items ∙ (λ j. ((ap (λ (r : TableView). r.datagrams) c.self.view_is) j) ++ new_datagram (c.key_of.ensures j) c.in-Ok.holder ∷ [])) (ap (λ (ds : List Datagram). length ds) (c.as_slice-i.ensures.value ∙ (ap (λ (r : TableView). r.datagrams) c.self.view_is))) in
-    moves_trans st.moves (moves_trans b.stays.moves c.settle.ensures.moves)
+    moves_trans st.moves (moves_trans b.stays.moves c.lay_and_count.ensures.moves)
 
 pub returns-clause-moves : goal.returns-clause-moves
 returns-clause-moves c = moved c
@@ -106,27 +106,27 @@ laid_in c =
     let st = stays c.args.pool.now c.reserve.new.pool c.args.self.now.datagrams c.reserve.new.waiting.datagrams c.args.chain c.requires.owned c.reserve.ensures.moves in
     let b = began c.reserve.new.pool c.new_chain.new.self c.reserve.new.waiting.datagrams c.begin.new.table.items c.args.chain c.in-Ok.holder (length c.as_slice-i.result.now) (key_in c.args.head) c.reserve.ensures.ready.table st.owned c.in-Ok.ensures.ok
     (c.begin.ensures.items ∙ (λ j. ((ap (λ (r : TableView). r.datagrams) c.self.view_is) j) ++ new_datagram (c.key_of.ensures j) c.in-Ok.holder ∷ [])) (ap (λ (ds : List Datagram). length ds) (c.as_slice-i.ensures.value ∙ (ap (λ (r : TableView). r.datagrams) c.self.view_is))) in
-    begins_layout c.args.pool.now c.reserve.new.pool c.new_chain.new.self c.settle.new.pool c.args.self.now.datagrams c.reserve.new.waiting.datagrams c.begin.new.table.items c.settle.new.table.items (key_in c.args.head) c.args.chain (length c.as_slice-i.result.now) c.args.head.offset c.args.head.more c.settle.result
+    begins_layout c.args.pool.now c.reserve.new.pool c.new_chain.new.self c.lay_and_count.new.pool c.args.self.now.datagrams c.reserve.new.waiting.datagrams c.begin.new.table.items c.lay_and_count.new.table.items (key_in c.args.head) c.args.chain (length c.as_slice-i.result.now) c.args.head.offset c.args.head.more c.lay_and_count.result
     (wait_reserved c.args.pool.now c.reserve.new.pool c.args.self.now c.reserve.new.waiting c.args.counters.now c.reserve.new.counters _ c.reserve.ensures.kept c.reserve.ensures.none)
-    c.requires.fresh c.requires.some (b.stays.chain ∙ st.chain) b.rows (ap (λ (ds : List Datagram). length ds) (c.as_slice-i.ensures.value ∙ (ap (λ (r : TableView). r.datagrams) c.self.view_is))) c.settle.ensures.layout
+    c.requires.fresh c.requires.some (b.stays.chain ∙ st.chain) b.rows (ap (λ (ds : List Datagram). length ds) (c.as_slice-i.ensures.value ∙ (ap (λ (r : TableView). r.datagrams) c.self.view_is))) c.lay_and_count.ensures.layout
 
 pub returns-clause-ready : goal.returns-clause-ready
 returns-clause-ready c = record {
-  table = c.settle.ensures.table;
+  table = c.lay_and_count.ensures.table;
   room = omega (
     arith,
-    c.settle.ensures.capacity,
+    c.lay_and_count.ensures.capacity,
     c.begin.ensures.capacity,
     ap (λ (r : TableView). r.room) c.self.view_is,
     c.reserve.ensures.ready.room,
     c.reserve.ensures.moves.mbufs,
     (moved c).mbufs,
   );
-  distinct = distinct_after c.args.pool.now c.settle.new.pool c.args.self.now.datagrams c.settle.new.table.items (key_in c.args.head) (arrived c.args.pool.now c.args.chain c.args.head.offset c.args.head.more) c.settle.result (laid_in c) c.requires.ready.distinct;
+  distinct = distinct_after c.args.pool.now c.lay_and_count.new.pool c.args.self.now.datagrams c.lay_and_count.new.table.items (key_in c.args.head) (arrived c.args.pool.now c.args.chain c.args.head.offset c.args.head.more) c.lay_and_count.result (laid_in c) c.requires.ready.distinct;
 }
 
 pub returns-clause-whole : goal.returns-clause-whole
-returns-clause-whole c = c.settle.ensures.whole
+returns-clause-whole c = c.lay_and_count.ensures.whole
 
 pub returns-clause-layout : goal.returns-clause-layout
 returns-clause-layout c = laid_in c
@@ -143,6 +143,6 @@ returns-clause-cause c =
     let st = stays c.args.pool.now c.reserve.new.pool c.args.self.now.datagrams c.reserve.new.waiting.datagrams c.args.chain c.requires.owned c.reserve.ensures.moves in
     let b = began c.reserve.new.pool c.new_chain.new.self c.reserve.new.waiting.datagrams c.begin.new.table.items c.args.chain c.in-Ok.holder (length c.as_slice-i.result.now) (key_in c.args.head) c.reserve.ensures.ready.table st.owned c.in-Ok.ensures.ok
     (c.begin.ensures.items ∙ (λ j. ((ap (λ (r : TableView). r.datagrams) c.self.view_is) j) ++ new_datagram (c.key_of.ensures j) c.in-Ok.holder ∷ [])) (ap (λ (ds : List Datagram). length ds) (c.as_slice-i.ensures.value ∙ (ap (λ (r : TableView). r.datagrams) c.self.view_is))) in
-    begins_cause (cause_among (under (key_in c.args.head) (queues c.settle.new.pool c.settle.new.table.items)) (arrived c.args.pool.now c.args.chain c.args.head.offset c.args.head.more))
-    c.args.pool.now c.reserve.new.pool c.new_chain.new.self c.settle.new.pool c.reserve.new.waiting.datagrams c.begin.new.table.items c.settle.new.table.items (key_in c.args.head) c.args.chain (length c.as_slice-i.result.now) c.args.head.offset c.args.head.more c.settle.result
-    c.requires.some (b.stays.chain ∙ st.chain) b.rows (ap (λ (ds : List Datagram). length ds) (c.as_slice-i.ensures.value ∙ (ap (λ (r : TableView). r.datagrams) c.self.view_is))) c.settle.ensures.layout
+    begins_cause (cause_among (under (key_in c.args.head) (queues c.lay_and_count.new.pool c.lay_and_count.new.table.items)) (arrived c.args.pool.now c.args.chain c.args.head.offset c.args.head.more))
+    c.args.pool.now c.reserve.new.pool c.new_chain.new.self c.lay_and_count.new.pool c.reserve.new.waiting.datagrams c.begin.new.table.items c.lay_and_count.new.table.items (key_in c.args.head) c.args.chain (length c.as_slice-i.result.now) c.args.head.offset c.args.head.more c.lay_and_count.result
+    c.requires.some (b.stays.chain ∙ st.chain) b.rows (ap (λ (ds : List Datagram). length ds) (c.as_slice-i.ensures.value ∙ (ap (λ (r : TableView). r.datagrams) c.self.view_is))) c.lay_and_count.ensures.layout

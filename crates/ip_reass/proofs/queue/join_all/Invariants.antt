@@ -3,7 +3,7 @@ use Rattle.mbuf_chain.specs.Chain.{IsLive, IsPlace, chain_of, alone}
 use Rattle.mbuf_chain.specs.Owners.{times, Moves}
 use Rattle.mbuf_chain.specs.Train.{numbers, IsHeld}
 use Rattle.ip_reass.specs.Fragments.{joined, joined_after, queued}
-use Rattle.ip_reass.proofs.queue.join.Given as goal
+use Rattle.ip_reass.proofs.queue.join_all.Given as goal
 
 abbrev pub invariant-fragments : goal.invariant-fragments
 invariant-fragments l = record {

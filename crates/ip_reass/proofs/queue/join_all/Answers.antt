@@ -3,7 +3,7 @@ use Rattle.mbuf_chain.specs.Chain.{ChainView}
 use Rattle.mbuf_chain.proofs.Laws.Owners.{moves_trans}
 use Rattle.ip_reass.specs.Fragments.{joined, queued}
 use Rattle.ip_reass.proofs.Joined.{in_hand, joins, entries_more}
-use Rattle.ip_reass.proofs.queue.join.Goals as goal
+use Rattle.ip_reass.proofs.queue.join_all.Goals as goal
 
 pub fragments-preserved : goal.fragments-preserved
 fragments-preserved c =

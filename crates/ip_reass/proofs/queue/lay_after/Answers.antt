@@ -1,0 +1,80 @@
+use Rattle.std.proofs.Common.{◌≡◌, ◌+◌, ◌-◌, ◌++◌, ◌∷◌, ℕ, List, length, map, take, drop, subst, ap, ◌∙◌, sym, arith}
+use Rattle.mbuf_chain.specs.Chain.{ChainView, chain_of, flat_bytes}
+use Rattle.mbuf_chain.specs.Train.{QueuedPacket}
+use Rattle.chain_ops.specs.Trims.{without_first}
+use Rattle.ip_reass.specs.Fragments.{AllEnd, bytes_held, cut, cut_to, fragment_in, fragments, queued, queued_end, queued_of}
+use Rattle.ip_reass.specs.Inside.Walks.{arrived, after}
+use Rattle.ip_reass.proofs.Fronts.{front_beside, front_within}
+use Rattle.ip_reass.proofs.Steps.{Changed, changed}
+use Rattle.ip_reass.proofs.Counted.{held_between}
+use Rattle.ip_reass.proofs.Lays.{Waits, waits, Settled, settled}
+use Rattle.ip_reass.proofs.queue.lay_after.Goals as goal
+
+-- the chain trimmed: what clear needs
+change : (c : goal.After-clear-arg-2-1) → Changed c.args.pool.now c.args.train.now c.args.chain (record (chain_of c.args.pool.now c.args.chain) { entries = without_first c.saturating_sub-skip.result (chain_of c.args.pool.now c.args.chain).entries }) c.trim_front.new.pool
+change c = changed c.args.pool.now c.trim_front.new.pool c.args.train.now c.args.chain _ c.requires.live c.requires.apart c.requires.held c.trim_front.ensures
+
+pub clear-gone-requires-clause-held : goal.clear-gone-requires-clause-held
+clear-gone-requires-clause-held c = (change c).held
+
+pub clear-gone-requires-clause-small : goal.clear-gone-requires-clause-small
+clear-gone-requires-clause-small c = subst (AllEnd 65515) (sym (ap (map fragment_in) (change c).queued_packets_are)) c.requires.small
+
+wait : (c : goal.After-insert_after-arg-2-1) → Waits c.args.chain (record (chain_of c.args.pool.now c.args.chain) { entries = without_first c.saturating_sub-skip.result (chain_of c.args.pool.now c.args.chain).entries }) c.clear-gone.new.pool c.clear-gone.new.train
+wait c =
+    let v : ChainView = record (chain_of c.args.pool.now c.args.chain) { entries = without_first c.saturating_sub-skip.result (chain_of c.args.pool.now c.args.chain).entries } in
+    let change = changed c.args.pool.now c.trim_front.new.pool c.args.train.now c.args.chain v c.requires.live c.requires.apart c.requires.held c.trim_front.ensures in
+    waits c.trim_front.new.pool c.clear-gone.new.pool c.args.train.now c.clear-gone.new.train c.args.chain v change.live change.shown change.apart c.clear-gone.ensures.moves
+
+pub insert_after-requires-clause-front : goal.insert_after-requires-clause-front
+insert_after-requires-clause-front c = c.clear-gone.ensures.front
+
+pub clear-gone-requires-clause-front : goal.clear-gone-requires-clause-front
+clear-gone-requires-clause-front c = front_beside c.args.pool.now c.trim_front.new.pool c.args.train.now c.args.before.front ((change c).queued_packets_are) c.requires.front
+
+pub insert_after-requires-clause-live : goal.insert_after-requires-clause-live
+insert_after-requires-clause-live c = (wait c).live
+
+pub insert_after-requires-clause-headed : goal.insert_after-requires-clause-headed
+insert_after-requires-clause-headed c = ap (λ (v : ChainView). v.front.header) ((wait c).shown) ∙ c.requires.headed
+
+pub insert_after-requires-clause-apart : goal.insert_after-requires-clause-apart
+insert_after-requires-clause-apart c = (wait c).apart
+
+all : (c : goal.After-insert_after) → Settled c.args.pool.now c.args.train.now (after c.args.before.front) c.saturating_sub-skip.result c.args.chain (arrived c.args.pool.now c.args.chain c.args.span.offset c.args.span.more) c.insert_after.new.pool c.insert_after.new.train
+all c =
+    settled c.args.pool.now c.trim_front.new.pool c.clear-gone.new.pool c.insert_after.new.pool c.args.train.now c.clear-gone.new.train c.insert_after.new.train c.args.chain (after c.args.before.front) c.saturating_sub-skip.result c.args.span.offset (c.args.span.offset + c.len.result) c.new-tag.result.bits c.args.span.more
+    (front_within c.args.pool.now c.args.train.now c.args.before.front c.requires.front) c.requires.held
+    (changed c.args.pool.now c.trim_front.new.pool c.args.train.now c.args.chain _ c.requires.live c.requires.apart c.requires.held c.trim_front.ensures)
+    c.clear-gone.ensures.queue c.clear-gone.ensures.moves (ap (λ (n : ℕ). c.args.span.offset + n) c.len.ensures) c.new-tag.ensures.half c.new-tag.ensures.odd c.insert_after.ensures.queued_packets c.insert_after.ensures.moves
+
+pub returns-clause-queue : goal.returns-clause-queue
+returns-clause-queue c = (all c).queue_is ∙ ap (λ (n : ℕ). take (after c.args.before.front) (queued c.args.pool.now c.args.train.now) ++ cut n (arrived c.args.pool.now c.args.chain c.args.span.offset c.args.span.more) ∷ cut_to (queued_end (arrived c.args.pool.now c.args.chain c.args.span.offset c.args.span.more)) (drop (after c.args.before.front) (queued c.args.pool.now c.args.train.now))) c.saturating_sub-skip.ensures
+
+pub returns-clause-moves : goal.returns-clause-moves
+returns-clause-moves c = (all c).moves
+
+counted : (c : goal.After-insert_after) → bytes_held (fragments c.insert_after.new.pool c.insert_after.new.train) ≡ bytes_held (fragments c.clear-gone.new.pool c.clear-gone.new.train) + (length (flat_bytes (chain_of c.args.pool.now c.args.chain).entries) - c.saturating_sub-skip.result)
+counted c =
+    let is : queued c.trim_front.new.pool c.args.train.now ≡ queued c.args.pool.now c.args.train.now = ap (map queued_of) (changed c.args.pool.now c.trim_front.new.pool c.args.train.now c.args.chain _ c.requires.live c.requires.apart c.requires.held c.trim_front.ensures).queued_packets_are in
+    held_between c.clear-gone.new.pool c.insert_after.new.pool c.clear-gone.new.train c.insert_after.new.train c.saturating_sub-skip.result (take (after c.args.before.front) (queued c.args.pool.now c.args.train.now)) (cut_to (c.args.span.offset + c.len.result) (drop (after c.args.before.front) (queued c.args.pool.now c.args.train.now)))
+    (arrived c.args.pool.now c.args.chain c.args.span.offset c.args.span.more) (c.clear-gone.ensures.queue ∙ λ j. take (after c.args.before.front) (is j) ++ cut_to (c.args.span.offset + c.len.result) (drop (after c.args.before.front) (is j)))
+    ((all c).queue_is ∙ ap (λ (n : ℕ). take (after c.args.before.front) (queued c.args.pool.now c.args.train.now) ++ cut c.saturating_sub-skip.result (arrived c.args.pool.now c.args.chain c.args.span.offset c.args.span.more) ∷ cut_to (c.args.span.offset + n) (drop (after c.args.before.front) (queued c.args.pool.now c.args.train.now))) (sym c.len.ensures))
+
+-- the fragments held weren't touched when the chain was trimmed
+kept : (c : goal.After-clear-arg-2-1) → bytes_held (fragments c.trim_front.new.pool c.args.train.now) ≡ bytes_held (fragments c.args.pool.now c.args.train.now)
+kept c = ap (λ (cs : List QueuedPacket). bytes_held (map fragment_in cs)) (change c).queued_packets_are
+
+pub clear-gone-requires-clause-few : goal.clear-gone-requires-clause-few
+clear-gone-requires-clause-few c = omega (arith, kept c, c.requires.few)
+
+pub returns-clause-gone : goal.returns-clause-gone
+returns-clause-gone c =
+    omega (
+      arith,
+      counted c,
+      c.clear-gone.ensures.gone,
+      ap (λ (cs : List QueuedPacket). bytes_held (map fragment_in cs)) (changed c.args.pool.now c.trim_front.new.pool c.args.train.now c.args.chain _ c.requires.live c.requires.apart c.requires.held c.trim_front.ensures).queued_packets_are,
+      c.len.ensures,
+      c.saturating_sub-skip.ensures,
+    )

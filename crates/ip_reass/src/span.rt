@@ -1,0 +1,57 @@
+//! Where a fragment lies in its datagram, and the number in which a train keeps that.
+
+ghost use Rattle.std.specs.Prelude.{◌≡◌, ◌+◌, ◌*◌, ◌/◌, ◌%◌, ◌==◌, ◌≤◌};
+
+use params::IP_MAX_PACKET;
+
+/// Where a fragment begins, and whether more come after it.
+#[derive(Clone, Copy)]
+pub(crate) struct Span {
+    /// The offset of its first byte.
+    pub(crate) offset: u32,
+    /// Whether it isn't the last of its datagram.
+    pub(crate) more: bool,
+}
+
+/// The tag that a train keeps with a fragment: its offset times 2, plus 1 if more come after it.
+#[derive(Clone, Copy)]
+pub(crate) struct Tag {
+    pub(crate) bits: u32,
+}
+
+impl Tag {
+    /// The tag of a fragment.
+    pub(crate) fn new(span: Span) -> Tag
+        requires { span.offset ≤ IP_MAX_PACKET }
+        ensures half { result.bits / 2 ≡ span.offset }
+        ensures odd { (result.bits % 2 == 1) ≡ span.more }
+    {
+        Tag {
+            bits: 2 * span.offset + u32::from(span.more),
+        }
+    }
+
+    /// Where the fragment begins.
+    pub(crate) fn offset(self) -> u32
+        ensures { result ≡ self.bits / 2 }
+    {
+        self.bits / 2
+    }
+
+    /// Whether more come after it.
+    pub(crate) fn more(self) -> bool
+        ensures { result ≡ (self.bits % 2 == 1) }
+    {
+        self.bits % 2 == 1
+    }
+
+    /// The tag of the fragment without its first `n` bytes.
+    pub(crate) fn moved(self, n: u32) -> Tag
+        requires { self.bits / 2 + n ≤ IP_MAX_PACKET }
+        ensures { result.bits ≡ self.bits + 2 * n }
+    {
+        Tag {
+            bits: self.bits + 2 * n,
+        }
+    }
+}
