@@ -14,7 +14,10 @@ queue_held qs = bytes_held (map fragment_of qs)
 pub held_is : (p : PoolView) (t : TrainView) → bytes_held (fragments p t) ≡ queue_held (queued p t)
 held_is p t = ap bytes_held (fragments_are p t)
 
--- the same queue holds the same
+-- the same queue has the same fragments, and holds the same
+pub fragments_as : (p q : PoolView) (t u : TrainView) → queued q u ≡ queued p t → fragments q u ≡ fragments p t
+fragments_as p q t u e = fragments_are q u ∙ (ap (map fragment_of) e ∙ sym (fragments_are p t))
+
 pub held_as : (p q : PoolView) (t u : TrainView) → queued q u ≡ queued p t → bytes_held (fragments q u) ≡ bytes_held (fragments p t)
 held_as p q t u e = held_is q u ∙ (ap queue_held e ∙ sym (held_is p t))
 

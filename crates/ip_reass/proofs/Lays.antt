@@ -10,8 +10,10 @@ use Rattle.mbuf_chain.specs.Train.{TrainView, numbers, queued_packets, IsHeld}
 use Rattle.mbuf_chain.proofs.Laws.Owners.{moves_trans, moves_beside, moves_without, live_same, live_one, live_from}
 use Rattle.mbuf_chain.proofs.Laws.Trains.{Beside, beside_without}
 use Rattle.chain_ops.specs.Trims.{without_first}
-use Rattle.ip_reass.specs.Fragments.{QueuedFragment, queued_of, queued, queued_end, cut, cut_to, laid, laid_after, fragment_of, fragment_in, fragments, map_of, Apart, AllEnd, IsQueue}
-use Rattle.ip_reass.specs.Inside.Walks.{arrived, reach, AllUpto, AllAbove, trimmed, left_from}
+use Rattle.ip_reass.specs.Fragments.{QueuedFragment, queued_of, queued, queued_end, cut, cut_to, laid, laid_after, fragment_of, fragment_in, fragments, map_of, Apart, AllEnd, IsQueue, end_of}
+use Rattle.ip_reass.specs.Inside.Walks.{arrived, reach, AllUpto, AllAbove, trimmed, left_from, fragment_at}
+use Rattle.ip_reass.proofs.Walks.{length-fragments, reach_last}
+use Rattle.ip_reass.proofs.Whole.{last_here, reach_laid}
 use Rattle.ip_reass.specs.Inside.Known.{apart_left, apart_right, end_trimmed, AllEnd-append, AllEnd-take, AllEnd-drop, AllEnd-left_from}
 use Rattle.ip_reass.proofs.Laid.{Around, laid_is, laid_apart, covered_yes, covered_no}
 use Rattle.chain_ops.proofs.Laws.Strings.{without_first_bytes}
@@ -172,6 +174,37 @@ appended p s t w c i offset tag more is_i held half odd put goes =
           ∙ ap (λ (rest : List QueuedFragment). take t.len (queued p t) ++ cut 0 (arrived p c offset more) ∷ rest) (none ∙ sym (ap (cut_to (queued_end (arrived p c offset more))) none)))));
       moves = goes;
     }
+
+-- then it's the last
+pub record IsLast (s : PoolView) (w : TrainView) (i : ℕ) (f : Fragment) : Type 0 where
+  pub len : i + 1 ≡ length (fragments s w)
+  pub more : (fragment_at (fragments s w) i).more ≡ f.more
+  pub end : reach 0 (fragments s w) ≡ end_of f
+
+pub is_last : (p s : PoolView) (t w : TrainView) (i c : ℕ) (q : QueuedFragment) → IsHeld p t → i ≡ t.len → Settled p t i 0 c q s w → IsLast s w i (fragment_of q)
+is_last p s t w i c q held is_i done =
+    let l : length (fragments p t) ≡ i = length-fragments p t held ∙ sym is_i in
+    let none : drop i (fragments p t) ≡ [] = drop_all i (fragments p t) (omega (arith, l)) in
+    let long : length (take i (fragments p t)) ≡ i = length-take-le i (fragments p t) (omega (arith, l)) in
+    let made : fragments s w ≡ take i (fragments p t) ++ trimmed 0 (fragment_of q) ∷ [] =
+    made_is p s t w i 0 c q done ∙ ap (λ (ys : List Fragment). take i (fragments p t) ++ trimmed 0 (fragment_of q) ∷ left_from (queued_end q) ys) none in
+    let at : fragment_at (fragments s w) i ≡ trimmed 0 (fragment_of q) = ap (λ (fs : List Fragment). fragment_at fs i) made ∙ last_here (take i (fragments p t)) (trimmed 0 (fragment_of q)) i (sym long) in
+    let len : i + 1 ≡ length (fragments s w) = omega (arith, long, ap (λ (fs : List Fragment). length fs) made, length-append (take i (fragments p t)) (trimmed 0 (fragment_of q) ∷ [])) in
+    record {
+      len = len;
+      more = ap (λ (f : Fragment). f.more) at;
+      end = reach_last 0 i (fragments s w) len ∙ (ap end_of at ∙ end_trimmed 0 (fragment_of q) (omega arith));
+    }
+
+-- the fragments reach as far as before
+pub reaches : (p s : PoolView) (t w : TrainView) (i n c : ℕ) (q : QueuedFragment) → n ≡ reach 0 (take i (fragments p t)) - q.offset → n < length (flat_bytes q.entries) → Settled p t i n c q s w → reach 0 (fragments p t) ≤ reach 0 (fragments s w)
+reaches p s t w i n c q is some done =
+    omega (
+      arith,
+      ap (reach 0) (take-append-drop i (fragments p t)),
+      ap (reach 0) (made_is p s t w i n c q done),
+      reach_laid n (fragment_of q) (take i (fragments p t)) (drop i (fragments p t)) is some,
+    )
 
 -- ---- nothing left of it
 pub record Covered (p : PoolView) (t : TrainView) (c : ℕ) (f : Fragment) (r : PoolView) : Type 0 where

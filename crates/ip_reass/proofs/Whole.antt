@@ -1,5 +1,5 @@
 -- When fragments make a whole datagram, and its bytes.
-use Rattle.std.proofs.Common.{◌≡◌, ℕ, zero, suc, ◌+◌, ◌-◌, ◌<◌, ◌≤◌, Bool, true, false, List, [], ◌∷◌, length, get_or, Option, None, Some, refl, sym, ap, ◌∙◌, subst, inl, inr, arith, length-append}
+use Rattle.std.proofs.Common.{◌≡◌, ℕ, zero, suc, ◌+◌, ◌-◌, ◌<◌, ◌≤◌, Bool, true, false, List, [], ◌∷◌, length, get_or, Option, None, Some, refl, sym, ap, ◌∙◌, subst, inl, inr, arith, length-append, ◌++◌}
 use Rattle.std.specs.Prelude.{IsSome, IfSome}
 use Rattle.std.proofs.lemmas.Bool.{cases_lt, false≢true}
 use Rattle.std.proofs.lemmas.List.{get_or-append_right, get_or_append_left}
@@ -8,8 +8,8 @@ use Rattle.flat_model.specs.Fragments.Whole.{IsWhole, bytes_below}
 use Rattle.flat_model.proofs.Laws.{whole_bytes}
 use Rattle.flat_model.specs.Fragments.Overlay.{Fragment}
 use Rattle.ip_reass.specs.Fragments.{end_of, own, map_of, bytes_held, AllEnd, Apart}
-use Rattle.ip_reass.specs.Inside.Walks.{reach, bytes_of, fragment_at}
-use Rattle.ip_reass.specs.Inside.Known.{known_here, known_below, known_past, below, within, past, place, nothing_below, nothing_past, reach_grows}
+use Rattle.ip_reass.specs.Inside.Walks.{reach, bytes_of, fragment_at, trimmed, left_from}
+use Rattle.ip_reass.specs.Inside.Known.{known_here, known_below, known_past, below, within, past, place, nothing_below, nothing_past, reach_grows, left, left_whole, left_none, left_cut, end_trimmed}
 
 -- each begins where the one before ends, the first at low
 abbrev pub InRow : ℕ → List Fragment → Type 0
@@ -174,3 +174,29 @@ held_within ps a small = omega (arith, held_most 0 ps a, ends_within ps small)
 -- what is whole ends within the limit
 pub whole_most : (ps : List Fragment) (n : ℕ) → Apart 0 ps → AllEnd 65515 ps → IsWhole (map_of ps) n → n ≤ 65515
 whole_most ps n a small w = omega (arith, (whole_only n ps a w).1, ends_within ps small)
+
+-- ---- what is laid
+reach_join : (low : ℕ) (xs ys : List Fragment) → reach low (xs ++ ys) ≡ reach (reach low xs) ys
+reach_join low [] ys = refl
+reach_join low (p ∷ xs) ys = reach_join (end_of p) xs ys
+
+-- what is left of fragments reaches as far, or what they're left to does
+reach_left : (low e x : ℕ) (ps : List Fragment) → low ≤ x → e ≤ x → reach low ps ≤ reach x (left_from e ps)
+reach_left low e x [] l m = l
+reach_left low e x (p ∷ ps) l m = elim (left e p ps) [
+  | left_whole h is ↦ omega (arith, ap (reach x) is)
+  | left_none h is ↦ omega (arith, ap (reach x) is, reach_left (end_of p) e x ps (omega arith) m)
+  | left_cut h n is ↦ omega (arith, ap (reach x) is, ap (λ (k : ℕ). reach k ps) (end_trimmed (e - p.offset) p (omega arith)))
+]
+
+pub reach_laid : (n : ℕ) (f : Fragment) (xs ys : List Fragment) → n ≡ reach 0 xs - f.offset → n < length f.bytes → reach 0 (xs ++ ys) ≤ reach 0 (xs ++ trimmed n f ∷ left_from (end_of f) ys)
+reach_laid n f xs ys is some =
+    let end : end_of (trimmed n f) ≡ end_of f = end_trimmed n f (omega arith) in
+    omega (arith, reach_join 0 xs ys, reach_join 0 xs (trimmed n f ∷ left_from (end_of f) ys), reach_left (reach 0 xs) (end_of f) (end_of (trimmed n f)) ys (omega arith) (omega arith))
+
+-- the last of them
+pub last_here : (xs : List Fragment) (f : Fragment) (i : ℕ) → i ≡ length xs → fragment_at (xs ++ f ∷ []) i ≡ f
+last_here [] f zero e = refl
+last_here [] f (suc i) e = absurd (omega arith)
+last_here (x ∷ xs) f zero e = absurd (omega arith)
+last_here (x ∷ xs) f (suc i) e = last_here xs f i (omega arith)

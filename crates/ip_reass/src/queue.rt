@@ -223,8 +223,9 @@ fn whole(pool: &Pool, datagram: &Datagram) -> Laying
     Laying::Whole(datagram.bytes)
 }
 
-/// Puts a fragment after all others, which end no later than it begins.
-fn append(pool: &mut Pool, datagram: &mut Datagram, chain: Chain, span: Span)
+/// Puts a fragment after all others, which end no later than it begins. Then it's the last, so that nothing has to be
+/// read to tell whether the datagram is whole.
+fn append(pool: &mut Pool, datagram: &mut Datagram, chain: Chain, span: Span) -> Laying
     requires queue { IsQueue pool.old datagram.old.fragments }
     requires counted { datagram.old.bytes ≡ bytes_held (fragments pool.old datagram.old.fragments) }
     requires live { IsLive pool.old chain }
@@ -233,12 +234,23 @@ fn append(pool: &mut Pool, datagram: &mut Datagram, chain: Chain, span: Span)
     requires some { 0 < length (string (chain_of pool.old chain)) }
     requires small { span.offset + length (string (chain_of pool.old chain)) ≤ IP_MAX_DATA }
     requires past { reach 0 (fragments pool.old datagram.old.fragments) ≤ span.offset }
-    ensures { IsLaid pool.old datagram.old chain (arrived pool.old chain span.offset span.more) true pool.new datagram.new }
+    ensures left { is_left result ≡ true }
+    ensures laid { IsLaid pool.old datagram.old chain (arrived pool.old chain span.offset span.more) true
+        pool.new datagram.new }
+    ensures whole { TellsWhole (map_of (fragments pool.new datagram.new.fragments)) result }
 {
-    datagram.bytes += pool.len(&chain);
-    let end = datagram.fragments.len();
+    let len = pool.len(&chain);
+    let place = datagram.fragments.len();
     let tag = Tag::new(span);
-    datagram.fragments.insert(pool, end, chain, tag.bits);
+    datagram.bytes += len;
+    datagram.fragments.insert(pool, place, chain, tag.bits);
+    if span.more {
+        return Laying::Waits;
+    }
+    if datagram.bytes < span.offset + len {
+        return Laying::Waits;
+    }
+    Laying::Whole(datagram.bytes)
 }
 
 /// Lays a fragment at its place, to which the fragments are walked: what precedes it keeps its bytes, what follows loses
@@ -252,7 +264,10 @@ fn lay_between(pool: &mut Pool, datagram: &mut Datagram, chain: Chain, span: Spa
     requires apart { times chain (numbers pool.old datagram.old.fragments) ≡ 0 }
     requires some { 0 < length (string (chain_of pool.old chain)) }
     requires small { span.offset + length (string (chain_of pool.old chain)) ≤ IP_MAX_DATA }
-    ensures { IsLaid pool.old datagram.old chain (arrived pool.old chain span.offset span.more) result pool.new datagram.new }
+    ensures laid { IsLaid pool.old datagram.old chain (arrived pool.old chain span.offset span.more) result
+        pool.new datagram.new }
+    ensures reach { reach 0 (fragments pool.old datagram.old.fragments)
+        ≤ reach 0 (fragments pool.new datagram.new.fragments) }
 {
     let len = pool.len(&chain);
     let train = &mut datagram.fragments;
@@ -268,7 +283,8 @@ fn lay_between(pool: &mut Pool, datagram: &mut Datagram, chain: Chain, span: Spa
 }
 
 /// Lays a fragment among those held. Nearly every fragment comes in order: it goes after the last, whose end is looked at
-/// first, and so it passes none of the others.
+/// first, and so it passes none of the others. If it goes elsewhere and bytes are missing below that end, no look at
+/// what is the last then is needed. For the seven fragments of 9,216 bytes these two save SAVED instructions of TOTAL.
 pub(crate) fn lay(pool: &mut Pool, datagram: &mut Datagram, chain: Chain, span: Span) -> Laying
     requires queue { IsQueue pool.old datagram.old.fragments }
     requires counted { datagram.old.bytes ≡ bytes_held (fragments pool.old datagram.old.fragments) }
@@ -281,12 +297,15 @@ pub(crate) fn lay(pool: &mut Pool, datagram: &mut Datagram, chain: Chain, span: 
         pool.new datagram.new }
     ensures whole { TellsWhole (map_of (fragments pool.new datagram.new.fragments)) result }
 {
-    if end_of_last(pool, &datagram.fragments) <= span.offset {
-        append(pool, datagram, chain, span);
-        return whole(pool, datagram);
+    let end = end_of_last(pool, &datagram.fragments);
+    if end <= span.offset {
+        return append(pool, datagram, chain, span);
     }
     if !lay_between(pool, datagram, chain, span) {
         return Laying::Covered;
+    }
+    if datagram.bytes < end {
+        return Laying::Waits;
     }
     whole(pool, datagram)
 }

@@ -1,20 +1,23 @@
-use Rattle.std.proofs.Common.{◌≡◌, ℕ, List, length, refl, sym, ap, ◌∙◌, subst, arith}
+use Rattle.std.proofs.Common.{◌≡◌, ℕ, List, length, refl, sym, ap, ◌∙◌, subst, arith, ◌+◌, true}
 use Rattle.std.proofs.lemmas.List.{drop_all, take_all}
 use Rattle.flat_model.specs.Fragments.Overlay.{Fragment}
-use Rattle.ip_reass.specs.Fragments.{fragments}
+use Rattle.flat_model.specs.Fragments.Whole.{IsWhole}
+use Rattle.ip_reass.specs.Inside.Steps.{IsLaid}
+use Rattle.ip_reass.specs.Fragments.{bytes_held, fragment_of, fragments, map_of}
 use Rattle.ip_reass.specs.Inside.Walks.{AllAbove, AllUpto, arrived, reach}
 use Rattle.ip_reass.proofs.Counted.{held_after}
-use Rattle.ip_reass.proofs.Lays.{Laid, Settled, appended, laid_in}
+use Rattle.ip_reass.proofs.Lays.{Laid, Settled, IsLast, appended, is_last, laid_in}
 use Rattle.ip_reass.proofs.Walks.{length-fragments, upto_reach}
-use Rattle.ip_reass.proofs.Whole.{held_within}
+use Rattle.ip_reass.proofs.Whole.{held_within, open_stops, gap_stops, whole_held}
+use Rattle.ip_reass.proofs.queue.append.Goals.{After-insert}
 use Rattle.ip_reass.proofs.queue.append.Goals as goal
 
-all : (c : goal.After-insert) → Settled c.args.pool.now c.args.datagram.now.fragments c.args.datagram.now.fragments.len 0 c.args.chain (arrived c.args.pool.now c.args.chain c.args.span.offset c.args.span.more) c.insert.new.pool c.insert.new.self
+all : (c : After-insert) → Settled c.args.pool.now c.args.datagram.now.fragments c.args.datagram.now.fragments.len 0 c.args.chain (arrived c.args.pool.now c.args.chain c.args.span.offset c.args.span.more) c.insert.new.pool c.insert.new.self
 all c =
-    appended c.args.pool.now c.insert.new.pool c.args.datagram.now.fragments c.insert.new.self c.args.chain c.len-end.result c.args.span.offset c.new-tag.result.bits c.args.span.more c.len-end.ensures
+    appended c.args.pool.now c.insert.new.pool c.args.datagram.now.fragments c.insert.new.self c.args.chain c.len-place.result c.args.span.offset c.new-tag.result.bits c.args.span.more c.len-place.ensures
     c.requires.queue.held c.new-tag.ensures.half c.new-tag.ensures.odd c.insert.ensures.queued_packets c.insert.ensures.moves
 
-laid : (c : goal.After-insert) → Laid c.args.pool.now c.args.datagram.now.fragments (arrived c.args.pool.now c.args.chain c.args.span.offset c.args.span.more) c.insert.new.pool c.insert.new.self
+laid : (c : After-insert) → Laid c.args.pool.now c.args.datagram.now.fragments (arrived c.args.pool.now c.args.chain c.args.span.offset c.args.span.more) c.insert.new.pool c.insert.new.self
 laid c =
     let l = length-fragments c.args.pool.now c.args.datagram.now.fragments c.requires.queue.held in
     let fs : List Fragment = fragments c.args.pool.now c.args.datagram.now.fragments in
@@ -25,17 +28,54 @@ laid c =
     (subst (AllAbove c.args.span.offset) (sym none) tt)
     (omega (arith, c.requires.past, ap (reach 0) whole)) c.requires.some c.requires.small (all c)
 
-pub returns : goal.returns
-returns c = record {
+whole_of : (c : After-insert) → IsLast c.insert.new.pool c.insert.new.self c.len-place.result (fragment_of (arrived c.args.pool.now c.args.chain c.args.span.offset c.args.span.more))
+whole_of c =
+    is_last c.args.pool.now c.insert.new.pool c.args.datagram.now.fragments c.insert.new.self c.len-place.result c.args.chain (arrived c.args.pool.now c.args.chain c.args.span.offset c.args.span.more) c.requires.queue.held c.len-place.ensures
+    (subst (λ (n : ℕ). Settled c.args.pool.now c.args.datagram.now.fragments n 0 c.args.chain (arrived c.args.pool.now c.args.chain c.args.span.offset c.args.span.more) c.insert.new.pool c.insert.new.self) (sym c.len-place.ensures) (all c))
+
+counted : (c : After-insert) → c.args.datagram.now.bytes + c.len-len.result ≡ bytes_held (fragments c.insert.new.pool c.insert.new.self)
+counted c =
+    omega (
+      arith,
+      c.requires.counted,
+      c.len-len.ensures,
+      held_after c.args.pool.now c.insert.new.pool c.args.datagram.now.fragments c.insert.new.self c.args.datagram.now.fragments.len (arrived c.args.pool.now c.args.chain c.args.span.offset c.args.span.more) c.requires.queue.held (all c).queue_is refl,
+    )
+
+is_laid : (c : After-insert) → IsLaid c.args.pool.now c.args.datagram.now c.args.chain (arrived c.args.pool.now c.args.chain c.args.span.offset c.args.span.more) true c.insert.new.pool (record (c.args.datagram.now) { fragments = c.insert.new.self; bytes = c.args.datagram.now.bytes + c.len-len.result })
+is_laid c = record {
   same = refl;
   covered = (laid c).covered;
   map = (laid c).map_is;
   laid = (laid c).queue_is;
   none = tt;
   queue = record { held = c.insert.ensures.held; apart = (laid c).apart; small = (laid c).small };
-  counted = omega (arith, c.requires.counted, held_after c.args.pool.now c.insert.new.pool c.args.datagram.now.fragments c.insert.new.self c.args.datagram.now.fragments.len (arrived c.args.pool.now c.args.chain c.args.span.offset c.args.span.more) c.requires.queue.held (all c).queue_is refl);
+  counted = counted c;
   moves = c.insert.ensures.moves;
 }
 
+pub returns-then-span-clause-laid : goal.returns-then-span-clause-laid
+returns-then-span-clause-laid c = is_laid c.before
+
+pub returns-then-span-clause-whole : goal.returns-then-span-clause-whole
+returns-then-span-clause-whole c =
+    open_stops (fragments c.insert.new.pool c.insert.new.self) c.len-place.result (laid c.before).apart (whole_of c.before).len ((whole_of c.before).more ∙ c.if-span.true)
+
+pub returns-then-datagram-span-clause-laid : goal.returns-then-datagram-span-clause-laid
+returns-then-datagram-span-clause-laid c = is_laid c.before.before.before
+
+pub returns-then-datagram-span-clause-whole : goal.returns-then-datagram-span-clause-whole
+returns-then-datagram-span-clause-whole c =
+    gap_stops (fragments c.insert.new.pool c.insert.new.self) (laid c.before.before.before).apart (omega (arith, counted c.before.before.before, (whole_of c.before.before.before).end, c.len-len.ensures, c.if-datagram-span.true))
+
+pub returns-clause-laid : goal.returns-clause-laid
+returns-clause-laid c = is_laid c.before.before.before
+
+pub returns-clause-whole : goal.returns-clause-whole
+returns-clause-whole c =
+    subst (λ (n : ℕ). IsWhole (map_of (fragments c.insert.new.pool c.insert.new.self)) n) (sym (counted c.before.before.before))
+    (whole_held (fragments c.insert.new.pool c.insert.new.self) c.len-place.result (laid c.before.before.before).apart (whole_of c.before.before.before).len ((whole_of c.before.before.before).more ∙ c.if-span.false)
+    (omega (arith, counted c.before.before.before, (whole_of c.before.before.before).end, c.len-len.ensures, c.if-datagram-span.false)))
+
 pub overflow_add-datagram : goal.overflow_add-datagram
-overflow_add-datagram c = omega (arith, c.requires.counted, held_within (fragments c.args.pool.now c.args.datagram.now.fragments) c.requires.queue.apart c.requires.queue.small, c.len.ensures, c.requires.small)
+overflow_add-datagram c = omega (arith, c.requires.counted, held_within (fragments c.args.pool.now c.args.datagram.now.fragments) c.requires.queue.apart c.requires.queue.small, c.len-len.ensures, c.requires.small)

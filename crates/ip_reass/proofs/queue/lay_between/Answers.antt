@@ -1,8 +1,8 @@
-use Rattle.std.proofs.Common.{refl, sym, ap, ◌∙◌, arith, ℕ, ◌++◌, ◌∷◌, take, drop}
+use Rattle.std.proofs.Common.{refl, sym, ap, ◌∙◌, arith, ℕ, ◌++◌, ◌∷◌, take, drop, ◌≡◌}
 use Rattle.ip_reass.specs.Fragments.{fragment_of, fragments, cut, cut_to, queued, queued_end}
-use Rattle.ip_reass.specs.Inside.Walks.{arrived, after}
-use Rattle.ip_reass.proofs.Counted.{held_as}
-use Rattle.ip_reass.proofs.Lays.{Covered, covered_in, Laid, laid_in}
+use Rattle.ip_reass.specs.Inside.Walks.{arrived, after, reach}
+use Rattle.ip_reass.proofs.Counted.{held_as, fragments_as}
+use Rattle.ip_reass.proofs.Lays.{Covered, covered_in, Laid, laid_in, Settled, reaches}
 use Rattle.ip_reass.proofs.Whole.{held_within}
 use Rattle.ip_reass.proofs.queue.lay_between.Goals as goal
 
@@ -11,8 +11,8 @@ none c =
     covered_in c.args.pool.now c.free_chain.new.self c.args.datagram.now.fragments (after c.walk_to-before.result.front) c.args.chain (fragment_of (arrived c.args.pool.now c.args.chain c.args.span.offset c.args.span.more)) c.requires.queue c.requires.live c.requires.apart
     c.walk_to-before.ensures.upto c.walk_to-before.ensures.above (omega arith) c.free_chain.ensures
 
-pub returns-then-len-lost : goal.returns-then-len-lost
-returns-then-len-lost c = record {
+pub returns-then-len-lost-clause-laid : goal.returns-then-len-lost-clause-laid
+returns-then-len-lost-clause-laid c = record {
   same = refl;
   covered = (none c).covered;
   map = tt;
@@ -26,13 +26,16 @@ returns-then-len-lost c = record {
 pub lay_after-gone-requires-clause-few : goal.lay_after-gone-requires-clause-few
 lay_after-gone-requires-clause-few c = held_within (fragments c.args.pool.now c.args.datagram.now.fragments) c.requires.queue.apart c.requires.queue.small
 
+done : (c : goal.After-lay_after-gone) → Settled c.args.pool.now c.args.datagram.now.fragments (after c.walk_to-before.result.front) c.saturating_sub-lost.result c.args.chain (arrived c.args.pool.now c.args.chain c.args.span.offset c.args.span.more) c.lay_after-gone.new.pool c.lay_after-gone.new.train
+done c = record { queue_is = c.lay_after-gone.ensures.queue ∙ ap (λ (n : ℕ). take (after c.walk_to-before.result.front) (queued c.args.pool.now c.args.datagram.now.fragments) ++ cut n (arrived c.args.pool.now c.args.chain c.args.span.offset c.args.span.more) ∷ cut_to (queued_end (arrived c.args.pool.now c.args.chain c.args.span.offset c.args.span.more)) (drop (after c.walk_to-before.result.front) (queued c.args.pool.now c.args.datagram.now.fragments))) (sym c.saturating_sub-lost.ensures); moves = c.lay_after-gone.ensures.moves }
+
 some : (c : goal.After-lay_after-gone) → Laid c.args.pool.now c.args.datagram.now.fragments (arrived c.args.pool.now c.args.chain c.args.span.offset c.args.span.more) c.lay_after-gone.new.pool c.lay_after-gone.new.train
 some c =
     laid_in c.args.pool.now c.lay_after-gone.new.pool c.args.datagram.now.fragments c.lay_after-gone.new.train (after c.walk_to-before.result.front) c.saturating_sub-lost.result c.args.chain (arrived c.args.pool.now c.args.chain c.args.span.offset c.args.span.more) c.requires.queue
-    c.walk_to-before.ensures.upto c.walk_to-before.ensures.above (omega arith) (omega arith) c.requires.small (record { queue_is = c.lay_after-gone.ensures.queue ∙ ap (λ (n : ℕ). take (after c.walk_to-before.result.front) (queued c.args.pool.now c.args.datagram.now.fragments) ++ cut n (arrived c.args.pool.now c.args.chain c.args.span.offset c.args.span.more) ∷ cut_to (queued_end (arrived c.args.pool.now c.args.chain c.args.span.offset c.args.span.more)) (drop (after c.walk_to-before.result.front) (queued c.args.pool.now c.args.datagram.now.fragments))) (sym c.saturating_sub-lost.ensures); moves = c.lay_after-gone.ensures.moves })
+    c.walk_to-before.ensures.upto c.walk_to-before.ensures.above (omega arith) (omega arith) c.requires.small (done c)
 
-pub returns : goal.returns
-returns c = record {
+pub returns-clause-laid : goal.returns-clause-laid
+returns-clause-laid c = record {
   same = refl;
   covered = (some c.before).covered;
   map = (some c.before).map_is;
@@ -45,3 +48,11 @@ returns c = record {
 
 pub overflow_add-datagram : goal.overflow_add-datagram
 overflow_add-datagram c = omega (arith, c.requires.counted, held_within (fragments c.args.pool.now c.args.datagram.now.fragments) c.requires.queue.apart c.requires.queue.small, c.len-len.ensures, c.requires.small)
+
+pub returns-then-len-lost-clause-reach : goal.returns-then-len-lost-clause-reach
+returns-then-len-lost-clause-reach c =
+    let same : fragments c.free_chain.new.self c.args.datagram.now.fragments ≡ fragments c.args.pool.now c.args.datagram.now.fragments = fragments_as c.args.pool.now c.free_chain.new.self c.args.datagram.now.fragments c.args.datagram.now.fragments (none c).queue_is in
+    omega (arith, ap (reach 0) same)
+
+pub returns-clause-reach : goal.returns-clause-reach
+returns-clause-reach c = reaches c.args.pool.now c.lay_after-gone.new.pool c.args.datagram.now.fragments c.lay_after-gone.new.train (after c.walk_to-before.result.front) c.saturating_sub-lost.result c.args.chain (arrived c.args.pool.now c.args.chain c.args.span.offset c.args.span.more) (omega (arith, c.saturating_sub-lost.ensures, c.walk_to-before.ensures.end)) (omega (arith, c.len-len.ensures)) (done c.before)

@@ -1,5 +1,4 @@
-use Rattle.std.proofs.Common.{◌≡◌, ◌+◌, ℕ, drop, refl, sym, ap, ◌∙◌, subst, arith}
-use Rattle.mbuf_chain.specs.Chain.{flat_bytes}
+use Rattle.std.proofs.Common.{◌≡◌, ◌+◌, ℕ, drop, refl, sym, ◌∙◌, subst, arith}
 use Rattle.ip_reass.specs.Fragments.{fragments, end_of}
 use Rattle.ip_reass.specs.Inside.Walks.{AllAbove, fragment_at}
 use Rattle.ip_reass.proofs.Steps.{begin_is, end_is}
@@ -33,7 +32,7 @@ fragments-preserved c =
     record {
       place = c.in-Some.ensures.1;
       found = found_more c.args.offset c.in-Some.at.index (c.in-Some.at.index + 1) c.begins-begin.result c.fragments.found.end (c.begins-begin.result + c.len_at.result) (fragments c.args.pool.now c.args.train.now)
-      (subst (λ (n : ℕ). Found c.args.offset n c.fragments.found.end (fragments c.args.pool.now c.args.train.now)) (sym c.in-Some.ensures.0) c.fragments.invariant.found) (omega arith)
-      (c.begins-begin.ensures ∙ begin_is c.args.pool.now c.args.train.now c.in-Some.at.index c.requires.held more) c.if-begin-offset.false
-      (ended c) refl;
+          (subst (λ (n : ℕ). Found c.args.offset n c.fragments.found.end (fragments c.args.pool.now c.args.train.now)) (sym c.in-Some.ensures.0) c.fragments.invariant.found) (omega arith)
+          (c.begins-begin.ensures ∙ begin_is c.args.pool.now c.args.train.now c.in-Some.at.index c.requires.held more) c.if-begin-offset.false
+          (ended c) refl;
     }
