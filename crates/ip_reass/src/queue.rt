@@ -60,6 +60,8 @@ fn tag_of(pool: &Pool, train: &Train, i: u32) -> Tag
 }
 
 /// Where the last of the fragments ends: 0 if there is none. This is no walk, since a train knows its last.
+// Inlined, since each arrival begins with it: by a call seven fragments took 95 instructions more.
+#[inline(always)]
 fn end_of_last(pool: &Pool, train: &Train) -> u32
     requires { IsQueue pool.now train.now }
     ensures { result ≡ reach 0 (fragments pool.now train.now) }
@@ -116,7 +118,8 @@ fn trim_after(pool: &mut Pool, train: &mut Train, front: Option<QueuedPlace>, n:
     requires small { AllEnd IP_MAX_DATA (fragments pool.old train.old) }
     requires within { n ≤ length (flat_bytes (queued_at (queued pool.old train.old) (after front)).entries) }
     ensures queue { queued pool.new train.new ≡
-        slice_set (queued pool.old train.old) (after front) (cut n (queued_at (queued pool.old train.old) (after front))) }
+        slice_set (queued pool.old train.old) (after front)
+        (cut n (queued_at (queued pool.old train.old) (after front))) }
     ensures front { IsFront pool.new train.new front }
     ensures held { IsHeld pool.new train.new }
     ensures len { train.new.len ≡ train.old.len }
@@ -253,9 +256,9 @@ fn append(pool: &mut Pool, datagram: &mut Datagram, chain: Chain, span: Span) ->
     Laying::Whole(datagram.bytes)
 }
 
-/// Lays a fragment at its place, to which the fragments are walked: what precedes it keeps its bytes, what follows loses
-/// its own to it. A fragment of which nothing is left is freed, and those held stay as they were. Answers whether
-/// something was left.
+/// Lays a fragment at its place, to which the fragments are walked: what precedes it keeps its bytes, what follows
+/// loses its own to it. A fragment of which nothing is left is freed, and those held stay as they were. Answers
+/// whether something was left.
 fn lay_between(pool: &mut Pool, datagram: &mut Datagram, chain: Chain, span: Span) -> bool
     requires queue { IsQueue pool.old datagram.old.fragments }
     requires counted { datagram.old.bytes ≡ bytes_held (fragments pool.old datagram.old.fragments) }
@@ -282,9 +285,10 @@ fn lay_between(pool: &mut Pool, datagram: &mut Datagram, chain: Chain, span: Spa
     true
 }
 
-/// Lays a fragment among those held. Nearly every fragment comes in order: it goes after the last, whose end is looked at
-/// first, and so it passes none of the others. If it goes elsewhere and bytes are missing below that end, no look at
-/// what is the last then is needed. For the seven fragments of 9,216 bytes these two save SAVED instructions of TOTAL.
+/// Lays a fragment among those held. Nearly every fragment comes in order: it goes after the last, whose end is looked
+/// at first, and so it passes none of the others. If it goes elsewhere and bytes are missing below that end, the last
+/// one isn't read again. Seven fragments in order take 7,603 instructions so, stored and freed, and took 8,774 with a
+/// walk to the place and on to the first gap; of a thousand each takes 574, and took 19,108.
 pub(crate) fn lay(pool: &mut Pool, datagram: &mut Datagram, chain: Chain, span: Span) -> Laying
     requires queue { IsQueue pool.old datagram.old.fragments }
     requires counted { datagram.old.bytes ≡ bytes_held (fragments pool.old datagram.old.fragments) }
