@@ -28,6 +28,9 @@
 extern "C" {
 #endif
 
+/* The version of this header. */
+#define BSDUDP_VERSION "0.2.0"
+
 /* A stack, or none. Its members are the library's. */
 struct bsdudp_core {
     uint32_t live;
@@ -212,6 +215,9 @@ const char *bsdudp_counter_name(uint32_t which);
 
 /* What an answer says, as "no buffers"; "ok" of 0 and above. */
 const char *bsdudp_strerror(int answer);
+
+/* The version of the library that the program is linked with. BSDUDP_VERSION is that of this header. */
+const char *bsdudp_version(void);
 
 #ifdef __cplusplus
 }

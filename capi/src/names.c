@@ -1,4 +1,4 @@
-/* The names of counters and of answers. */
+/* The names of counters and of answers, and the version. */
 #include "bsdudp.h"
 
 const char *bsdudp_counter_name(uint32_t which)
@@ -76,4 +76,9 @@ const char *bsdudp_strerror(int answer)
     default:
         return "unknown";
     }
+}
+
+const char *bsdudp_version(void)
+{
+    return BSDUDP_VERSION;
 }

@@ -201,6 +201,7 @@ static int limits(void)
     WANT(bsdudp_counter_name(26) == NULL, 1);
     WANT(strcmp(bsdudp_strerror(-BSDUDP_EQUEUE), "output queue full"), 0);
     WANT(strcmp(bsdudp_strerror(3), "ok"), 0);
+    WANT(strcmp(bsdudp_version(), BSDUDP_VERSION), 0);
     return 0;
 }
 

@@ -19,6 +19,8 @@ from ._stack import Stack
 from ._sweep import sweep
 from ._wire import Carried, Wire
 
+__version__ = "0.2.0"
+
 __all__ = [
     "Carried",
     "Counters",

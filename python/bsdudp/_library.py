@@ -187,6 +187,9 @@ class Library:
         self._library.bsdudp_memory.restype = _size
         self._library.bsdudp_counter_name.argtypes = [_u32]
         self._library.bsdudp_counter_name.restype = ctypes.c_char_p
+        self._library.bsdudp_version.argtypes = []
+        self._library.bsdudp_version.restype = ctypes.c_char_p
+        self.version = self._library.bsdudp_version().decode()
         self.counter_names = tuple(self._library.bsdudp_counter_name(which).decode() for which in range(COUNTERS))
 
     def call(self, name: str, handle: Handle, *arguments: Any) -> int:

@@ -20,6 +20,12 @@ def stack():
         yield it
 
 
+def test_package_and_library_are_one_version():
+    from bsdudp._library import LIBRARY
+
+    assert LIBRARY.version == bsdudp.__version__
+
+
 def test_nothing_waits(stack):
     with pytest.raises(BlockingIOError):
         stack.socket().recvfrom()

@@ -35,7 +35,7 @@ fn command<'a>(alloc: Global) -> Result<Command<'a>, AllocError> {
         .help("Scripts, each played on a new machine; '-' or none: standard input")
         .action(ArgAction::Append);
     Command::new(alloc, "bsdplay")
-        .version("0.1.0")
+        .version("0.2.0")
         .about("Plays scripts of socket calls, packets and ticks, and says what came of each line")
         .arg(quiet)?
         .arg(files)

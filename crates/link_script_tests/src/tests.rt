@@ -80,65 +80,6 @@ impl Write for Slow {
     }
 }
 
-/// Runs a script on the machine of the command line without options.
-fn replies(alloc: Global, script: &str) -> Result<Vec<u8>, Fail> {
-    let mut written = Vec::new(alloc);
-    run(alloc, DEFAULTS, &mut script.as_bytes(), &mut written)?;
-    Ok(written)
-}
-
-const BOUND: &str = "socket\nbind 3 0.0.0.0 7\n";
-
-#[test]
-fn answers_scripts(rt: HostRuntime) -> Result<(), Fail> {
-    for (script, want) in [
-        // an empty datagram, and none after it
-        (
-            "rx 4500001c00010000401166ce0a0000020a000001138800070008d84c\nrecvfrom 3 9\nrecvfrom 3 9\n",
-            "ok\nfrom 10.0.0.2 5000 -\nerror 35 EWOULDBLOCK\n",
-        ),
-        // two datagrams, the first received in part
-        (
-            "rx 4500002100010000401166c90a0000020a00000113880007000d947068656c6c6f\nrx 4500001e00010000401166cc0a0000020a00000113880007000a6fdf6869\nrecvfrom 3 2\nrecvfrom 3 2\n",
-            "ok\nok\nfrom 10.0.0.2 5000 6865\nfrom 10.0.0.2 5000 6869\n",
-        ),
-        // no checksum, a wrong one, and upper case
-        (
-            "rx 4500001e00010000401166cc0a0000020a00000113880007000a00006869\nrecvfrom 3 100\nrx 4500001E00010000401166CC0A0000020A00000113880007000A6FDE6869\nrecvfrom 3 100\n",
-            "ok\nfrom 10.0.0.2 5000 6869\nok\nerror 35 EWOULDBLOCK\n",
-        ),
-        // lines of no form, and one that asks for the least
-        (
-            "hello\n\nbind 3 10.0.0.1\nrecvfrom 3 0\nrx 4\ntick \nsetsockopt 3 reuseport 2\nsetsockopt 3 linger 1\nsendto 3 -\nclose\nstat x\nrx -\n",
-            "? line\n? line\n? line\n? line\n? line\n? line\n? line\n? line\n? line\n? line\n? line\nok\n",
-        ),
-        // refusals
-        (
-            "socket\nbind 3 10.0.0.1 8\nbind 4 0.0.0.0 7\nsend 4 00\nclose 5\ntx\nrecvfrom 66 1\n",
-            "ok 4\nerror 22 EINVAL\nerror 48 EADDRINUSE\nerror 39 EDESTADDRREQ\nerror 9 EBADF\nnone\nerror 9 EBADF\n",
-        ),
-    ] {
-        let mut all = String::from_str(rt.alloc(), BOUND)?;
-        all.push_str(script)?;
-        let written = replies(rt.alloc(), all.as_str())?;
-        let mut wanted = String::from_str(rt.alloc(), "ok 3\nok\n")?;
-        wanted.push_str(want)?;
-        assert_eq!(rt; written.as_slice(), wanted.as_bytes(), "at {script}");
-    }
-    Ok(())
-}
-
-#[test]
-fn binds_by_its_rules(rt: HostRuntime) -> Result<(), Fail> {
-    let script =
-        "recvfrom 3 1\nsocket\nbind 3 10.0.0.9 7\nbind 3 127.0.0.1 0\nrx 4500001e00010000401166cc0a0000020a00000113880007000a6fdf6869\nrecvfrom 3 1";
-    let written = replies(rt.alloc(), script)?;
-    let want =
-        b"error 9 EBADF\nok 3\nerror 49 EADDRNOTAVAIL\nok\nok\nerror 35 EWOULDBLOCK\n".as_slice();
-    assert_eq!(rt; written.as_slice(), want);
-    Ok(())
-}
-
 #[test]
 fn ends_where_a_stream_fails(rt: HostRuntime) -> Result<(), Fail> {
     let mut written = Vec::new(rt.alloc());
