@@ -1,9 +1,10 @@
 -- The first word of a text.
-use Rattle.std.proofs.Common.{◌≡◌, ℕ, ◌+◌, ◌<◌, ◌≤◌, ◌==◌, Bool, true, false, cond, not, List, [], ◌∷◌, length, take, drop, Some, None, refl, ap, arith, nat_lt}
+use Rattle.std.proofs.Common.{◌≡◌, ℕ, ◌+◌, ◌<◌, ◌≤◌, ◌==◌, Bool, true, false, cond, not, List, [], ◌∷◌, length, take, drop, get_or, Option, Some, None, zero, suc, refl, ap, arith, nat_lt}
 use Rattle.std.specs.List.{slice_split, onto_first, position, position_or_len}
 use Rattle.std.proofs.lemmas.List.Splits.{slice_split_first, length-slice_split}
 use Rattle.std.proofs.lemmas.Option.{cond_some}
 use borrow.Author.Tests.{ltb-true, ltb-false}
+use Rattle.memchr.specs.Find.{IsFirstByte, is_byte}
 use Rattle.flat_model.specs.Scripts.Grammar.{words}
 
 slice_split-none : (p : ℕ → Bool) (xs : List ℕ) → length xs ≤ position_or_len p xs → slice_split p xs ≡ xs ∷ []
@@ -38,3 +39,39 @@ words-some text e =
     let size = length-slice_split (λ b. b == 32) text in
     let none : length (words text) ≡ 0 = ap length e in
     omega (arith, size, none)
+
+not_true : (b : Bool) → (b ≡ true → ⊥) → b ≡ false
+not_true true none = absurd (none refl)
+not_true false none = refl
+
+-- the test passes first at a place
+first_at : (text : List ℕ) (at : ℕ) → at < length text
+    → ((k : ℕ) → 0 ≤ k → k < at → (get_or text k 0 == 32) ≡ true → ⊥) → (get_or text at 0 == 32) ≡ true
+    → position_or_len (λ b. b == 32) text ≡ at
+first_at [] at below none is = absurd (omega arith)
+first_at (b ∷ text) zero below none is = rw is refl
+first_at (b ∷ text) (suc at) below none is =
+    let other = not_true (b == 32) (none 0 (omega arith) (omega arith)) in
+    let later = first_at text at (omega arith) (λ k low high pass. none (suc k) (omega arith) (omega arith) pass) is in
+    rw (other, later) (omega arith)
+
+-- and at none
+first_nowhere : (text : List ℕ) → ((k : ℕ) → 0 ≤ k → k < length text → (get_or text k 0 == 32) ≡ true → ⊥)
+    → position_or_len (λ b. b == 32) text ≡ length text
+first_nowhere [] none = refl
+first_nowhere (b ∷ text) none =
+    let other = not_true (b == 32) (none 0 (omega arith) (omega arith)) in
+    let later = first_nowhere text (λ k low high pass. none (suc k) (omega arith) (omega arith) pass) in
+    rw (other, later) (omega arith)
+
+is_below : (a b : ℕ) → a < b → nat_lt a b ≡ true
+is_below a b h = grind arith
+
+isnt_below : (a : ℕ) → nat_lt a a ≡ false
+isnt_below a = grind arith
+
+-- the first byte that is a space, where a search told it
+pub first-position : (text : List ℕ) (r : Option ℕ) → IsFirstByte (is_byte 32) text r → r ≡ position (λ b. b == 32) text
+first-position text (Some at) h =
+    rw (first_at text at h.0.high h.0.before h.1, is_below at (length text) h.0.high) refl
+first-position text None h = rw (first_nowhere text h, isnt_below (length text)) refl
