@@ -9,3 +9,4 @@ mod Keeping
 mod Steps
 mod Finding
 mod Opened
+mod Moved

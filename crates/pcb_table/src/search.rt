@@ -1,4 +1,4 @@
-ghost use Rattle.std.specs.Prelude.{◌≡◌, ℕ, ◌==◌, ◌+◌, ◌<◌, ◌≤◌, length, map, find, option_copied, position, IsSome, slice_set};
+ghost use Rattle.std.specs.Prelude.{◌≡◌, ℕ, ◌==◌, ◌+◌, ◌<◌, ◌≤◌, ◌∷◌, length, map, find, option_copied, position, IsSome, remove, slice_set};
 ghost use Rattle.arrayvec.specs.ArrayVec.{array_vec_len};
 ghost use Rattle.pcb_table.specs.Inside.Search.{best_block, from_port, hearing_blocks, youngest_block};
 ghost use Rattle.pcb_table.specs.Apart.{has_fd};
@@ -49,6 +49,35 @@ pub(crate) fn set_block(blocks: &mut ArrayVec<Block, SOCKETS>, index: usize, blo
     ensures { blocks.new.items ≡ slice_set blocks.old.items index block }
 {
     blocks[index] = block;
+}
+
+/// Puts a block in front of the others.
+// Block by block: `ArrayVec::insert` turns a part of its array, which takes nine kilobytes of code.
+pub(crate) fn insert_first(blocks: &mut ArrayVec<Block, SOCKETS>, block: Block)
+    requires { array_vec_len blocks.old < SOCKETS }
+    ensures { blocks.new.items ≡ block ∷ blocks.old.items }
+{
+    let mut moved = block;
+    for index in 0..blocks.len() {
+        let next = blocks[index];
+        blocks[index] = moved;
+        moved = next;
+    }
+    blocks.push(moved);
+}
+
+/// Takes out the block at a place, and moves the later ones down.
+// Block by block, as `insert_first` does.
+pub(crate) fn remove_at(blocks: &mut ArrayVec<Block, SOCKETS>, index: usize)
+    requires { index < array_vec_len blocks.old }
+    ensures { blocks.new.items ≡ remove blocks.old.items index }
+{
+    let last = blocks.len() - 1;
+    for place in index..last {
+        let next = blocks[place + 1];
+        set_block(blocks, place, next);
+    }
+    blocks.pop();
 }
 
 /// The block of a descriptor.

@@ -14,7 +14,9 @@ use crate::block::{Block, Connection, key_of_packet};
 use crate::interface::Interface;
 use crate::ports::{lowest_free, next_free, port_for};
 use crate::refusals::{bind_fault, destination_fault, port_unless_zero, unless_zero};
-use crate::search::{best, block_of, exact, locate, located, receivers, set_block};
+use crate::search::{
+    best, block_of, exact, insert_first, locate, located, receivers, remove_at, set_block,
+};
 use arrayvec::ArrayVec;
 use flat_model::{Addr, Errno, LookupKey, Opt};
 use params::MAX_SOCKETS;
@@ -187,7 +189,7 @@ impl Pcbs {
             return Err(Errno::TooManyFiles);
         }
         let fd = lowest_free(self.blocks.as_slice());
-        self.blocks.insert(0, Block::unbound(fd));
+        insert_first(&mut self.blocks, Block::unbound(fd));
         Ok(fd)
     }
 
@@ -201,7 +203,7 @@ impl Pcbs {
             return Err(Errno::BadDescriptor);
         };
         self.cache = without(self.cache, fd);
-        self.blocks.remove(at.index);
+        remove_at(&mut self.blocks, at.index);
         Ok(())
     }
 

@@ -25,7 +25,7 @@ invariant_of-self c =
     let index = c.in-Some.at.index in
     let apart = apart_remove bs index b c.self.invariant.0 at.within in
     let cached = cached_remove bs index b c.self.inside.cache c.args.fd at.within (ap (λ (d : Block). d.fd) (at.is b) ∙ at.named) c.self.invariant.1 in
-    subst (λ (cs : List Block). AreApart cs × IsCached cs c.without-self-inside.result × IsInCircle last) (sym c.remove.ensures.items)
+    subst (λ (cs : List Block). AreApart cs × IsCached cs c.without-self-inside.result × IsInCircle last) (sym c.remove_at.ensures)
     (apart, subst (λ (k : Option Connection). IsCached (remove bs index) k) (sym c.without-self-inside.ensures) cached, c.self.invariant.2)
 
 pub returns-clause-step : goal.returns-clause-step
@@ -35,9 +35,9 @@ returns-clause-step c =
     let last = c.self.inside.last_port in
     let b = c.in-Some.at.block in
     let at : IsLocated c.args.fd bs c.in-Some.at.index b = located_in _ _ _ _ _ c.as_slice.ensures.value c.in-Some.ensures in
-    let new = c.remove.new.self.items in
+    let new = c.remove_at.new.blocks.items in
     subst (λ (t : Table). IsCall t (Close c.args.fd) Done (table_of i new last)) c.self.view_is
-    (close_step i bs last c.args.fd c.in-Some.at.index b c.self.invariant.0 at new c.remove.ensures.items)
+    (close_step i bs last c.args.fd c.in-Some.at.index b c.self.invariant.0 at new c.remove_at.ensures)
 
 pub returns-clause-closed : goal.returns-clause-closed
 returns-clause-closed c =
@@ -47,5 +47,5 @@ returns-clause-closed c =
     let index = c.in-Some.at.index in
     let b = c.in-Some.at.block in
     let at : IsLocated c.args.fd bs index b = located_in _ _ _ _ _ c.as_slice.ensures.value c.in-Some.ensures in
-    subst (λ (t : Table). ClosesOnly t c.args.fd (table_of i c.remove.new.self.items last)) c.self.view_is
-    (subst (λ (cs : List Block). ClosesOnly (table_of i bs last) c.args.fd (table_of i cs last)) (sym c.remove.ensures.items) (remove_closes i bs last c.args.fd index b c.self.invariant.0 at))
+    subst (λ (t : Table). ClosesOnly t c.args.fd (table_of i c.remove_at.new.blocks.items last)) c.self.view_is
+    (subst (λ (cs : List Block). ClosesOnly (table_of i bs last) c.args.fd (table_of i cs last)) (sym c.remove_at.ensures) (remove_closes i bs last c.args.fd index b c.self.invariant.0 at))

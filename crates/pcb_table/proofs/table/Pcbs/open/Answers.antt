@@ -18,7 +18,7 @@ invariant_of-self c =
     let bs = c.self.inside.blocks.items in
     let fd = c.lowest_free-fd.result in
     let lowest : IsLowestFree bs fd = subst (λ (cs : List Block). IsLowestFree cs fd) c.as_slice.ensures.value c.lowest_free-fd.ensures.free in
-    let written : c.insert.new.self.items ≡ unbound_block fd ∷ bs = c.insert.ensures.items ∙ ap (λ b. b ∷ bs) c.unbound.ensures in
+    let written : c.insert_first.new.blocks.items ≡ unbound_block fd ∷ bs = c.insert_first.ensures ∙ ap (λ b. b ∷ bs) c.unbound.ensures in
     subst (λ (cs : List Block). AreApart cs × IsCached cs c.self.inside.cache × IsInCircle c.self.inside.last_port) (sym written)
     (apart_open bs fd c.self.invariant.0 lowest c.lowest_free-fd.ensures.most, cached_open bs (unbound_block fd) c.self.inside.cache c.self.invariant.1, c.self.invariant.2)
 
@@ -28,9 +28,9 @@ returns-clause-step c =
     let bs = c.self.inside.blocks.items in
     let last = c.self.inside.last_port in
     let fd = c.lowest_free-fd.result in
-    let new = c.insert.new.self.items in
+    let new = c.insert_first.new.blocks.items in
     let lowest : IsLowestFree bs fd = subst (λ (cs : List Block). IsLowestFree cs fd) c.as_slice.ensures.value c.lowest_free-fd.ensures.free in
-    let written : new ≡ unbound_block fd ∷ bs = c.insert.ensures.items ∙ ap (λ b. b ∷ bs) c.unbound.ensures in
+    let written : new ≡ unbound_block fd ∷ bs = c.insert_first.ensures ∙ ap (λ b. b ∷ bs) c.unbound.ensures in
     subst (λ (t : Table). (rest : State) (queues : Queues) → queues fd ≡ [] → Opens 64 (machine rest queues t) (Opened fd) (machine rest queues (table_of i new last))) c.self.view_is
     (opens i bs new last fd (has_room _ _ c.is_full.ensures.value c.is_full.ensures.fits c.if-is_full.false) lowest written)
 
@@ -41,6 +41,6 @@ returns-clause-opened c =
     let last = c.self.inside.last_port in
     let fd = c.lowest_free-fd.result in
     let lowest : IsLowestFree bs fd = subst (λ (cs : List Block). IsLowestFree cs fd) c.as_slice.ensures.value c.lowest_free-fd.ensures.free in
-    let written : c.insert.new.self.items ≡ unbound_block fd ∷ bs = c.insert.ensures.items ∙ ap (λ b. b ∷ bs) c.unbound.ensures in
-    subst (λ (t : Table). OpensOnly t fd (table_of i c.insert.new.self.items last)) c.self.view_is
+    let written : c.insert_first.new.blocks.items ≡ unbound_block fd ∷ bs = c.insert_first.ensures ∙ ap (λ b. b ∷ bs) c.unbound.ensures in
+    subst (λ (t : Table). OpensOnly t fd (table_of i c.insert_first.new.blocks.items last)) c.self.view_is
     (subst (λ (cs : List Block). OpensOnly (table_of i bs last) fd (table_of i cs last)) (sym written) (unbound_opens i bs last fd lowest))
