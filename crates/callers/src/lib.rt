@@ -19,6 +19,7 @@ pub mod receive_queue;
 pub mod send;
 pub mod shared_cluster;
 pub mod socket_lines;
+pub mod text_lines;
 pub mod two_chains;
 pub mod udp_packet;
 pub mod user_clusters;

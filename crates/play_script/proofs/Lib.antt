@@ -1,4 +1,3 @@
-mod SpacedLemmas
 mod TextLemmas
 mod FitLemmas
 mod RunLemmas

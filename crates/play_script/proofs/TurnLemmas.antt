@@ -8,7 +8,7 @@ use Rattle.flat_model.specs.Machine.Step.{Step}
 use Rattle.flat_model.specs.Runs.Run.{Turn, Leads}
 use Rattle.flat_model.proofs.Laws.{in_range, one_more_turn}
 use Rattle.script_loop.specs.Printed.{Prints}
-use Rattle.play_script.specs.Lines.{Reading, Nothing, TooLong, Asks, IsTicks, reading}
+use Rattle.play_script.specs.Lines.{Reading, Nothing, TooLong, Faulty, Asks, IsTicks, reading}
 use Rattle.play_script.specs.Runs.{AreTurns, IsRunOf, turn_of}
 use Rattle.play_script.specs.Tells.{Play, Tells, TellsReading, Ticks, Does, next_line}
 
@@ -37,20 +37,21 @@ Leads-append old mid new (turn ∷ first) rest (range, next, step, leads) later 
     (range, next, step, Leads-append next mid new first rest leads later)
 
 -- what a line does, by its turns
-Does-turns : (old new : State) (plain : List ℕ) (wanted : Option (List ℕ)) (answer : Option Reply) → Does Step old plain answer new
-    → (turns : List Turn) × AreTurns (Asks plain wanted) turns × Leads exact_ledger old turns new
-Does-turns old new plain wanted (Some reply) (inl (event, asks, step)) =
+Does-turns : (old new : State) (shown plain : List ℕ) (wanted : Option (List ℕ)) (answer : Option Reply) → Does Step old plain answer new
+    → (turns : List Turn) × AreTurns (Asks shown plain wanted) turns × Leads exact_ledger old turns new
+Does-turns old new shown plain wanted (Some reply) (inl (event, asks, step)) =
     (turn_of event reply ∷ [], inl (event, reply, asks, refl), (in_range plain event asks.form, new, step, refl))
-Does-turns old new plain wanted (Some reply) (inr (n, is, done, ticks)) =
+Does-turns old new shown plain wanted (Some reply) (inr (n, is, done, ticks)) =
     (replicate n (turn_of Tick Done), inr (inl (n, is, refl)), Ticks-lead n old new ticks)
-Does-turns old new plain wanted None ((none, same), no_ticks) = ([], inr (inr (none, no_ticks, refl)), same)
+Does-turns old new shown plain wanted None ((none, same), no_ticks) = ([], inr (inr (none, no_ticks, refl)), same)
 
 Tells-turns : (now new : Play) (line : Reading) (text : List ℕ) → TellsReading Step now line text new
     → (turns : List Turn) × AreTurns line turns × Leads exact_ledger now.machine turns new.machine
 Tells-turns now new Nothing text (is, same) = ([], refl, ap (λ (p : Play). p.machine) same)
 Tells-turns now new TooLong text (is, same) = ([], refl, ap (λ (p : Play). p.machine) same)
-Tells-turns now new (Asks plain wanted) text (reply, machine, before, after, does, was, is, told, same) =
-    let made = Does-turns now.machine machine plain wanted reply does in (
+Tells-turns now new (Faulty slip) text (is, same) = ([], refl, ap (λ (p : Play). p.machine) same)
+Tells-turns now new (Asks shown plain wanted) text (reply, machine, before, after, does, was, is, told, same) =
+    let made = Does-turns now.machine machine shown plain wanted reply does in (
       made.0,
       made.1,
       subst (λ s. Leads exact_ledger now.machine made.0 s) (sym (ap (λ (p : Play). p.machine) same)) made.2,

@@ -1,6 +1,6 @@
 -- What only this crate reads.
 use Rattle.std.specs.Prelude.{ℕ, Bool, true, false, List, Option, Some, None}
-use Rattle.play_script.specs.Lines.{Reading, Nothing, TooLong, Asks}
+use Rattle.play_script.specs.Lines.{Reading, Nothing, TooLong, Faulty, Asks}
 use Rattle.play_script.specs.declared.line.Kind.{Kind}
 use Rattle.play_script.specs.declared.line.Kind.TheVariants as kind
 use Rattle.play_script.specs.declared.player.Desk.{Desk}
@@ -11,10 +11,11 @@ if_there true text = Some text
 if_there false text = None
 
 -- a line of some kind, with its words and those that are expected
-abbrev pub is_reading : Kind → List ℕ → List ℕ → Reading
-is_reading kind.Nothing words wanted = Nothing
-is_reading kind.TooLong words wanted = TooLong
-is_reading (kind.Asks expects) words wanted = Asks words (if_there expects wanted)
+abbrev pub is_reading : Kind → List ℕ → List ℕ → List ℕ → Reading
+is_reading kind.Nothing shown words wanted = Nothing
+is_reading kind.TooLong shown words wanted = TooLong
+is_reading (kind.Faulty slip) shown words wanted = Faulty slip
+is_reading (kind.Asks expects) shown words wanted = Asks shown words (if_there expects wanted)
 
 -- what is expected of the line on a desk
 abbrev pub expected_on : Desk → Option (List ℕ)

@@ -1,7 +1,10 @@
 -- What a line of a commented script is made of (this project's own).
-use Rattle.std.specs.Prelude.{◌≡◌, ℕ, ◌<◌, ◌+◌, ◌==◌, ◌||◌, Bool, true, false, List, [], ◌∷◌, ◌++◌, length, take, drop, get_or, position, if◌then◌else◌, codes, nat_lt, Option, Some, None}
+use Rattle.std.specs.Prelude.{◌≡◌, ℕ, ◌<◌, ◌+◌, ◌==◌, ◌||◌, Bool, true, false, List, [], ◌∷◌, ◌++◌, length, take, drop, get_or, position, if◌then◌else◌, codes, nat_lt, Option, Some, None, Result, Ok, Err}
 use Rattle.flat_model.specs.Scripts.Grammar.{words, IsNumber}
-use Rattle.play_script.specs.declared.line.TheConstants.{LONGEST}
+use Rattle.play_line.specs.Scans.{expanded}
+use Rattle.play_line.specs.Shown.{shown}
+use Rattle.play_line.specs.declared.fault.Slip.{Slip}
+use Rattle.play_line.specs.declared.scanner.TheConstants.{LONGEST}
 
 -- a space, a tab, or the carriage return in front of a line feed
 abbrev pub is_blank : ℕ → Bool
@@ -24,15 +27,6 @@ spaced_after done gap (byte ∷ bytes) =
 -- the words of a text, with one space between each two
 abbrev pub spaced : List ℕ → List ℕ
 spaced text = spaced_after [] false text
-
--- up to a place, or all of it
-abbrev pub up_to : List ℕ → Option ℕ → List ℕ
-up_to text (Some at) = take at text
-up_to text None = text
-
--- a comment begins at the first `#`
-abbrev pub without_comment : List ℕ → List ℕ
-without_comment line = up_to line (position (λ byte. byte == 35) line)
 
 -- ---- an expectation
 
@@ -58,22 +52,29 @@ expected text = back_at text (position (λ byte. byte == 61) text)
 pub data Reading : Type 0 where
   Nothing : Reading  -- a blank line, or a comment alone
   TooLong : Reading  -- more than 262,144 bytes
-  Asks : (plain : List ℕ) (wanted : Option (List ℕ)) → Reading  -- a line, and the reply that is expected
+  Faulty : (slip : Slip) → Reading  -- bytes that can't be read
+  -- the line as it's written, the plain line that it stands for, and the reply that is expected
+  Asks : (shown plain : List ℕ) (wanted : Option (List ℕ)) → Reading
 
 abbrev pub spaced_option : Option (List ℕ) → Option (List ℕ)
 spaced_option None = None
 spaced_option (Some text) = Some (spaced text)
 
 -- no words and nothing expected
-abbrev pub reading_of : List ℕ → Option (List ℕ) → Reading
-reading_of [] None = Nothing
-reading_of [] (Some wanted) = Asks [] (Some wanted)
-reading_of (byte ∷ bytes) wanted = Asks (byte ∷ bytes) wanted
+abbrev pub reading_of : List ℕ → List ℕ → Option (List ℕ) → Reading
+reading_of shown [] None = Nothing
+reading_of shown [] (Some wanted) = Asks shown [] (Some wanted)
+reading_of shown (byte ∷ bytes) wanted = Asks shown (byte ∷ bytes) wanted
+
+-- the words of a plain line, and what is expected of it
+abbrev pub reading_plain : List ℕ → Result (List ℕ) Slip → Reading
+reading_plain shown (Ok text) = reading_of shown (spaced (asked text)) (spaced_option (expected text))
+reading_plain shown (Err slip) = Faulty slip
 
 abbrev pub reading : List ℕ → Reading
 reading line =
     if nat_lt LONGEST (length line) then TooLong
-    else reading_of (spaced (asked (without_comment line))) (spaced_option (expected (without_comment line)))
+    else reading_plain (shown line) (expanded line)
 
 -- ---- `tick N`
 

@@ -5,7 +5,7 @@ use Rattle.flat_model.specs.Machine.Ledger.{exact_ledger}
 use Rattle.flat_model.specs.Runs.Run.{Turn, Leads}
 use Rattle.flat_model.specs.Scripts.Script.{all_events}
 use Rattle.flat_model.specs.Scripts.Script as script
-use Rattle.play_script.specs.Lines.{Reading, Nothing, TooLong, Asks, IsTicks, reading}
+use Rattle.play_script.specs.Lines.{Reading, Nothing, TooLong, Faulty, Asks, IsTicks, reading}
 use Rattle.play_script.specs.Tells.{Play}
 
 abbrev pub turn_of : Event → Reply → Turn
@@ -15,7 +15,8 @@ turn_of event reply = record { event = event; reply = reply }
 abbrev pub AreTurns : Reading → List Turn → Type 0
 AreTurns Nothing turns = turns ≡ []
 AreTurns TooLong turns = turns ≡ []
-AreTurns (Asks plain wanted) turns =
+AreTurns (Faulty slip) turns = turns ≡ []
+AreTurns (Asks shown plain wanted) turns =
     ((event : Event) × (reply : Reply) × script.Asks all_events plain event × (turns ≡ turn_of event reply ∷ []))
     ⊎ ((n : ℕ) × IsTicks plain n × (turns ≡ replicate n (turn_of Tick Done)))
     ⊎ (((event : Event) → ¬ script.Asks all_events plain event) × ((n : ℕ) → ¬ IsTicks plain n) × (turns ≡ []))

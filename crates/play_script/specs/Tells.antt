@@ -8,7 +8,9 @@ use Rattle.flat_model.specs.Scripts.Script.{all_events}
 use Rattle.flat_model.specs.declared.counters.Counters.{Counters}
 use Rattle.script_loop.specs.declared.fault.RunFault.{RunFault}
 use Rattle.script_loop.specs.declared.fault.RunFault.TheVariants.{Read, Write, Memory, TooManyLines, BadSizes, BadConfig}
-use Rattle.play_script.specs.Lines.{Reading, Nothing, TooLong, Asks, IsTicks, reading}
+use Rattle.play_line.specs.Scans.{words_of}
+use Rattle.play_line.specs.declared.fault.Slip.{Slip}
+use Rattle.play_script.specs.Lines.{Reading, Nothing, TooLong, Faulty, Asks, IsTicks, reading}
 use Rattle.play_script.specs.Outcomes.{outcome, meets}
 
 -- What a player has in hand: its machine; how many lines it has seen; whether all of them could be read and all expectations
@@ -33,10 +35,15 @@ place_text name number = name ++ codes ":" ++ decimal number ++ codes ": "
 abbrev pub fault_text : List ℕ → ℕ → List ℕ → List ℕ
 fault_text name number what = place_text name number ++ what ++ codes "\n"
 
+-- bytes that can't be read, with their column
+abbrev pub slip_text : List ℕ → ℕ → Slip → List ℕ
+slip_text name number slip =
+    name ++ codes ":" ++ decimal number ++ codes ":" ++ decimal slip.column ++ codes ": " ++ words_of slip.fault ++ codes "\n"
+
 -- the line with its number and what is told of it
 abbrev pub line_text : Bool → ℕ → List ℕ → List ℕ → List ℕ
-line_text true number plain told = told ++ codes "\n"
-line_text false number plain told = decimal number ++ codes "  " ++ plain ++ codes " => " ++ told ++ codes "\n"
+line_text true number shown told = told ++ codes "\n"
+line_text false number shown told = decimal number ++ codes "  " ++ shown ++ codes " => " ++ told ++ codes "\n"
 
 abbrev pub differs_text : List ℕ → ℕ → List ℕ → List ℕ → List ℕ
 differs_text name number wanted told =
@@ -48,12 +55,12 @@ difference_text name number (Some wanted) told = if meets wanted told then [] el
 
 -- what is told of a line, and the difference if something else was expected
 abbrev pub told_text : Bool → List ℕ → ℕ → List ℕ → Option (List ℕ) → List ℕ → List ℕ
-told_text quiet name number plain wanted told = line_text quiet number plain told ++ difference_text name number wanted told
+told_text quiet name number shown wanted told = line_text quiet number shown told ++ difference_text name number wanted told
 
 -- the text of a line that asks for something, or for nothing
 abbrev pub printed : Bool → List ℕ → ℕ → List ℕ → Option (List ℕ) → Option (List ℕ) → List ℕ
-printed quiet name number plain wanted None = fault_text name number (codes "this asks for nothing")
-printed quiet name number plain wanted (Some told) = told_text quiet name number plain wanted told
+printed quiet name number shown wanted None = fault_text name number (codes "this asks for nothing")
+printed quiet name number shown wanted (Some told) = told_text quiet name number shown wanted told
 
 -- the line could be read, and what was told is what was expected
 abbrev pub is_sound : Option (List ℕ) → Option (List ℕ) → Bool
@@ -90,10 +97,12 @@ module _ (step : State → Event → Reply → State → Type 0) where
   TellsReading now Nothing text new = (text ≡ []) × (new ≡ now)
   TellsReading now TooLong text new =
       (text ≡ fault_text now.name now.number (codes "the line is too long")) × (new ≡ record now { sound = false })
-  TellsReading now (Asks plain wanted) text new =
+  TellsReading now (Faulty slip) text new =
+      (text ≡ slip_text now.name now.number slip) × (new ≡ record now { sound = false })
+  TellsReading now (Asks shown plain wanted) text new =
       (reply : Option Reply) × (machine : State) × (before after : Counters)
       × Does now.machine plain reply machine × Counts now.machine before × Counts machine after
-      × (text ≡ printed now.quiet now.name now.number plain wanted (outcome reply before after))
+      × (text ≡ printed now.quiet now.name now.number shown wanted (outcome reply before after))
       × (new ≡ record now { machine = machine; sound = now.sound && is_sound wanted (outcome reply before after) })
 
   abbrev pub Tells : Play → List ℕ → List ℕ → Play → Type 0

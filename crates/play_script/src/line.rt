@@ -1,12 +1,10 @@
 //! What a line is made of: words, a comment, and what is expected.
 ghost use Rattle.std.specs.Prelude.{◌≡◌, ◌≤◌, ◌==◌, length, position, IfSome, option_map};
-ghost use Rattle.play_script.specs.Lines.{is_blank, spaced, without_comment, asked, expected, reading};
+ghost use Rattle.play_script.specs.Lines.{is_blank, spaced, asked, expected, reading};
 ghost use Rattle.play_script.specs.Inside.{is_reading};
 
+use play_line::{LONGEST, Scanner, Slip, put_shown};
 use script_loop::Buffer;
-
-/// The most bytes that a line may have.
-pub(crate) const LONGEST: usize = 262_144;
 
 /// What a line is. Its words stand in a buffer beside it, and so does what is expected.
 #[derive(Clone, Copy)]
@@ -15,6 +13,8 @@ pub(crate) enum Kind {
     Nothing,
     /// It has more bytes than a line may have.
     TooLong,
+    /// It has bytes that can't be read.
+    Faulty(Slip),
     /// A line, and whether something is expected.
     Asks(bool),
 }
@@ -53,17 +53,6 @@ fn place_of(text: &[u8], sought: u8) -> Option<usize>
     text.iter().position(|byte| *byte == sought)
 }
 
-/// A line without the comment at its end, which begins with `#`.
-fn before_comment(line: &[u8]) -> &[u8]
-    ensures is { result.now ≡ without_comment line.now }
-    ensures shorter { length result.now ≤ length line.now }
-{
-    match place_of(line, b'#') {
-        Some(at) => &line[..at],
-        None => line,
-    }
-}
-
 /// Cuts a text at `=>`, which has to be its first `=`.
 fn cut(text: &[u8]) -> (&[u8], Option<&[u8]>)
     ensures front { result.0.now ≡ asked text.now }
@@ -83,18 +72,26 @@ fn cut(text: &[u8]) -> (&[u8], Option<&[u8]>)
     }
 }
 
-/// Reads a line. Its words stand in `words` then, and those that are expected in `wanted`.
+/// Reads a line. It stands in `shown` then as it's written, the plain line that it stands for in `words`, and the words
+/// that are expected in `wanted`.
 pub(crate) fn read_line(
     line: &[u8],
+    scanner: &mut Scanner,
+    shown: &mut Buffer<LONGEST>,
     words: &mut Buffer<LONGEST>,
     wanted: &mut Buffer<LONGEST>,
 ) -> Kind
-    ensures { reading line.now ≡ is_reading result words.new wanted.new }
+    ensures { reading line.now ≡ is_reading result shown.new words.new wanted.new }
 {
     if line.len() > LONGEST {
         return Kind::TooLong;
     }
-    let (front, back) = cut(before_comment(line));
+    put_shown(line, shown);
+    let plain = match scanner.plain_line(line) {
+        Ok(plain) => plain,
+        Err(slip) => return Kind::Faulty(slip),
+    };
+    let (front, back) = cut(plain);
     put_spaced(front, words);
     match back {
         Some(text) => {

@@ -9,10 +9,11 @@ ghost use Rattle.play_script.specs.Tells.{Play, Ticks, Does, Counts, Tells, told
 ghost use Rattle.play_script.specs.Inside.{if_there, expected_on};
 
 use crate::fits::meets;
-use crate::line::{Kind, LONGEST, read_line};
+use crate::line::{Kind, read_line};
 use crate::outcome::{DROPS, TOLD, put_drops, put_told};
-use crate::print::{NAME, ROOM, put_difference, put_fault, put_line};
+use crate::print::{NAME, ROOM, put_difference, put_fault, put_line, put_slip};
 use link_script::{Caller, Machine, TEXT};
+use play_line::{LONGEST, Scanner};
 use script_loop::{Answers, Buffer, HELD, first_word, number, one};
 
 /// The most ticks that a line asks for.
@@ -110,9 +111,10 @@ fn tell_line<M: Machine>(caller: &mut Caller<M>, words: &[u8], notes: &mut Notes
     )
 }
 
-/// The words of a line, and those that are expected.
+/// A line as it's written, the plain line that it stands for, and the words that are expected.
 #[derive(Drop)]
 pub(crate) struct Desk {
+    pub(crate) shown: Buffer<LONGEST>,
     pub(crate) words: Buffer<LONGEST>,
     pub(crate) wanted: Buffer<LONGEST>,
     /// Whether something is expected.
@@ -130,6 +132,7 @@ pub(crate) struct Sheet {
 /// What plays a script.
 pub(crate) struct Player<M> {
     pub(crate) caller: Caller<M>,
+    pub(crate) scanner: Scanner,
     pub(crate) desk: Desk,
     pub(crate) notes: Notes,
     pub(crate) sheet: Sheet,
@@ -141,14 +144,14 @@ pub(crate) struct Player<M> {
 fn print_told(sheet: &Sheet, desk: &Desk, told: &Buffer<TOLD>, text: &mut Buffer<ROOM>) -> bool
     requires { length text.old ≤ HELD }
     ensures text { text.new ≡ text.old ++ told_text sheet.now.quiet sheet.now.name sheet.now.number
-        desk.now.words (expected_on desk.now) told.now }
+        desk.now.shown (expected_on desk.now) told.now }
     ensures sound { result ≡ is_sound (expected_on desk.now) (Some told.now) }
 {
     put_line(
         text,
         sheet.quiet,
         sheet.number,
-        bytes_of(&desk.words),
+        bytes_of(&desk.shown),
         bytes_of(told),
     );
     if !desk.expects || meets(bytes_of(&desk.wanted), bytes_of(told)) {
@@ -179,7 +182,7 @@ fn play_line<M: Machine>(
         × Counts M.may_step (M.state caller.old.machine) before
         × Counts M.may_step (M.state caller.new.machine) after
         × (text.new ≡ text.old ++ printed sheet.now.quiet sheet.now.name sheet.now.number
-        desk.now.words (expected_on desk.now) (outcome reply before after))
+        desk.now.shown (expected_on desk.now) (outcome reply before after))
         × (result ≡ is_sound (expected_on desk.now) (outcome reply before after)) }
 {
     if tell_line(caller, bytes_of(&desk.words), notes) {
@@ -200,6 +203,7 @@ impl<M: Machine> Player<M> {
     pub(crate) fn end(self) {
         let Player {
             caller,
+            scanner: _scanner,
             desk: _desk,
             notes: _notes,
             sheet: _sheet,
@@ -228,7 +232,13 @@ impl<M: Machine> Answers<ROOM> for Player<M> {
 
     fn answer(&mut self, line: &[u8], text: &mut Buffer<ROOM>) {
         self.sheet.number = self.sheet.number.saturating_add(1);
-        match read_line(line, &mut self.desk.words, &mut self.desk.wanted) {
+        match read_line(
+            line,
+            &mut self.scanner,
+            &mut self.desk.shown,
+            &mut self.desk.words,
+            &mut self.desk.wanted,
+        ) {
             Kind::Nothing => {}
             Kind::TooLong => {
                 put_fault(
@@ -237,6 +247,10 @@ impl<M: Machine> Answers<ROOM> for Player<M> {
                     self.sheet.number,
                     b"the line is too long",
                 );
+                self.sound = false;
+            }
+            Kind::Faulty(slip) => {
+                put_slip(text, bytes_of(&self.sheet.name), self.sheet.number, slip);
                 self.sound = false;
             }
             Kind::Asks(expects) => {

@@ -1,9 +1,9 @@
 //! The texts that a player prints.
 ghost use Rattle.std.specs.Prelude.{◌≡◌, ◌+◌, ◌≤◌, ◌++◌, length, decimal};
-ghost use Rattle.play_script.specs.Tells.{place_text, fault_text, line_text, differs_text};
+ghost use Rattle.play_script.specs.Tells.{place_text, fault_text, slip_text, line_text, differs_text};
 
-use crate::line::LONGEST;
 use crate::outcome::TOLD;
+use play_line::{LONGEST, Slip};
 use script_loop::{Buffer, HELD};
 
 /// The most bytes of a script's name that are printed.
@@ -44,16 +44,31 @@ pub(crate) fn put_fault(text: &mut Buffer<ROOM>, name: &[u8], number: u64, what:
     text.append(b"\n");
 }
 
+/// Puts what is wrong with the bytes of a line after the text.
+pub(crate) fn put_slip(text: &mut Buffer<ROOM>, name: &[u8], number: u64, slip: Slip)
+    requires { length text.old + length name.now + 93 ≤ ROOM }
+    ensures { text.new ≡ text.old ++ slip_text name.now number slip }
+{
+    text.append(name);
+    text.append(b":");
+    put_count(text, number);
+    text.append(b":");
+    put_count(text, slip.column);
+    text.append(b": ");
+    text.append(slip.fault.words().as_bytes());
+    text.append(b"\n");
+}
+
 /// Puts a line and what is told of it after the text.
-pub(crate) fn put_line(text: &mut Buffer<ROOM>, quiet: bool, number: u64, words: &[u8], told: &[u8])
-    requires { length text.old + length words.now + length told.now + 27 ≤ ROOM }
-    ensures items { text.new ≡ text.old ++ line_text quiet number words.now told.now }
-    ensures len { length text.new ≤ length text.old + length words.now + length told.now + 27 }
+pub(crate) fn put_line(text: &mut Buffer<ROOM>, quiet: bool, number: u64, shown: &[u8], told: &[u8])
+    requires { length text.old + length shown.now + length told.now + 27 ≤ ROOM }
+    ensures items { text.new ≡ text.old ++ line_text quiet number shown.now told.now }
+    ensures len { length text.new ≤ length text.old + length shown.now + length told.now + 27 }
 {
     if !quiet {
         put_count(text, number);
         text.append(b"  ");
-        text.append(words);
+        text.append(shown);
         text.append(b" => ");
     }
     text.append(told);

@@ -13,6 +13,7 @@ use crate::print::NAME;
 use flat_model::Config;
 use link_script::{Caller, Machine};
 use net_stack::Stack;
+use play_line::Scanner;
 use script_loop::{Buffer, LineBuffers, RunFault, Sink, Source, serve_script};
 use std::alloc::{AllocError, Global};
 
@@ -53,6 +54,7 @@ impl Played {
 #[derive(Drop)]
 struct Parts {
     buffers: LineBuffers,
+    scanner: Scanner,
     desk: Desk,
     notes: Notes,
     sheet: Sheet,
@@ -91,7 +93,9 @@ fn parts_for(alloc: Global, style: Style<'_>) -> Result<Parts, AllocError>
 {
     Ok(Parts {
         buffers: LineBuffers::new(alloc)?,
+        scanner: Scanner::new(alloc)?,
         desk: Desk {
+            shown: Buffer::new(alloc)?,
             words: Buffer::new(alloc)?,
             wanted: Buffer::new(alloc)?,
             expects: false,
@@ -132,12 +136,14 @@ fn play_machine<M: Machine, R: Source, W: Sink>(
     };
     let Parts {
         buffers,
+        scanner,
         desk,
         notes,
         sheet,
     } = parts;
     let mut player = Player {
         caller: Caller { machine, buffers },
+        scanner,
         desk,
         notes,
         sheet,
