@@ -4,13 +4,14 @@ ghost use Rattle.params.specs.declared.TheConstants.{IP_MAX_PACKET};
 ghost use Rattle.flat_model.specs.Scripts.Grammar.{words, IsNumber, IsHex};
 ghost use Rattle.script_loop.specs.Left.{left};
 
+use memchr::memchr;
 use std::str;
 
 /// Where the first space is.
 fn space_at(text: &[u8]) -> Option<usize>
     ensures { result ≡ position (λ b. b == 32) text.now }
 {
-    text.iter().position(|byte| *byte == b' ')
+    memchr(b' ', text)
 }
 
 /// The first word, and what is left after the space that ends it.
