@@ -9,3 +9,4 @@ mod Signs
 mod Shown
 mod Booted
 mod Told
+mod Drawn

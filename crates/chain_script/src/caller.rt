@@ -7,6 +7,7 @@ ghost use Rattle.params.specs.declared.TheConstants.{IP_MAX_PACKET};
 ghost use Rattle.chain_script.specs.declared.caller.TheConstants.{SLOTS};
 ghost use Rattle.chain_script.specs.Inside.Calls.{request_of, IsCall};
 ghost use Rattle.chain_script.specs.Inside.Slots.{machine_of, Fits};
+ghost use Rattle.chain_script.specs.Drawings.{drawing};
 ghost use Rattle.chain_script.specs.Lines.{Read_out};
 ghost use Rattle.chain_script.specs.Machines.{Machine, booted};
 ghost use Rattle.chain_script.specs.Steps.{Reply, Step, Says, answer_text};
@@ -14,6 +15,7 @@ ghost use Rattle.chain_script.specs.Steps.{Reply, Step, Says, answer_text};
 use crate::calls::{
     adj, copyback, copydata, copym, free, join_slots, prepend, pullup, split, user, wire,
 };
+use crate::draw::draw;
 use crate::line::{Call, call_of};
 use crate::reply::{TEXT, put_done, put_held};
 use crate::show::{show, usage};
@@ -175,6 +177,13 @@ impl Caller {
             chains,
             buffers,
         })
+    }
+
+    /// The drawing of a slot; `AllocError` only if the host refuses memory.
+    pub(crate) fn draw(&self, alloc: Global, slot: usize) -> Result<Vec<u8>, AllocError>
+        ensures { IfOk result (λ text. text.items ≡ drawing (machine_of self.now.pool self.now.chains.items) slot) }
+    {
+        draw(alloc, &self.pool, self.chains.as_slice(), slot)
     }
 
     /// Frees all chains, and gives the pool back.

@@ -3,6 +3,7 @@
 
 mod caller;
 mod calls;
+mod draw;
 mod fault;
 mod laws;
 mod line;
@@ -11,6 +12,7 @@ mod runs;
 mod show;
 mod slots;
 
+pub use draw::draw_slot;
 pub use laws::strings_law;
 pub use mbuf_pool::Sizes;
 pub use runs::run_chains;

@@ -1,0 +1,60 @@
+-- The mbufs of a slot's chain as lines of a text, for a picture of them (this project's own). Clusters have numbers in
+-- the order in which they first appear in the slots, so a drawing doesn't tell which ones were taken.
+use Rattle.std.specs.Prelude.{ℕ, ◌==◌, Bool, true, false, List, [], ◌∷◌, ◌++◌, codes, decimal, position, is_some, Option, Some, None, Result, Ok, Err, if◌then◌else◌}
+use Rattle.flat_model.specs.Scripts.Texts.{hex_text}
+use Rattle.mbuf_chain.specs.Chain.{Entry}
+use Rattle.script_loop.specs.declared.fault.RunFault.{RunFault}
+use Rattle.chain_script.specs.Machines.{Machine, Slot, entries_in, entries_at, header_at}
+
+-- ---- the numbers of clusters
+-- how many clusters were seen before this one
+abbrev pub place_in : List ℕ → Option ℕ → Option ℕ
+place_in seen None = None
+place_in seen (Some c) = position (λ d. d == c) seen
+
+-- the clusters that were seen, and after them this one if it's new
+abbrev pub noted : List ℕ → Option ℕ → List ℕ
+noted seen None = seen
+noted seen (Some c) = if is_some (position (λ d. d == c) seen) then seen else seen ++ c ∷ []
+
+-- the same after all mbufs of a chain
+abbrev pub noted_all : List ℕ → List Entry → List ℕ
+noted_all seen [] = seen
+noted_all seen (e ∷ es) = noted_all (noted seen e.cluster) es
+
+-- the same after all slots
+abbrev pub noted_slots : List ℕ → List (Option Slot) → List ℕ
+noted_slots seen [] = seen
+noted_slots seen (s ∷ ss) = noted_slots (noted_all seen (entries_in s)) ss
+
+-- the clusters of all slots, each once, by their first appearance
+abbrev pub clusters_seen : Machine → List ℕ
+clusters_seen b = noted_slots [] b.slots
+
+-- ---- the text
+abbrev pub header_text : Bool → List ℕ
+header_text true = codes "pkthdr "
+header_text false = []
+
+abbrev pub cluster_text : Option ℕ → List ℕ
+cluster_text None = []
+cluster_text (Some k) = codes "cluster " ++ decimal k ++ codes " "
+
+-- an mbuf: its packet header, its cluster, where its bytes begin in the mbuf or in the cluster, and the bytes
+abbrev pub mbuf_line : List ℕ → Bool → Entry → List ℕ
+mbuf_line seen header e = header_text header ++ cluster_text (place_in seen e.cluster) ++ decimal e.start ++ codes " " ++ hex_text e.bytes ++ codes "\n"
+
+-- all mbufs of a chain, of which the first one has the packet header, if there is one
+abbrev pub mbuf_lines : List ℕ → Bool → List Entry → List ℕ
+mbuf_lines seen header [] = []
+mbuf_lines seen header (e ∷ es) = mbuf_line seen header e ++ mbuf_lines seen false es
+
+-- the drawing of a slot: a line for each mbuf, and none if the slot is empty or there is no such slot
+abbrev pub drawing : Machine → ℕ → List ℕ
+drawing b i = mbuf_lines (clusters_seen b) (header_at b i) (entries_at b i)
+
+-- ---- the run
+-- how serving the script ended
+abbrev pub served : {A : Type 0} → Result A RunFault → Result Unit RunFault
+served (Ok drawn) = Ok tt
+served (Err fault) = Err fault
