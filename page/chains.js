@@ -33,11 +33,11 @@ const CHAIN_FAULTS = {
 function chainIn(reply) {
   const [word, length, ...mbufs] = reply.split(" ");
   if (word !== "len") return null;
-  const mbufIn = text => {
+  const shapeIn = text => {
     const [bytes, count] = text.slice(1).split("x").map(Number);
     return { isCluster: text.startsWith("C"), bytes, count };
   };
-  return { length: +length, mbufs: mbufs.map(mbufIn) };
+  return { length: +length, mbufs: mbufs.map(shapeIn) };
 }
 
 // The slots that a script names.
@@ -57,15 +57,14 @@ function traceChains(engine, config, lines) {
   const asks = "\nmbstat\n" + slots.map(slot => `show ${slot}\n`).join("");
   const { code, replies } = engine.chain(config, lines.map(line => line + asks).join(""));
   const steps = [];
-  let pool = emptyPool(config), before = new Map();
+  let pool = emptyPool(config);
   lines.slice(0, Math.floor(replies.length / each)).forEach((line, i) => {
     const [reply, mbstat, ...shown] = replies.slice(each * i, each * i + each);
     const chains = new Map();
     slots.forEach((slot, k) => { if (chainIn(shown[k])) chains.set(slot, chainIn(shown[k])); });
-    const step = { number: i + 1, line, reply, chains, chainsBefore: before, before: pool, pool: usageIn(mbstat) };
+    const step = { number: i + 1, line, reply, chains, before: pool, pool: usageIn(mbstat) };
     steps.push(Object.assign(step, tellChainStep(line, reply)));
     pool = step.pool;
-    before = chains;
   });
   return { code, steps };
 }
@@ -77,102 +76,54 @@ function tellChainStep(line, reply) {
   return { ...common, kind: CHAIN_ASKS.includes(verb) ? "ask" : "call", tells: CHAIN_TELLS[verb](words) };
 }
 
-// ---- which mbufs share a cluster
+// ---- mbuf by mbuf
 
-// `show` tells how often a cluster is referred to, and not which one it is. So the script is played once more, on a
-// machine that is thrown away, and there the chains are taken apart mbuf by mbuf: where one is freed, the counts that
-// go down are those of its cluster. Answers the bytes of each chain (`data`), the cluster of each mbuf by "slot/place"
-// (`of`), numbered in the order in which they come, and how many there are.
-class Sharing {
-  constructor(engine, config, lines, step) {
-    this.chains = [...step.chains];
-    this.lines = [];
-    this.looks = [];
-    this.group = new Map();
-    const reads = this.chains.map(([slot, { length }]) => this.add(length ? `copydata ${slot} 0 ${length}` : "mbstat"));
-    this.left = new Map(this.chains.map(([slot]) => [slot, { slot, from: 0 }]));
-    this.takeApart([...Array(64).keys()].find(slot => !step.chains.has(slot)));
-    const replies = engine.chain(config, [...lines, ...this.lines, ""].join("\n")).replies.slice(lines.length);
-    const dataIn = reply => bytesOf(reply.startsWith("data ") ? reply.slice(5) : "-");
-    this.data = new Map(this.chains.map(([slot], k) => [slot, dataIn(replies[reads[k]])]));
-    this.join(replies);
-    this.name();
-  }
+// An mbuf has 128 bytes. 20 of them are its header, and 8 more a packet's header, if it has one. A cluster has 2,048.
+const MBUF = { size: 128, header: 20, packet: 8 };
+const CLUSTER = 2048;
 
-  // Puts a line behind the others, and answers its place.
-  add(line) {
-    return this.lines.push(line) - 1;
-  }
+// An mbuf by its line of a drawing: whether it has a packet header, the number of its cluster, the place at which its
+// bytes begin in the mbuf or in the cluster, the bytes, and the room in front and behind. `text` is all of that but the
+// cluster's number, by which an mbuf is compared with the one before.
+function mbufIn(line) {
+  const [, packet, cluster, start, hex] = /^(pkthdr )?(?:cluster (\d+) )?(\d+) (\S+)$/.exec(line);
+  const isCluster = cluster !== undefined, bytes = bytesOf(hex);
+  const first = isCluster ? 0 : MBUF.header + (packet ? MBUF.packet : 0), size = isCluster ? CLUSTER : MBUF.size;
+  return {
+    hasPacket: Boolean(packet), isCluster, cluster: isCluster ? +cluster : null, start: +start, bytes,
+    front: +start - first, behind: size - +start - bytes.length, text: line.replace(/cluster \d+/, "cluster"),
+  };
+}
 
-  // Looks at what is left of all chains, after these mbufs were freed.
-  look(freed) {
-    const places = this.chains.map(([slot]) => ({ chain: slot, ...this.left.get(slot) }));
-    const shown = places.map(it => this.add(it.slot === null ? "mbstat" : `show ${it.slot}`));
-    this.looks.push({ freed, places, shown });
-  }
+// The chains of these slots after these lines, each as its mbufs.
+function drawnChains(engine, config, lines, slots) {
+  const script = lines.map(line => line + "\n").join("");
+  return new Map(slots.map(slot => [slot, engine.draw(config, slot, script).replies.map(mbufIn)]));
+}
 
-  takeApart(spare) {
-    this.look([]);
-    if (spare === undefined) return;
-    for (const [chain, { mbufs }] of this.chains) {
-      let here = chain, there = spare, from = 0;
-      while (from < mbufs.length) {
-        // up to and with the next mbuf that has bytes; what is left must have some
-        let next = from;
-        while (next < mbufs.length && mbufs[next].bytes === 0) next += 1;
-        const isLast = !mbufs.slice(next + 1).some(mbuf => mbuf.bytes > 0);
-        const to = isLast ? mbufs.length : next + 1;
-        if (!isLast) this.add(`split ${there} ${here} ${mbufs[next].bytes}`);
-        this.add(`free ${here}`);
-        this.left.set(chain, { slot: isLast ? null : there, from: to });
-        this.look(mbufs.slice(from, to).map((_, k) => `${chain}/${from + k}`));
-        [here, there] = [there, here];
-        from = to;
-      }
-    }
-  }
-
-  // The count of each mbuf that is left, by what was shown.
-  countsIn({ places, shown }, replies) {
-    const counts = new Map();
-    places.forEach(({ chain, slot, from }, k) => {
-      const now = slot === null ? null : chainIn(replies[shown[k]]);
-      if (!now) return;
-      const own = this.chains.find(([it]) => it === chain)[1].mbufs.length - from;
-      now.mbufs.slice(-own)
-        .forEach((mbuf, i) => { if (mbuf.isCluster) counts.set(`${chain}/${from + i}`, mbuf.count); });
+// Each cluster with the mbufs that refer to it. As many as they are, it's counted.
+function clustersIn(chains) {
+  const clusters = new Map();
+  for (const [slot, mbufs] of chains) {
+    mbufs.forEach((mbuf, place) => {
+      if (!mbuf.isCluster) return;
+      if (!clusters.has(mbuf.cluster)) clusters.set(mbuf.cluster, []);
+      clusters.get(mbuf.cluster).push({ slot, place, mbuf });
     });
-    return counts;
   }
+  return clusters;
+}
 
-  find(key) {
-    while (this.group.get(key) !== key) key = this.group.get(key);
-    return key;
+// The clusters for whose sake a write was refused: those that are shared, and have a byte of the range.
+function refusedIn(step, chains, clusters) {
+  const [, slot, off, hex] = step.line.split(" "), refused = new Set();
+  if (step.reply !== "shared") return refused;
+  const to = +off + bytesOf(hex).length;
+  let from = 0;
+  for (const { cluster, bytes } of chains.get(+slot) || []) {
+    const isHit = from < to && +off < from + bytes.length;
+    if (isHit && cluster !== null && clusters.get(cluster).length > 1) refused.add(cluster);
+    from += bytes.length;
   }
-
-  join(replies) {
-    let before = this.countsIn(this.looks[0], replies);
-    for (const key of before.keys()) this.group.set(key, key);
-    for (const it of this.looks.slice(1)) {
-      const now = this.countsIn(it, replies), freed = it.freed.filter(key => this.group.has(key)).pop();
-      for (const [key, count] of now) {
-        if (freed !== undefined && count < before.get(key)) this.group.set(this.find(key), this.find(freed));
-      }
-      before = now;
-    }
-  }
-
-  name() {
-    const numbers = new Map();
-    this.of = new Map();
-    for (const [slot, { mbufs }] of this.chains) {
-      mbufs.forEach((mbuf, place) => {
-        if (!this.group.has(`${slot}/${place}`)) return;
-        const root = this.find(`${slot}/${place}`);
-        if (!numbers.has(root)) numbers.set(root, numbers.size);
-        this.of.set(`${slot}/${place}`, numbers.get(root));
-      });
-    }
-    this.clusters = numbers.size;
-  }
+  return refused;
 }

@@ -110,40 +110,51 @@ function curve(steps, here, choose) {
 
 const letterOf = n => (n < 26 ? "" : String.fromCharCode(64 + Math.floor(n / 26))) + String.fromCharCode(65 + (n % 26));
 const HUES = 8;
-const SIZE = { mbuf: 158, gap: 46, left: 104, high: 96, cluster: 62, under: 38, row: 34, most: 40 };
+const SIZE = { mbuf: 186, gap: 44, left: 104, high: 112, cluster: 66, under: 38, row: 34, most: 40 };
+const BAR = SIZE.mbuf - 18;
+const roomOf = it => `${it.front.toLocaleString("en")} free | ${it.bytes.length.toLocaleString("en")} | `
+  + `${it.behind.toLocaleString("en")} free`;
 
-// Mbufs in a row, each with m_next to the next one; clusters under the row that has them first.
+// A part of a bar of so many bytes. One that has a byte is seen.
+const barPart = (x, y, high, size, from, length, kind) => svg("rect", {
+  x: x + 9 + (BAR * from) / size, y, width: length && Math.max(2, (BAR * length) / size), height: high, class: kind,
+});
+
+// Mbufs in a row, each with m_next to the next one; clusters under the row that has them first. `before` has the chains
+// as they were before the line.
 class ChainPicture {
-  constructor(step, sharing) {
+  constructor(step, chains, before) {
     this.step = step;
-    this.sharing = sharing;
-    this.clusters = new Map();
+    this.chains = chains;
+    this.before = before;
+    this.clusters = clustersIn(chains);
+    this.refused = refusedIn(step, chains, this.clusters);
+    this.places = new Map();
     this.refs = [];
     this.rows = [];
     this.width = 420;
     let top = 16;
-    for (const [slot, chain] of step.chains) top = this.place(slot, chain, top);
+    for (const [slot, mbufs] of chains) top = this.place(slot, mbufs, top);
     this.height = top;
     this.parts = { links: [], boxes: [], refs: [] };
-    for (const [number, cluster] of this.clusters) this.drawCluster(number, cluster);
+    for (const [number, place] of this.places) this.drawCluster(number, place);
     for (const ref of this.refs) this.drawRef(ref);
     for (const row of this.rows) this.drawRow(row);
   }
 
   // Where the row of a chain stands, and the clusters that come first in it. Answers where the next row begins.
-  place(slot, chain, top) {
-    const row = { slot, chain, top, hue: slot % HUES };
+  place(slot, mbufs, top) {
+    const row = { slot, mbufs, top, hue: slot % HUES };
     let isFirst = false;
-    chain.mbufs.slice(0, SIZE.most).forEach((mbuf, i) => {
+    mbufs.slice(0, SIZE.most).forEach(({ cluster }, i) => {
       const x = this.xOf(i);
       this.width = Math.max(this.width, x + SIZE.mbuf + 30);
-      if (!mbuf.isCluster) return;
-      const number = this.sharing.of.get(`${slot}/${i}`);
-      if (!this.clusters.has(number)) {
-        this.clusters.set(number, { x, y: top + SIZE.high + SIZE.under });
+      if (cluster === null) return;
+      if (!this.places.has(cluster)) {
+        this.places.set(cluster, { x, y: top + SIZE.high + SIZE.under });
         isFirst = true;
       }
-      this.refs.push({ number, x, row, bytes: mbuf.bytes, count: mbuf.count });
+      this.refs.push({ number: cluster, x, row });
     });
     this.rows.push(row);
     return top + SIZE.high + SIZE.row + (isFirst ? SIZE.under + SIZE.cluster : 6);
@@ -153,29 +164,27 @@ class ChainPicture {
     return SIZE.left + place * (SIZE.mbuf + SIZE.gap);
   }
 
+  // A cluster: its count, and the part of it that each mbuf has, the first four of them.
   drawCluster(number, { x, y }) {
-    const refs = this.refs.filter(ref => ref.number === number), count = refs[0].count;
-    const slot = +this.step.line.split(" ")[1];
-    const isRefused = this.step.reply === "shared" && count > 1 && refs.some(ref => ref.row.slot === slot);
-    const high = 14 / Math.min(4, refs.length), wide = SIZE.mbuf - 18;
-    const bars = refs.slice(0, 4).map((ref, i) => svg("rect", {
-      x: x + 9, y: y + 27 + i * high, width: Math.max(2, (wide * ref.bytes) / 2048), height: Math.max(high - 1, 1),
-        class: `hue-${ref.row.hue}`,
-    }));
-    const sizes = [...new Set(refs.map(ref => ref.bytes.toLocaleString("en")))];
-    const told = sizes.length > 2 ? `${sizes.length} parts of 2,048 bytes` : `${sizes.join(", ")} of 2,048 bytes`;
-    this.parts.boxes.push(svg("g", { class: `cluster${count > 1 ? " shared" : ""}${isRefused ? " refused" : ""}` },
+    const refs = this.clusters.get(number), count = refs.length, high = 16 / Math.min(4, count);
+    const bars = refs.slice(0, 4).map(({ slot, mbuf }, i) =>
+      barPart(x, y + 27 + i * high, Math.max(high - 1, 1), CLUSTER, mbuf.start, mbuf.bytes.length,
+        `hue-${slot % HUES}`));
+    const parts = new Set(refs.map(({ mbuf }) => roomOf(mbuf)));
+    const told = parts.size > 1 ? `${parts.size} parts of 2,048 bytes` : [...parts][0];
+    const kind = `cluster${count > 1 ? " shared" : ""}${this.refused.has(number) ? " refused" : ""}`;
+    this.parts.boxes.push(svg("g", { class: kind },
       svg("rect", { x, y, width: SIZE.mbuf, height: SIZE.cluster, rx: 4, class: "box" }),
       words(x + 9, y + 17, "title", `cluster ${letterOf(number)}`),
       svg("rect", { x: x + SIZE.mbuf - 42, y: y + 5, width: 35, height: 17, rx: 8.5, class: "count" }),
       words(x + SIZE.mbuf - 24.5, y + 17.5, "count-text", `×${count}`, "middle"),
-      svg("rect", { x: x + 9, y: y + 27, width: wide, height: 14, rx: 2, class: "room" }), bars,
-      words(x + 9, y + 55, "small", told)));
+      svg("rect", { x: x + 9, y: y + 27, width: BAR, height: 16, class: "room" }), bars,
+      words(x + 9, y + 58, "small", told)));
   }
 
   // From an mbuf to its cluster: down, if that stands below; else beside the mbufs up to it, and to it from below.
   drawRef({ number, x, row }) {
-    const to = this.clusters.get(number), others = this.refs.filter(ref => ref.number === number);
+    const to = this.places.get(number), others = this.refs.filter(ref => ref.number === number);
     const place = others.findIndex(ref => ref.row === row && ref.x === x);
     const endX = to.x + SIZE.mbuf / 2 + (place - (others.length - 1) / 2) * 14, startX = x + SIZE.mbuf;
     let path;
@@ -185,29 +194,24 @@ class ChainPicture {
       this.parts.refs.push(svg("circle", { cx: fromX, cy: fromY, r: 3.2, class: `hue-${row.hue}` }));
     } else {
       const below = to.y + SIZE.cluster, lane = startX + 8 + 6 * (place % 6), level = below + 10 + 4 * (place % 5);
-      path = `M${startX} ${row.top + 62}H${lane}V${level}H${endX}V${below}`;
+      path = `M${startX} ${row.top + 58}H${lane}V${level}H${endX}V${below}`;
     }
     const kind = `ref line-${row.hue}`;
     this.parts.refs.push(svg("path", { d: path, class: kind, "marker-end": `url(#tip-${row.hue})` }));
   }
 
-  drawRow({ slot, chain, top, hue }) {
-    const old = this.step.chainsBefore.get(slot);
-    const news = !old ? "new" : JSON.stringify(old) === JSON.stringify(chain) ? "" : "changed";
+  drawRow({ slot, mbufs, top, hue }) {
+    const old = this.before.get(slot), texts = it => it.map(mbuf => mbuf.text).join();
+    const news = !old ? "new" : texts(old) === texts(mbufs) ? "" : "changed";
     this.parts.boxes.push(words(10, top + 26, "title", `chain ${slot}`),
-      words(10, top + 44, "small", plural(chain.length, "byte")), words(10, top + 60, "small", news));
+      words(10, top + 44, "small", plural(sizeOf(mbufs), "byte")), words(10, top + 60, "small", news));
     this.link(72, SIZE.left - 4, top + 21);
-    let from = 0;
-    chain.mbufs.slice(0, SIZE.most).forEach((mbuf, i) => {
-      const was = old && old.mbufs[i], isNew = JSON.stringify(was) !== JSON.stringify(mbuf);
-      const bytes = this.sharing.data.get(slot).subarray(from, from + mbuf.bytes);
-      this.drawMbuf({ x: this.xOf(i), top, hue, mbuf, bytes, isNew, isLast: i + 1 === chain.mbufs.length,
-        number: this.sharing.of.get(`${slot}/${i}`) });
-      if (i + 1 < Math.min(SIZE.most, chain.mbufs.length)) this.link(this.xOf(i) + SIZE.mbuf, this.xOf(i + 1) - 3,
-        top + 16);
-      from += mbuf.bytes;
+    mbufs.slice(0, SIZE.most).forEach((mbuf, i) => {
+      const isNew = !old || !old[i] || old[i].text !== mbuf.text, isLast = i + 1 === mbufs.length;
+      this.drawMbuf({ x: this.xOf(i), top, hue, mbuf, isNew, isLast });
+      if (i + 1 < Math.min(SIZE.most, mbufs.length)) this.link(this.xOf(i) + SIZE.mbuf, this.xOf(i + 1) - 3, top + 16);
     });
-    const more = chain.mbufs.length - SIZE.most;
+    const more = mbufs.length - SIZE.most;
     if (more > 0) this.parts.boxes.push(words(this.xOf(SIZE.most), top + 22, "small", `and ${more} more`));
   }
 
@@ -215,33 +219,36 @@ class ChainPicture {
     this.parts.links.push(svg("path", { d: `M${from} ${y}L${to} ${y}`, class: "next", "marker-end": "url(#tip)" }));
   }
 
-  drawMbuf({ x, top, hue, mbuf, bytes, isNew, isLast, number }) {
-    const wide = SIZE.mbuf - 18, filled = Math.max(2, (wide * Math.min(mbuf.bytes, 108)) / 108);
-    const own = [svg("rect", { x: x + 9, y: top + 56, width: wide, height: 12, rx: 2, class: "room" })];
-    if (mbuf.bytes) own.push(svg("rect",
-      { x: x + 9, y: top + 56, width: filled, height: 12, rx: 2, class: `hue-${hue}` }));
-    const other = [words(x + 9, top + 66, "field", "m_data"),
-      words(x + 56, top + 66, "small", `in cluster ${letterOf(number || 0)}`)];
+  // An mbuf: its bar has the header, the packet's header, the room in front, the bytes, and the room behind.
+  drawMbuf({ x, top, hue, mbuf, isNew, isLast }) {
+    const { bytes } = mbuf, head = MBUF.header + (mbuf.hasPacket ? MBUF.packet : 0);
+    const flags = [mbuf.hasPacket && "M_PKTHDR", mbuf.isCluster && "M_EXT"].filter(Boolean).join(" ") || "no flag";
+    const part = (from, length, kind) => barPart(x, top + 56, 13, MBUF.size, from, length, kind);
+    const own = [part(0, MBUF.header, "header"), mbuf.hasPacket && part(MBUF.header, MBUF.packet, "packet-header"),
+      !mbuf.isCluster && bytes.length > 0 && part(mbuf.start, bytes.length, `hue-${hue}`)].filter(Boolean);
+    const where = mbuf.isCluster ? `m_data in cluster ${letterOf(mbuf.cluster)}` : "m_data in the mbuf";
     const isText = bytes.every(byte => byte >= 32 && byte < 127);
     const hex = hexOf(bytes.subarray(0, 6)).replace(/(..)/g, "$1 ").trim() + (bytes.length > 6 ? " …" : "");
-    const said = bytes.length === 0 ? "" : isText ? `“${readable(bytes, 13)}”` : hex;
+    const said = bytes.length === 0 ? "" : isText ? `“${readable(bytes, 16)}”` : hex;
     this.parts.boxes.push(svg("g", { class: `mbuf${isNew ? " new" : ""}` },
       svg("rect", { x, y: top, width: SIZE.mbuf, height: SIZE.high, rx: 5, class: `box line-${hue}` }),
-      words(x + 9, top + 20, "title", "mbuf"),
-        words(x + SIZE.mbuf - 9, top + 20, "field", isLast ? "m_next 0" : "m_next •", "end"),
-      words(x + 9, top + 47, "field", "m_len"), words(x + 52, top + 47, "value", mbuf.bytes.toLocaleString("en")),
-      words(x + SIZE.mbuf - 9, top + 47, "small", mbuf.isCluster ? "M_EXT" : "in the mbuf", "end"),
-      mbuf.isCluster ? other : own, words(x + 9, top + 86, "bytes", said)));
+      words(x + 9, top + 19, "title", "mbuf"),
+        words(x + SIZE.mbuf - 9, top + 19, "field", isLast ? "m_next 0" : "m_next •", "end"),
+      words(x + 9, top + 36, "small", where), words(x + SIZE.mbuf - 9, top + 50, "field", flags, "end"),
+      words(x + 9, top + 50, "field", "m_len"), words(x + 52, top + 50, "value", bytes.length.toLocaleString("en")),
+      svg("rect", { x: x + 9, y: top + 56, width: BAR, height: 13, class: mbuf.isCluster ? "unused" : "room" }), own,
+      words(x + 9, top + 84, "small", roomOf(mbuf)), words(x + 9, top + 102, "bytes", said)));
   }
 
   // The picture in words.
   get tells() {
-    const mbufIn = (slot, mbuf, i) => mbuf.isCluster
-      ? `${mbuf.bytes} bytes in cluster ${letterOf(this.sharing.of.get(`${slot}/${i}`))}, counted ${mbuf.count}`
-      : `${mbuf.bytes} bytes in the mbuf`;
-    const chainIs = ([slot, { length, mbufs }]) =>
-      `chain ${slot}, ${plural(length, "byte")}: ${mbufs.map((it, i) => mbufIn(slot, it, i)).join("; ")}`;
-    return [...this.step.chains].map(chainIs).join(". ");
+    const whereOf = it => (it.isCluster
+      ? `in cluster ${letterOf(it.cluster)}, counted ${this.clusters.get(it.cluster).length}` : "in the mbuf");
+    const mbufIs = it => `${it.hasPacket ? "packet header, " : ""}${plural(it.bytes.length, "byte")} ${whereOf(it)}, `
+      + `from ${it.start} on, ${it.front} free in front and ${it.behind} behind`;
+    const chainIs = ([slot, mbufs]) =>
+      `chain ${slot}, ${plural(sizeOf(mbufs), "byte")}: ${mbufs.map(mbufIs).join("; ")}`;
+    return [...this.chains].map(chainIs).join(". ");
   }
 
   get element() {
@@ -255,3 +262,5 @@ class ChainPicture {
       svg("defs", {}, tips), this.parts.links, this.parts.boxes, this.parts.refs);
   }
 }
+
+const sizeOf = mbufs => mbufs.reduce((n, mbuf) => n + mbuf.bytes.length, 0);

@@ -87,10 +87,20 @@ class Engine {
 
   // The same of a script of `bsdudp chain`.
   chain(config, script) {
-    const settings = new DataView(new ArrayBuffer(8));
-    [config.mbufs, config.clusters].forEach((n, i) => settings.setUint32(4 * i, n, true));
-    return this.serve(this.calls.bsdudp_page_chain, new Uint8Array(settings.buffer), script);
+    return this.serve(this.calls.bsdudp_page_chain, poolOf(config), script);
   }
+
+  // The mbufs of one slot's chain after a script of `bsdudp chain`, as `replies`: a line for each (crates/page).
+  draw(config, slot, script) {
+    return this.serve((pool, ...more) => this.calls.bsdudp_page_draw(pool, slot, ...more), poolOf(config), script);
+  }
+}
+
+// The sizes of a pool as the module reads them.
+function poolOf({ mbufs, clusters }) {
+  const sizes = new DataView(new ArrayBuffer(8));
+  [mbufs, clusters].forEach((n, i) => sizes.setUint32(4 * i, n, true));
+  return new Uint8Array(sizes.buffer);
 }
 
 // The lines of a text; what stands after the last line feed is one too, where it has a character.

@@ -171,17 +171,36 @@ function stackView(page, step) {
 
 // ---- chains
 
+// Who has a part of each cluster that is shared, in words.
+function sharersView(clusters) {
+  const partOf = ({ slot, place, mbuf }) =>
+    `mbuf ${place + 1} of chain ${slot} has ${plural(mbuf.bytes.length, "byte")} from ${mbuf.start} on`;
+  const shared = [...clusters].filter(([, refs]) => refs.length > 1);
+  const told = ([number, refs]) => h("li", {}, h("b", {}, `Cluster ${letterOf(number)}`),
+    ` is counted ${refs.length}: ${refs.slice(0, 8).map(partOf).join(", ")}`
+      + `${refs.length > 8 ? `, and ${refs.length - 8} more` : ""}.`);
+  return shared.length > 0 && h("ul", { class: "sharers" }, shared.map(told));
+}
+
+function chainsView(step, chains, before) {
+  const title = h("h3", {}, "The chains after this line"), none = h("p", { class: "faint" }, "No chain is held.");
+  if (!chains.size) return h("section", { class: "panel wide" }, title, none);
+  const picture = new ChainPicture(step, chains, before);
+  const key = [["header", "the mbuf's header"], ["packet-header", "the packet's header"], ["room", "free"]];
+  return h("section", { class: "panel wide" }, title,
+    scroller("the chains after this line", picture.element),
+    h("p", { class: "legend" }, key.map(([kind, name]) => h("span", { class: `key-${kind}` }, name))),
+    sharersView(picture.clusters));
+}
+
 function chainView(page, step) {
   const refused = !step.isOk && verdict("no", h("b", {}, step.reply), `: ${step.why}. Nothing has changed.`);
-  const sharing = new Sharing(page.engine, page.config, page.notes.lines.slice(0, step.number), step);
-  const drawn = step.chains.size ? scroller("the chains after this line", new ChainPicture(step, sharing).element)
-    : h("p", { class: "faint" }, "No chain is held.");
+  const chains = page.drawnAfter(step.number), before = page.drawnAfter(step.number - 1);
   const pool = step.pool, inChains = count => [{ name: "in chains", kind: "queue", count }];
   const many = pool.refs > pool.usedClusters ? " So bytes are shared, and not copied." : "";
   const refer = `${plural(pool.refs, "mbuf")} ${pool.refs === 1 ? "refers" : "refer"}`;
   const told = `${refer} to ${plural(pool.usedClusters, "cluster")}; the greatest count is ${pool.most}.${many}`;
-  return [leadOf(step, page.noteOf(step), refused),
-    h("section", { class: "panel wide" }, h("h3", {}, "The chains after this line"), drawn),
+  return [leadOf(step, page.noteOf(step), refused), chainsView(step, chains, before),
     panel("The pool after this line", poolBar("mbufs", pool.mbufs, inChains(pool.used)),
       poolBar("clusters", pool.clusters, inChains(pool.usedClusters)),
       h("p", { class: "faint" }, pool.refs ? told : "No cluster is referred to."))];

@@ -10,11 +10,21 @@ const page = {
   at: 0,
   name: "",
   held: new Map(),
+  drawn: new Map(),
   // what is held after so many lines
   heldAfter(n) {
     if (!this.held.has(n)) this.held.set(n,
       new Held(this.engine, this.config, this.notes.lines.slice(0, n), this.steps.slice(0, n)));
     return this.held.get(n);
+  },
+  // the chains after so many lines, mbuf by mbuf; those of a few places are kept
+  drawnAfter(n) {
+    if (this.drawn.size > 16) this.drawn.clear();
+    if (!this.drawn.has(n)) {
+      const slots = n ? [...this.steps[n - 1].chains.keys()] : [];
+      this.drawn.set(n, drawnChains(this.engine, this.config, this.notes.lines.slice(0, n), slots));
+    }
+    return this.drawn.get(n);
   },
   noteOf(step) {
     return this.notes.notes[step.number - 1];
@@ -63,6 +73,7 @@ function replay(place) {
   page.notes = readNotes(byId("script").value);
   page.config = configOf(page.options);
   page.held.clear();
+  page.drawn.clear();
   const { code, steps } = page.config.wrong ? { code: 0, steps: [] }
     : (page.mode === "run" ? traceStack : traceChains)(page.engine, page.config, page.notes.lines);
   page.steps = steps;

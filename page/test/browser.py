@@ -173,6 +173,47 @@ def look_all(browser, shots):
         browser.run("document.querySelector('dialog[open]').close()")
 
 
+KEYS = {"Tab": 9, "Enter": 13, "Escape": 27}
+
+
+def press(browser, key):
+    """Presses a key as a hand does."""
+    about = {"key": key, "code": key, "windowsVirtualKeyCode": KEYS[key]}
+    text = {"text": "\r"} if key == "Enter" else {}
+    browser.ask("Input.dispatchKeyEvent", type="keyDown", **about, **text)
+    browser.ask("Input.dispatchKeyEvent", type="keyUp", **about)
+
+
+def tab_through(browser, what):
+    """By Tab alone all that takes input is reached, and each is marked when it is."""
+    for _ in range(browser.run("startTabs()") + 3):
+        press(browser, "Tab")
+        for fault in browser.run("noteFocus()"):
+            yield f"{what}: {fault}"
+    for fault in browser.run("faultsOfTabs()"):
+        yield f"{what}: {fault}"
+
+
+def try_keys(browser):
+    """Everything by keyboard alone; dialogs are opened by Enter and closed by Escape."""
+    browser.resize(1600)
+    for command, name in (("run", "01_a_datagram"), ("chain", "04_headers_in_front")):
+        browser.run(f"open({json.dumps(command)}, {{ name: {json.dumps(name)} }})")
+        yield from tab_through(browser, name)
+    browser.run("open('run', { name: '01_a_datagram' })")
+    for button, dialog in (("make", "maker"), ("about", "proved")):
+        browser.run(f"byId('{button}').focus()")
+        press(browser, "Enter")
+        if not browser.run(f"byId('{dialog}').open"):
+            yield f"{button} isn't opened by Enter"
+            continue
+        yield from tab_through(browser, dialog)
+        press(browser, "Escape")
+        if browser.run(f"byId('{dialog}').open || document.activeElement !== byId('{button}')"):
+            yield f"{dialog} isn't closed by Escape, or the keyboard isn't where it was"
+    yield from browser.run("faultsOfKeys()")
+
+
 def main(page, examples, lessons, shots):
     shots.mkdir(parents=True, exist_ok=True)
     signal.signal(signal.SIGALRM, give_up)
@@ -189,7 +230,7 @@ def main(page, examples, lessons, shots):
             browser.ask("Page.navigate", url=page.resolve().as_uri())
             browser.run(UNTIL_READY)
             browser.run((HERE / "in_page.js").read_text())
-            faults = [*play_all(browser, examples, lessons), *look_all(browser, shots), *browser.run("faultsOfKeys()")]
+            faults = [*play_all(browser, examples, lessons), *look_all(browser, shots), *try_keys(browser)]
             faults += browser.complaints()
         finally:
             signal.alarm(0)

@@ -17,7 +17,7 @@ function playInPage(mode, text, words, wanted) {
   for (let i = wanted === null ? 0 : page.steps.length - 1; i >= 0 && i < page.steps.length; i++) {
     select(i);
     if (!byId("look").firstChild) faults.push(`line ${i + 1} shows nothing`);
-    if (mode === "run") faults.push(...faultsOfOwners(i));
+    faults.push(...(mode === "run" ? faultsOfOwners : faultsOfDrawing)(i));
   }
   return faults;
 }
@@ -27,6 +27,18 @@ function faultsOfOwners(i) {
   const step = page.steps[i], held = page.heldAfter(step.number);
   const own = held.total("mbufs") + sumOf(held.output, "mbufs") + held.unfinished.mbufs;
   return own === step.pool.used ? [] : [`line ${i + 1}: ${own} mbufs have an owner, and ${step.pool.used} are in use`];
+}
+
+// What is drawn of each chain are the mbufs that it shows, with the counts of their clusters.
+function faultsOfDrawing(i) {
+  const step = page.steps[i], chains = page.drawnAfter(step.number), clusters = clustersIn(chains);
+  const shapeOf = it => [it.isCluster, it.bytes.length, it.isCluster ? clusters.get(it.cluster).length : undefined];
+  const drawn = JSON.stringify([...chains].map(([slot, mbufs]) => [slot, mbufs.map(shapeOf)]));
+  const shown = JSON.stringify([...step.chains]
+    .map(([slot, { mbufs }]) => [slot, mbufs.map(it => [it.isCluster, it.bytes, it.count])]));
+  if (drawn !== shown) return [`line ${i + 1}: ${drawn} is drawn, and ${shown} shown`];
+  const isDrawn = !chains.size || document.querySelector("#look .picture");
+  return isDrawn ? [] : [`line ${i + 1} has no picture`];
 }
 
 // ---- layout and colours
@@ -164,3 +176,26 @@ function faultsOfKeys() {
   if (page.steps[3].verb !== "rx" || page.at !== 3) faults.push("a packet that was made isn't put in");
   return faults;
 }
+
+// ---- by keyboard alone
+
+// What takes input in what is open, and what of it the Tab key has reached.
+const takers = () => [...(document.querySelector("dialog[open]") || document.body)
+  .querySelectorAll("button, input, select, textarea, [tabindex]")]
+  .filter(it => isSeen(it) || (it.matches("#load") && !document.querySelector("dialog[open]")));
+let reached = new Set();
+
+function startTabs() {
+  reached = new Set();
+  document.activeElement.blur();
+  return takers().length;
+}
+
+// Whoever has the keyboard is marked by an outline.
+function noteFocus() {
+  const it = document.activeElement, marked = it.matches("#load") ? it.parentElement : it;
+  reached.add(it);
+  return it === document.body || getComputedStyle(marked).outlineStyle !== "none" ? [] : [`${nameOf(it)} isn't marked`];
+}
+
+const faultsOfTabs = () => takers().filter(it => !reached.has(it)).map(it => `${nameOf(it)} isn't reached by Tab`);

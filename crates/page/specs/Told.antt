@@ -1,7 +1,11 @@
 -- What a page is told of a script that was served (this project's own).
-use Rattle.std.specs.Prelude.{◌≡◌, ◌≤◌, ◌<◌, ◌++◌, ℕ, List, [], length, drop, Option, Some, Result, Ok, Err}
+use Rattle.std.specs.Prelude.{◌≡◌, ◌≤◌, ◌<◌, ◌++◌, ℕ, List, [], length, drop, Option, Some, None, IfSome, IfOk, Result, Ok, Err}
 use Rattle.flat_model.specs.declared.config.Config.{Config}
 use Rattle.mbuf_pool.specs.declared.sizes.Sizes.{Sizes}
+use Rattle.chain_script.specs.Boots.{Boots}
+use Rattle.chain_script.specs.Drawings.{drawing, served}
+use Rattle.chain_script.specs.Machines.{Machine, booted}
+use Rattle.chain_script.specs.Steps.{Says}
 use Rattle.page.specs.declared.settings.PageMachine.{PageMachine}
 use Rattle.page.specs.declared.settings.PagePool.{PagePool}
 use Rattle.script_loop.specs.Serves.{Serves}
@@ -54,3 +58,32 @@ pub record Told {S : Type 0} (gives : S → List ℕ → List ℕ → S → Type
   pub numbered : answer ≡ number outcome
   pub counted : len ≡ length replies
   pub handed : Handed replies before after
+
+-- ---- a drawing
+
+-- The number of an outcome with a drawing. Without memory for the drawing it's as without memory for the run.
+abbrev pub drawn_number : Result (Option (List ℕ)) RunFault → ℕ
+drawn_number (Ok (Some text)) = number (Ok tt)
+drawn_number (Ok None) = number (Err Memory)
+drawn_number (Err fault) = number (Err fault)
+
+-- the drawing, which has no bytes if nothing was drawn
+abbrev pub drawn_text : Result (Option (List ℕ)) RunFault → List ℕ
+drawn_text (Ok (Some text)) = text
+drawn_text (Ok None) = []
+drawn_text (Err fault) = []
+
+-- A whole script of calls on chains was served over a new pool, with an outcome that is allowed. The drawing, if there
+-- is one, is that of the slot as the machine has it then. The page is told the number and how many bytes the drawing
+-- has, and they are in its room.
+pub record Drawn (pool : PagePool) (slot : ℕ) (script : List ℕ) (answer len : ℕ) (before after : List ℕ) : Type 0 where
+  pub outcome : Result (Option (List ℕ)) RunFault
+  pub replies : List ℕ
+  pub unread : Option (List ℕ)
+  pub new : Machine
+  pub allowed : Boots (sizes_of pool) (served outcome)
+  pub answered : Serves Says (booted pool.mbufs pool.clusters) new (Some script) unread (Some []) (Some replies) (served outcome)
+  pub drawn : IfOk outcome (λ text. IfSome text (λ bytes. bytes ≡ drawing new slot))
+  pub numbered : answer ≡ drawn_number outcome
+  pub counted : len ≡ length (drawn_text outcome)
+  pub handed : Handed (drawn_text outcome) before after

@@ -11,14 +11,14 @@ ghost use Rattle.link_script.specs.Boots.{Boots};
 ghost use Rattle.chain_script.specs.Machines.{booted};
 ghost use Rattle.chain_script.specs.Steps as chain_steps;
 ghost use Rattle.chain_script.specs.Boots as chain_sizes;
-ghost use Rattle.page.specs.Told.{Told, config_of, sizes_of};
+ghost use Rattle.page.specs.Told.{Drawn, Told, config_of, sizes_of};
 
 mod handed;
 mod settings;
 
-use chain_script::run_chains;
+use chain_script::{draw_slot, run_chains};
 use handed::{hand_over, number_of};
-use link_script::run;
+use link_script::{RunFault, run};
 pub use settings::{PageMachine, PagePool};
 use std::alloc::Global;
 
@@ -69,4 +69,48 @@ pub extern "C" fn bsdudp_page_chain(
     let outcome = run_chains(alloc, pool.sizes(), &mut reader, &mut replies);
     *len = hand_over(replies.as_slice(), room);
     number_of(outcome)
+}
+
+/// Serves a script of `bsdudp chain` over a new pool, throws the replies away, and draws the chain of one slot as it is
+/// then: `uint32_t bsdudp_page_draw(const struct page_pool *, uint32_t slot, const uint8_t *script, size_t, uint8_t
+/// *room, size_t, size_t *len)`. The lines of a drawing are those of `chain_script::draw_slot`; an empty slot, and one
+/// of more than 63, has none.
+///
+/// Answers the outcome's number: 0 if the slot was drawn, and else that of the fault. The drawing is handed over as
+/// replies are. If nothing was drawn, `len` is 0 and the room as it was.
+///
+/// The faults: those of `bsdudp_page_chain`. `Memory` comes too if the host refuses memory for the drawing.
+#[unsafe(no_mangle)]
+pub extern "C" fn bsdudp_page_draw(
+    alloc: Global,
+    pool: &PagePool,
+    slot: u32,
+    script: &[u8],
+    room: &mut [u8],
+    len: &mut usize,
+) -> u32
+    ensures drawn { Drawn pool.now slot script.now result len.new room.old room.new }
+{
+    let mut reader = script;
+    let mut replies = Vec::new(alloc);
+    match draw_slot(
+        alloc,
+        pool.sizes(),
+        &mut reader,
+        &mut replies,
+        slot as usize,
+    ) {
+        Ok(Some(text)) => {
+            *len = hand_over(text.as_slice(), room);
+            number_of(Ok(()))
+        }
+        Ok(None) => {
+            *len = 0;
+            number_of(Err(RunFault::Memory))
+        }
+        Err(fault) => {
+            *len = 0;
+            number_of(Err(fault))
+        }
+    }
 }
