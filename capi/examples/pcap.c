@@ -1,5 +1,5 @@
 /* Plays a capture (raw IP or Ethernet) into a host that echoes port 7, and writes what the host sends into another one.
-   Time is the capture's own.
+   Time is the capture's own. In the end it says what the host counted.
        cc -std=gnu99 pcap.c $(pkg-config --cflags --libs bsdudp) -lpcap && ./a.out IN OUT 10.0.0.1 10.0.0.255 */
 #include "bsdudp.h"
 
@@ -7,22 +7,19 @@
 #include <pcap/pcap.h>
 #include <stdio.h>
 
-enum { FD = BSDUDP_FIRST_FD, HALF_SECOND = 500000 };
+enum { FD = BSDUDP_FIRST_FD, HALF_SECOND = 500000, ETHERNET_HEADER = 14, ETHERTYPE = 12 };
 
 static uint8_t room[BSDUDP_TX_ROOM], bytes[BSDUDP_DATAGRAM];
 
-/* How many bytes stand in front of an IP packet, or -1 of a link that isn't known. */
-static int link_header(pcap_t *capture)
+/* The IP packet of a frame, whose length becomes the packet's; NULL if it has none. A frame may have bytes behind it. */
+static const u_char *packet_in(int link, const u_char *frame, size_t *len)
 {
-    switch (pcap_datalink(capture)) {
-    case DLT_EN10MB:
-        return 14;
-    case DLT_RAW:
-    case DLT_IPV4:
-        return 0;
-    default:
-        return -1;
-    }
+    if (link != DLT_EN10MB)
+        return frame;
+    if (*len < ETHERNET_HEADER || frame[ETHERTYPE] != 0x08 || frame[ETHERTYPE + 1] != 0x00)
+        return NULL;
+    *len -= ETHERNET_HEADER;
+    return frame + ETHERNET_HEADER;
 }
 
 static void echo(struct bsdudp *stack, pcap_dumper_t *out, struct timeval when)
@@ -45,12 +42,12 @@ int main(int argc, char **argv)
     struct bsdudp_addr any = {0, 7};
     char fault[PCAP_ERRBUF_SIZE];
     struct pcap_pkthdr *head;
-    const u_char *data;
+    const u_char *frame;
     pcap_t *in, *raw;
     pcap_dumper_t *out;
     long long next = -1;
     uint32_t k;
-    int skip;
+    int link;
     if (argc != 5)
         return fprintf(stderr, "usage: pcap IN OUT ADDR BCAST\n"), 2;
     config.addr = ntohl(inet_addr(argv[3]));
@@ -60,19 +57,23 @@ int main(int argc, char **argv)
         return fprintf(stderr, "%s\n", fault), 1;
     raw = pcap_open_dead(DLT_RAW, BSDUDP_PACKET);
     out = pcap_dump_open(raw, argv[2]);
-    skip = link_header(in);
-    if (out == NULL || skip < 0 || bsdudp_boot(&stack, &config) < 0)
-        return fprintf(stderr, "can't write, or another link, or no such host\n"), 1;
+    link = pcap_datalink(in);
+    if (link != DLT_EN10MB && link != DLT_RAW && link != DLT_IPV4)
+        return fprintf(stderr, "a link that isn't known\n"), 1;
+    if (out == NULL || bsdudp_boot(&stack, &config) < 0)
+        return fprintf(stderr, "can't write, or no such host\n"), 1;
     if (bsdudp_socket(&stack) != FD || bsdudp_bind(&stack, FD, &any) < 0)
         return 1;
-    while (pcap_next_ex(in, &head, &data) == 1) {
+    while (pcap_next_ex(in, &head, &frame) == 1) {
         long long now = head->ts.tv_sec * 1000000LL + head->ts.tv_usec;
+        size_t len = head->caplen;
+        const u_char *packet = packet_in(link, frame, &len);
         if (next < 0)
             next = now + HALF_SECOND;
         for (; now >= next; next += HALF_SECOND)
             bsdudp_tick(&stack);
-        if ((int)head->caplen > skip)
-            bsdudp_rx(&stack, data + skip, head->caplen - (size_t)skip);
+        if (packet != NULL)
+            bsdudp_rx(&stack, packet, len);
         echo(&stack, out, head->ts);
     }
     for (k = 0; k < BSDUDP_COUNTERS; k++) {

@@ -1,9 +1,10 @@
 #!/usr/bin/env python3
-"""Linux as the peer of capi/examples/tun_echo.c: kernel.py TUN_ECHO, in a network namespace of its own (unshare -n).
+"""Linux as the peer of capi/examples/tun_echo.c: kernel.py TUN_ECHO MTU, in a network namespace of its own (unshare -n).
 
-Datagrams of many lengths go to the echo at 10.0.0.1 port 7 and come back, at three MTUs, with and without a checksum,
-to the broadcast address, and of random lengths. Then the kernel's own counters have no error, and the pool is full again.
-It says the first thing that is wrong, and then exits with 1."""
+Datagrams of many lengths go to the echo at 10.0.0.1 port 7 and come back, with and without a checksum, to the broadcast
+address, and of random lengths. With a third word `lossy` the program is that host behind a wire that loses, repeats and
+reorders (lossy.c): what comes back of 2,000 datagrams was sent so. Then the kernel's own counters have no error, and the
+pool is full again. It says the first thing that is wrong, and then exits with 1."""
 import os
 import random
 import re
@@ -14,6 +15,7 @@ import sys
 import time
 
 LENGTHS = [0, 1, 27, 28, 29, 72, 73, 207, 208, 1472, 1473, 2047, 2048, 2049, 4096, 9216]
+DATAGRAMS = 2000
 NEAR, BROADCAST = ("10.0.0.1", 7), ("10.0.0.255", 7)
 IP_MTU_DISCOVER, SO_NO_CHECK, SO_RCVBUFFORCE = 10, 11, 33
 
@@ -56,8 +58,42 @@ def datagrams(mtu):
             echo(it, NEAR, rng.randbytes(n), f"MTU {mtu}{name}")
     it = client(False)
     echo(it, BROADCAST, rng.randbytes(20), f"MTU {mtu}, broadcast")
-    for _ in range(2000 if mtu == 1500 else 200):
+    for _ in range(DATAGRAMS):
         echo(it, NEAR, rng.randbytes(rng.randint(0, most)), f"MTU {mtu}, random")
+
+
+def by_number(number, most):
+    """The datagram of this number: its own bytes tell which it is."""
+    rng = random.Random(number)
+    return number.to_bytes(4, "big") + rng.randbytes(rng.randint(0, most - 4))
+
+
+def come_back(it, most, seconds):
+    """The numbers of the datagrams that come until none does for so long. Each is as it was sent."""
+    it.settimeout(seconds)
+    numbers = []
+    try:
+        while True:
+            back, sender = it.recvfrom(65536)
+            numbers.append(int.from_bytes(back[:4], "big"))
+            if sender != NEAR or back != by_number(numbers[-1], most):
+                raise Wrong(f"{len(back)} bytes came over the lossy wire, which weren't sent so")
+    except TimeoutError:
+        return numbers
+
+
+def lossy_datagrams(mtu):
+    """What is tried behind the wire, eight datagrams at a time: some are lost, some come twice, and none is another."""
+    most = min(9216, 16 * ((mtu - 20) // 8 * 8) - 8)
+    it = client(False)
+    came = []
+    for first in range(0, DATAGRAMS, 8):
+        for number in range(first, first + 8):
+            it.sendto(by_number(number, most), NEAR)
+        came += come_back(it, most, 0.004)
+    came += come_back(it, most, 1.2)  # meanwhile the host drops what lacks fragments
+    if not DATAGRAMS // 20 < len(set(came)) < DATAGRAMS or len(came) == len(set(came)):
+        raise Wrong(f"MTU {mtu}: of {DATAGRAMS} datagrams {len(set(came))} came over the lossy wire, {len(came)} in all")
 
 
 def errors():
@@ -77,11 +113,11 @@ def wait_for_device():
     raise Wrong("the device doesn't come up")
 
 
-def run(program, mtu):
+def run(program, mtu, exchange):
     with subprocess.Popen([program, str(mtu)], stdout=subprocess.PIPE, text=True) as host:
         try:
             wait_for_device()
-            datagrams(mtu)
+            exchange(mtu)
         finally:
             host.send_signal(signal.SIGTERM)
             said = host.communicate()[0]
@@ -92,12 +128,11 @@ def run(program, mtu):
         raise Wrong(f"MTU {mtu}: the kernel counted {errors()}")
 
 
-def main():
+def main(program, mtu, how="plain"):
     try:
-        for mtu in (1500, 576, 68):
-            run(os.path.abspath(sys.argv[1]), mtu)
+        run(os.path.abspath(program), int(mtu), lossy_datagrams if how == "lossy" else datagrams)
     except Wrong as what:
         sys.exit(f"kernel.py: {what}")
 
 
-main()
+main(*sys.argv[1:])

@@ -1,0 +1,176 @@
+/* The memory of a stack: each allocation refused in turn, memory that just suffices, handles that are booted twice, dead or
+   zeroed. The linker sends malloc and free of the library here (--wrap), so that they can be refused and counted. It
+   compiles as C99 and as C++, says the line of the first answer that is wrong, and then exits with 1. */
+#include "bsdudp.h"
+
+#include <stdio.h>
+#include <stdlib.h>
+#include <string.h>
+
+#define WANT(call, answer) \
+    do { \
+        long got_ = (long)(call); \
+        if (got_ != (long)(answer)) { \
+            fprintf(stderr, "capi/tests/memory.c:%d: %s: %ld, not %ld\n", __LINE__, #call, got_, (long)(answer)); \
+            return 1; \
+        } \
+    } while (0)
+
+enum { BLOCK = 16, GUARD = 64, UNTOUCHED = 0xa5 };
+
+#ifdef __cplusplus
+extern "C" {
+#endif
+void *__real_malloc(size_t len);
+void __real_free(void *block);
+void *__wrap_malloc(size_t len);
+void __wrap_free(void *block);
+#ifdef __cplusplus
+}
+#endif
+
+static int is_refused, taken, given_back;
+
+void *__wrap_malloc(size_t len)
+{
+    if (is_refused)
+        return NULL;
+    taken++;
+    return __real_malloc(len);
+}
+
+void __wrap_free(void *block)
+{
+    given_back++;
+    __real_free(block);
+}
+
+static struct bsdudp_config config_of(uint32_t mbufs, uint32_t clusters)
+{
+    struct bsdudp_config it = {0x0a000001, 0x0a0000ff, mbufs, clusters, 1500, 1};
+    return it;
+}
+
+/* A stack that works: a datagram comes back to it by loopback. Its only socket is open afterwards. */
+static int works(struct bsdudp *s)
+{
+    struct bsdudp_addr self = {0x7f000001, 7}, from;
+    uint8_t bytes[3] = {1, 2, 3}, room[8];
+    WANT(bsdudp_socket(s), 3);
+    WANT(bsdudp_bind(s, 3, &self), 0);
+    WANT(bsdudp_sendto(s, 3, &self, bytes, sizeof bytes), 3);
+    WANT(bsdudp_recvfrom(s, 3, room, sizeof room, &from), 3);
+    WANT(memcmp(room, bytes, 3), 0);
+    return 0;
+}
+
+static int is_untouched(const unsigned char *at)
+{
+    int k;
+    for (k = 0; k < GUARD; k++)
+        if (at[k] != UNTOUCHED)
+            return 0;
+    return 1;
+}
+
+/* Boot with ever more memory: each of its blocks is refused in turn, until all of them fit. Not a byte around the memory is
+   touched. BSDUDP_MEMORY covers the least that does, and isn't far above it. */
+static int grows(uint32_t mbufs, uint32_t clusters, size_t step)
+{
+    struct bsdudp s = BSDUDP_NONE;
+    struct bsdudp_config config = config_of(mbufs, clusters);
+    size_t all = bsdudp_memory(&config), len;
+    unsigned char *memory = (unsigned char *)__real_malloc(all + 2 * GUARD);
+    int answer = -BSDUDP_ENOMEM;
+    if (memory == NULL)
+        return 1;
+    memset(memory, UNTOUCHED, all + 2 * GUARD);
+    WANT(all, BSDUDP_MEMORY(mbufs, clusters));
+    for (len = 0; len <= all && answer != 0; len += step) {
+        answer = bsdudp_boot_in(&s, &config, memory + GUARD, len);
+        WANT(answer == 0 || answer == -BSDUDP_ENOMEM, 1);
+        WANT(bsdudp_output_len(&s), answer == 0 ? 0 : -BSDUDP_ENXIO);
+        WANT(answer != 0 || mbufs < 4 ? 0 : works(&s), 0);
+        WANT(is_untouched(memory + GUARD + len), 1);
+    }
+    WANT(answer, 0);
+    WANT(len + all / 50 + 128 >= all, 1);
+    WANT(bsdudp_end(&s), 0);
+    WANT(bsdudp_boot_in(&s, &config, memory + GUARD, all), 0);
+    WANT(mbufs < 4 ? 0 : works(&s), 0);
+    WANT(bsdudp_end(&s), 0);
+    WANT(is_untouched(memory) && is_untouched(memory + GUARD + all), 1);
+    __real_free(memory);
+    return 0;
+}
+
+/* malloc is asked once, by boot, and its block comes back once, by end. A boot that is refused keeps none. */
+static int from_malloc(void)
+{
+    struct bsdudp s = BSDUDP_NONE;
+    struct bsdudp_config config = config_of(64, 16), wrong = config;
+    int k;
+    is_refused = 1;
+    WANT(bsdudp_boot(&s, &config), -BSDUDP_ENOMEM);
+    WANT(bsdudp_socket(&s), -BSDUDP_ENXIO);
+    is_refused = 0;
+    for (k = 0; k < 4; k++) {
+        wrong = config;
+        if (k == 0)
+            wrong.mtu = 67;
+        else if (k == 1)
+            wrong.mbufs = 65536;
+        else if (k == 2)
+            wrong.clusters = 4097;
+        else
+            wrong.bcast = 0xe0000001;
+        WANT(bsdudp_boot(&s, &wrong), k == 0 || k == 3 ? -BSDUDP_EINVAL : -BSDUDP_EDOM);
+        WANT(bsdudp_socket(&s), -BSDUDP_ENXIO);
+        WANT(taken, given_back);
+    }
+    taken = given_back = 0;
+    WANT(bsdudp_boot(&s, &config), 0);
+    WANT(works(&s), 0);
+    WANT(taken == 1 && given_back == 0, 1);
+    WANT(bsdudp_end(&s), 0);
+    WANT(taken == 1 && given_back == 1, 1);
+    WANT(bsdudp_end(&s), -BSDUDP_ENXIO);
+    WANT(given_back, 1);
+    return 0;
+}
+
+/* A handle that has a stack keeps it, whichever boot comes next, and whatever that asks for. */
+static int booted_twice(void)
+{
+    static unsigned char memory[2][BSDUDP_MEMORY(64, 16)] __attribute__((aligned(BSDUDP_ALIGNMENT)));
+    struct bsdudp_config config = config_of(64, 16), wrong = config_of(0, 0);
+    int first;
+    for (first = 0; first < 2; first++) {
+        struct bsdudp s = BSDUDP_NONE;
+        taken = given_back = 0;
+        WANT(first ? bsdudp_boot(&s, &config) : bsdudp_boot_in(&s, &config, memory[0], sizeof memory[0]), 0);
+        WANT(works(&s), 0);
+        WANT(bsdudp_boot(&s, &config), -BSDUDP_ENXIO);
+        WANT(bsdudp_boot(&s, &wrong), -BSDUDP_ENXIO);
+        WANT(bsdudp_boot_in(&s, &config, memory[1], sizeof memory[1]), -BSDUDP_ENXIO);
+        WANT(bsdudp_boot_in(&s, &config, memory[1], 0), -BSDUDP_ENXIO);
+        WANT(bsdudp_boot_in(&s, &wrong, memory[1], 0), -BSDUDP_ENXIO);
+        WANT(bsdudp_socket(&s), 4);
+        WANT(bsdudp_end(&s), 0);
+        WANT(taken == first && given_back == first, 1);
+        WANT(bsdudp_boot_in(&s, &config, memory[1], sizeof memory[1]), 0); /* dead, it's free for another */
+        WANT(works(&s), 0);
+        WANT(bsdudp_end(&s), 0);
+        memset(&s, 0, sizeof s); /* and so it is zeroed */
+        WANT(bsdudp_socket(&s), -BSDUDP_ENXIO);
+        WANT(bsdudp_boot(&s, &config), 0);
+        WANT(bsdudp_end(&s), 0);
+        WANT(taken == first + 1 && given_back == first + 1, 1);
+    }
+    return 0;
+}
+
+int main(void)
+{
+    return grows(1, 0, BLOCK) || grows(64, 16, BLOCK) || grows(65535, 4096, 5000 * BLOCK) || from_malloc() || booted_twice();
+}
