@@ -1,6 +1,6 @@
 /* Plays a capture (raw IP or Ethernet) into a host that echoes port 7, and writes what the host sends into another one.
    Time is the capture's own. In the end it says what the host counted.
-       cc -std=gnu99 pcap.c $(pkg-config --cflags --libs bsdudp) -lpcap && ./a.out IN OUT 10.0.0.1 10.0.0.255 */
+       cc -std=gnu99 pcap.c -I PREFIX/include PREFIX/lib/libbsdudp.a -lpcap && ./a.out IN OUT 10.0.0.1 10.0.0.255 */
 #include "bsdudp.h"
 
 #include <arpa/inet.h>

@@ -1,5 +1,5 @@
 /* A host 10.0.0.1 on a TUN device of Linux that echoes UDP on port 7. Linux is 10.0.0.2 there: `nc -u 10.0.0.1 7`.
-       cc -std=gnu99 tun_echo.c $(pkg-config --cflags --libs bsdudp) && sudo ./a.out 1500 */
+       cc -std=gnu99 tun_echo.c -I PREFIX/include PREFIX/lib/libbsdudp.a && sudo ./a.out 1500 */
 #include "bsdudp.h"
 
 #include <fcntl.h>

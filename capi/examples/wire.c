@@ -1,5 +1,5 @@
 /* Two stacks and a wire between them that loses, repeats and reorders packets. What is received was sent so, whole.
-       cc -std=c99 wire.c $(pkg-config --cflags --libs bsdudp) && ./a.out [SEED] */
+       cc -std=c99 wire.c -I PREFIX/include PREFIX/lib/libbsdudp.a && ./a.out [SEED] */
 #include "bsdudp.h"
 
 #include <stdio.h>
