@@ -1,0 +1,41 @@
+// The memory of the module that becomes bsdudp_portable.c: rattle_alloc, rattle_realloc and rattle_dealloc, which the
+// proved code calls. Boot alone asks for memory, and gets blocks one after another of what bsdudp_boot_in was given. It
+// isn't proved, as malloc isn't.
+//
+// Where the memory begins for the module is agreed with calls.c: first the core's handle, of 16 bytes, then these two.
+typedef unsigned long long u64;
+typedef unsigned char u8;
+
+// What an allocation answers: whether there was memory, and where it is.
+typedef struct {
+    u64 ok, at;
+} Tried;
+
+// What is left: from `next` to `end`.
+typedef struct {
+    u64 next, end;
+} Arena;
+
+#define ARENA ((Arena *)0x80000010)
+
+// New memory of n bytes, aligned to 16; no caller asks for more.
+Tried rattle_alloc(u64 n, u64 alignment) {
+    (void)alignment;
+    u64 at = ARENA->next, left = ARENA->end - at;
+    u64 size = (n + 15) & ~15ULL;
+    if (n > left || size > left) return (Tried){0, (u64)ARENA};
+    ARENA->next = at + size;
+    return (Tried){1, at};
+}
+
+// Memory comes back: it's the caller's again once the stack has ended.
+void rattle_dealloc(u8 *at) {
+    (void)at;
+}
+
+// Memory of n bytes whose first `kept` bytes are those at `at`.
+Tried rattle_realloc(u8 *at, u64 kept, u64 n, u64 alignment) {
+    Tried got = rattle_alloc(n, alignment);
+    if (got.ok) __builtin_memcpy((u8 *)got.at, at, kept);
+    return got;
+}
