@@ -1,0 +1,25 @@
+/* run.c on a host: scripts on standard input, replies on standard output. The memory of each stack is a block of
+   malloc, exactly as large as bsdudp_memory tells, so that a sanitizer sees each access outside of it. */
+#include "run.h"
+
+#include <stdio.h>
+#include <stdlib.h>
+
+int run_get(void) { return getchar(); }
+void run_put(const char *bytes, size_t len) { fwrite(bytes, 1, len, stdout); }
+void run_flush(void) { fflush(stdout); }
+
+static void *memory_of(size_t len)
+{
+    static void *memory;
+    free(memory);
+    memory = malloc(len);
+    return memory;
+}
+
+int main(void)
+{
+    run_scripts(memory_of);
+    memory_of(1);
+    return 0;
+}
