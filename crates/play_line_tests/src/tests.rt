@@ -1,0 +1,122 @@
+//! Which plain line a line stands for, and what is wrong with a line that stands for none.
+use play_line::{LONGEST, Scanner, put_shown};
+use script_loop::Buffer;
+use std::process::Abort;
+
+/// Lines, and the plain lines that they stand for.
+static PLAIN: [(&str, &str); 18] = [
+    ("", ""),
+    ("  \t\r", ""),
+    ("# only \"a comment", ""),
+    (" tick\t 60 # a minute is 120\r", "tick 60"),
+    ("rx -", "rx -"),
+    ("rx 0aFF", "rx 0aFF"),
+    ("rx \"hi\"", "rx 6869"),
+    ("rx \" #=+*@\\\\\\\"\"", "rx 20233d2b2a405c22"),
+    ("rx \"\\n\\r\\t\\0\"", "rx 0a0d0900"),
+    ("rx 00ff*3", "rx 00ff00ff00ff"),
+    ("rx \"ab\"*02", "rx 61626162"),
+    ("rx @17", "rx 000102030405060708090a0b0c0d0e0f10"),
+    ("rx \"a\"+00*2+@1+62", "rx 6100000062"),
+    ("rx  \"a\"  +\t00*2 +  @1", "rx 61000000"),
+    (
+        "recvfrom 3 9 => from _ _ \"hi\"",
+        "recvfrom 3 9 => from _ _ 6869",
+    ),
+    ("rx 00=> ok", "rx 00=> ok"),
+    ("send 3 \"a\"=> ok", "send 3 61=> ok"),
+    ("stat => stat ip.total=1", "stat => stat ip.total=1"),
+];
+
+/// Lines that stand for none, with what is wrong with them, and in which column.
+static FAULTY: [(&str, &str, u64); 26] = [
+    ("rx 0g", "not a hex digit", 5),
+    ("rx udq", "not a hex digit", 4),
+    ("send 3 hi", "not a hex digit", 8),
+    ("sendto 3 10.0.0.2 9 0x12", "not a hex digit", 22),
+    ("rx 450", "odd number of hex digits", 4),
+    ("rx 00+1", "odd number of hex digits", 7),
+    ("rx 123*2", "odd number of hex digits", 4),
+    ("+00", "bytes are missing", 1),
+    ("rx *3", "bytes are missing", 4),
+    ("rx 00 *3", "bytes are missing", 7),
+    ("rx 00+", "bytes are missing", 7),
+    ("rx 00+ # none", "bytes are missing", 8),
+    ("rx 00++00", "bytes are missing", 7),
+    ("rx \"a\"00", "`+` or a blank is missing", 7),
+    ("rx 00\"a\"", "`+` or a blank is missing", 6),
+    ("rx 00*2*2", "`+` or a blank is missing", 8),
+    ("rx \"\"", "a text without a byte, `-` is no bytes", 4),
+    ("rx \"a", "a text without an end", 4),
+    ("rx \"a\\q\"", "unknown escape", 7),
+    ("rx 00*", "a number is missing", 7),
+    ("rx @ 3", "a number is missing", 5),
+    ("rx 00*0", "the number is 0", 4),
+    ("rx 00+@0", "the number is 0", 7),
+    ("rx @65536", "more than 65535 bytes", 4),
+    ("rx 00*65536", "more than 65535 bytes", 4),
+    ("rx @65535+00", "more than 65535 bytes", 11),
+];
+
+/// Lines, and what is told of them.
+static SHOWN: [(&str, &str); 5] = [
+    ("", ""),
+    ("\t socket \r", "socket"),
+    ("rx  00 # a comment", "rx 00"),
+    (
+        "send 3  \"a  #=\\\"\" +  00  => ok",
+        "send 3 \"a  #=\\\"\" + 00",
+    ),
+    ("rx \"a", "rx \"a"),
+];
+
+#[test]
+fn reads_plain_lines(rt: HostRuntime) {
+    let mut scanner = Scanner::new(rt.alloc()).expect(&rt, "memory");
+    for (line, wanted) in PLAIN {
+        let is_right = match scanner.plain_line(line.as_bytes()) {
+            Ok(plain) => plain == wanted.as_bytes(),
+            Err(_) => false,
+        };
+        assert!(rt; is_right, "at {line}");
+    }
+}
+
+#[test]
+fn tells_what_is_wrong(rt: HostRuntime) {
+    let mut scanner = Scanner::new(rt.alloc()).expect(&rt, "memory");
+    for (line, fault, column) in FAULTY {
+        let is_right = match scanner.plain_line(line.as_bytes()) {
+            Ok(_) => false,
+            Err(slip) => slip.fault.words() == fault && slip.column == column,
+        };
+        assert!(rt; is_right, "at {line}");
+    }
+}
+
+/// A line has 65,535 bytes at most at one place, and its plain line 262,144.
+#[test]
+fn takes_long_lines(rt: HostRuntime) {
+    let mut scanner = Scanner::new(rt.alloc()).expect(&rt, "memory");
+    for (line, is_plain) in [
+        (b"rx @65534+00 => 00*65533".as_slice(), true),
+        (b"rx @65534+00 => 00*65534".as_slice(), false),
+    ] {
+        let is_right = match scanner.plain_line(line) {
+            Ok(plain) => is_plain && plain.len() == 3 + 131_070 + 4 + 131_066,
+            Err(slip) => !is_plain
+                && slip.column == 17
+                && slip.fault.words() == "the line is too long",
+        };
+        assert!(rt; is_right, "at 65533 or 65534");
+    }
+}
+
+#[test]
+fn shows_lines_as_written(rt: HostRuntime) {
+    let mut text: Buffer<LONGEST> = Buffer::new(rt.alloc()).expect(&rt, "memory");
+    for (line, wanted) in SHOWN {
+        put_shown(line.as_bytes(), &mut text);
+        assert!(rt; text.as_slice() == wanted.as_bytes(), "at {line}");
+    }
+}
