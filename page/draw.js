@@ -110,8 +110,9 @@ function curve(steps, here, choose) {
 
 const letterOf = n => (n < 26 ? "" : String.fromCharCode(64 + Math.floor(n / 26))) + String.fromCharCode(65 + (n % 26));
 const HUES = 8;
-const SIZE = { mbuf: 186, gap: 44, left: 104, high: 112, cluster: 66, under: 38, row: 34, most: 40 };
+const SIZE = { mbuf: 206, gap: 40, left: 104, high: 112, cluster: 66, under: 38, row: 34, most: 40 };
 const BAR = SIZE.mbuf - 18;
+const isNarrow = matchMedia("(max-width: 600px)");
 const roomOf = it => `${it.front.toLocaleString("en")} free | ${it.bytes.length.toLocaleString("en")} | `
   + `${it.behind.toLocaleString("en")} free`;
 
@@ -132,7 +133,10 @@ class ChainPicture {
     this.places = new Map();
     this.refs = [];
     this.rows = [];
-    this.width = 420;
+    // in a narrow window the chain's name stands above its mbufs
+    this.isNarrow = isNarrow.matches;
+    this.left = this.isNarrow ? 6 : SIZE.left;
+    this.width = this.isNarrow ? 0 : 420;
     let top = 16;
     for (const [slot, mbufs] of chains) top = this.place(slot, mbufs, top);
     this.height = top;
@@ -143,8 +147,8 @@ class ChainPicture {
   }
 
   // Where the row of a chain stands, and the clusters that come first in it. Answers where the next row begins.
-  place(slot, mbufs, top) {
-    const row = { slot, mbufs, top, hue: slot % HUES };
+  place(slot, mbufs, above) {
+    const top = above + (this.isNarrow ? 20 : 0), row = { slot, mbufs, top, hue: slot % HUES };
     let isFirst = false;
     mbufs.slice(0, SIZE.most).forEach(({ cluster }, i) => {
       const x = this.xOf(i);
@@ -161,7 +165,7 @@ class ChainPicture {
   }
 
   xOf(place) {
-    return SIZE.left + place * (SIZE.mbuf + SIZE.gap);
+    return this.left + place * (SIZE.mbuf + SIZE.gap);
   }
 
   // A cluster: its count, and the part of it that each mbuf has, the first four of them.
@@ -203,9 +207,14 @@ class ChainPicture {
   drawRow({ slot, mbufs, top, hue }) {
     const old = this.before.get(slot), texts = it => it.map(mbuf => mbuf.text).join();
     const news = !old ? "new" : texts(old) === texts(mbufs) ? "" : "changed";
-    this.parts.boxes.push(words(10, top + 26, "title", `chain ${slot}`),
-      words(10, top + 44, "small", plural(sizeOf(mbufs), "byte")), words(10, top + 60, "small", news));
-    this.link(72, SIZE.left - 4, top + 21);
+    const name = `chain ${slot}`, size = plural(sizeOf(mbufs), "byte");
+    if (this.isNarrow) this.parts.boxes.push(words(this.left, top - 7, "title", name),
+      words(this.left + 70, top - 7, "small", `${size}${news && `, ${news}`}`));
+    else {
+      this.parts.boxes.push(words(10, top + 26, "title", name), words(10, top + 44, "small", size),
+        words(10, top + 60, "small", news));
+      this.link(72, this.left - 4, top + 21);
+    }
     mbufs.slice(0, SIZE.most).forEach((mbuf, i) => {
       const isNew = !old || !old[i] || old[i].text !== mbuf.text, isLast = i + 1 === mbufs.length;
       this.drawMbuf({ x: this.xOf(i), top, hue, mbuf, isNew, isLast });
@@ -222,14 +231,14 @@ class ChainPicture {
   // An mbuf: its bar has the header, the packet's header, the room in front, the bytes, and the room behind.
   drawMbuf({ x, top, hue, mbuf, isNew, isLast }) {
     const { bytes } = mbuf, head = MBUF.header + (mbuf.hasPacket ? MBUF.packet : 0);
-    const flags = [mbuf.hasPacket && "M_PKTHDR", mbuf.isCluster && "M_EXT"].filter(Boolean).join(" ") || "no flag";
+    const flags = [mbuf.hasPacket && "M_PKTHDR", mbuf.isCluster && "M_EXT"].filter(Boolean).join(" ") || "m_flags 0";
     const part = (from, length, kind) => barPart(x, top + 56, 13, MBUF.size, from, length, kind);
     const own = [part(0, MBUF.header, "header"), mbuf.hasPacket && part(MBUF.header, MBUF.packet, "packet-header"),
       !mbuf.isCluster && bytes.length > 0 && part(mbuf.start, bytes.length, `hue-${hue}`)].filter(Boolean);
     const where = mbuf.isCluster ? `m_data in cluster ${letterOf(mbuf.cluster)}` : "m_data in the mbuf";
     const isText = bytes.every(byte => byte >= 32 && byte < 127);
     const hex = hexOf(bytes.subarray(0, 6)).replace(/(..)/g, "$1 ").trim() + (bytes.length > 6 ? " …" : "");
-    const said = bytes.length === 0 ? "" : isText ? `“${readable(bytes, 16)}”` : hex;
+    const said = bytes.length === 0 ? "" : isText ? `“${readable(bytes, 18)}”` : hex;
     this.parts.boxes.push(svg("g", { class: `mbuf${isNew ? " new" : ""}` },
       svg("rect", { x, y: top, width: SIZE.mbuf, height: SIZE.high, rx: 5, class: `box line-${hue}` }),
       words(x + 9, top + 19, "title", "mbuf"),

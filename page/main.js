@@ -233,6 +233,7 @@ function listen() {
   on("theme", "click", () => setTheme(document.documentElement.dataset.theme === "dark" ? "light" : "dark"));
   for (const tab of document.querySelectorAll("[data-tab]")) tab.addEventListener("click",
     () => openFirst(tab.dataset.tab));
+  isNarrow.addEventListener("change", () => select(page.at));
   addEventListener("hashchange", openLink);
   addEventListener("keydown", stepByKey);
 }

@@ -1,9 +1,9 @@
 #!/usr/bin/env python3
 """browser.py PAGE.html EXAMPLES LESSONS SHOTS: plays each example and each lesson in the page itself, in headless
-Chromium, and looks at each line of the lessons. The page's replies have to be those that are wanted. Its console has to be
-silent, and it may ask the network for nothing. Nothing may overlap or be cut off at widths of 360, 768 and 1,600 pixels,
-and each text has to have a contrast of 4.5 at least, in light and in dark. Screenshots are kept in the folder SHOTS. It's
-silent where all is well."""
+Chromium, and looks at its lines. The page's replies have to be those that are wanted. Its console has to be silent, and
+it may ask the network for nothing. What takes input has to be reached by the keyboard alone. Nothing may overlap or be
+cut off at widths of 360, 768 and 1,600 pixels, and each text has to have a contrast of 4.5 at least, in light and in
+dark. Screenshots are kept in the folder SHOTS. It's silent where all is well."""
 import base64
 import json
 import os
@@ -148,6 +148,8 @@ VIEWS = [
     ("run", "11_the_receive_limits", 41),
     ("run", "12_a_connected_socket", 2),
     ("chain", "02_an_mbuf_and_a_cluster", 14),
+    ("chain", "04_headers_in_front", 10),
+    ("chain", "split_and_join", 6),
 ]
 
 
@@ -163,6 +165,9 @@ def look_all(browser, shots):
                     yield f"{name}, {width} pixels, {theme}: {fault}"
                 if (theme, width) in SHOT:
                     browser.shoot(shots / f"{name}-{theme}-{width}.png")
+                if command == "chain" and width == 360:
+                    browser.run("document.querySelector('.wide').scrollIntoView()")
+                    browser.shoot(shots / f"{name}-{theme}-{width}-picture.png")
     for dialog in ("make", "about"):
         browser.run(f"open('run', {{ name: '01_a_datagram' }}); byId('{dialog}').click()")
         for width in WIDTHS:

@@ -1,7 +1,10 @@
 // What browser.py calls in the page.
 "use strict";
 
-// Plays a script in the page and looks at its lines: at each of a lesson, and at the last one of an example.
+// How many lines of an example are looked at, if it has more: the last one, and others at equal distances.
+const LOOKS = 25;
+
+// Plays a script in the page and looks at its lines: at each of a lesson, and of an example that isn't too long.
 function playInPage(mode, text, words, wanted) {
   const faults = [];
   open(mode, { text, options: optionsOf(words) });
@@ -14,7 +17,8 @@ function playInPage(mode, text, words, wanted) {
       if (!isReply(replies[i], reply)) faults.push(`line ${page.notes.places[i] + 1}: it's answered ${replies[i]}`);
     });
   }
-  for (let i = wanted === null ? 0 : page.steps.length - 1; i >= 0 && i < page.steps.length; i++) {
+  const by = wanted === null ? 1 : Math.ceil(page.steps.length / LOOKS);
+  for (let i = page.steps.length - 1; i >= 0; i -= by) {
     select(i);
     if (!byId("look").firstChild) faults.push(`line ${i + 1} shows nothing`);
     faults.push(...(mode === "run" ? faultsOfOwners : faultsOfDrawing)(i));
@@ -95,6 +99,24 @@ function faultsOfOverlap() {
   return [...faults].slice(0, 8);
 }
 
+// The texts of a drawn mbuf or cluster stand in its box, and none lies over another.
+function faultsOfPicture() {
+  const faults = new Set();
+  for (const group of document.querySelectorAll(".picture g")) {
+    const box = group.querySelector(".box").getBoundingClientRect();
+    const texts = [...group.querySelectorAll("text")].filter(it => it.textContent)
+      .map(it => ({ text: it.textContent, box: it.getBoundingClientRect() }));
+    texts.forEach((a, i) => {
+      if (a.box.left < box.left || a.box.right > box.right || a.box.bottom > box.bottom) {
+        faults.add(`“${a.text}” stands out of its box`);
+      }
+      const other = texts.slice(i + 1).find(b => doOverlap(a.box, b.box) && Math.abs(b.box.top - a.box.top) < 4);
+      if (other) faults.add(`“${a.text}” and “${other.text}” overlap`);
+    });
+  }
+  return [...faults].slice(0, 8);
+}
+
 // No text is cut off at its side, but where it's marked by dots or can be scrolled to.
 function faultsOfWidth() {
   const faults = [], wide = document.documentElement.scrollWidth;
@@ -141,7 +163,17 @@ function faultsOfContrast() {
     const name = text.getAttribute("class");
     if (contrast < 4.5) faults.push(`${name} in the picture has a contrast of ${contrast.toFixed(1)}`);
   }
-  return [...new Set(faults)].slice(0, 8);
+  return [...new Set(faults), ...faultsOfBorders()].slice(0, 8);
+}
+
+// WCAG 2.1, 1.4.11: where a field is, is seen by its border.
+function faultsOfBorders() {
+  const contrastOf = it => {
+    const [a, b] = [light(channels(getComputedStyle(it).borderTopColor)), light(behind(it.parentElement))];
+    return (Math.max(a, b) + 0.05) / (Math.min(a, b) + 0.05);
+  };
+  return solid().filter(it => it.matches("input, select") && contrastOf(it) < 3)
+    .map(it => `the border of ${nameOf(it)} has a contrast of ${contrastOf(it).toFixed(1)}`);
 }
 
 // Whatever takes input has a name that a screen reader tells.
@@ -153,7 +185,8 @@ function faultsOfNames() {
     .filter(it => !isNamed(it)).map(it => `${nameOf(it)} has no name`);
 }
 
-const faultsOfLayout = () => [...faultsOfOverlap(), ...faultsOfWidth(), ...faultsOfContrast(), ...faultsOfNames()];
+const faultsOfLayout = () =>
+  [faultsOfOverlap, faultsOfPicture, faultsOfWidth, faultsOfContrast, faultsOfNames].flatMap(look => look());
 
 // Arrow keys step, but in the script's own field; a link brings a script back; a packet that is made is put in.
 function faultsOfKeys() {
