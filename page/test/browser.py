@@ -217,6 +217,7 @@ def try_keys(browser):
         if browser.run(f"byId('{dialog}').open || document.activeElement !== byId('{button}')"):
             yield f"{dialog} isn't closed by Escape, or the keyboard isn't where it was"
     yield from browser.run("faultsOfKeys()")
+    yield from browser.run("faultsOfSaving()")
 
 
 def main(page, examples, lessons, shots):

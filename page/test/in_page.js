@@ -210,6 +210,22 @@ function faultsOfKeys() {
   return faults;
 }
 
+// What is saved is the script, under its name, and opened again it's the same script. No file is written.
+async function faultsOfSaving() {
+  const { createObjectURL } = URL, { click } = HTMLAnchorElement.prototype, saved = {};
+  URL.createObjectURL = it => createObjectURL.call(URL, (saved.file = it));
+  HTMLAnchorElement.prototype.click = function () { saved.name = this.download; };
+  open("chain", { name: "03_sharing_without_copying" });
+  const before = byId("script").value;
+  save();
+  Object.assign(URL, { createObjectURL });
+  HTMLAnchorElement.prototype.click = click;
+  open("chain", { text: "" });
+  await load({ target: { files: [saved.file], value: saved.name } });
+  const isSame = byId("script").value === before && page.mode === "chain" && page.steps.length === 18;
+  return isSame && saved.name === "03_sharing_without_copying.txt" ? [] : ["a script that was saved isn't opened again"];
+}
+
 // ---- by keyboard alone
 
 // What takes input in what is open, and what of it the Tab key has reached.
