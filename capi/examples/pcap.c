@@ -11,7 +11,7 @@ enum { FD = BSDUDP_FIRST_FD, HALF_SECOND = 500000, ETHERNET_HEADER = 14, ETHERTY
 
 static uint8_t room[BSDUDP_TX_ROOM], bytes[BSDUDP_DATAGRAM];
 
-/* The IP packet of a frame, whose length becomes the packet's; NULL if it has none. A frame may have bytes behind it. */
+/* The IP packet of a frame, whose length becomes the packet's; NULL if it has none. Bytes may stand behind it. */
 static const u_char *packet_in(int link, const u_char *frame, size_t *len)
 {
     if (link != DLT_EN10MB)

@@ -1,10 +1,10 @@
 #!/usr/bin/env python3
-"""Linux as the peer of capi/examples/tun_echo.c: kernel.py TUN_ECHO MTU, in a network namespace of its own (unshare -n).
+"""Linux as the peer of capi/examples/tun_echo.c: kernel.py TUN_ECHO MTU. It takes a network namespace (unshare -n).
 
 Datagrams of many lengths go to the echo at 10.0.0.1 port 7 and come back, with and without a checksum, to the broadcast
 address, and of random lengths. With a third word `lossy` the program is that host behind a wire that loses, repeats and
-reorders (lossy.c): what comes back of 2,000 datagrams was sent so. Then the kernel's own counters have no error, and the
-pool is full again. It says the first thing that is wrong, and then exits with 1."""
+reorders (lossy.c): what comes back of 2,000 datagrams was sent so. Then the kernel's own counters have no error, and
+the pool is full again. It says the first thing that is wrong, and then exits with 1."""
 import os
 import random
 import re
@@ -93,7 +93,7 @@ def lossy_datagrams(mtu):
         came += come_back(it, most, 0.004)
     came += come_back(it, most, 1.2)  # meanwhile the host drops what lacks fragments
     if not DATAGRAMS // 20 < len(set(came)) < DATAGRAMS or len(came) == len(set(came)):
-        raise Wrong(f"MTU {mtu}: of {DATAGRAMS} datagrams {len(set(came))} came over the lossy wire, {len(came)} in all")
+        raise Wrong(f"MTU {mtu}: of {DATAGRAMS} datagrams {len(set(came))} came over the lossy wire, in {len(came)}")
 
 
 def errors():

@@ -1,4 +1,4 @@
-/* The memory of a stack: each allocation refused in turn, memory that just suffices, handles that are booted twice, dead or
+/* The memory of a stack: each allocation refused in turn, memory that just suffices, handles booted twice, dead or
    zeroed. The linker sends malloc and free of the library here (--wrap), so that they can be refused and counted. It
    compiles as C99 and as C++, says the line of the first answer that is wrong, and then exits with 1. */
 #include "bsdudp.h"
@@ -73,7 +73,7 @@ static int is_untouched(const unsigned char *at)
     return 1;
 }
 
-/* Boot with ever more memory: each of its blocks is refused in turn, until all of them fit. Not a byte around the memory is
+/* Boot with ever more memory: each of its blocks is refused in turn, until all of them fit. Not a byte around it is
    touched. BSDUDP_MEMORY covers the least that does, and isn't far above it. */
 static int grows(uint32_t mbufs, uint32_t clusters, size_t step)
 {
@@ -172,5 +172,6 @@ static int booted_twice(void)
 
 int main(void)
 {
-    return grows(1, 0, BLOCK) || grows(64, 16, BLOCK) || grows(65535, 4096, 5000 * BLOCK) || from_malloc() || booted_twice();
+    return grows(1, 0, BLOCK) || grows(64, 16, BLOCK) || grows(65535, 4096, 5000 * BLOCK) || from_malloc() ||
+           booted_twice();
 }

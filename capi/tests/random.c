@@ -505,7 +505,8 @@ static int all_came(void)
             }
     for (k = 0; k < BSDUDP_COUNTERS; k++)
         if (!counted[k]) {
-            fprintf(stderr, "capi/tests/random.c: with these seeds %s never counts\n", bsdudp_counter_name((uint32_t)k));
+            fprintf(stderr, "capi/tests/random.c: with these seeds %s never counts\n",
+                    bsdudp_counter_name((uint32_t)k));
             missing = 1;
         }
     return missing;

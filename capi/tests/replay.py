@@ -1,10 +1,10 @@
 #!/usr/bin/env python3
 """The captures of tests/captures, played: replay.py PCAP [TUN_ECHO].
 
-PCAP is the built capi/examples/pcap.c. What it counts stands in NAME.stdout; what it writes has the echo of each datagram
-to port 7, with right checksums; and tshark, if it's there, finds nothing to say of it. TUN_ECHO is the built tun_echo.c:
-the packets of ethernet.pcap go to it by its device, and it has to send the same packets back, byte for byte. That takes a
-network namespace (unshare -n). It says the first thing that is wrong, and then exits with 1."""
+PCAP is the built capi/examples/pcap.c. What it counts stands in NAME.stdout; what it writes has the echo of each
+datagram to port 7, with right checksums; and tshark, if it's there, finds nothing to say of it. TUN_ECHO is the built
+tun_echo.c: the packets of ethernet.pcap go to it by its device, and it has to send the same packets back, byte for
+byte. That takes a network namespace (unshare -n). It says the first thing that is wrong, and then exits with 1."""
 import pathlib
 import shutil
 import signal
@@ -48,7 +48,7 @@ def total(data):
 
 
 def datagrams(timed):
-    """The UDP datagrams of packets: their two addresses, two ports and bytes. What isn't whole after 30 seconds is dropped."""
+    """The UDP datagrams of packets: addresses, ports and bytes. What isn't whole after 30 seconds is dropped."""
     pieces, begun = {}, {}
     for now, packet in timed:
         if total(packet[:20]) != 0xFFFF:
