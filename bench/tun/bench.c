@@ -1,0 +1,249 @@
+/*
+ * Echoes by hosts on a link of Linux: bench NAME=PROGRAM.. starts each host in a network namespace of its own, and asks
+ * it from there. A last host is Linux itself, behind a pair of virtual Ethernet devices. Rounds go over all hosts in
+ * turn. Sixteen datagrams are under way at once, so that nobody waits for one alone.
+ *
+ *   echoes a second
+ *   processor time of the host    what the host's process takes for an echo
+ *   of the host and its peer      with that of this process, since Linux works for a host on the time of who sends
+ *
+ * Each is the median of all rounds. ROUNDS names more or fewer than 100.
+ */
+#define _GNU_SOURCE
+#include <arpa/inet.h>
+#include <sched.h>
+#include <signal.h>
+#include <stdbool.h>
+#include <stdint.h>
+#include <stdio.h>
+#include <stdlib.h>
+#include <string.h>
+#include <sys/socket.h>
+#include <sys/wait.h>
+#include <time.h>
+#include <unistd.h>
+
+enum { HOSTS = 8, SIZES = 3, MOST = 9000, UNDER_WAY = 16, PORT = 7, IP_DISCOVER = 10, MOST_ROUNDS = 1000 };
+enum { RATE, HOST, BOTH, KINDS };
+
+static const int LENS[SIZES] = {2, 1472, MOST};
+static const int TURNS[SIZES] = {2000, 2000, 500};
+
+typedef struct {
+    const char *name;
+    pid_t process;
+    clockid_t clock; /* its processor time */
+    int socket;      /* connected to it, in its namespace */
+    double measured[KINDS][SIZES][MOST_ROUNDS];
+} Host;
+
+static Host hosts[HOSTS];
+static int host_count;
+static uint8_t bytes[MOST], room[MOST + 1];
+
+static void stop(const char *what)
+{
+    fprintf(stderr, "%s\n", what);
+    for (int k = 0; k < host_count; k++)
+        kill(hosts[k].process, SIGKILL);
+    exit(1);
+}
+
+static double seconds(clockid_t clock)
+{
+    struct timespec now;
+    clock_gettime(clock, &now);
+    return (double)now.tv_sec + (double)now.tv_nsec / 1e9;
+}
+
+static struct sockaddr_in address(const char *text)
+{
+    struct sockaddr_in it = {.sin_family = AF_INET, .sin_port = htons(PORT), .sin_addr.s_addr = inet_addr(text)};
+    return it;
+}
+
+/* A socket with room for all datagrams that are under way, which cuts those that are long. */
+static int new_socket(void)
+{
+    int it = socket(AF_INET, SOCK_DGRAM, 0), never = 0, space = 1 << 22;
+    setsockopt(it, SOL_SOCKET, SO_RCVBUFFORCE, &space, sizeof space);
+    setsockopt(it, IPPROTO_IP, IP_DISCOVER, &never, sizeof never);
+    return it;
+}
+
+/* A socket of this process's namespace that sends to 10.0.0.1, or -1 as long as no device leads there. */
+static int client(void)
+{
+    struct timeval wait = {5, 0};
+    struct sockaddr_in to = address("10.0.0.1");
+    int it = new_socket();
+    setsockopt(it, SOL_SOCKET, SO_RCVTIMEO, &wait, sizeof wait);
+    if (connect(it, (struct sockaddr *)&to, sizeof to) == 0)
+        return it;
+    close(it);
+    return -1;
+}
+
+/* Linux's own: a socket that echoes. It begins once its device is there. */
+static void echo_by_linux(int ready, int begin)
+{
+    struct sockaddr_in any = address("0.0.0.0"), from;
+    char byte = 0;
+    if (unshare(CLONE_NEWNET) < 0 || write(ready, &byte, 1) != 1 || read(begin, &byte, 1) != 1 ||
+        system("ip addr add 10.0.0.1/24 dev far && ip link set far up") != 0)
+        _exit(1);
+    int it = new_socket();
+    if (bind(it, (struct sockaddr *)&any, sizeof any) < 0)
+        _exit(1);
+    for (;;) {
+        socklen_t size = sizeof from;
+        ssize_t len = recvfrom(it, room, sizeof room, 0, (struct sockaddr *)&from, &size);
+        if (len >= 0)
+            sendto(it, room, (size_t)len, 0, (struct sockaddr *)&from, size);
+    }
+}
+
+static pid_t start_linux(void)
+{
+    char command[200], byte;
+    int ready[2], begin[2];
+    if (pipe(ready) < 0 || pipe(begin) < 0)
+        stop("no pipe");
+    pid_t child = fork();
+    if (child == 0)
+        echo_by_linux(ready[1], begin[0]);
+    snprintf(command, sizeof command,
+             "ip link add near type veth peer name far netns %d && ip addr add 10.0.0.2/24 dev near && "
+             "ip link set near up",
+             (int)child);
+    if (read(ready[0], &byte, 1) != 1 || system(command) != 0 || write(begin[1], &byte, 1) != 1)
+        stop("no pair of devices");
+    return child;
+}
+
+static pid_t start_program(const char *program)
+{
+    pid_t child = fork();
+    if (child == 0) {
+        if (freopen("/dev/null", "w", stdout) != NULL)
+            execl(program, program, "1500", (char *)0);
+        _exit(127);
+    }
+    return child;
+}
+
+/* Starts a host in a namespace that this process enters too, and waits until it echoes. */
+static void start(const char *name, const char *program)
+{
+    Host *it = &hosts[host_count++];
+    if (unshare(CLONE_NEWNET) < 0)
+        stop("no namespace");
+    it->name = name;
+    it->process = program ? start_program(program) : start_linux();
+    clock_getcpuclockid(it->process, &it->clock);
+    for (int tries = 0; tries < 100; tries++) {
+        usleep(50000);
+        it->socket = client();
+        if (it->socket >= 0 && send(it->socket, bytes, 1, 0) == 1) {
+            usleep(50000);
+            if (recv(it->socket, room, sizeof room, MSG_DONTWAIT) == 1)
+                return;
+        }
+        close(it->socket);
+    }
+    stop("a host doesn't echo");
+}
+
+static void await(const Host *it, int len)
+{
+    if (recv(it->socket, room, sizeof room, 0) != len || memcmp(room, bytes, (size_t)len) != 0) {
+        fprintf(stderr, "bench: %s, %d bytes: ", it->name, len);
+        stop("an echo didn't come, or came otherwise");
+    }
+}
+
+/* Echoes of one length. */
+static void measure(Host *it, int size, int round)
+{
+    double begun = seconds(CLOCK_MONOTONIC), host = seconds(it->clock), mine = seconds(CLOCK_PROCESS_CPUTIME_ID);
+    int turns = TURNS[size], len = LENS[size];
+    for (int k = 0; k < turns + UNDER_WAY; k++) {
+        if (k < turns && send(it->socket, bytes, (size_t)len, 0) != len)
+            stop("a datagram wasn't sent");
+        if (k >= UNDER_WAY)
+            await(it, len);
+    }
+    it->measured[RATE][size][round] = turns / (seconds(CLOCK_MONOTONIC) - begun);
+    it->measured[HOST][size][round] = (seconds(it->clock) - host) * 1e9 / turns;
+    mine = (seconds(CLOCK_PROCESS_CPUTIME_ID) - mine) * 1e9 / turns;
+    it->measured[BOTH][size][round] = it->measured[HOST][size][round] + mine;
+}
+
+static int compare(const void *a, const void *b)
+{
+    double difference = *(const double *)a - *(const double *)b;
+    return (difference > 0) - (difference < 0);
+}
+
+/* Sorts what was measured. */
+static double median(double *values, int count)
+{
+    qsort(values, (size_t)count, sizeof *values, compare);
+    return values[count / 2];
+}
+
+static void print_head(const char *what)
+{
+    printf("%-44s", what);
+    for (int size = 0; size < SIZES; size++)
+        printf(" %9d", LENS[size]);
+    printf("\n");
+}
+
+/* A table, and the same as ratios to the first host's. */
+static void print(const char *what, int kind, int rounds)
+{
+    for (int ratios = 0; ratios < 2; ratios++) {
+        print_head(ratios ? "the same, to the first" : what);
+        for (int k = 0; k < host_count; k++) {
+            printf("%-44s", hosts[k].name);
+            for (int size = 0; size < SIZES; size++) {
+                double value = median(hosts[k].measured[kind][size], rounds);
+                if (ratios)
+                    printf(" %9.2f", value / median(hosts[0].measured[kind][size], rounds));
+                else
+                    printf(" %9.0f", value);
+            }
+            printf("\n");
+        }
+    }
+}
+
+int main(int argc, char **argv)
+{
+    int rounds = getenv("ROUNDS") ? atoi(getenv("ROUNDS")) : 100;
+    if (rounds < 1 || rounds > MOST_ROUNDS)
+        stop("ROUNDS is 1 to 1000");
+    for (int k = 0; k < MOST; k++)
+        bytes[k] = (uint8_t)(k % 251);
+    for (int k = 1; k < argc && host_count < HOSTS - 1; k++) {
+        char *program = strchr(argv[k], '=');
+        if (program == NULL)
+            stop("usage: bench NAME=PROGRAM..");
+        *program = 0;
+        start(argv[k], program + 1);
+    }
+    start("Linux", NULL);
+    for (int round = 0; round < rounds; round++)
+        for (int size = 0; size < SIZES; size++)
+            for (int k = 0; k < host_count; k++)
+                measure(&hosts[k], size, round);
+    print("echoes a second", RATE, rounds);
+    print("processor time of the host, ns an echo", HOST, rounds);
+    print("of the host and its peer, ns an echo", BOTH, rounds);
+    for (int k = 0; k < host_count; k++) {
+        kill(hosts[k].process, SIGKILL);
+        waitpid(hosts[k].process, NULL, 0);
+    }
+    return 0;
+}

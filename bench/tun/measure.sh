@@ -1,0 +1,34 @@
+# Echoes by tun_echo of capi/examples, by lwIP on a TUN device, and by Linux's own socket. LWIP names a folder that has
+# lwIP's sources already.
+
+. "$bench/peers/measure.sh"
+
+# lwIP's host, with the options and the port of bench/peers.
+build_lwip_echo() { # WORK NAME FLAG..
+    local core="$LWIP/src/core" program="$1/$2" file
+    local files=("$bench/tun/lwip_echo.c" "$bench/peers/sum.c")
+    shift 2
+    for file in def inet_chksum init ip mem memp netif pbuf udp; do files+=("$core/$file.c"); done
+    for file in ip4 ip4_addr ip4_frag; do files+=("$core/ipv4/$file.c"); done
+    "${CC:-gcc}" "$@" -I "$bench/peers" -I "$LWIP/src/include" -o "$program" "${files[@]}"
+}
+
+measure_tun() { # WORK
+    local hosts=("tun_echo=$1/tun_echo") flags=(-O3 -Wall -Wextra)
+    if ! unshare -n true 2> "$1/tun.log" || ! [ -w /dev/net/tun ] || ! command -v ip > "$1/tun.log"; then
+        echo "skipped: it wants root, network namespaces, a TUN device, and iproute2's ip"
+        return
+    fi
+    "$bench/../capi/build" "$1/capi"
+    "${CC:-gcc}" "${flags[@]}" -I "$bench/../capi/include" -o "$1/tun_echo" "$bench/../capi/examples/tun_echo.c" \
+        "$1/capi/libbsdudp.a"
+    if lwip_sources "$1"; then
+        build_lwip_echo "$1" lwip_O2 -O2
+        build_lwip_echo "$1" lwip_O3 -O3 -march=x86-64-v2 -flto -DLWIP_NOASSERT -DPEERS_SUM
+        hosts+=("lwIP -O2=$1/lwip_O2" "lwIP -O3 -flto, no asserts, a sum by SSE2=$1/lwip_O3")
+    else
+        echo "lwIP's sources can't be had by apt-get: lwIP is left out"
+    fi
+    "${CC:-gcc}" "${flags[@]}" -o "$1/bench" "$bench/tun/bench.c"
+    "$1/bench" "${hosts[@]}"
+}
