@@ -64,6 +64,8 @@ class Packet(bytes):
             piece = f", bytes {self.offset} to {self.offset + len(self.data) - 1}{', more to come' if self.more else ''}"
         return f"<Packet {self.source} > {self.destination}{ports}, id {self.identification}{piece}, {len(self)} bytes>"
 
+    __str__ = __repr__  # print shows what it is, and not its bytes
+
     def _repr_html_(self) -> str:
         if len(self) < 20:
             return html.escape(repr(self))

@@ -1,0 +1,45 @@
+"""The code of docs/python.md, run as a reader would: each piece goes on from those above it. What a comment says that a
+line prints is what it prints."""
+import ast
+import contextlib
+import io
+import re
+import subprocess
+import sys
+
+import pytest
+from conftest import TOP
+
+PAGE = (TOP / "docs/python.md").read_text(encoding="utf-8")
+PIECES = re.findall(r"```python\n(.*?)```", PAGE, re.S)
+PRINTED = re.compile(r"print\(.*\)\s+# ([<(\[{'0-9].*)")
+
+
+def run(piece, names):
+    """Runs a piece, statement by statement. Where all that a statement prints is told, it has to be that."""
+    lines = piece.splitlines()
+    for statement in ast.parse(piece).body:
+        text = "\n".join(lines[statement.lineno - 1 : statement.end_lineno])
+        said = io.StringIO()
+        with contextlib.redirect_stdout(said):
+            exec(compile(text, "docs/python.md", "exec"), names)
+        told = PRINTED.findall(text)
+        if told:
+            assert said.getvalue().splitlines() == told
+
+
+def test_pieces():
+    names = {"__name__": "__reader__"}
+    for piece in PIECES:
+        if "__main__" in piece:
+            continue
+        if "scapy" in piece:
+            pytest.importorskip("scapy.all")
+        run(piece, names)
+
+
+def test_sweep(tmp_path):
+    (piece,) = (piece for piece in PIECES if "__main__" in piece)
+    (tmp_path / "through.py").write_text(piece)
+    ran = subprocess.run([sys.executable, tmp_path / "through.py"], capture_output=True, text=True, check=True)
+    assert ran.stdout.splitlines() == PRINTED.findall(piece)
