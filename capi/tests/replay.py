@@ -78,7 +78,6 @@ def echoes(path):
 def read_by_tshark(path, count):
     """tshark finds right checksums, nothing malformed, and nothing to note."""
     if not shutil.which("tshark"):
-        print("capi: no tshark: what pcap writes isn't read by it")
         return
     words = ["tshark", "-r", path, "-o", "ip.check_checksum:TRUE", "-o", "udp.check_checksum:TRUE", "-T", "fields"]
     for name in ("ip.checksum.status", "udp.checksum.status", "_ws.malformed", "_ws.expert.severity"):
@@ -140,6 +139,8 @@ def main(programs):
         with tempfile.TemporaryDirectory() as room:
             sent = by_pcap(programs[0], "ethernet", room)
             by_pcap(programs[0], "late", room)
+        if not shutil.which("tshark"):
+            print("capi: no tshark: what pcap writes isn't read by it")
         for program in programs[1:]:
             by_tun_echo(program, "ethernet", sent)
     except Wrong as what:
