@@ -84,7 +84,7 @@ def random_script(seed, lines):
 def played(driver, scripts):
     """The driver's replies to scripts, one after another."""
     text = b"".join(" ".join(options).encode() + b"\n" + script + b"\0" for options, script in scripts)
-    ran = subprocess.run(driver, input=text, capture_output=True, check=False)
+    ran = subprocess.run(driver, input=text + b"\x04", capture_output=True, check=False)
     replies = ran.stdout.split(b"\0")[:-1]
     if ran.returncode or len(replies) != len(scripts):
         said = (ran.stderr.decode(errors="replace").strip() or "nothing").splitlines()[0]

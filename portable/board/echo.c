@@ -1,0 +1,103 @@
+/* A service on a board: what comes to 10.0.0.1 port 7 goes back. Packets come and go by SLIP (RFC 1055) over the serial
+   port. All memory is static: 64 KB are enough, stack and all. A packet of one byte 4 ends it, which no board needs. */
+#include "bsdudp.h"
+#include "machine.h"
+
+enum { END = 0300, ESC = 0333, ESC_END = 0334, ESC_ESC = 0335, MTU = 1500, END_OF_TEXT = 4 };
+
+#ifndef MBUFS
+#define MBUFS 64
+#endif
+#ifndef CLUSTERS
+#define CLUSTERS 16
+#endif
+
+static unsigned char memory[BSDUDP_MEMORY(MBUFS, CLUSTERS)] __attribute__((aligned(BSDUDP_ALIGNMENT)));
+static struct bsdudp stack;
+static uint8_t packet[MTU], room[BSDUDP_TX_ROOM];
+static uint32_t length; /* of what has come of a packet; more than the MTU of one that is too long */
+
+/* A packet as SLIP writes it: an end before it, too, so that noise on the line is a packet of its own. */
+static void transmit(const uint8_t *bytes, int len)
+{
+    int i;
+    machine_put(END);
+    for (i = 0; i < len; i++) {
+        if (bytes[i] != END && bytes[i] != ESC) {
+            machine_put(bytes[i]);
+            continue;
+        }
+        machine_put(ESC);
+        machine_put(bytes[i] == END ? ESC_END : ESC_ESC);
+    }
+    machine_put(END);
+}
+
+/* A byte has come; whether a packet is whole. */
+static int whole(uint8_t byte)
+{
+    static uint8_t escaped;
+    if (byte == END)
+        return length > 0;
+    if (escaped)
+        byte = byte == ESC_END ? END : byte == ESC_ESC ? ESC : byte;
+    else if (byte == ESC) {
+        escaped = 1;
+        return 0;
+    }
+    escaped = 0;
+    if (length < MTU)
+        packet[length] = byte;
+    length += length <= MTU;
+    return 0;
+}
+
+/* What waits in the socket goes back, and what waits for the link goes out. */
+static void serve(uint32_t fd)
+{
+    struct bsdudp_addr from = {0, 0};
+    int len;
+    while ((len = bsdudp_recvfrom(&stack, fd, room, sizeof room, &from)) >= 0)
+        bsdudp_sendto(&stack, fd, &from, room, (size_t)len);
+    while ((len = bsdudp_tx(&stack, room, sizeof room)) > 0)
+        transmit(room, len);
+}
+
+/* Tells what the stack was, and what the pool has, in words. */
+static void report(void)
+{
+    struct bsdudp_mbstat usage;
+    uint32_t stack_used = machine_stack(), bit;
+    char digits[] = "stack 00000 ";
+    for (bit = 10; bit > 5; bit--, stack_used /= 10)
+        digits[bit] = (char)('0' + stack_used % 10);
+    machine_say(digits);
+    bsdudp_mbstat(&stack, &usage);
+    machine_say(usage.free_mbufs == usage.mbufs && usage.free_clusters == usage.clusters ? "all free\n" : "not all free\n");
+}
+
+int main(void)
+{
+    static const struct bsdudp_config config = {0x0a000001, 0x0a0000ff, MBUFS, CLUSTERS, MTU, 1};
+    static const struct bsdudp_addr echo = {0, 7};
+    int fd;
+    if (bsdudp_boot_in(&stack, &config, memory, sizeof memory) < 0)
+        return 1;
+    fd = bsdudp_socket(&stack);
+    bsdudp_bind(&stack, (uint32_t)fd, &echo);
+    for (;;) {
+        if (machine_ticked())
+            bsdudp_tick(&stack);
+        if (!machine_came() || !whole(machine_get()))
+            continue;
+        if (length == 1 && packet[0] == END_OF_TEXT)
+            break;
+        if (length <= MTU)
+            bsdudp_rx(&stack, packet, length);
+        length = 0;
+        serve((uint32_t)fd);
+    }
+    report();
+    bsdudp_end(&stack);
+    return 0;
+}

@@ -1,0 +1,86 @@
+/* A Cortex-M3 as QEMU's machine mps2-an385 has it: what runs first, the serial port, the clock, and the end. */
+#include "machine.h"
+
+/* From ARM's descriptions: the CMSDK's serial port, and the processor's own clock. */
+#define REGISTER(address) (*(volatile uint32_t *)(address))
+#define UART_DATA REGISTER(0x40004000)
+#define UART_STATE REGISTER(0x40004004)
+#define UART_CONTROL REGISTER(0x40004008)
+#define UART_DIVIDER REGISTER(0x40004010)
+#define CLOCK_CONTROL REGISTER(0xe000e010)
+#define CLOCK_RELOAD REGISTER(0xe000e014)
+enum { UART_FULL = 1, UART_CAME = 2, UART_ON = 3, CLOCK_ON = 5, CLOCK_PASSED = 1 << 16, HALF_A_SECOND = 12500000 };
+
+/* From the linker: where variables begin and end, and the end of the memory. */
+extern uint32_t variables_start, variables_end, memory_end;
+enum { PAINT = 0x5aa5c33c };
+
+int main(void);
+void start(void);
+
+/* Asks the debugger, which is QEMU, for something. */
+static void ask(uint32_t what, const void *argument)
+{
+    register uint32_t r0 __asm__("r0") = what;
+    register const void *r1 __asm__("r1") = argument;
+    __asm__ volatile("bkpt 0xab" : "+r"(r0) : "r"(r1) : "memory");
+}
+
+static void leave(uint32_t why)
+{
+    ask(0x18, (const void *)(uintptr_t)why); /* SYS_EXIT */
+    for (;;) {
+    }
+}
+
+void machine_end(void) { leave(0x20026); /* ADP_Stopped_ApplicationExit: status 0 */ }
+
+void machine_say(const char *text) { ask(4, text); /* SYS_WRITE0 */ }
+
+/* A fault of the processor. */
+static void fault(void)
+{
+    machine_say("fault\n");
+    leave(0x20023); /* ADP_Stopped_RunTimeErrorUnknown: status 1 */
+}
+
+/* Where the processor begins. */
+void start(void)
+{
+    uint32_t *at, *here = (uint32_t *)__builtin_frame_address(0) - 16;
+    for (at = &variables_start; at < &variables_end; at++)
+        *at = 0;
+    for (; at < here; at++)
+        *at = PAINT;
+    UART_DIVIDER = 16;
+    UART_CONTROL = UART_ON;
+    CLOCK_RELOAD = HALF_A_SECOND - 1;
+    CLOCK_CONTROL = CLOCK_ON;
+    main();
+    machine_end();
+}
+
+/* The top of the stack, where to begin, and what to do at a fault. */
+__attribute__((section(".vectors"), used)) static void *const vectors[] = {
+    &memory_end, (void *)start, (void *)fault, (void *)fault, (void *)fault, (void *)fault, (void *)fault,
+};
+
+uint32_t machine_stack(void)
+{
+    const uint32_t *at = &variables_end;
+    while (at < &memory_end && *at == PAINT)
+        at++;
+    return (uint32_t)((const uint8_t *)&memory_end - (const uint8_t *)at);
+}
+
+int machine_came(void) { return (UART_STATE & UART_CAME) != 0; }
+uint8_t machine_get(void) { return (uint8_t)UART_DATA; }
+
+void machine_put(uint8_t byte)
+{
+    while ((UART_STATE & UART_FULL) != 0)
+        continue;
+    UART_DATA = byte;
+}
+
+int machine_ticked(void) { return (CLOCK_CONTROL & CLOCK_PASSED) != 0; }

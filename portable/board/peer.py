@@ -1,0 +1,65 @@
+#!/usr/bin/env python3
+"""peer.py [--all] BRIDGE..: Linux as the peer of echo.c, in a network namespace of its own (unshare -n). Datagrams of 0
+to 4,096 bytes go to 10.0.0.1 port 7 and come back, of each length with --all. The kernel's counters have no error then,
+and the board's pool is full again. It says the first thing that is wrong and exits with 1, else how much stack was
+used."""
+import pathlib
+import random
+import re
+import signal
+import socket
+import subprocess
+import sys
+import time
+
+LENGTHS = [0, 1, 2, 72, 73, 100, 101, 207, 208, 1472, 1473, 2047, 2048, 2049, 2952, 2953, 4095, 4096]
+BOARD, MOST = ("10.0.0.1", 7), 4096
+IP_MTU_DISCOVER = 10
+
+
+def wait_for_device():
+    for _ in range(100):
+        shown = subprocess.run(["ip", "addr", "show", "bsdudp0"], capture_output=True, text=True, check=False).stdout
+        if "10.0.0.2" in shown and "UP" in shown:
+            return
+        time.sleep(0.05)
+    sys.exit("peer.py: the device doesn't come up")
+
+
+def echo(lengths):
+    it = socket.socket(socket.AF_INET, socket.SOCK_DGRAM)
+    it.setsockopt(socket.IPPROTO_IP, IP_MTU_DISCOVER, 0)
+    it.settimeout(10)
+    rng = random.Random(1)
+    for length in lengths:
+        data = rng.randbytes(length)
+        it.sendto(data, BOARD)
+        try:
+            back, sender = it.recvfrom(65536)
+        except TimeoutError:
+            return f"{length} bytes didn't come back"
+        if back != data or sender != BOARD:
+            return f"{length} bytes came back as {len(back)} others from {sender}"
+    lines = pathlib.Path("/proc/net/snmp").read_text().splitlines()
+    counted = dict(zip(*(it.split() for it in lines if it.startswith("Udp:"))))
+    wrong = [name for name in ("InErrors", "InCsumErrors", "NoPorts") if counted[name] != "0"]
+    return f"the kernel counted {wrong}" if wrong else ""
+
+
+def main(words):
+    rng = random.Random(2)
+    lengths = range(MOST + 1) if words[0] == "--all" else LENGTHS + [rng.randrange(MOST + 1) for _ in range(100)]
+    with subprocess.Popen(words[words[0] == "--all" :], stderr=subprocess.PIPE, text=True) as bridge:
+        try:
+            wait_for_device()
+            fault = echo(lengths)
+        finally:
+            bridge.send_signal(signal.SIGTERM)
+            said = bridge.communicate()[1]
+    told = re.search(r"stack (\d+) all free", said)
+    if fault or bridge.returncode or not told:
+        sys.exit(f"peer.py: {fault or f'the board ended with {bridge.returncode} and said {said.strip()!r}'}")
+    print(f"{len(lengths)} datagrams, stack {int(told[1])} bytes")
+
+
+main(sys.argv[1:])
