@@ -1,0 +1,36 @@
+# The C library beside the library for size and the portable C: instructions of a datagram from one stack to another,
+# with send, tx, rx and recvfrom. As in lib.sh they're differences of 101 turns and one.
+
+# The instructions of one datagram of a length by a program.
+datagram() { # PROGRAM LENGTH
+    local once more
+    once="$(counted "$1" "$2" 1)"
+    more="$(counted "$1" "$2" 101)"
+    echo $(((more - once) / 100))
+}
+
+measure_portable() { # WORK
+    local work="$1" top="$bench/.." name length
+    command -v valgrind > /dev/null || { echo "no valgrind: skipped"; return 0; }
+    "$top/capi/build" "$work/capi"
+    "$top/portable/small" "$work/for_size"
+    "$top/portable/build" "$work/portable"
+    "$top/portable/build" --speed "$work/speed"
+    build_portable() { # NAME FILE|FLAG..
+        local to="$work/$1"
+        shift
+        "${CC:-gcc}" -Wall -Wextra -Wno-unused-parameter -I "$work/portable" "$bench/portable/bench.c" "$@" -o "$to"
+    }
+    build_portable native -O3 "$work/capi/libbsdudp.a"
+    build_portable small -O3 "$work/for_size/libbsdudp_small.a"
+    for name in speed portable; do
+        build_portable "$name-tested" -O3 "$work/$name/bsdudp_portable.c"
+        build_portable "$name-untested" -O3 -DBSDUDP_TESTS=0 "$work/$name/bsdudp_portable.c"
+    done
+    printf '%-40s %12s %12s %12s\n' instructions '2 bytes' '1472 bytes' '9000 bytes'
+    for name in native small {speed,portable}-{,un}tested; do
+        printf '%-40s' "$name"
+        for length in 2 1472 9000; do printf ' %12d' "$(datagram "$work/$name" "$length")"; done
+        echo
+    done
+}
