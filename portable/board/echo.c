@@ -73,7 +73,9 @@ static void report(void)
         digits[bit] = (char)('0' + stack_used % 10);
     machine_say(digits);
     bsdudp_mbstat(&stack, &usage);
-    machine_say(usage.free_mbufs == usage.mbufs && usage.free_clusters == usage.clusters ? "all free\n" : "not all free\n");
+    if (usage.free_mbufs != usage.mbufs || usage.free_clusters != usage.clusters)
+        machine_say("not ");
+    machine_say("all free\n");
 }
 
 int main(void)

@@ -1,6 +1,6 @@
 /* The language of `bsdudp run` (docs/script.md) over bsdudp.h. The input is one script after another: a line with
-   options, as `--mtu 68`, the script's lines, and a byte 0; and then RUN_END. So are the replies: a line for each, and a
-   byte 0. It reads and writes by the functions of run.h, so that it runs on a board too. */
+   options, as `--mtu 68`, the script's lines, and a byte 0; and then RUN_END. So are the replies: a line for each, and
+   a byte 0. It reads and writes by the functions of run.h, so that it runs on a board too. */
 #include "run.h"
 
 #include "bsdudp.h"
