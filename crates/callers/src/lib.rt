@@ -21,5 +21,6 @@ pub mod shared_cluster;
 pub mod socket_lines;
 pub mod text_lines;
 pub mod two_chains;
+pub mod two_hosts;
 pub mod udp_packet;
 pub mod user_clusters;

@@ -1,0 +1,56 @@
+//! Two hosts on one wire, and a datagram from the first to the second.
+use flat_model::{Addr, Config, Errno};
+use segment::Segment;
+use std::alloc::Global;
+
+/// The host 10.0.0.1 of the network 10.0.0.0/24.
+const FIRST: Config = Config {
+    addr: 0x0a00_0001,
+    bcast: 0x0a00_00ff,
+    mtu: 1500,
+    mbufs: 64,
+    clusters: 8,
+    first_id: 1,
+};
+
+/// The host 10.0.0.2.
+const SECOND: Config = Config {
+    addr: 0x0a00_0002,
+    bcast: 0x0a00_00ff,
+    mtu: 1500,
+    mbufs: 64,
+    clusters: 8,
+    first_id: 1,
+};
+
+/// Sends bytes from the first host to port 7 of the second, and carries what waits. The answer is how many bytes came;
+/// they stand in front of the room. `None` if a host is missing, or a call is refused.
+fn send(segment: &mut Segment, bytes: &[u8], room: &mut [u8]) -> Option<usize> {
+    let second = segment.stack(1)?;
+    let hears = second.socket().ok()?;
+    second.bind(hears, Addr { ip: 0, port: 7 }).ok()?;
+    let first = segment.stack(0)?;
+    let sends = first.socket().ok()?;
+    let to = Addr {
+        ip: SECOND.addr,
+        port: 7,
+    };
+    first.sendto(sends, Some(to), bytes).ok()?;
+    segment.carry();
+    let (_, len) = segment.stack(1)?.recvfrom(hears, room).ok()?;
+    Some(len)
+}
+
+/// Joins both hosts, sends the bytes, and ends the segment. A segment must be spent, by `end`, so what may be refused
+/// stands in a function of its own, which borrows it.
+pub fn exchange(alloc: Global, bytes: &[u8], room: &mut [u8]) -> Option<usize> {
+    let mut segment = Segment::new(alloc, 100).ok()?;
+    let joined = segment.join(alloc, FIRST).is_ok() && segment.join(alloc, SECOND).is_ok();
+    let came = if joined {
+        send(&mut segment, bytes, room)
+    } else {
+        None
+    };
+    segment.end();
+    came
+}

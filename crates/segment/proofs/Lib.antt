@@ -1,0 +1,6 @@
+mod Taking
+mod Walking
+mod Giving
+mod Carrying
+mod History
+mod Wires

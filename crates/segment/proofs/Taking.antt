@@ -1,0 +1,103 @@
+-- Packets that wait, taken one by one.
+use Rattle.std.proofs.Common.{◌≡◌, ℕ, ◌+◌, ◌<◌, Bool, true, false, List, [], ◌∷◌, ◌++◌, length, map, take, drop, get_or, zero, suc, Option, None, Some, refl, sym, ap, ◌∙◌, subst, arith, append_assoc}
+use Rattle.std.specs.Prelude.{if◌then◌else◌}
+use Rattle.std.specs.List.{AllByRecursion as Each, cons_option}
+use Rattle.std.proofs.lemmas.List.{map-append, take_more}
+use Rattle.std.proofs.lemmas.List.Elements.{All-from_recursion, filter_map-append}
+use Rattle.flat_model.specs.declared.config.Config.{Config}
+use Rattle.segment.specs.Flying.{Flying, gives, comes, received, sent_by, goes_to}
+use Rattle.segment.specs.Inside.{flying}
+use Rattle.segment.specs.declared.frame.Frame.{Frame}
+use Rattle.flat_model.specs.Amounts.Weight.{Item}
+use Rattle.flat_model.specs.Machine.Event.{IsBytes, Given}
+use Rattle.flat_model.specs.Machine.State.{State}
+use Rattle.flat_model.specs.Machine.Step.{Transmits}
+use Rattle.flat_model.specs.Runs.Run.{Turn}
+use Rattle.net_stack.specs.Stack.{StackView}
+use Rattle.net_stack.specs.Runs.{AreCalls}
+
+abbrev pub bytes_of : List Item → List (List ℕ)
+bytes_of items = map (λ (item : Item). item.bytes) items
+
+-- calls, and then others
+pub then_calls : (a b c : StackView) (xs ys : List Turn) → AreCalls a xs b → AreCalls b ys c → AreCalls a (xs ++ ys) c
+then_calls a b c [] ys same later = subst (λ (s : StackView). AreCalls s ys c) same later
+then_calls a b c (x ∷ xs) ys (is, mid, call, rest) later = (is, mid, call, then_calls mid b c xs ys rest later)
+
+-- where a packet waits, the link takes the first
+pub first_given : (old new : State) (given : Option (List ℕ)) (items : List Item) → Transmits items old (Given given) new → 0 < length items
+    → (packet : List ℕ) × (given ≡ Some packet) × (bytes_of items ≡ packet ∷ bytes_of new.output)
+first_given old new given [] step some = absurd (omega arith)
+first_given old new given (item ∷ later) step some = (item.bytes, (cc step.0), ap (λ (s : State). item.bytes ∷ bytes_of s.output) (sym step.1))
+
+-- the bytes behind a reference are bytes
+pub are_bytes : (xs : List ℕ) → ((k : ℕ) → get_or xs k 0 < 256) → IsBytes xs
+are_bytes xs fits = All-from_recursion (λ byte. byte < 256) xs (go xs fits)
+  where
+    go : (ys : List ℕ) → ((k : ℕ) → get_or ys k 0 < 256) → Each (λ byte. byte < 256) ys
+    go [] f = tt
+    go (y ∷ ys) f = (f 0, go ys (λ k. f (suc k)))
+
+-- ---- one more of a list
+
+pub take_next : {X : Type 0} (i : ℕ) (xs : List X) → take (suc i) xs ≡ take i xs ++ take 1 (drop i xs)
+take_next zero [] = refl
+take_next zero (x ∷ xs) = refl
+take_next (suc i) [] = refl
+take_next (suc i) (x ∷ xs) = ap (λ ys. x ∷ ys) (take_next i xs)
+
+pub drop_next : {X : Type 0} (i : ℕ) (xs : List X) → drop (suc i) xs ≡ drop 1 (drop i xs)
+drop_next zero xs = refl
+drop_next (suc i) [] = refl
+drop_next (suc i) (x ∷ xs) = drop_next i xs
+
+-- a full table stays full
+pub take_again : {X : Type 0} (n : ℕ) (xs ys : List X) → take n (take n xs ++ ys) ≡ take n (xs ++ ys)
+take_again zero xs ys = refl
+take_again (suc n) [] ys = refl
+take_again (suc n) (x ∷ xs) ys = ap (λ zs. x ∷ zs) (take_again n xs ys)
+
+-- one more packet was taken
+pub more_calls : (a s t : StackView) (packets : List (List ℕ)) (i : ℕ) → AreCalls a (gives (take i packets)) s → AreCalls s (gives (take 1 (drop i packets))) t
+    → AreCalls a (gives (take (suc i) packets)) t
+more_calls a s t packets i before one = subst (λ (turns : List Turn). AreCalls a turns t)
+    (sym (ap gives (take_next i packets) ∙ map-append _ (take i packets) (take 1 (drop i packets))))
+    (then_calls a s t (gives (take i packets)) (gives (take 1 (drop i packets))) before one)
+
+pub more_flying : (sender room i : ℕ) (first mid last : List Flying) (packets : List (List ℕ)) → mid ≡ take room (first ++ sent_by sender (take i packets))
+    → last ≡ take room (mid ++ sent_by sender (take 1 (drop i packets))) → last ≡ take room (first ++ sent_by sender (take (suc i) packets))
+more_flying sender room i first mid last packets before one =
+    let one_more : List Flying = sent_by sender (take 1 (drop i packets)) in
+    let so_far : List Flying = sent_by sender (take i packets) in
+    one
+    ∙ ap (λ (m : List Flying). take room (m ++ one_more)) before
+    ∙ take_again room (first ++ so_far) one_more
+    ∙ ap (take room) (append_assoc first so_far one_more ∙ ap (λ (p : List Flying). first ++ p) (sym (ap (sent_by sender) (take_next i packets) ∙ map-append _ (take i packets) (take 1 (drop i packets)))))
+
+-- ---- packets that come
+
+-- the packet, if it goes there
+abbrev pub if_goes : ℕ → Config → Flying → List (List ℕ)
+if_goes place c f = cons_option (if goes_to place c f then Some f.packet else None) []
+
+pub received_next : (place : ℕ) (c : Config) (i : ℕ) (frames : List Frame) (frame : Frame) → i < length frames → frame ≡ get_or frames i frame
+    → received place c (map flying (take (i + 1) frames)) ≡ received place c (map flying (take i frames)) ++ if_goes place c (flying frame)
+received_next place c i frames frame within is =
+    ap (λ (fs : List Frame). received place c (map flying fs)) (take_more frames i frame within ∙ ap (λ (f : Frame). take i frames ++ f ∷ []) (sym is))
+    ∙ ap (received place c) (map-append flying (take i frames) (frame ∷ []))
+    ∙ filter_map-append _ (map flying (take i frames)) (flying frame ∷ [])
+
+pub more_come : (place : ℕ) (c : Config) (i : ℕ) (frames : List Frame) (frame : Frame) (a s t : StackView) → i < length frames → frame ≡ get_or frames i frame
+    → AreCalls a (comes (received place c (map flying (take i frames)))) s → AreCalls s (comes (if_goes place c (flying frame))) t
+    → AreCalls a (comes (received place c (map flying (take (i + 1) frames)))) t
+more_come place c i frames frame a s t within is before one = subst (λ (turns : List Turn). AreCalls a turns t)
+    (sym (ap comes (received_next place c i frames frame within is) ∙ map-append _ (received place c (map flying (take i frames))) (if_goes place c (flying frame))))
+    (then_calls a s t (comes (received place c (map flying (take i frames)))) (comes (if_goes place c (flying frame))) before one)
+
+pub come_goes : (place : ℕ) (c : Config) (f : Flying) (s t u : StackView) (bytes : List ℕ) → goes_to place c f ≡ true → bytes ≡ f.packet → u ≡ t → AreCalls s (comes (bytes ∷ [])) t
+    → AreCalls s (comes (if_goes place c f)) u
+come_goes place c f s t u bytes is same end calls = subst (λ (b : Bool). AreCalls s (comes (cons_option (if b then Some f.packet else None) [])) u) (sym is)
+    (subst (λ (p : List ℕ). AreCalls s (comes (p ∷ [])) u) same (subst (λ (x : StackView). AreCalls s (comes (bytes ∷ [])) x) (sym end) calls))
+
+pub come_not : (place : ℕ) (c : Config) (f : Flying) (s t : StackView) → goes_to place c f ≡ false → t ≡ s → AreCalls s (comes (if_goes place c f)) t
+come_not place c f s t is same = subst (λ (b : Bool). AreCalls s (comes (cons_option (if b then Some f.packet else None) [])) t) (sym is) same

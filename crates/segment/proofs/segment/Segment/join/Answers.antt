@@ -1,0 +1,18 @@
+use Rattle.std.proofs.Common.{◌∙◌, ◌∷◌, [], ◌++◌, List, arith, ap, refl}
+use Rattle.std.proofs.lemmas.Grind.{common_steps}
+use Rattle.flat_model.specs.declared.config.Config.{Config}
+use Rattle.net_stack.specs.Stack.{StackView}
+use Rattle.segment.proofs.segment.Segment.join.Goals as goal
+
+pub returns-in-Ok : goal.returns-in-Ok
+returns-in-Ok c = record {
+  few = omega arith;
+  apart = grind (arith, common_steps);
+  is_config = c.in-Ok.ensures.booted.0;
+  stack = c.in-Ok.stack;
+  started = c.in-Ok.ensures.booted.1;
+  configs = c.push_reserved.ensures.items ∙ ap (λ (xs : List Config). xs ++ c.args.config ∷ []) c.reserve.ensures.items;
+  stacks = c.push_reserved-in-Ok.ensures.items ∙ ap (λ (xs : List StackView). xs ++ c.in-Ok.stack ∷ []) c.reserve-else-is_err.ensures.items;
+  flight = refl;
+  room = refl;
+}

@@ -1,0 +1,45 @@
+-- Packets under way on a segment, and to which hosts they go (this project's own).
+use Rattle.std.specs.Prelude.{ℕ, nat_le, Bool, ◌==◌, ◌&&◌, ◌||◌, not, if◌then◌else◌, List, length, map, filter_map, Some, None}
+use Rattle.params.specs.declared.TheConstants.{IP_HEADER, LIMITED_BROADCAST}
+use Rattle.flat_model.specs.Amounts.Weight.{Item}
+use Rattle.flat_model.specs.Packets.Header.{u32_at}
+use Rattle.flat_model.specs.Machine.Event.{Comes, Transmit, Given, Done}
+use Rattle.flat_model.specs.Runs.Run.{Turn}
+use Rattle.flat_model.specs.declared.config.Config.{Config}
+use Rattle.net_stack.specs.Stack.{StackView, state_of}
+
+-- a packet, and the place of the host that has sent it
+pub record Flying : Type 0 where
+  pub sender : ℕ
+  pub packet : List ℕ
+
+-- the destination that a packet names (RFC 791, section 3.1)
+abbrev pub destination_of : List ℕ → ℕ
+destination_of packet = u32_at 16 packet
+
+-- a host with these addresses is named: by its own, by the broadcast address of its network, or by 255.255.255.255
+abbrev pub is_named : Config → ℕ → Bool
+is_named c ip = (ip == c.addr) || (ip == c.bcast) || (ip == LIMITED_BROADCAST)
+
+-- a packet goes to the host at this place: another has sent it, and its header names the host
+abbrev pub goes_to : ℕ → Config → Flying → Bool
+goes_to place c f = not (f.sender == place) && (nat_le IP_HEADER (length f.packet) && is_named c (destination_of f.packet))
+
+-- the packets that come to the host at this place, in their order
+abbrev pub received : ℕ → Config → List Flying → List (List ℕ)
+received place c flight = filter_map (λ (f : Flying). if goes_to place c f then Some f.packet else None) flight
+
+-- the bytes of the packets that wait for the link
+abbrev pub waiting : StackView → List (List ℕ)
+waiting s = map (λ (item : Item). item.bytes) (state_of s).output
+
+-- the turns by which the link takes these packets, and those by which these packets come
+abbrev pub gives : List (List ℕ) → List Turn
+gives packets = map (λ (packet : List ℕ). record { event = Transmit; reply = Given (Some packet) }) packets
+
+abbrev pub comes : List (List ℕ) → List Turn
+comes packets = map (λ (packet : List ℕ). record { event = Comes packet; reply = Done }) packets
+
+-- these packets, sent by the host at this place
+abbrev pub sent_by : ℕ → List (List ℕ) → List Flying
+sent_by place packets = map (λ (packet : List ℕ). record { sender = place; packet = packet }) packets

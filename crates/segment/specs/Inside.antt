@@ -1,0 +1,37 @@
+-- How the fields mean what is under way (this project's own).
+use Rattle.std.specs.Prelude.{ℕ, List, ◌-◌, map, take, vec_len, Option}
+use Rattle.std.specs.Borrow.{LendsIf, MutBor, Fml}
+use Rattle.std.specs.Vec.{with_item}
+use Rattle.net_stack.specs.Stack.{StackView}
+use Rattle.net_stack.specs.contracts.stack.Stack.{the_row as stack_row}
+use Rattle.segment.specs.contracts.segment.Segment.{the_row}
+use Rattle.segment.specs.Flying.{Flying}
+use Rattle.segment.specs.Segment.{SegmentView}
+use Rattle.segment.specs.declared.frame.Frame.{Frame}
+use Rattle.segment.specs.declared.flight.Flight.{Flight}
+use Rattle.segment.specs.declared.segment.Segment.{Segment}
+
+-- what a frame carries
+abbrev pub flying : Frame → Flying
+flying f = record { sender = f.sender; packet = take f.len f.room }
+
+-- what is under way
+abbrev pub under_way : Flight → List Flying
+under_way f = map flying (take f.count f.frames.items)
+
+-- what a segment shows
+abbrev pub view : Segment → SegmentView
+view s = record {
+  configs = s.configs.items;
+  stacks = s.stacks.items;
+  flight = under_way s.flight;
+  room = vec_len s.flight.frames - 1;
+}
+
+-- the segment with another stack at a place
+abbrev pub with_stack : Segment → ℕ → StackView → Segment
+with_stack s place stack = record s { stacks = with_item s.stacks place stack }
+
+-- the segment ends with the last value behind the reference at this place, or as it was
+abbrev pub lends_stack : MutBor Segment → ℕ → Option (MutBor StackView) → Fml
+lends_stack s place r = LendsIf the_row stack_row s r (with_stack s.now place) s.now

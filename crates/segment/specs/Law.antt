@@ -1,0 +1,72 @@
+-- Calls on a segment, one after another, and what is said of them all (this project's own).
+use Rattle.std.specs.Prelude.{◌≡◌, ◌≢◌, ◌<◌, ◌^◌, ℕ, ◌==◌, if◌then◌else◌, List, [], ◌∷◌, ◌++◌, slice_get, slice_set, filter_map, All, Contains, Some}
+use Rattle.flat_model.specs.Machine.Count.{value_of}
+use Rattle.flat_model.specs.Runs.Run.{Turn}
+use Rattle.flat_model.specs.declared.config.Config.{Config}
+use Rattle.flat_model.specs.declared.counter.Counter.TheVariants.{IpLocalout}
+use Rattle.flat_wire.specs.Wire.{ComesFrom, packet_in, packet_out}
+use Rattle.net_stack.specs.Stack.{StackView}
+use Rattle.net_stack.specs.Runs.{AreCalls}
+use Rattle.segment.specs.Flying.{comes, gives}
+use Rattle.segment.specs.Segment.{SegmentView, IsCarried, IsJoined, on_wire, received_in, waiting_in}
+
+-- what was done: a host joined, a call was made on the host at a place, or a carry found the segment so
+pub data Act : Type 0 where
+  Joins : (config : Config) → Act
+  Calls : (place : ℕ) (turn : Turn) → Act
+  Carries : (found : SegmentView) → Act
+
+-- a call on the stack of the host at a place
+pub record IsCalled (place : ℕ) (turn : Turn) (old new : SegmentView) : Type 0 where
+  pub before : StackView
+  pub after : StackView
+  pub here : slice_get old.stacks place ≡ Some before
+  pub calls : AreCalls before (turn ∷ []) after
+  pub stacks : new.stacks ≡ slice_set old.stacks place after
+  pub configs : new.configs ≡ old.configs
+  pub flight : new.flight ≡ old.flight
+  pub room : new.room ≡ old.room
+
+abbrev pub IsAct : SegmentView → Act → SegmentView → Type 0
+IsAct old (Joins config) new = IsJoined config old new
+IsAct old (Calls place turn) new = IsCalled place turn old new
+IsAct old (Carries found) new = (found ≡ old) × IsCarried old new
+
+-- these acts, one after another, make the first segment the last
+abbrev pub AreActs : SegmentView → List Act → SegmentView → Type 0
+AreActs old [] new = new ≡ old
+AreActs old (act ∷ acts) new = (mid : SegmentView) × IsAct old act mid × AreActs mid acts new
+
+-- the turns that an act is for the host at a place
+abbrev pub turns_in : ℕ → Act → List Turn
+turns_in place (Joins config) = []
+turns_in place (Calls other turn) = if other == place then turn ∷ [] else []
+turns_in place (Carries v) = gives (waiting_in (slice_get v.stacks place)) ++ comes (received_in place (slice_get v.configs place) (on_wire v))
+
+-- all turns of the host at a place, in their order
+abbrev pub turns_of : ℕ → List Act → List Turn
+turns_of place [] = []
+turns_of place (act ∷ acts) = turns_in place act ++ turns_of place acts
+
+-- those of them that no carry made
+abbrev pub called_in : ℕ → Act → List Turn
+called_in place (Calls other turn) = if other == place then turn ∷ [] else []
+called_in place _ = []
+
+abbrev pub called_of : ℕ → List Act → List Turn
+called_of place [] = []
+called_of place (act ∷ acts) = called_in place act ++ called_of place acts
+
+-- Two hosts of a segment, and all that was done since it had none. The first has sent fewer than 65,536 times. Nobody
+-- forged its address: no call brought the second a packet from there, and no other host's `tx` gave one.
+pub record AreOnSegment (room i j : ℕ) (first second : Config) (s t : StackView) (acts : List Act) (last : SegmentView) : Type 0 where
+  pub done : AreActs (record { configs = []; stacks = []; flight = []; room = room }) acts last
+  pub not_addr : first.addr ≢ second.addr
+  pub not_bcast : first.addr ≢ second.bcast
+  pub first_is : slice_get last.configs i ≡ Some first
+  pub second_is : slice_get last.configs j ≡ Some second
+  pub first_stack : slice_get last.stacks i ≡ Some s
+  pub second_stack : slice_get last.stacks j ≡ Some t
+  pub few : value_of IpLocalout s.counters < 2 ^ 16
+  pub outside : All (λ packet. ¬ ComesFrom first.addr packet) (filter_map packet_in (called_of j acts))
+  pub others : (k : ℕ) → k ≢ i → (packet : List ℕ) → Contains (filter_map packet_out (turns_of k acts)) packet → ¬ ComesFrom first.addr packet

@@ -1,0 +1,4 @@
+pub mod Flying
+pub mod Segment
+pub mod Inside
+pub mod Law

@@ -1,0 +1,80 @@
+//! A packet on the segment, and the room that it stands in.
+ghost use Rattle.std.specs.Prelude.{◌≡◌, ◌<◌, ◌≤◌, [], ◌∷◌, length, take};
+ghost use Rattle.params.specs.declared.TheConstants.{IP_HEADER, MAX_MTU};
+ghost use Rattle.net_stack.specs.Runs.{AreCalls};
+ghost use Rattle.segment.specs.Flying.{destination_of, gives, goes_to, is_named, waiting};
+
+use byteorder::{BigEndian, ByteOrder};
+use flat_model::Config;
+use net_stack::Stack;
+use params::{IP_HEADER, LIMITED_BROADCAST, MAX_MTU};
+
+/// The room for a packet of any link.
+pub(crate) const ROOM: usize = MAX_MTU as usize;
+
+/// The bytes of an IP header without options.
+const HEADER: usize = IP_HEADER as usize;
+
+/// A packet, and which host has sent it.
+#[derive(Drop)]
+pub(crate) struct Frame {
+    pub(crate) sender: usize,
+    pub(crate) len: usize,
+    pub(crate) room: [u8; ROOM],
+    ghost within: { len ≤ MAX_MTU },
+}
+
+impl Frame {
+    /// A frame with no bytes.
+    pub(crate) fn blank() -> Frame {
+        Frame {
+            sender: 0,
+            len: 0,
+            room: [0; ROOM],
+        }
+    }
+
+    /// The packet's bytes.
+    pub(crate) fn bytes(&self) -> &[u8]
+        ensures is { result.now ≡ take self.now.len self.now.room }
+        ensures most { length result.now ≤ MAX_MTU }
+    {
+        &self.room[..self.len]
+    }
+
+    /// Takes the packet that has waited longest for the link of this host. One has to wait.
+    pub(crate) fn fill(&mut self, sender: usize, stack: &mut Stack)
+        requires { 0 < length (waiting stack.old) }
+        ensures calls { AreCalls stack.old (gives (take self.new.len self.new.room ∷ [])) stack.new }
+        ensures waits { waiting stack.old ≡ take self.new.len self.new.room ∷ waiting stack.new }
+        ensures sender { self.new.sender ≡ sender }
+    {
+        self.sender = sender;
+        if let Some(len) = stack.tx(&mut self.room) {
+            self.len = len;
+        }
+    }
+
+    /// Whether the packet goes to the host at a place with this configuration.
+    pub(crate) fn goes_to(&self, place: usize, config: &Config) -> bool
+        ensures { result ≡ goes_to place config.now (record { sender = self.now.sender; packet = take self.now.len self.now.room }) }
+    {
+        let packet = self.bytes();
+        self.sender != place && packet.len() >= HEADER && is_named(config, destination_of(packet))
+    }
+}
+
+/// The destination that a packet's header names.
+fn destination_of(packet: &[u8]) -> u32
+    requires { IP_HEADER ≤ length packet.now }
+    ensures { result ≡ destination_of packet.now }
+{
+    BigEndian::read_u32(&packet[16..])
+}
+
+/// Whether an address names a host with this configuration.
+fn is_named(config: &Config, ip: u32) -> bool
+    ensures { result ≡ is_named config.now ip }
+{
+    ip == config.addr || ip == config.bcast || ip == LIMITED_BROADCAST
+}

@@ -1,0 +1,12 @@
+//! A broadcast segment of hosts, each a stack of its own, and the packets that are under way between them.
+#![tactic(auto)]
+
+mod carry;
+mod flight;
+mod frame;
+mod laws;
+mod segment;
+mod ways;
+
+pub use laws::hosts_on_a_segment;
+pub use segment::{JoinFault, MAX_HOSTS, Segment};

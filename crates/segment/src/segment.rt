@@ -1,0 +1,136 @@
+//! A broadcast segment: its hosts, and what is under way.
+ghost use Rattle.std.specs.Prelude.{◌≡◌, ◌∷◌, [], ◌++◌, ◌+◌, length, IfOk, MatchResult};
+ghost use Rattle.std.specs.List.{list_all};
+ghost use Rattle.segment.specs.Segment.{IsJoined, IsRefused, are_apart};
+ghost use Rattle.segment.specs.Inside.{lends_stack, view, with_stack};
+ghost use Rattle.std.specs.Borrow.{sem};
+
+use crate::flight::Flight;
+use flat_model::Config;
+use net_stack::{BootFault, Stack};
+use std::alloc::{AllocError, Global};
+use thiserror::Error;
+
+/// The most hosts on a segment.
+pub const MAX_HOSTS: usize = 64;
+
+/// Why a host doesn't join a segment.
+#[derive(Clone, Copy, Debug, PartialEq, Eq, Error)]
+pub enum JoinFault {
+    /// The segment has 64 hosts.
+    #[error("too many hosts")]
+    TooManyHosts,
+    /// A host of the segment has this address, or this broadcast address as its own, or this one's own as its broadcast
+    /// address.
+    #[error("address taken")]
+    AddressTaken,
+    /// Its stack isn't booted.
+    #[error(transparent)]
+    Unbooted(BootFault),
+}
+
+/// A broadcast segment, as Ethernet is one: up to 64 hosts, each a stack of its own, and the packets that are under way
+/// between them. It must be spent, by `end`.
+pub struct Segment {
+    pub(crate) configs: Vec<Config>,
+    pub(crate) stacks: Vec<Stack>,
+    pub(crate) flight: Flight,
+}
+
+/// Whether two hosts can be told apart by their addresses.
+fn are_apart(first: &Config, second: &Config) -> bool
+    ensures { result ≡ are_apart first.now second.now }
+{
+    first.addr != second.addr && first.addr != second.bcast && second.addr != first.bcast
+}
+
+/// Whether a host can be told apart from all others by its addresses.
+fn is_apart(config: &Config, others: &[Config]) -> bool
+    ensures { result ≡ list_all (are_apart config.now) others.now }
+{
+    let mut rest = others;
+    while let [other, left @ ..] = rest {
+        if !are_apart(config, other) {
+            return false;
+        }
+        rest = left;
+    }
+    true
+}
+
+impl Segment {
+    /// A segment without hosts, with room for so many packets under way. All memory for these is taken here.
+    ///
+    /// # Errors
+    ///
+    /// Host memory was refused, and then nothing is left behind.
+    pub fn new(alloc: Global, room: u16) -> Result<Segment, AllocError>
+        ensures { IfOk result (λ s. view s ≡ record { configs = []; stacks = []; flight = []; room = room }) }
+    {
+        let flight = Flight::new(alloc, room)?;
+        Ok(Segment {
+            configs: Vec::new(alloc),
+            stacks: Vec::new(alloc),
+            flight,
+        })
+    }
+
+    /// A host joins: its stack is booted, and it has the next place, from 0 on. All memory that it will ever need is
+    /// taken here.
+    ///
+    /// # Errors
+    ///
+    /// In this order, and then the segment is as it was: `TooManyHosts` if it has 64 hosts; `AddressTaken` if a host has
+    /// the same address, or one of the two has the other's address as its broadcast address; `Unbooted` if there is no
+    /// stack by this configuration, or host memory was refused.
+    pub fn join(&mut self, alloc: Global, config: Config) -> Result<(), JoinFault>
+        ensures { MatchResult result (λ _. IsJoined config (view self.old) (view self.new)) (λ fault.
+            IsRefused (view self.old) config fault × (view self.new ≡ view self.old)) }
+    {
+        if self.stacks.len() >= MAX_HOSTS {
+            return Err(JoinFault::TooManyHosts);
+        }
+        if !is_apart(&config, self.configs.as_slice()) {
+            return Err(JoinFault::AddressTaken);
+        }
+        if self.configs.reserve(1).is_err() || self.stacks.reserve(1).is_err() {
+            return Err(JoinFault::Unbooted(BootFault::Memory));
+        }
+        match Stack::boot(alloc, config) {
+            Ok(stack) => {
+                self.configs.push_reserved(config);
+                self.stacks.push_reserved(stack);
+                Ok(())
+            }
+            Err(fault) => Err(JoinFault::Unbooted(fault)),
+        }
+    }
+
+    /// The stack of the host at a place, for any call on it: a packet that is handed to its `rx` comes from outside.
+    /// `None` if there is no such host.
+    pub fn stack(&mut self, place: usize) -> Option<&mut Stack>
+        ensures* { sem 𝓛 (lends_stack self.entry place result) }
+    {
+        self.stacks.get_mut(place)
+    }
+
+    /// How many hosts it has.
+    pub fn hosts(&self) -> usize
+        ensures { result ≡ length (view self.now).stacks }
+    {
+        self.stacks.len()
+    }
+
+    /// Frees all that the hosts and the segment hold.
+    pub fn end(self) {
+        let Segment {
+            configs: _,
+            mut stacks,
+            flight: _,
+        } = self;
+        while let Some(stack) = stacks.pop() {
+            let _ = stack.end();
+        }
+        stacks.destroy_empty();
+    }
+}
