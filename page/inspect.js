@@ -1,7 +1,7 @@
 "use strict";
 // The right column: the line that is looked at, and the machine after it.
 
-const SIGNS = { in: "⇢", out: "⇠", send: "↗", read: "↙", call: "•", tick: "◔", ask: "?", bad: "✗" };
+const SIGNS = { in: "⇢", out: "⇠", send: "↗", read: "↙", call: "•", tick: "◔", ask: "?", wire: "⇄", bad: "✗" };
 const signOf = step => {
   const isBad = !step.isOk || step.drops.length > 0;
   return h("span", { class: `sign sign-${isBad ? "bad" : step.kind}`, "aria-hidden": "true" },
@@ -133,11 +133,11 @@ function ownersOf(held, name, used) {
   return [...parts, { name: "shared between owners", kind: "shared", count: rest }];
 }
 
-function machineView(step, steps, before, now) {
-  const pool = step.pool, mbufs = ownersOf(now, "mbufs", pool.used),
+function machineView({ pool }, steps, before, now, title = "The machine after this line") {
+  const mbufs = ownersOf(now, "mbufs", pool.used),
     clusters = ownersOf(now, "clusters", pool.usedClusters);
   const legend = [...mbufs.filter((it, i) => i < 3 || it.count + clusters[i].count), { name: "free", kind: "free" }];
-  return panel("The machine after this line",
+  return panel(title,
     poolBar("mbufs", pool.mbufs, mbufs), poolBar("clusters", pool.clusters, clusters),
     h("p", { class: "legend" }, legend.map(it => h("span", { class: `of-${it.kind}` }, it.name))),
     pool.most > 1 && h("p", { class: "faint" }, `The most shared cluster is counted ${pool.most}.`),
@@ -145,18 +145,19 @@ function machineView(step, steps, before, now) {
     now.output.length > 0 && outputView(now.output, before), now.unfinished.mbufs > 0 && unfinishedView(now, steps));
 }
 
-function countersView(step) {
+function countersView(step, name = "counters") {
   const rows = Object.entries(step.counters).map(([name, n]) => {
     const change = step.changed.find(it => it.name === name);
     return h("tr", { class: change ? (DROPS.has(name) ? "dropped" : "changed") : null },
       h("th", { scope: "row" }, h("code", {}, name)), h("td", {}, String(n)),
         h("td", {}, change ? `+${change.by}` : ""), h("td", {}, COUNTERS[name]));
   });
-  return rows.length > 0 && panel("Counters", scroller("counters", h("table", { class: "counters" }, rows)));
+  return rows.length > 0 && panel("Counters", scroller(name, h("table", { class: "counters" }, rows)));
 }
 
-function stackView(page, step) {
-  const now = page.heldAfter(step.number), before = page.heldAfter(step.number - 1), about = [];
+// The packet of a line with its checks, or the first packets that it put into the output queue.
+function packetsOfLine(step, before, now) {
+  const about = [];
   if (step.kind === "in") about.push(panel("The checks, in their order", checksOf(step)));
   if (step.packet) about.push(panel(null,
     packetView(step.packet, step.kind === "in" ? "From the wire" : "To the wire")));
@@ -164,6 +165,12 @@ function stackView(page, step) {
   sent.slice(0, 3)
     .forEach((it, i) =>
     about.push(panel(null, packetView(it.packet, `Packet ${i + 1} of ${sent.length} in the output queue`))));
+  return about;
+}
+
+function stackView(page, step) {
+  const now = page.heldAfter(step.number), before = page.heldAfter(step.number - 1);
+  const about = packetsOfLine(step, before, now);
   const state = [machineView(step, page.steps.slice(0, step.number), before, now), countersView(step)];
   return [leadOf(step, page.noteOf(step), verdictsOf(step, before, now)),
     about.length > 0 && h("div", { class: "column" }, about), h("div", { class: "column" }, state)];

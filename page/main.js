@@ -17,6 +17,13 @@ const page = {
       new Held(this.engine, this.config, this.notes.lines.slice(0, n), this.steps.slice(0, n)));
     return this.held.get(n);
   },
+  // what is held by one of several machines after so many lines of its own
+  heldOf(host, n) {
+    const key = `${host.name} ${n}`;
+    if (!this.held.has(key)) this.held.set(key,
+      new Held(this.engine, host.config, host.lines.slice(0, n), host.steps.slice(0, n)));
+    return this.held.get(key);
+  },
   // the chains after so many lines, mbuf by mbuf; those of a few places are kept
   drawnAfter(n) {
     if (this.drawn.size > 16) this.drawn.clear();
@@ -31,12 +38,20 @@ const page = {
   },
 };
 
+// What a script of each kind is played by, and what shows a line of it.
+const PLAYS = {
+  run: { trace: traceStack, view: stackView },
+  chain: { trace: traceChains, view: chainView },
+  wire: { trace: (engine, _, lines) => traceWire(engine, lines), view: wireView },
+};
+
 // ---- what is shown
 
 function rowOf(step, i) {
   const change = step.pool.used - step.before.used;
-  const badges = step.changed.map(({ name, by }) =>
-    h("span", { class: DROPS.has(name) ? "badge drop" : "badge" }, `+${by} ${name}`));
+  const badges = step.changed.map(({ host, name, by, isLost }) =>
+    h("span", { class: DROPS.has(name) || isLost ? "badge drop" : "badge" },
+      `${host ? `${host} ` : ""}+${by} ${name}`));
   const what = h("span", { class: "what" },
     h("code", {}, step.kind === "bad" ? cut(step.line, 24) || "an empty line" : step.verb), " ", step.tells,
     h("span", { class: "after" },
@@ -59,8 +74,7 @@ function select(i) {
   const list = byId("rows"), top = row.offsetTop;
   if (top < list.scrollTop || top + row.offsetHeight > list.scrollTop + list.clientHeight) list.scrollTop = top - 60;
   byId("curve").replaceChildren(...curve(page.steps, page.at, select));
-  byId("look").replaceChildren(...(page.mode === "run" ? stackView(page, step) : chainView(page, step))
-    .filter(Boolean));
+  byId("look").replaceChildren(...PLAYS[page.mode].view(page, step).filter(Boolean));
   byId("place").textContent = `${step.number} of ${page.steps.length}`;
   const refusal = step.isOk ? "" : step.error || step.reply;
   byId("said").textContent = `line ${step.number}: ${step.verb} ${step.tells}. ${refusal}`;
@@ -74,22 +88,25 @@ function replay(place) {
   page.config = configOf(page.options);
   page.held.clear();
   page.drawn.clear();
-  const { code, steps } = page.config.wrong ? { code: 0, steps: [] }
-    : (page.mode === "run" ? traceStack : traceChains)(page.engine, page.config, page.notes.lines);
-  page.steps = steps;
+  const { code, steps, hosts } = page.config.wrong ? { code: 0, steps: [] }
+    : PLAYS[page.mode].trace(page.engine, page.config, page.notes.lines);
+  Object.assign(page, { steps, hosts });
   byId("trouble").textContent = page.config.wrong ? `--${page.config.wrong}: no number in its range` : FAULTS[code];
   byId("gutter").replaceChildren(...page.notes.all.map((line, i) =>
     h("span", { class: line.startsWith("#") ? "note-line" : null }, String(i + 1))));
   byId("rows").replaceChildren(...steps.map(rowOf));
-  byId("command").textContent = `bsdudp ${page.mode}${optionWords()} < script.txt`;
+  byId("command").textContent = hosts
+    ? [...hosts.values()].map(it => `${it.name}: bsdudp run${optionWords(it.options)}`).join("\n")
+    : `bsdudp ${page.mode}${optionWords(page.options)} < script.txt`;
   for (const part of ["look", "curve"]) byId(part).replaceChildren();
   select(place);
 }
 
-const usedOptions = () => Object.keys(DEFAULTS)
-  .filter(name => page.mode === "run" || name === "mbufs" || name === "clusters");
-const optionWords = () => usedOptions().filter(name => page.options[name] !== DEFAULTS[name])
-  .map(name => ` --${name} ${page.options[name]}`).join("");
+// The options that stand in the head; machines on a wire have theirs in the script.
+const USED = { run: Object.keys(DEFAULTS), chain: ["mbufs", "clusters"], wire: [] };
+const usedOptions = () => USED[page.mode];
+const optionWords = options => Object.keys(DEFAULTS).filter(name => options[name] !== DEFAULTS[name])
+  .map(name => ` --${name} ${options[name]}`).join("");
 
 function showOptions() {
   const inputOf = name =>
@@ -108,7 +125,7 @@ function showScripts() {
   const option = ({ name, title }) => h("option", { value: name }, title);
   byId("choice").replaceChildren(h("option", { value: "" }, "your own script"),
     h("optgroup", { label: "Lessons" }, lessons.map(option)),
-      h("optgroup", { label: "Examples" }, examples.map(option)));
+      examples.length ? h("optgroup", { label: "Examples" }, examples.map(option)) : "");
   byId("choice").value = page.name;
 }
 
@@ -157,12 +174,19 @@ function putPacket() {
     destinationPort: number("destination-port"), id: number("id"), data: new TextEncoder().encode(value("data")),
       fault: value("fault"),
   });
+  byId("maker").close();
+  putLine("rx " + hexOf(bytes));
+}
+
+// Puts a line behind the one that is looked at. The keyboard goes to an element of the new view, if one is named.
+function putLine(line, focus) {
   const all = page.notes.all, isEmpty = !page.steps.length;
   const place = isEmpty ? all.length : page.notes.places[page.at] + 1;
-  byId("script").value = [...all.slice(0, place), "rx " + hexOf(bytes), ...all.slice(place), ""].join("\n");
-  byId("maker").close();
+  byId("script").value = [...all.slice(0, place), line, ...all.slice(place), ""].join("\n");
   page.name = byId("choice").value = "";
   replay(isEmpty ? 0 : page.at + 1);
+  const there = focus && (byId(focus) || document.querySelector(".puts button"));
+  if (there) there.focus();
 }
 
 // ---- links and files
@@ -181,7 +205,8 @@ function link() {
 }
 
 function openLink() {
-  const asked = new URLSearchParams(location.hash.slice(1)), mode = asked.get("mode") === "chain" ? "chain" : "run";
+  const asked = new URLSearchParams(location.hash.slice(1));
+  const mode = Object.hasOwn(PLAYS, asked.get("mode")) ? asked.get("mode") : "run";
   const place = Math.max(0, (+asked.get("line") || 1) - 1);
   if (asked.has("script")) {
     const options = Object.fromEntries([...asked].filter(([name]) => name in DEFAULTS));

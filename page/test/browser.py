@@ -122,7 +122,7 @@ def scripts(examples, lessons):
     for command, folder in (("run", examples), ("chain", examples / "chain")):
         for it in sorted(folder.glob("*.txt")):
             yield command, it, pathlib.Path(f"{it}.stdout").read_text()
-    for command in ("run", "chain"):
+    for command in ("run", "chain", "wire"):
         for it in sorted((lessons / command).glob("*.txt")):
             yield command, it, None
 
@@ -150,6 +150,10 @@ VIEWS = [
     ("chain", "02_an_mbuf_and_a_cluster", 14),
     ("chain", "04_headers_in_front", 10),
     ("chain", "split_and_join", 6),
+    ("wire", "13_a_request_and_its_answer", 8),
+    ("wire", "14_fragments_and_a_wire_that_is_cut", 10),
+    ("wire", "14_fragments_and_a_wire_that_is_cut", 23),
+    ("wire", "15_a_broadcast_on_a_wire", 14),
 ]
 
 
@@ -202,8 +206,9 @@ def tab_through(browser, what):
 def try_keys(browser):
     """Everything by keyboard alone; dialogs are opened by Enter and closed by Escape."""
     browser.resize(1600)
-    for command, name in (("run", "01_a_datagram"), ("chain", "04_headers_in_front")):
-        browser.run(f"open({json.dumps(command)}, {{ name: {json.dumps(name)} }})")
+    on_wire = ("wire", "13_a_request_and_its_answer", 9)
+    for command, name, line in (("run", "01_a_datagram", 0), ("chain", "04_headers_in_front", 0), on_wire):
+        browser.run(f"open({json.dumps(command)}, {{ name: {json.dumps(name)}, place: {line} }})")
         yield from tab_through(browser, name)
     browser.run("open('run', { name: '01_a_datagram' })")
     for button, dialog in (("make", "maker"), ("about", "proved")):

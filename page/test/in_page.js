@@ -8,8 +8,15 @@ const LOOKS = 25;
 function playInPage(mode, text, words, wanted) {
   const faults = [];
   open(mode, { text, options: optionsOf(words) });
-  const replies = page.steps.map(step => step.reply), outcome = page.engine[mode](page.config, page.notes.script);
-  if (outcome.replies.join("\n") !== replies.join("\n")) faults.push("the steps have other replies than the script");
+  const replies = page.steps.map(step => step.reply);
+  // of machines on a wire each one's own script
+  const played = mode === "wire" ? [...page.hosts.values()].map(it => [it.config, it.lines, it.steps])
+    : [[page.config, page.notes.lines, page.steps]];
+  for (const [config, lines, steps] of played) {
+    const outcome = page.engine[mode === "chain" ? "chain" : "run"](config, lines.map(line => line + "\n").join(""));
+    const isSame = outcome.replies.join("\n") === steps.map(step => step.reply).join("\n");
+    if (!isSame) faults.push("the steps have other replies than the script");
+  }
   if (wanted !== null && replies.map(reply => reply + "\n")
     .join("") !== wanted) faults.push("the page has other replies");
   if (wanted === null) {
@@ -21,7 +28,7 @@ function playInPage(mode, text, words, wanted) {
   for (let i = page.steps.length - 1; i >= 0; i -= by) {
     select(i);
     if (!byId("look").firstChild) faults.push(`line ${i + 1} shows nothing`);
-    faults.push(...(mode === "run" ? faultsOfOwners : faultsOfDrawing)(i));
+    faults.push(...{ run: faultsOfOwners, chain: faultsOfDrawing, wire: faultsOfHosts }[mode](i));
   }
   return faults;
 }
@@ -31,6 +38,19 @@ function faultsOfOwners(i) {
   const step = page.steps[i], held = page.heldAfter(step.number);
   const own = held.total("mbufs") + sumOf(held.output, "mbufs") + held.unfinished.mbufs;
   return own === step.pool.used ? [] : [`line ${i + 1}: ${own} mbufs have an owner, and ${step.pool.used} are in use`];
+}
+
+// The same of each machine on a wire; and each has a place in the view.
+function faultsOfHosts(i) {
+  const step = page.steps[i], names = [...step.now.keys()];
+  const shown = document.querySelectorAll(".hosts > .column").length;
+  const faults = shown === names.length ? [] : [`line ${i + 1}: ${shown} machines are shown of ${names.length}`];
+  for (const [name, n] of step.now) {
+    const host = page.hosts.get(name), held = page.heldOf(host, n), { pool } = hostAfter(host, n);
+    const own = held.total("mbufs") + sumOf(held.output, "mbufs") + held.unfinished.mbufs;
+    if (own !== pool.used) faults.push(`line ${i + 1}: at ${name} ${own} mbufs have an owner of ${pool.used} in use`);
+  }
+  return faults;
 }
 
 // What is drawn of each chain are the mbufs that it shows, with the counts of their clusters.
@@ -207,6 +227,25 @@ function faultsOfKeys() {
   byId("make").click();
   putPacket();
   if (page.steps[3].verb !== "rx" || page.at !== 3) faults.push("a packet that was made isn't put in");
+  return [...faults, ...faultsOfWire()];
+}
+
+// The buttons of a wire put a line behind the one that is looked at, and the keyboard stays at them.
+function faultsOfWire() {
+  const faults = [];
+  open("wire", { name: "13_a_request_and_its_answer", place: 7 });
+  byId("put-cut").click();
+  if (!page.steps[8].wire.isCut || page.at !== 8) faults.push("the wire isn't cut by its button");
+  if (!document.activeElement.closest(".puts")) faults.push("the keyboard isn't at the buttons of the wire");
+  byId("put-carry").click();
+  if (page.steps[9].reply !== "delivered 0 lost 1") faults.push(`a cut wire replies ${page.steps[9].reply}`);
+  byId("put-mend").click();
+  if (page.steps[10].wire.isCut || page.at !== 10) faults.push("the wire isn't mended by its button");
+  const before = byId("script").value;
+  link();
+  open("run", { text: "" });
+  openLink();
+  if (byId("script").value !== before || page.mode !== "wire") faults.push("a link doesn't bring machines back");
   return faults;
 }
 

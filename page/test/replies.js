@@ -1,16 +1,18 @@
 // node page/test/replies.js MODULE.wasm EXAMPLES LESSONS [PROGRAM]: plays each example and each lesson by the module.
 // The replies of an example have to be those beside it, byte for byte, and those of a lesson what its notes claim. If
 // the native program is named, random scripts are played by both, and have to be answered alike. Drawings of chains are
-// compared with those worked by hand, and with the module's own replies. It's silent where all is well.
+// compared with those worked by hand, and with the module's own replies. Of machines on a wire each one's script has to
+// be answered as if it stood alone, by the module and by the native program. It's silent where all is well.
 "use strict";
 const child = require("child_process"), fs = require("fs"), path = require("path"), vm = require("vm");
 
 const [file, examples, lessons, program] = process.argv.slice(2);
-const sources = ["engine", "packet", "stack", "chains"]
+const sources = ["engine", "packet", "stack", "chains", "wire"]
   .map(name => fs.readFileSync(path.join(__dirname, "..", name + ".js"), "utf8"));
 const names = "Engine, configOf, optionsOf, readNotes, isReply, linesOf, hexOf";
-const ofChains = "usageIn, slotsIn, drawnChains, clustersIn";
-const code = sources.map(text => text.replace('"use strict";', "")).join("\n") + `\n({ ${names}, ${ofChains} })`;
+const ofChains = "usageIn, slotsIn, drawnChains, clustersIn", ofWire = "traceWire, BOUNDS";
+const code = sources.map(text => text.replace('"use strict";', "")).join("\n")
+  + `\n({ ${names}, ${ofChains}, ${ofWire} })`;
 const page = vm.runInNewContext(code, { WebAssembly, TextEncoder, TextDecoder });
 
 let faults = 0;
@@ -38,7 +40,7 @@ function tryExample(engine, command, script) {
 
 function tryLesson(engine, command, script) {
   const notes = page.readNotes(fs.readFileSync(script, "utf8"));
-  const got = play(engine, command, script, notes.script);
+  const got = command === "wire" ? playWire(engine, script, notes.lines) : play(engine, command, script, notes.script);
   if (got.code !== 0 || got.replies.length !== notes.lines.length) fault(script, `it ended with outcome ${got.code}`);
   notes.lines.forEach((line, i) => {
     const reply = got.replies[i] || "";
@@ -50,6 +52,100 @@ function tryLesson(engine, command, script) {
       `it's answered ${reply}`);
   });
   if (!notes.wanted.some(reply => reply !== undefined)) fault(script, "no note of it says what the program replies");
+}
+
+// ---- machines on a wire
+
+// Plays a script of several machines, and then each machine's own.
+function playWire(engine, name, lines) {
+  const { code, steps, hosts } = page.traceWire(engine, lines);
+  for (const host of hosts.values()) tryHost(engine, name, host);
+  steps.flatMap(step => step.moved).forEach(it => tryMoved(name, it, hosts));
+  return { code, replies: steps.map(step => step.reply) };
+}
+
+// A machine's script has the replies that the page shows, by the module and by the native program.
+function tryHost(engine, name, host) {
+  const textOf = lines => lines.map(line => line + "\n").join("");
+  const script = textOf(host.lines), shown = textOf(host.steps.map(step => step.reply));
+  const alone = engine.run(host.config, script);
+  if (textOf(alone.replies) !== shown) fault(name, `${host.name} has other replies alone`);
+  if (!program) return;
+  const words = Object.entries(host.options).map(([option, value]) => `--${option}=${value}`);
+  const native = child.spawnSync(program, ["run", ...words], { input: script, maxBuffer: 1 << 28 });
+  const isSame = native.status === 0 && native.stdout.toString() === shown;
+  if (!isSame) fault(name, `${host.name} has other replies by ${program}`);
+}
+
+// A packet that came is one that another machine gave, byte for byte, and it's for the machine that got it.
+function tryMoved(name, { from, to, packet, fate, place }, hosts) {
+  const hex = page.hexOf(packet.bytes), isGiven = hosts.get(from).steps.some(step => step.reply === `packet ${hex}`);
+  if (!isGiven) fault(name, `${from} didn't give a packet that left the wire`);
+  if (fate !== "delivered") return;
+  const { config, lines } = hosts.get(to), isFor = [config.addr, config.bcast, 0xffffffff].includes(packet.destination);
+  if (to === from || !isFor || lines[place] !== `rx ${hex}`) fault(name, `${to} got a packet that isn't for it`);
+}
+
+// Lines of a wire with their replies, worked by hand.
+const WIRE_RULES = [
+  ["carry => ? wire", "cut => ? wire", "show wire => ? wire", "drop 1 => ? wire", "a: socket => ? host", " => ? line",
+    "host a => ok", "host a --addr 10.0.0.2 => ? host", "host 1 --addr 10.0.0.2 => ? host", "host => ? host",
+    "host b --mtu 67 => ? config", "host b --mtu => ? config", "host b --ttl 3 => ? config",
+    "host b --addr 10.0.0.2 --addr 10.0.0.3 => ? config", "host b --addr 10.0.0.256 => ? config",
+    "host b --addr=10.0.0.2 --id=7 => ok", "wire a c => ? host", "wire a a => ? host", "wire => ? line",
+    "wire a b => ok", "wire a b => ? wire", "carry => delivered 0", "carry all => delivered 0", "carry 0 => ? line",
+    "carry 1 2 => ? line", "carry 01 => ? line", "cut c => ? host", "cut a b => ? line", "tick => ok",
+    "tick 0 => ? line", "tick 1001 => ? line", "tick 60 => ok", "swap 1 => ? line", "show => ? line",
+    "show wire => in flight 0", "drop 1 => ? packet", "a:socket => ? line", "a: nothing => ? line", "a: socket => ok 3",
+    "a: sendto 3 10.0.0.2 7 61 => ok 1", "show wire => in flight 1", "a: tx => none", "repeat 1 => ok",
+    "show wire => in flight 2", "drop 3 => ? packet", "drop 0 => ? packet", "swap 1 3 => ? packet", "swap 1 2 => ok",
+    "carry 1 => delivered 1", "b: stat => stat ip.total=1 udp.noport=1", "cut b => ok", "carry => delivered 0 lost 1",
+    "b: stat => stat ip.total=1 udp.noport=1", "mend b => ok", "a: sendto 3 10.0.0.2 7 62 => ok 1", "drop 1 => ok",
+    "carry => delivered 0", "a: sendto 3 10.0.0.9 7 63 => ok 1", "carry => delivered 0 nobody 1",
+    "a: sendto 3 10.0.0.2 7 64 => ok 1", "carry all => delivered 1", "b: stat => stat ip.total=2 udp.noport=2",
+    "a: sendto 3 10.0.0.1 7 65 => ok 1", "carry => delivered 0"],
+  ["host a => ok", "host b => ok", "wire a b => ? address", "host c --addr 10.0.0.3 --bcast 10.0.0.1 => ok",
+    "wire a c => ? address", "host d --addr 10.0.0.4 => ok", "wire a d => ok"],
+  // one that isn't on the wire is asked for nothing; fragments come in the order in which they're put
+  ["host a --mtu 68 => ok", "host b --addr 10.0.0.2 => ok", "host c --addr 10.0.0.3 => ok", "wire b a => ok",
+    "c: socket => ok 3", "c: sendto 3 10.0.0.1 7 61 => ok 1", "carry => delivered 0", "cut c => ? host",
+    "b: socket => ok 3", "b: bind 3 0.0.0.0 7 => ok", "a: socket => ok 3",
+    `a: sendto 3 10.0.0.2 7 ${"61".repeat(40)}${"62".repeat(40)} => ok 80`, "show wire => in flight 2",
+    "swap 1 2 => ok", "carry 1 => delivered 1", "b: stat => stat ip.total=1 ip.fragments=1", "carry => delivered 1",
+    `b: recvfrom 3 99 => from 10.0.0.1 1024 ${"61".repeat(40)}${"62".repeat(40)}`],
+];
+
+function tryWireRules(engine) {
+  WIRE_RULES.forEach((rules, i) => {
+    const all = rules.map(rule => rule.split(" => ")), lines = all.map(([line]) => line);
+    playWire(engine, `wire ${i}`, lines).replies.forEach((reply, k) => {
+      if (reply !== all[k][1]) fault(`wire ${i}`, `line ${k + 1}, ${lines[k]}, is answered ${reply}`);
+    });
+  });
+  const many = Array.from({ length: page.BOUNDS.hosts + 1 }, (_, i) => `host h${i} --addr 10.0.0.${i + 1}`);
+  const { replies } = playWire(engine, "too many machines", many);
+  if (replies.pop() !== "? host" || replies.some(reply => reply !== "ok")) fault("too many machines", replies.join());
+}
+
+// Random lines of three machines with different MTUs.
+function randomWire(below) {
+  const any = list => list[below(list.length)], name = () => any(["a", "b", "c"]), port = () => any([0, 7, 520]);
+  const ip = () => `10.0.0.${any([1, 2, 3, 3, 9, 255])}`, fd = () => 3 + below(3);
+  const bytes = () => "6a".repeat(any([0, 1, 40, 41, 600, 3000])) || "-";
+  const calls = [() => "socket", () => `bind ${fd()} 0.0.0.0 ${port()}`, () => `recvfrom ${fd()} 65535`, () => "stat",
+    () => `setsockopt ${fd()} broadcast 1`, () => `connect ${fd()} ${ip()} 7`, () => "mbstat", () => "tx",
+    () => `sendto ${fd()} ${ip()} ${any([7, 520])} ${bytes()}`, () => `send ${fd()} ${bytes()}`];
+  const own = [() => "carry", () => "carry 1", () => "carry 2", () => "carry all", () => "show wire", () => "tick",
+    () => `drop ${1 + below(4)}`, () => `repeat ${1 + below(4)}`, () => `swap ${1 + below(4)} ${1 + below(4)}`,
+    () => `${any(["cut", "mend"])} ${name()}`, () => "cut", () => "mend", () => "mend"];
+  const first = ["host a", "host b --addr 10.0.0.2 --mtu 576", "host c --addr 10.0.0.3 --mtu 68 --mbufs 40",
+    "wire a b c", ...["a", "b", "c"].flatMap(it => [`${it}: socket`, `${it}: bind 3 0.0.0.0 7`])];
+  return [...first, ...Array.from({ length: 150 }, () => (below(3) ? `${name()}: ${any(calls)()}` : any(own)()))];
+}
+
+function tryRandomWires(engine) {
+  const below = numbers(3);
+  for (let i = 0; i < WIRES; i++) playWire(engine, `random wire ${i}`, randomWire(below));
 }
 
 // ---- drawings of chains
@@ -115,8 +211,9 @@ function tryDrawings(engine, name, config, text) {
 
 // ---- random scripts
 
-// How many random scripts of each command are played, how many lines each has, and how many are drawn.
-const RANDOM = 100, LINES = 1000, DRAWINGS = 20;
+// How many random scripts of each command are played, how many lines each has, how many are drawn, and
+// how many scripts of machines on a wire are played.
+const RANDOM = 100, LINES = 1000, DRAWINGS = 20, WIRES = 20;
 
 // Numbers below a limit, the same ones each time (the generator is mulberry32).
 function numbers(seed) {
@@ -173,9 +270,11 @@ async function main() {
   const engine = await page.Engine.load(fs.readFileSync(file));
   for (const script of scriptsOf(examples)) tryExample(engine, "run", script);
   for (const script of scriptsOf(path.join(examples, "chain"))) tryExample(engine, "chain", script);
-  for (const command of ["run", "chain"]) {
+  for (const command of ["run", "chain", "wire"]) {
     for (const script of scriptsOf(path.join(lessons, command))) tryLesson(engine, command, script);
   }
+  tryWireRules(engine);
+  tryRandomWires(engine);
   tryDrawn(engine);
   for (const script of [...scriptsOf(path.join(examples, "chain")), ...scriptsOf(path.join(lessons, "chain"))]) {
     tryDrawings(engine, script, configOf(script), page.readNotes(fs.readFileSync(script, "utf8")).script);
