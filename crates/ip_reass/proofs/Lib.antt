@@ -18,4 +18,5 @@ mod Arriving
 mod Queues
 mod Came
 mod Distinct
+mod Ranges
 pub mod Laws

@@ -3,4 +3,5 @@ pub mod Table
 pub mod Same
 pub mod Arrivals
 pub mod Layouts
+pub mod Questions
 pub mod Inside

@@ -9,10 +9,12 @@ mod arrive;
 mod datagram;
 mod lay;
 mod place;
+mod questions;
 mod queue;
 mod span;
 mod table;
 
 pub use arrival::Arrival;
 pub use datagram::Datagram;
+pub use questions::{HeldRange, UnfinishedDatagram};
 pub use table::Reass;

@@ -1,0 +1,103 @@
+//! What a caller may ask of the unfinished datagrams. A question changes nothing.
+ghost use Rattle.std.specs.Prelude.{◌≡◌, ◌<◌};
+ghost use Rattle.ip_reass.specs.Fragments.{IsQueue, fragments, map_of};
+ghost use Rattle.ip_reass.specs.Questions.{nth_of, nth_range, nth_unfinished};
+ghost use Rattle.ip_reass.specs.Table.{IsTable, unfinished};
+
+use crate::datagram::Datagram;
+use crate::span::Tag;
+use crate::table::Reass;
+use flat_model::FragmentKey;
+use mbuf_chain::{Pool, Train};
+
+/// A datagram some of whose fragments have come.
+#[derive(Clone, Copy, Debug, PartialEq, Eq)]
+pub struct UnfinishedDatagram {
+    /// What its fragments go by.
+    pub key: FragmentKey,
+    /// After how many more ticks it's dropped, 1 to 60.
+    pub ticks: u8,
+    /// How many of its bytes have come, 1 to 65,515.
+    pub bytes: u32,
+    /// In how many ranges they are held, 1 to 8,190.
+    pub ranges: u32,
+}
+
+/// What one fragment brought to an unfinished datagram and still holds there: bytes one after another, whose offsets no
+/// other range has.
+#[derive(Clone, Copy, Debug, PartialEq, Eq)]
+pub struct HeldRange {
+    /// The offset of the first byte, counted from the end of the IP header.
+    pub offset: u32,
+    /// How many bytes there are, 1 or more.
+    pub len: u32,
+    /// Whether the fragment said that more come after it.
+    pub more: bool,
+}
+
+/// The range at a place, in order of offset.
+fn range_at(pool: &Pool, train: &Train, k: u32) -> Option<HeldRange>
+    requires { IsQueue pool.now train.now }
+    ensures { result ≡ nth_of (map_of (fragments pool.now train.now)) k }
+{
+    if k >= train.len() {
+        return None;
+    }
+    let tag = Tag {
+        bits: train.tag(pool, k),
+    };
+    Some(HeldRange {
+        offset: tag.offset(),
+        len: train.chain_len(pool, k),
+        more: tag.more(),
+    })
+}
+
+/// The datagram at a place.
+fn told_at(pool: &Pool, table: &[Datagram], i: usize) -> Option<UnfinishedDatagram>
+    requires { IsTable pool.now table.now }
+    ensures { result ≡ nth_unfinished i (unfinished pool.now table.now) }
+{
+    if i >= table.len() {
+        return None;
+    }
+    let datagram = &table[i];
+    let ranges = datagram.fragments.len();
+    Some(UnfinishedDatagram {
+        key: datagram.key,
+        ticks: datagram.ticks,
+        bytes: datagram.bytes,
+        ranges,
+    })
+}
+
+/// A range of the datagram at a place.
+fn range_in(pool: &Pool, table: &[Datagram], i: usize, k: u32) -> Option<HeldRange>
+    requires { IsTable pool.now table.now }
+    ensures { result ≡ nth_range i k (unfinished pool.now table.now) }
+{
+    if i >= table.len() {
+        return None;
+    }
+    range_at(pool, &table[i].fragments, k)
+}
+
+impl Reass {
+    /// The unfinished datagram at a place, in the order of their beginning: `None` exactly if no more than `i` are
+    /// unfinished.
+    pub fn unfinished(&self, pool: &Pool, i: u32) -> Option<UnfinishedDatagram>
+        requires { IsTable pool.now self.now.datagrams }
+        ensures { result ≡ nth_unfinished i (unfinished pool.now self.now.datagrams) }
+    {
+        told_at(pool, self.datagrams.as_slice(), i as usize)
+    }
+
+    /// The `k`th range of bytes that the unfinished datagram at place `i` holds, in order of offset, from 0: `None` exactly
+    /// if there is no such datagram, or if it has no more than `k` ranges. It takes a step for each range in front.
+    pub fn range(&self, pool: &Pool, i: u32, k: u32) -> Option<HeldRange>
+        requires { IsTable pool.now self.now.datagrams }
+        ensures { result ≡ nth_range i k (unfinished pool.now self.now.datagrams) }
+    {
+        range_in(pool, self.datagrams.as_slice(), i as usize, k)
+    }
+}
