@@ -11,6 +11,7 @@ mod stack;
 mod traffic;
 mod transmit;
 
+pub use ip_reass::{HeldRange, UnfinishedDatagram};
 pub use laws::{calls_are_run, stacks_on_a_wire};
 pub use sock_calls::{NextDatagram, SocketName};
 pub use stack::{BootFault, Stack};

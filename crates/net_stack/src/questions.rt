@@ -1,11 +1,13 @@
 //! What a caller may ask of a stack. A question changes nothing, and takes no step.
 ghost use Rattle.std.specs.Prelude.{◌≡◌, length};
 ghost use Rattle.ip_out.specs.Questions.{oldest_length};
+ghost use Rattle.ip_reass.specs.Questions.{nth_range, nth_unfinished};
 ghost use Rattle.sock_calls.specs.Questions.{next_datagram, readable, socket_name};
 ghost use Rattle.net_stack.specs.Stack.{state_of};
 
 use crate::stack::Stack;
 use flat_model::Errno;
+use ip_reass::{HeldRange, UnfinishedDatagram};
 use sock_calls::{NextDatagram, SocketName};
 
 impl Stack {
@@ -47,5 +49,28 @@ impl Stack {
         ensures { result ≡ oldest_length (state_of self.now).output }
     {
         self.net.out.next_len(&self.pool)
+    }
+
+    /// How many datagrams are unfinished: some of their fragments have come, and others are missing.
+    pub fn unfinished_len(&self) -> u32
+        ensures { result ≡ length (state_of self.now).unfinished }
+    {
+        self.reass.len()
+    }
+
+    /// The unfinished datagram at a place, in the order of their beginning, from 0: what its fragments go by, its ticks
+    /// left, and what it holds. `None` exactly if no more than `i` are unfinished (`ip_reass` of volume 2, chapter 10).
+    pub fn unfinished(&self, i: u32) -> Option<UnfinishedDatagram>
+        ensures { result ≡ nth_unfinished i (state_of self.now).unfinished }
+    {
+        self.reass.unfinished(&self.pool, i)
+    }
+
+    /// The `k`th range of bytes that the unfinished datagram at place `i` holds, in order of offset, from 0. `None` exactly
+    /// if there is no such datagram, or if it has no more than `k` ranges. It takes a step for each range in front.
+    pub fn unfinished_range(&self, i: u32, k: u32) -> Option<HeldRange>
+        ensures { result ≡ nth_range i k (state_of self.now).unfinished }
+    {
+        self.reass.range(&self.pool, i, k)
     }
 }
