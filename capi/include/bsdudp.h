@@ -81,13 +81,30 @@ struct bsdudp_next {
     uint32_t waiting; /* how many datagrams wait, this one among them */
 };
 
+/* A datagram some of whose fragments have come. */
+struct bsdudp_unfinished {
+    uint32_t source, destination; /* its addresses */
+    uint32_t bytes;               /* how many of its bytes have come */
+    uint32_t ranges;              /* in how many ranges */
+    uint16_t id;                  /* its identification */
+    uint8_t protocol;             /* what it carries: 17 is UDP */
+    uint8_t ticks;                /* after how many more ticks it's dropped, 1 to 60 */
+};
+
+/* What one fragment brought to an unfinished datagram and still holds there. */
+struct bsdudp_range {
+    uint32_t offset; /* of the first byte, counted from the end of the IP header */
+    uint32_t len;    /* how many bytes there are, 1 or more */
+    uint8_t more;    /* 1 if more come after the fragment that brought them, else 0 */
+};
+
 /* Refusals, by 4.4BSD's numbers: a call answers the negative of one. */
 enum {
     BSDUDP_ENXIO = 6,           /* the handle has no stack; of boot: it has one */
     BSDUDP_EBADF = 9,           /* no socket has this descriptor */
     BSDUDP_ENOMEM = 12,         /* boot: too little memory */
     BSDUDP_EACCES = 13,         /* a broadcast without BSDUDP_SO_BROADCAST */
-    BSDUDP_EINVAL = 22,         /* boot: no such configuration; bind: the socket has a name; counter: no such number */
+    BSDUDP_EINVAL = 22,         /* boot: no such configuration; bind: it has a name; a question: no such number */
     BSDUDP_EMFILE = 24,         /* 64 sockets are open */
     BSDUDP_EDOM = 33,           /* boot: sizes that no pool has */
     BSDUDP_EWOULDBLOCK = 35,    /* nothing waits */
@@ -203,6 +220,18 @@ int bsdudp_output_len(struct bsdudp *);
 
 /* How many bytes the packet has that bsdudp_tx gives next; 0 if none waits. ENXIO. */
 int bsdudp_next_packet(struct bsdudp *);
+
+/* How many datagrams are unfinished: some of their fragments have come, and others are missing. ENXIO. */
+int bsdudp_unfinished_len(struct bsdudp *);
+
+/* An unfinished datagram, by its number, 0 to bsdudp_unfinished_len - 1, in the order in which they began. The answer
+   is 0. ENXIO. EINVAL: there is none with this number, and `datagram` is as it was. */
+int bsdudp_unfinished(struct bsdudp *, uint32_t i, struct bsdudp_unfinished *datagram);
+
+/* A range of the bytes that unfinished datagram `i` holds, by its number, 0 to `ranges` - 1, in order of offset. It
+   takes a step for each range in front. The answer is 0. ENXIO. EINVAL: there is no such datagram, or it has no range
+   with this number, and `range` is as it was. */
+int bsdudp_unfinished_range(struct bsdudp *, uint32_t i, uint32_t k, struct bsdudp_range *range);
 
 /* A counter, by its number, 0 to 25, in the order of bsdudp_counter_name. The answer is 0. ENXIO. EINVAL. */
 int bsdudp_counter(struct bsdudp *, uint32_t which, uint64_t *value);

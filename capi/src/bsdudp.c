@@ -24,6 +24,9 @@ int bsdudp_core_next(struct bsdudp_core *, uint32_t, struct bsdudp_next *);
 int bsdudp_core_readable(struct bsdudp_core *, uint64_t *);
 int bsdudp_core_output_len(struct bsdudp_core *);
 int bsdudp_core_next_packet(struct bsdudp_core *);
+int bsdudp_core_unfinished_len(struct bsdudp_core *);
+int bsdudp_core_unfinished(struct bsdudp_core *, uint32_t, struct bsdudp_unfinished *);
+int bsdudp_core_unfinished_range(struct bsdudp_core *, uint32_t, uint32_t, struct bsdudp_range *);
 int bsdudp_core_counter(struct bsdudp_core *, uint32_t, uint64_t *);
 int bsdudp_core_mbstat(struct bsdudp_core *, struct bsdudp_mbstat *);
 
@@ -150,7 +153,18 @@ int bsdudp_next(struct bsdudp *s, uint32_t fd, struct bsdudp_next *next)
 int bsdudp_readable(struct bsdudp *s, uint64_t *set) { return bsdudp_core_readable(&s->core, set); }
 int bsdudp_output_len(struct bsdudp *s) { return bsdudp_core_output_len(&s->core); }
 int bsdudp_next_packet(struct bsdudp *s) { return bsdudp_core_next_packet(&s->core); }
+int bsdudp_unfinished_len(struct bsdudp *s) { return bsdudp_core_unfinished_len(&s->core); }
 int bsdudp_mbstat(struct bsdudp *s, struct bsdudp_mbstat *usage) { return bsdudp_core_mbstat(&s->core, usage); }
+
+int bsdudp_unfinished(struct bsdudp *s, uint32_t i, struct bsdudp_unfinished *datagram)
+{
+    return bsdudp_core_unfinished(&s->core, i, datagram);
+}
+
+int bsdudp_unfinished_range(struct bsdudp *s, uint32_t i, uint32_t k, struct bsdudp_range *range)
+{
+    return bsdudp_core_unfinished_range(&s->core, i, k, range);
+}
 
 int bsdudp_counter(struct bsdudp *s, uint32_t which, uint64_t *value)
 {

@@ -34,6 +34,8 @@ static int without_a_stack(struct bsdudp *s)
     struct bsdudp_name name;
     struct bsdudp_next next;
     struct bsdudp_mbstat usage;
+    struct bsdudp_unfinished datagram;
+    struct bsdudp_range range;
     uint64_t number = 99;
     WANT(bsdudp_end(s), -BSDUDP_ENXIO);
     WANT(bsdudp_rx(s, packet, 20), -BSDUDP_ENXIO);
@@ -53,6 +55,9 @@ static int without_a_stack(struct bsdudp *s)
     WANT(bsdudp_readable(s, &number), -BSDUDP_ENXIO);
     WANT(bsdudp_output_len(s), -BSDUDP_ENXIO);
     WANT(bsdudp_next_packet(s), -BSDUDP_ENXIO);
+    WANT(bsdudp_unfinished_len(s), -BSDUDP_ENXIO);
+    WANT(bsdudp_unfinished(s, 0, &datagram), -BSDUDP_ENXIO);
+    WANT(bsdudp_unfinished_range(s, 0, 0, &range), -BSDUDP_ENXIO);
     WANT(bsdudp_counter(s, 0, &number), -BSDUDP_ENXIO);
     WANT(bsdudp_mbstat(s, &usage), -BSDUDP_ENXIO);
     WANT(from.ip == 1 && from.port == 2 && number == 99, 1);
@@ -176,6 +181,47 @@ static int traffic(void)
     return 0;
 }
 
+/* A datagram of 3,008 bytes behind its IP header, cut by hand: its last packet and then its first come to far. */
+static int unfinished(void)
+{
+    struct bsdudp_unfinished datagram = {0, 0, 0, 0, 0, 0, 0};
+    struct bsdudp_range range = {0, 0, 0};
+    struct bsdudp_addr from;
+    static uint8_t cut[3][BSDUDP_TX_ROOM];
+    int i, k;
+    WANT(bsdudp_unfinished_len(&far_), 0);
+    WANT(bsdudp_unfinished(&far_, 0, &datagram), -BSDUDP_EINVAL);
+    WANT(bsdudp_send(&near_, 3, bytes, 3000), 3000);
+    for (i = 0; i < 3; i++)
+        WANT(bsdudp_tx(&near_, cut[i], sizeof cut[i]), i < 2 ? 1500 : 20 + 3008 - 2 * 1480);
+    WANT(bsdudp_rx(&far_, cut[2], sizeof cut[2]), 0);
+    for (k = 0; k < 2; k++)
+        WANT(bsdudp_tick(&far_), 0);
+    WANT(bsdudp_rx(&far_, cut[0], sizeof cut[0]), 0);
+    WANT(bsdudp_unfinished_len(&far_), 1);
+    WANT(bsdudp_unfinished(&far_, 1, &datagram), -BSDUDP_EINVAL);
+    WANT(bsdudp_unfinished(&far_, 0, &datagram), 0);
+    WANT(datagram.source, 0x0a000001);
+    WANT(datagram.destination, 0x0a000002);
+    WANT(datagram.id, cut[0][4] << 8 | cut[0][5]);
+    WANT(datagram.protocol, 17);
+    WANT(datagram.ticks, 58);
+    WANT(datagram.bytes, 1480 + 48);
+    WANT(datagram.ranges, 2);
+    WANT(bsdudp_unfinished_range(&far_, 0, 0, &range), 0);
+    WANT(range.offset == 0 && range.len == 1480 && range.more == 1, 1);
+    WANT(bsdudp_unfinished_range(&far_, 0, 1, &range), 0);
+    WANT(range.offset == 2960 && range.len == 48 && range.more == 0, 1);
+    WANT(bsdudp_unfinished_range(&far_, 0, 2, &range), -BSDUDP_EINVAL);
+    WANT(bsdudp_unfinished_range(&far_, 1, 0, &range), -BSDUDP_EINVAL);
+    WANT(range.offset == 2960 && range.len == 48 && range.more == 0, 1);
+    WANT(bsdudp_rx(&far_, cut[1], sizeof cut[1]), 0);
+    WANT(bsdudp_unfinished_len(&far_), 0);
+    WANT(bsdudp_recvfrom(&far_, 3, room, sizeof room, &from), 3000);
+    WANT(memcmp(room, bytes, 3000), 0);
+    return 0;
+}
+
 /* A pool and a queue that are full, and what the stack counts. */
 static int limits(void)
 {
@@ -221,5 +267,5 @@ static int ends(void)
 
 int main(void)
 {
-    return without_a_stack(&near_) || boots() || sockets() || traffic() || limits() || ends();
+    return without_a_stack(&near_) || boots() || sockets() || traffic() || unfinished() || limits() || ends();
 }

@@ -320,6 +320,31 @@ static struct bsdudp_addr some_name(uint16_t *peer_port)
     return it;
 }
 
+/* What is unfinished: each has ranges in order and apart, and as many bytes as these have. */
+static void look_at_unfinished(void)
+{
+    struct bsdudp_unfinished datagram;
+    struct bsdudp_range range;
+    int count = bsdudp_unfinished_len(&stack), i;
+    for (i = 0; i < count; i++) {
+        uint32_t sum = 0, end = 0, k;
+        if (bsdudp_unfinished(&stack, (uint32_t)i, &datagram) != 0 || datagram.ticks < 1 || datagram.ticks > 60)
+            wrong("an unfinished datagram isn't told, or has no time left");
+        for (k = 0; k < datagram.ranges; k++) {
+            if (bsdudp_unfinished_range(&stack, (uint32_t)i, k, &range) != 0 || range.offset < end || range.len == 0)
+                wrong("a range isn't told, or not apart from the one in front");
+            end = range.offset + range.len;
+            sum += range.len;
+        }
+        if (k == 0 || sum != datagram.bytes)
+            wrong("the ranges have other bytes");
+        if (bsdudp_unfinished_range(&stack, (uint32_t)i, k, &range) != -BSDUDP_EINVAL)
+            wrong("there is a range more");
+    }
+    if (bsdudp_unfinished(&stack, (uint32_t)count, &datagram) != -BSDUDP_EINVAL)
+        wrong("there is an unfinished datagram more");
+}
+
 /* A packet of a peer, or one that this stack sent; whole, as a fragment, or damaged. */
 static void call_rx(void)
 {
@@ -342,6 +367,7 @@ static void call_rx(void)
     ask("rx");
     put_hex(line, &line_len, packet, len);
     answer_number(bsdudp_rx(&stack, packet, len), false);
+    look_at_unfinished();
 }
 
 static void call_tx(void)

@@ -301,6 +301,42 @@ int bsdudp_next_packet(struct bsdudp *stack)
     return answer_of(core_next_packet(&it, handle_of(&it)));
 }
 
+int bsdudp_unfinished_len(struct bsdudp *stack)
+{
+    BEGIN(unfinished_len, stack);
+    return answer_of(core_unfinished_len(&it, handle_of(&it)));
+}
+
+int bsdudp_unfinished(struct bsdudp *stack, uint32_t i, struct bsdudp_unfinished *datagram)
+{
+    int answer;
+    BEGIN(unfinished, stack);
+    answer = answer_of(core_unfinished(&it, handle_of(&it), i, argument));
+    if (answer == 0) {
+        datagram->source = get_u32(plain);
+        datagram->destination = get_u32(plain + 4);
+        datagram->bytes = get_u32(plain + 8);
+        datagram->ranges = get_u32(plain + 12);
+        datagram->id = get_u16(plain + 16);
+        datagram->protocol = plain[18];
+        datagram->ticks = plain[19];
+    }
+    return answer;
+}
+
+int bsdudp_unfinished_range(struct bsdudp *stack, uint32_t i, uint32_t k, struct bsdudp_range *range)
+{
+    int answer;
+    BEGIN(unfinished_range, stack);
+    answer = answer_of(core_unfinished_range(&it, handle_of(&it), i, k, argument));
+    if (answer == 0) {
+        range->offset = get_u32(plain);
+        range->len = get_u32(plain + 4);
+        range->more = plain[8];
+    }
+    return answer;
+}
+
 int bsdudp_counter(struct bsdudp *stack, uint32_t which, uint64_t *value)
 {
     int answer;

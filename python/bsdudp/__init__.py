@@ -17,6 +17,7 @@ from ._packet import Packet
 from ._socket import CutDatagramWarning, Socket, Waiting
 from ._stack import Stack
 from ._sweep import sweep
+from ._unfinished import HeldRange, UnfinishedDatagram
 from ._wire import Carried, Wire
 
 __version__ = "0.2.0"
@@ -25,11 +26,13 @@ __all__ = [
     "Carried",
     "Counters",
     "CutDatagramWarning",
+    "HeldRange",
     "MbStat",
     "NoBuffersError",
     "Packet",
     "Socket",
     "Stack",
+    "UnfinishedDatagram",
     "Waiting",
     "Wire",
     "sweep",

@@ -79,6 +79,26 @@ class Next(ctypes.Structure):
     ]
 
 
+class Unfinished(ctypes.Structure):
+    """`struct bsdudp_unfinished`."""
+
+    _fields_ = [
+        ("source", ctypes.c_uint32),
+        ("destination", ctypes.c_uint32),
+        ("bytes", ctypes.c_uint32),
+        ("ranges", ctypes.c_uint32),
+        ("id", ctypes.c_uint16),
+        ("protocol", ctypes.c_uint8),
+        ("ticks", ctypes.c_uint8),
+    ]
+
+
+class Range(ctypes.Structure):
+    """`struct bsdudp_range`."""
+
+    _fields_ = [("offset", ctypes.c_uint32), ("len", ctypes.c_uint32), ("more", ctypes.c_uint8)]
+
+
 class Refusal(NamedTuple):
     """What a refusal of the library is called here: the host's error of that name, and a text."""
 
@@ -154,6 +174,9 @@ CALLS: Dict[str, List[Any]] = {
     "readable": [ctypes.POINTER(ctypes.c_uint64)],
     "output_len": [],
     "next_packet": [],
+    "unfinished_len": [],
+    "unfinished": [_u32, ctypes.POINTER(Unfinished)],
+    "unfinished_range": [_u32, _u32, ctypes.POINTER(Range)],
     "counter": [_u32, ctypes.POINTER(ctypes.c_uint64)],
     "mbstat": [ctypes.POINTER(Usage)],
 }

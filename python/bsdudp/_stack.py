@@ -8,9 +8,11 @@ from typing import Any, Dict, Iterator, List, Mapping, Optional, Type
 
 from ._addresses import Host, in_range, number_of, text_of
 from ._counters import Counters, MbStat
-from ._library import ALIGNMENT, COUNTERS, FIRST_DESCRIPTOR, LIBRARY, TX_ROOM, Config, Handle, Usage, refused
+from ._library import ALIGNMENT, COUNTERS, FIRST_DESCRIPTOR, LIBRARY, TX_ROOM, Config, Handle, Range, Unfinished
+from ._library import Usage, refused
 from ._packet import Packet, bytes_of
 from ._socket import Socket
+from ._unfinished import UnfinishedDatagram, told
 
 # The library wants one boot or end at a time in the whole program.
 _life = threading.Lock()
@@ -172,6 +174,21 @@ class Stack:
         return self._ask("output_len")
 
     @property
+    def unfinished(self) -> List[UnfinishedDatagram]:
+        """The datagrams some of whose fragments have come, in the order in which they began."""
+        return [self._unfinished_at(at) for at in range(self._ask("unfinished_len"))]
+
+    def _unfinished_at(self, at: int) -> UnfinishedDatagram:
+        datagram = Unfinished()
+        self._ask("unfinished", at, ctypes.byref(datagram))
+        return told(datagram, tuple(self._range_at(at, k) for k in range(datagram.ranges)))
+
+    def _range_at(self, at: int, k: int) -> Range:
+        held = Range()
+        self._ask("unfinished_range", at, k, ctypes.byref(held))
+        return held
+
+    @property
     def counters(self) -> Counters:
         """The 26 counters as they are now. They don't change afterwards: ask again."""
         value = ctypes.c_uint64()
@@ -210,5 +227,14 @@ class Stack:
             f" {usage.clusters - usage.free_clusters} of {usage.clusters} clusters in use;"
             f" {self.output_len} packets wait for the link</p>"
             '<table aria-label="sockets"><tr><th>socket</th><th>local</th><th>peer</th><th>waiting</th></tr>'
-            f"{sockets}</table>{self.counters._repr_html_()}"
+            f"{sockets}</table>{self._unfinished_html()}{self.counters._repr_html_()}"
+        )
+
+    def _unfinished_html(self) -> str:
+        rows = "".join(f"<tr>{it._cells()}</tr>" for it in self.unfinished)
+        if not rows:
+            return ""
+        return (
+            '<table aria-label="unfinished datagrams"><tr><th>unfinished datagram</th><th>ticks left</th>'
+            f"<th>bytes held</th></tr>{rows}</table>"
         )

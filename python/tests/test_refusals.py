@@ -189,6 +189,25 @@ def test_pictures(stack):
     assert repr(packet) == "<Packet 10.0.0.1 > 10.0.0.2 udp 7 > 9, id 1, 30 bytes>"
 
 
+def test_unfinished(stack):
+    """The last and the first of three fragments of 3,008 bytes, by hand: what is held, and until when."""
+    with bsdudp.Stack("10.0.0.2", first_id=9) as other:
+        other.socket().sendto(bytes(3_000), (stack.addr, 7))
+        first, second, last = other.packets()
+    assert stack.unfinished == []
+    assert "unfinished" not in stack._repr_html_()
+    stack.rx(last)
+    stack.tick(2)
+    stack.rx(first)
+    held = (bsdudp.HeldRange(0, 1480, True), bsdudp.HeldRange(2960, 48, False))
+    (it,) = stack.unfinished
+    assert it == bsdudp.UnfinishedDatagram("10.0.0.2", "10.0.0.1", 9, 17, 58, 1528, held)
+    assert it.missing == ((1480, 2960),)
+    assert "<td>0 to 1479, 2960 to 3007</td>" in stack._repr_html_()
+    stack.rx(second)
+    assert stack.unfinished == []
+
+
 def test_why(stack):
     before = stack.counters
     stack.rx(b"short")

@@ -3,6 +3,8 @@ use Rattle.std.specs.Prelude.{ℕ, Bool, if◌then◌else◌, unwrap_or}
 use Rattle.flat_model.specs.declared.address.Addr.{Addr}
 use Rattle.flat_model.specs.declared.config.Config.{Config}
 use Rattle.flat_model.specs.declared.usage.Mbstat.{Mbstat}
+use Rattle.ip_reass.specs.declared.questions.HeldRange.{HeldRange}
+use Rattle.ip_reass.specs.declared.questions.UnfinishedDatagram.{UnfinishedDatagram}
 use Rattle.sock_calls.specs.declared.questions.SocketName.{SocketName}
 use Rattle.sock_calls.specs.declared.questions.NextDatagram.{NextDatagram}
 use Rattle.libbsdudp.specs.declared.plain.CAddr.{CAddr}
@@ -10,6 +12,8 @@ use Rattle.libbsdudp.specs.declared.plain.CConfig.{CConfig}
 use Rattle.libbsdudp.specs.declared.plain.CMbstat.{CMbstat}
 use Rattle.libbsdudp.specs.declared.plain.CName.{CName}
 use Rattle.libbsdudp.specs.declared.plain.CNext.{CNext}
+use Rattle.libbsdudp.specs.declared.plain.CRange.{CRange}
+use Rattle.libbsdudp.specs.declared.plain.CUnfinished.{CUnfinished}
 
 abbrev pub config_of : CConfig → Config
 config_of c = record { addr = c.addr; bcast = c.bcast; mtu = c.mtu; mbufs = c.mbufs; clusters = c.clusters; first_id = c.first_id }
@@ -42,3 +46,9 @@ name_told n =
 
 abbrev pub next_told : NextDatagram → CNext
 next_told n = record { ip = n.sender.ip; port = n.sender.port; len = n.len; waiting = n.waiting }
+
+abbrev pub unfinished_told : UnfinishedDatagram → CUnfinished
+unfinished_told d = record { source = d.key.source; destination = d.key.destination; bytes = d.bytes; ranges = d.ranges; id = d.key.id; protocol = d.key.protocol; ticks = d.ticks }
+
+abbrev pub range_told : HeldRange → CRange
+range_told r = record { offset = r.offset; len = r.len; more = flag r.more }

@@ -8,6 +8,9 @@ use Rattle.flat_model.specs.Machine.Count.{value_of, all_counters}
 use Rattle.flat_model.specs.Machine.Event.{Ask_counters, Ask_usage, Counted, Shown}
 use Rattle.flat_model.specs.Machine.Step.{Step}
 use Rattle.ip_out.specs.Questions.{oldest_length}
+use Rattle.ip_reass.specs.Questions.{nth_range, nth_unfinished}
+use Rattle.ip_reass.specs.declared.questions.HeldRange.{HeldRange}
+use Rattle.ip_reass.specs.declared.questions.UnfinishedDatagram.{UnfinishedDatagram}
 use Rattle.net_stack.specs.Stack.{StackView, state_of}
 use Rattle.sock_calls.specs.Questions.{next_datagram, readable, socket_name}
 use Rattle.sock_calls.specs.declared.questions.SocketName.{SocketName}
@@ -15,8 +18,10 @@ use Rattle.sock_calls.specs.declared.questions.NextDatagram.{NextDatagram}
 use Rattle.libbsdudp.specs.declared.plain.CMbstat.{CMbstat}
 use Rattle.libbsdudp.specs.declared.plain.CName.{CName}
 use Rattle.libbsdudp.specs.declared.plain.CNext.{CNext}
+use Rattle.libbsdudp.specs.declared.plain.CRange.{CRange}
+use Rattle.libbsdudp.specs.declared.plain.CUnfinished.{CUnfinished}
 use Rattle.libbsdudp.specs.Answers.{invalid, refusal_code, count_code, given_code}
-use Rattle.libbsdudp.specs.Plain.{name_told, next_told, usage_told}
+use Rattle.libbsdudp.specs.Plain.{name_told, next_told, range_told, unfinished_told, usage_told}
 
 -- a name is told, or why there is none
 abbrev pub IsName : Result SocketName Errno → ℤ → CName → CName → Type 0
@@ -63,3 +68,23 @@ pub record TellsUsage (answer : ℤ) (usage : CMbstat) (s : StackView) : Type 0 
   pub is : answer ≡ pos 0
   pub shown : usage ≡ usage_told told
   pub step : Step (state_of s) Ask_usage (Shown told) (state_of s)
+
+-- how many datagrams are unfinished
+pub record TellsWaiting (answer : ℤ) (s : StackView) : Type 0 where
+  pub is : answer ≡ count_code (length (state_of s).unfinished)
+
+-- an unfinished datagram is told, or -EINVAL if there is none at this place
+abbrev pub IsUnfinished : Option UnfinishedDatagram → ℤ → CUnfinished → CUnfinished → Type 0
+IsUnfinished (Some datagram) answer old new = (answer ≡ pos 0) × (new ≡ unfinished_told datagram)
+IsUnfinished None answer old new = (answer ≡ invalid) × (new ≡ old)
+
+pub record TellsUnfinished (i : ℕ) (answer : ℤ) (old new : CUnfinished) (s : StackView) : Type 0 where
+  pub is : IsUnfinished (nth_unfinished i (state_of s).unfinished) answer old new
+
+-- a range of its bytes is told, or -EINVAL if there is none at this place
+abbrev pub IsRange : Option HeldRange → ℤ → CRange → CRange → Type 0
+IsRange (Some range) answer old new = (answer ≡ pos 0) × (new ≡ range_told range)
+IsRange None answer old new = (answer ≡ invalid) × (new ≡ old)
+
+pub record TellsRange (i k : ℕ) (answer : ℤ) (old new : CRange) (s : StackView) : Type 0 where
+  pub is : IsRange (nth_range i k (state_of s).unfinished) answer old new

@@ -1,8 +1,8 @@
 //! The questions of a stack, as C gives their arguments and takes their answers.
-ghost use Rattle.libbsdudp.specs.Told.{TellsCounter, TellsName, TellsNext, TellsOutput, TellsPacket, TellsReadable, TellsUsage};
+ghost use Rattle.libbsdudp.specs.Told.{TellsCounter, TellsName, TellsNext, TellsOutput, TellsPacket, TellsRange, TellsReadable, TellsUnfinished, TellsUsage, TellsWaiting};
 
 use crate::errors::{INVALID, count, refused};
-use crate::plain::{CMbstat, CName, CNext};
+use crate::plain::{CMbstat, CName, CNext, CRange, CUnfinished};
 use flat_model::Counter;
 use net_stack::Stack;
 
@@ -77,4 +77,37 @@ pub(crate) fn mbstat(stack: &Stack, usage: &mut CMbstat) -> i32
 {
     *usage = CMbstat::of(stack.mbstat());
     0
+}
+
+/// How many datagrams are unfinished.
+pub(crate) fn unfinished_len(stack: &Stack) -> i32
+    ensures { TellsWaiting result stack.now }
+{
+    count(stack.unfinished_len() as usize)
+}
+
+/// The unfinished datagram at a place.
+pub(crate) fn unfinished(stack: &Stack, i: u32, datagram: &mut CUnfinished) -> i32
+    ensures { TellsUnfinished i result datagram.old datagram.new stack.now }
+{
+    match stack.unfinished(i) {
+        Some(told) => {
+            *datagram = CUnfinished::of(told);
+            0
+        }
+        None => INVALID,
+    }
+}
+
+/// The range of its bytes at a place.
+pub(crate) fn unfinished_range(stack: &Stack, i: u32, k: u32, range: &mut CRange) -> i32
+    ensures { TellsRange i k result range.old range.new stack.now }
+{
+    match stack.unfinished_range(i, k) {
+        Some(told) => {
+            *range = CRange::of(told);
+            0
+        }
+        None => INVALID,
+    }
 }

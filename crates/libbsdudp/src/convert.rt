@@ -1,9 +1,10 @@
 //! What C's structs say, and how C is told.
 ghost use Rattle.std.specs.Prelude.{◌≡◌};
-ghost use Rattle.libbsdudp.specs.Plain.{addr_of, config_of, name_told, next_told, usage_told, whom};
+ghost use Rattle.libbsdudp.specs.Plain.{addr_of, config_of, name_told, next_told, range_told, unfinished_told, usage_told, whom};
 
-use crate::plain::{CAddr, CConfig, CMbstat, CName, CNext};
+use crate::plain::{CAddr, CConfig, CMbstat, CName, CNext, CRange, CUnfinished};
 use flat_model::{Addr, Config, Mbstat};
+use net_stack::{HeldRange, UnfinishedDatagram};
 use sock_calls::{NextDatagram, SocketName};
 
 impl CConfig {
@@ -81,6 +82,34 @@ impl CNext {
             port: next.sender.port,
             len: next.len,
             waiting: next.waiting,
+        }
+    }
+}
+
+impl CUnfinished {
+    pub(crate) fn of(datagram: UnfinishedDatagram) -> CUnfinished
+        ensures { result ≡ unfinished_told datagram }
+    {
+        CUnfinished {
+            source: datagram.key.source,
+            destination: datagram.key.destination,
+            bytes: datagram.bytes,
+            ranges: datagram.ranges,
+            id: datagram.key.id,
+            protocol: datagram.key.protocol,
+            ticks: datagram.ticks,
+        }
+    }
+}
+
+impl CRange {
+    pub(crate) fn of(range: HeldRange) -> CRange
+        ensures { result ≡ range_told range }
+    {
+        CRange {
+            offset: range.offset,
+            len: range.len,
+            more: u8::from(range.more),
         }
     }
 }

@@ -77,3 +77,35 @@ pub struct CNext {
     /// How many datagrams wait.
     pub waiting: u32,
 }
+
+/// `struct bsdudp_unfinished`.
+#[repr(C)]
+#[derive(Clone, Copy)]
+pub struct CUnfinished {
+    /// The address that its fragments come from.
+    pub source: u32,
+    /// The address that they go to.
+    pub destination: u32,
+    /// How many of its bytes have come.
+    pub bytes: u32,
+    /// In how many ranges.
+    pub ranges: u32,
+    /// Its identification.
+    pub id: u16,
+    /// The protocol of what it carries.
+    pub protocol: u8,
+    /// After how many more ticks it's dropped.
+    pub ticks: u8,
+}
+
+/// `struct bsdudp_range`.
+#[repr(C)]
+#[derive(Clone, Copy)]
+pub struct CRange {
+    /// The offset of the first byte.
+    pub offset: u32,
+    /// How many bytes there are.
+    pub len: u32,
+    /// 1 if more come after the fragment that brought them, else 0.
+    pub more: u8,
+}

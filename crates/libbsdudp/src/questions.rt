@@ -1,12 +1,12 @@
 //! The questions, which leave the stack as it is.
 ghost use Rattle.std.specs.Prelude.{◌≡◌, ⊤};
 ghost use Rattle.libbsdudp.specs.Calls.{Answers, IsAsked, stack_in};
-ghost use Rattle.libbsdudp.specs.Told.{TellsCounter, TellsName, TellsNext, TellsOutput, TellsPacket, TellsReadable, TellsUsage};
+ghost use Rattle.libbsdudp.specs.Told.{TellsCounter, TellsName, TellsNext, TellsOutput, TellsPacket, TellsRange, TellsReadable, TellsUnfinished, TellsUsage, TellsWaiting};
 
 use crate::asks;
 use crate::errors::NO_STACK;
 use crate::handle::Handle;
-use crate::plain::{CMbstat, CName, CNext};
+use crate::plain::{CMbstat, CName, CNext, CRange, CUnfinished};
 use std::alloc::Global;
 
 /// What a socket is bound and connected to, and its options. 0, or -EBADF.
@@ -137,6 +137,68 @@ pub extern "C" fn bsdudp_core_mbstat(alloc: Global, handle: &mut Handle, usage: 
         return NO_STACK;
     };
     let answer = asks::mbstat(&boxed.stack, usage);
+    handle.put(boxed);
+    answer
+}
+
+/// How many datagrams are unfinished.
+///
+///     int bsdudp_core_unfinished_len(struct bsdudp_core *)
+#[tactic(auto, using(crate::proofs::Answered::asked))]
+#[unsafe(no_mangle)]
+pub extern "C" fn bsdudp_core_unfinished_len(alloc: Global, handle: &mut Handle) -> i32
+    ensures { Answers (stack_in handle.old) result (stack_in handle.new) ⊤ (IsAsked (TellsWaiting result)) }
+{
+    let Some(boxed) = handle.take(alloc) else {
+        return NO_STACK;
+    };
+    let answer = asks::unfinished_len(&boxed.stack);
+    handle.put(boxed);
+    answer
+}
+
+/// An unfinished datagram, by its place in the order of their beginning. 0, or -EINVAL if there is none.
+///
+///     int bsdudp_core_unfinished(struct bsdudp_core *, uint32_t i, struct bsdudp_unfinished *)
+#[tactic(auto, using(crate::proofs::Answered::asked))]
+#[unsafe(no_mangle)]
+pub extern "C" fn bsdudp_core_unfinished(
+    alloc: Global,
+    handle: &mut Handle,
+    i: u32,
+    datagram: &mut CUnfinished,
+) -> i32
+    ensures { Answers (stack_in handle.old) result (stack_in handle.new) (datagram.new ≡ datagram.old)
+        (IsAsked (TellsUnfinished i result datagram.old datagram.new)) }
+{
+    let Some(boxed) = handle.take(alloc) else {
+        return NO_STACK;
+    };
+    let answer = asks::unfinished(&boxed.stack, i, datagram);
+    handle.put(boxed);
+    answer
+}
+
+/// A range of the bytes that an unfinished datagram holds, by its place in order of offset. 0, or -EINVAL if there is
+/// none.
+///
+///     int bsdudp_core_unfinished_range(struct bsdudp_core *, uint32_t i, uint32_t k, struct bsdudp_range *)
+#[tactic(auto, using(crate::proofs::Answered::asked))]
+#[unsafe(no_mangle)]
+pub extern "C" fn bsdudp_core_unfinished_range(
+    alloc: Global,
+    handle: &mut Handle,
+    i: u32,
+    k: u32,
+    range: &mut CRange,
+) -> i32
+    ensures { Answers (stack_in handle.old) result (stack_in handle.new) (range.new ≡ range.old)
+        (IsAsked (TellsRange i k result range.old range.new)) }
+{
+    let Some(boxed) = handle.take(alloc) else {
+        return NO_STACK;
+    };
+    let answer = asks::unfinished_range(&boxed.stack, i, k, range);
     handle.put(boxed);
     answer
 }
