@@ -1,6 +1,7 @@
 //! Reassembly over pools of a few buffers: answers worked out by hand from 4.4BSD's rules.
 
 mod loopback;
+mod questions;
 mod steps;
 
 ghost use Rattle.std.specs.Prelude.{◌≡◌, ◌≤◌};
