@@ -90,7 +90,9 @@ def bytes_of(packet: Any) -> bytes:
     if isinstance(packet, (bytes, bytearray, memoryview)):
         found = bytes(packet)
     elif hasattr(packet, "haslayer"):
-        found = bytes(packet["IP"] if packet.haslayer("IP") else packet)
+        if not packet.haslayer("IP"):
+            raise ValueError("the scapy packet has no IP layer; if its bytes are meant as they are, give bytes(packet)")
+        found = bytes(packet["IP"])
     else:
         raise TypeError(f"a packet is bytes or a scapy packet, and not {type(packet).__name__}")
     if len(found) > MAX_PACKET:

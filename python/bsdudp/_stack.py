@@ -135,7 +135,7 @@ class Stack:
     def rx(self, packet: Any) -> None:
         """A packet came from the link: bytes from the IPv4 header on, or a scapy packet, of which the IP layer is taken. It's
         delivered, kept for the other fragments of its datagram, or dropped and counted (`why`); that is no error.
-        ValueError: it has more than 65,535 bytes. TypeError: it isn't a packet."""
+        ValueError: it has more than 65,535 bytes, or no IP layer. TypeError: it isn't a packet."""
         data = bytes_of(packet)
         self._ask("rx", data, len(data))
 

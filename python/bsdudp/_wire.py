@@ -9,6 +9,8 @@ from ._pcg import Chance, Pcg32, limit_of
 from ._stack import Stack
 
 LIMITED_BROADCAST = 0xFFFF_FFFF
+TICK = 0.5  # in seconds
+LAST_MICROSECOND = 499_999
 
 
 class InFlight(NamedTuple):
@@ -67,8 +69,10 @@ class Wire:
         in_range("the most delay", self._most, in_range("the least delay", self._least, 0, 1_000_000), 1_000_000)
         self._random = Pcg32(in_range("seed", seed, 0, (1 << 64) - 1))
         self._now = 0
+        self._ticks = 0
+        self._carries = 0  # since the last tick
         self._flight: List[InFlight] = []
-        self._record: Optional[List[Tuple[int, Packet]]] = None
+        self._record: Optional[List[Tuple[float, Packet]]] = None
         self._counts = dict.fromkeys(Carried._fields, 0)
 
     @property
@@ -117,7 +121,7 @@ class Wire:
         handed = 0
         for it in self._due():
             if self._record is not None:
-                self._record.append((self._now, it.packet))
+                self._record.append((self._time(), it.packet))
             receivers = self._receivers(it)
             for at in receivers:
                 self.stacks[at].rx(it.packet)
@@ -125,6 +129,7 @@ class Wire:
             self._counts["nobody"] += not receivers
         self._counts["delivered"] += handed
         self._now += 1
+        self._carries += 1
         return handed
 
     def run(self, until_quiet: bool = True, carries: int = 10_000) -> bool:
@@ -136,6 +141,19 @@ class Wire:
             self.carry()
         return self._is_quiet()
 
+    def tick(self, n: int = 1) -> None:
+        """Lets `n` times half a second pass at each stack of the wire. What is under way stays so: a delay is counted in
+        carries."""
+        for _ in range(in_range("n", n, 0, 1_000_000)):
+            for stack in self.stacks:
+                stack.tick()
+            self._ticks += 1
+            self._carries = 0
+
+    def _time(self) -> float:
+        """The time of a packet that is handed over now, in seconds."""
+        return self._ticks * TICK + min(self._carries, LAST_MICROSECOND) / 1_000_000
+
     def _is_quiet(self) -> bool:
         return not self._flight and not any(stack.output_len for stack in self.stacks)
 
@@ -144,8 +162,9 @@ class Wire:
         self._record = []
 
     def pcap(self, path: str) -> None:
-        """Writes what was handed over since `record` as a capture, by scapy. A packet's time is its carry, in seconds.
-        RuntimeError: nothing was recorded."""
+        """Writes what was handed over since `record` as a capture, by scapy. A packet's time is that of the wire's clock:
+        half a second for each `tick` of the wire, and a microsecond for each carry since the last one. RuntimeError:
+        `record` wasn't called."""
         if self._record is None:
             raise RuntimeError("call record() before the packets go")
         from scapy.layers.inet import IP

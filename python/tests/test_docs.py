@@ -7,12 +7,13 @@ import re
 import subprocess
 import sys
 
+import bsdudp
 import pytest
 from conftest import TOP
 
 PAGE = (TOP / "docs/python.md").read_text(encoding="utf-8")
 PIECES = re.findall(r"```python\n(.*?)```", PAGE, re.S)
-PRINTED = re.compile(r"print\(.*\)\s+# ([<(\[{'0-9].*)")
+PRINTED = re.compile(r"print\(.*\)\s+# ([<(\[{'0-9A-Z].*)")
 
 
 def run(piece, names):
@@ -28,7 +29,14 @@ def run(piece, names):
             assert said.getvalue().splitlines() == told
 
 
-def test_pieces():
+def test_counters():
+    """The table of counters names them all, in their order."""
+    section = PAGE.split("## The counters")[1].split("##")[0]
+    assert re.findall(r"^\| `([a-z.]+)` \|", section, re.M) == list(bsdudp.Stack().counters)
+
+
+def test_pieces(tmp_path, monkeypatch):
+    monkeypatch.chdir(tmp_path)
     names = {"__name__": "__reader__"}
     for piece in PIECES:
         if "__main__" in piece:

@@ -141,6 +141,9 @@ def test_arguments(stack):
         stack.rx("hi")
     with pytest.raises(ValueError):
         stack.rx(bytes(65536))
+    scapy = pytest.importorskip("scapy.all")
+    with pytest.raises(ValueError):
+        stack.rx(scapy.Ether() / scapy.ARP())
     with pytest.raises(ValueError):
         stack.tick(-1)
     with pytest.raises(ValueError):

@@ -122,6 +122,20 @@ def test_arguments():
             bsdudp.Wire([stack, other])
 
 
+def test_tick():
+    """A datagram whose last fragment is lost goes after 60 ticks of the wire, and not before."""
+    with bsdudp.Stack("10.0.0.1") as one, bsdudp.Stack("10.0.0.2") as other:
+        one.socket().sendto(bytes(3000), ("10.0.0.2", 7))
+        first, second, _ = one.packets()
+        other.rx(first)
+        other.rx(second)
+        wire = bsdudp.Wire([one, other])
+        wire.tick(59)
+        assert [it.ticks for it in other.unfinished] == [1]
+        wire.tick()
+        assert other.unfinished == [] and other.counters["ip.fragtimeout"] == 1
+
+
 def test_pcap(tmp_path):
     scapy = pytest.importorskip("scapy.all")
     with bsdudp.Stack("10.0.0.1") as one, bsdudp.Stack("10.0.0.2") as other:
@@ -131,7 +145,11 @@ def test_pcap(tmp_path):
         wire.record()
         one.socket().sendto(bytes(3000), ("10.0.0.2", 7))
         wire.run()
+        wire.tick(3)
+        other.socket().sendto(b"hi", ("10.0.0.1", 7))
+        wire.run()
         wire.pcap(str(tmp_path / "wire.pcap"))
     packets = scapy.rdpcap(str(tmp_path / "wire.pcap"))
-    assert [packet["IP"].frag for packet in packets] == [0, 185, 370]
+    assert [packet["IP"].frag for packet in packets] == [0, 185, 370, 0]
+    assert [float(packet.time) for packet in packets] == [0, 0, 0, 1.5]
     assert all(packet["IP"].chksum == scapy.IP(bytes(packet["IP"])).chksum for packet in packets)
