@@ -1,7 +1,7 @@
 -- What the look-ups, the checks and a new socket are on each machine.
-use Rattle.std.proofs.Common.{◌≡◌, ◌≢◌, ℕ, ◌<◌, ◌≤◌, Bool, true, false, ◌&&◌, ◌==◌, not, nat_lt, cond, List, [], ◌∷◌, map, filter, find, length, Option, Some, None, Ok, Err, option_map, is_some, refl, sym, ap, ◌∙◌, subst, arith, All}
+use Rattle.std.proofs.Common.{◌≡◌, ℕ, ◌<◌, Bool, true, false, ◌&&◌, not, nat_lt, cond, List, [], ◌∷◌, map, filter, find, length, Option, Some, None, Ok, Err, option_map, is_some, refl, sym, ap, ◌∙◌, subst, arith, All}
 use Rattle.std.specs.Prelude.{IsNone, IsSome}
-use Rattle.std.proofs.lemmas.Bool.{and_parts, true≢false, lt-ltb, eqb-false}
+use Rattle.std.proofs.lemmas.Bool.{and_parts, true≢false, lt-ltb}
 use Rattle.std.proofs.lemmas.List.{length-map}
 use Rattle.std.proofs.lemmas.List.Elements.{All-map}
 use Rattle.std.proofs.lemmas.Option.{same_Some}
@@ -114,9 +114,6 @@ module _ (i : Interface) (bs : List Block) (last : Option ℕ) (fd : ℕ) (b : B
   }
 
 -- ---- a new socket
-
-pub has_room : (n : ℕ) (is_full : Bool) → is_full ≡ (n == 64) → n ≤ 64 → is_full ≡ false → n < 64
-has_room n is_full e le clear = let ne : n ≢ 64 = eqb-false n 64 (sym e ∙ clear) in omega arith
 
 pub opens : (i : Interface) (bs new : List Block) (last : Option ℕ) (fd : ℕ) → length bs < 64 → IsLowestFree bs fd → new ≡ unbound_block fd ∷ bs
     → (rest : State) (queues : Queues) → queues fd ≡ [] → Opens 64 (machine rest queues (table_of i bs last)) (Opened fd) (machine rest queues (table_of i new last))

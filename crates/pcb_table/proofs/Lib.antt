@@ -1,5 +1,7 @@
 pub mod Laws
 mod Searching
+mod Passed
+mod Exactly
 mod Pigeons
 mod Circle
 mod Lifted

@@ -1,5 +1,5 @@
 -- A block at a place, and what a write or a removal there makes of the list.
-use Rattle.std.proofs.Common.{subst, ◌≡◌, ℕ, zero, suc, ◌+◌, ◌<◌, ◌≤◌, Bool, true, false, not, cond, List, [], ◌∷◌, map, filter, find, length, get_or, set, position, count_by, nat_lt, All, Option, Some, None, refl, sym, ap, ◌∙◌, arith}
+use Rattle.std.proofs.Common.{subst, ◌≡◌, ℕ, zero, suc, ◌+◌, ◌<◌, ◌≤◌, Bool, true, false, not, cond, List, [], ◌∷◌, map, filter, find, length, get_or, set, position, count_by, nat_lt, All, Option, Some, None, is_some, refl, sym, ap, ◌∙◌, arith}
 use Rattle.std.specs.Prelude.{remove, IfSome, OnSome}
 use Rattle.std.specs.List.{position_or_len, AllByRecursion}
 use Rattle.std.specs.Option.{option_or}
@@ -178,6 +178,14 @@ best_by_fd q bs b apart e = let k = best_found_as q bs b e in found_by_fd (has_s
 
 pub best_range : (q : LookupKey) (bs : List Block) (b : Block) → AreApart bs → best_block q bs ≡ Some b → IsDescriptor b.fd
 best_range q bs b apart e = let k = best_found_as q bs b e in found_range (has_score k.0 q) bs b apart k.1
+
+-- a block that stands somewhere is found
+pub located_some : (fd index : ℕ) (bs : List Block) (b : Block) → IsLocated fd bs index b → is_some (find (has_fd fd) bs) ≡ true
+located_some fd index bs b at = go (find (has_fd fd) bs) refl
+  where
+    go : (o : Option Block) → find (has_fd fd) bs ≡ o → is_some (find (has_fd fd) bs) ≡ true
+    go (Some x) e = ap is_some e
+    go None e = absurd (omega (arith, none_counted (has_fd fd) bs e, counts_at (has_fd fd) bs index b at.within (ap (has_fd fd) (at.is b) ∙ eq-eqb b.fd fd at.named)))
 
 -- ---- a block at its place
 

@@ -233,10 +233,6 @@ module _ (i : Interface) (bs : List Block) (last : Option ℕ) (fd index : ℕ) 
 
 -- ---- what a slice of the blocks tells of a table
 
-pub closed : (i : Interface) (bs cs : List Block) (last : Option ℕ) (t : Table) (fd : ℕ) → table_of i cs last ≡ t → bs ≡ cs → find (has_fd fd) bs ≡ None
+pub closed : (i : Interface) (bs : List Block) (last : Option ℕ) (t : Table) (fd : ℕ) → table_of i bs last ≡ t → find (has_fd fd) bs ≡ None
     → (rest : State) (queues : Queues) (Call : Socket → Type 0) → OnSocket fd (machine rest queues t) (Refused BadDescriptor) (machine rest queues t) Call
-closed i bs cs last t fd is same none rest queues Call =
-    not_open rest queues t fd Call (subst (λ (u : Table). block_at fd u ≡ None) is (subst (λ (ds : List Block). find (has_fd fd) ds ≡ None) same none))
-
-pub located_in : (bs cs : List Block) (fd index : ℕ) (b : Block) → bs ≡ cs → IsLocated fd bs index b → IsLocated fd cs index b
-located_in bs cs fd index b same at = subst (λ (ds : List Block). IsLocated fd ds index b) same at
+closed i bs last t fd is none rest queues Call = not_open rest queues t fd Call (subst (λ (u : Table). block_at fd u ≡ None) is none)

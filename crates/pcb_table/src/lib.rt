@@ -6,6 +6,7 @@
 #![tactic(auto)]
 
 mod block;
+mod blocks;
 mod interface;
 mod ports;
 mod refusals;

@@ -4,8 +4,8 @@ ghost use Rattle.pcb_table.specs.Inside.Search.{GivesPort, IsFreePort, is_used};
 ghost use Rattle.pcb_table.specs.Apart.{AreApart};
 ghost use Rattle.pcb_table.specs.Inside.Fields.{IsInCircle, IsLowestFree};
 
-use crate::block::Block;
-use crate::search::{best, block_of};
+use crate::blocks::Blocks;
+use crate::search::best;
 use flat_model::LookupKey;
 use params::{FIRST_DESCRIPTOR, FIRST_EPHEMERAL_PORT, LAST_EPHEMERAL_PORT, MAX_SOCKETS};
 
@@ -26,7 +26,7 @@ fn port_after(last: Option<u16>, turns: u16) -> u16
 }
 
 /// Whether a block has the port, at this address or at one that agrees with it.
-pub(crate) fn is_in_use(blocks: &[Block], local: Option<u32>, port: u16) -> bool
+pub(crate) fn is_in_use(blocks: &Blocks, local: Option<u32>, port: u16) -> bool
     ensures { result ≡ is_used blocks.now local port }
 {
     best(
@@ -41,13 +41,13 @@ pub(crate) fn is_in_use(blocks: &[Block], local: Option<u32>, port: u16) -> bool
 }
 
 /// The next ephemeral port that isn't in use. There is one, since there are more ports than blocks.
-pub(crate) fn next_free(blocks: &[Block], local: Option<u32>, last: Option<u16>) -> u16
-    requires few { length blocks.now ≤ MAX_SOCKETS }
+pub(crate) fn next_free(blocks: &Blocks, local: Option<u32>, last: Option<u16>) -> u16
     requires last { IsInCircle last }
     ensures free { IsFreePort blocks.now last local result }
     ensures least { FIRST_EPHEMERAL_PORT ≤ result }
     ensures most { result ≤ LAST_EPHEMERAL_PORT }
 {
+    let _few = blocks.len();
     for turns in 0..PORTS {
         let port = port_after(last, turns);
         if !is_in_use(blocks, local, port) {
@@ -66,12 +66,11 @@ pub(crate) struct Chosen {
 
 /// The port asked for, or else the next ephemeral one.
 pub(crate) fn port_for(
-    blocks: &[Block],
+    blocks: &Blocks,
     local: Option<u32>,
     last: Option<u16>,
     asked: Option<u16>,
 ) -> Chosen
-    requires few { length blocks.now ≤ MAX_SOCKETS }
     requires last { IsInCircle last }
     ensures port { GivesPort blocks.now last local asked result.port result.last }
     ensures last { IsInCircle result.last }
@@ -89,15 +88,15 @@ pub(crate) fn port_for(
 }
 
 /// The lowest descriptor that no block has. There is one of 3 to 66, since fewer than 64 are in use.
-pub(crate) fn lowest_free(blocks: &[Block]) -> u32
+pub(crate) fn lowest_free(blocks: &Blocks) -> u32
     requires few { length blocks.now < MAX_SOCKETS }
     ensures free { IsLowestFree blocks.now result }
     ensures most { result < FIRST_DESCRIPTOR + MAX_SOCKETS }
 {
     for fd in FIRST_DESCRIPTOR..FIRST_DESCRIPTOR + MAX_SOCKETS {
-        if block_of(blocks, fd).is_none() {
+        let Some(_at) = blocks.locate(fd) else {
             return fd;
-        }
+        };
     }
     unreachable!()
 }

@@ -4,6 +4,7 @@ ghost use Rattle.flat_model.specs.Machine.Calls as flat;
 ghost use Rattle.pcb_table.specs.Inside.Search.{block_bind_faults, block_connect_faults, config_of, is_in_way};
 
 use crate::block::Block;
+use crate::blocks::Blocks;
 use crate::interface::{Interface, is_reached};
 use crate::ports::is_in_use;
 use crate::search::exact;
@@ -25,7 +26,7 @@ pub(crate) fn port_unless_zero(port: u16) -> Option<u16>
 
 /// Whether a bind meets another block that stands in its way: with the reuse-port option only an exact match
 /// that lacks it, else any that has the port at an address that agrees.
-fn is_taken(blocks: &[Block], me: &Block, local: Option<u32>, port: u16) -> bool
+fn is_taken(blocks: &Blocks, me: &Block, local: Option<u32>, port: u16) -> bool
     ensures { result ≡ is_in_way blocks.now me.now local port }
 {
     if me.reuse_port {
@@ -45,7 +46,7 @@ fn is_taken(blocks: &[Block], me: &Block, local: Option<u32>, port: u16) -> bool
 
 /// Why a bind is refused.
 pub(crate) fn bind_fault(
-    blocks: &[Block],
+    blocks: &Blocks,
     interface: Interface,
     me: &Block,
     address: Addr,
@@ -66,7 +67,7 @@ pub(crate) fn bind_fault(
 
 /// Why a packet to an address, as it was read, is refused, or a connect to it.
 pub(crate) fn destination_fault(
-    blocks: &[Block],
+    blocks: &Blocks,
     interface: Interface,
     me: &Block,
     to: Addr,

@@ -11,12 +11,11 @@ ghost use Rattle.pcb_table.specs.Apart.{AreApart};
 ghost use Rattle.pcb_table.specs.Found.{Changes, ChecksDestination, ChoosesNext, EnsuresPort, Finds, FindsAll, SendsFrom};
 
 use crate::block::{Block, Connection, key_of_packet};
+use crate::blocks::Blocks;
 use crate::interface::Interface;
 use crate::ports::{lowest_free, next_free, port_for};
 use crate::refusals::{bind_fault, destination_fault, port_unless_zero, unless_zero};
-use crate::search::{
-    best, block_of, exact, insert_first, locate, located, receivers, remove_at, set_block,
-};
+use crate::search::{best, exact, receivers};
 use arrayvec::ArrayVec;
 use flat_model::{Addr, Errno, LookupKey, Opt};
 use params::MAX_SOCKETS;
@@ -30,8 +29,7 @@ pub const SOCKETS: usize = MAX_SOCKETS as usize;
 #[derive(Drop)]
 pub struct Pcbs {
     interface: Interface,
-    // the youngest first
-    blocks: ArrayVec<Block, SOCKETS>,
+    blocks: Blocks,
     // the last ephemeral port chosen
     last_port: Option<u16>,
     // the last block with all four values set that a packet's look-up found
@@ -46,9 +44,9 @@ impl Model for Pcbs {
     ghost use Rattle.pcb_table.specs.Apart.{AreApart};
     ghost use Rattle.pcb_table.specs.Inside.Fields.{IsCached, IsInCircle};
 
-    ghost view = { λ p. record { addr = p.interface.addr; bcast = p.interface.bcast; blocks = p.blocks.items; last_port = p.last_port } };
+    ghost view = { λ p. record { addr = p.interface.addr; bcast = p.interface.bcast; blocks = p.blocks; last_port = p.last_port } };
 
-    ghost invariant = { λ p. AreApart p.blocks.items × IsCached p.blocks.items p.cache × IsInCircle p.last_port };
+    ghost invariant = { λ p. AreApart p.blocks × IsCached p.blocks p.cache × IsInCircle p.last_port };
 }
 
 impl Pcbs {
@@ -58,7 +56,7 @@ impl Pcbs {
     {
         Pcbs {
             interface: Interface { addr, bcast },
-            blocks: ArrayVec::new(),
+            blocks: Blocks::new(),
             last_port: None,
             cache: None,
         }
@@ -93,7 +91,10 @@ impl Pcbs {
         ensures named { IfSome result (λ block. block.fd ≡ fd) }
         ensures range { OnSome result (IsDescriptor fd) }
     {
-        block_of(self.blocks.as_slice(), fd)
+        match self.blocks.locate(fd) {
+            None => None,
+            Some(at) => Some(at.block),
+        }
     }
 
     /// The local and the foreign end of an open socket, with 0 for each value that is unset.
@@ -102,7 +103,7 @@ impl Pcbs {
         ensures local { option_map local_of (block_at fd self.now) ≡ Some result.0 }
         ensures foreign { option_map peer_of (block_at fd self.now) ≡ Some result.1 }
     {
-        let block = located(self.blocks.as_slice(), fd).block;
+        let block = self.blocks.located(fd).block;
         let local = Addr {
             ip: block.local.unwrap_or(0),
             port: block.port.unwrap_or(0),
@@ -129,7 +130,7 @@ impl Pcbs {
                 return Some(cached.fd);
             }
         }
-        match best(self.blocks.as_slice(), key_of_packet(local, source)) {
+        match best(&self.blocks, key_of_packet(local, source)) {
             None => None,
             Some(block) => {
                 // What is remembered stays where the block isn't connected.
@@ -148,7 +149,7 @@ impl Pcbs {
         ensures found { Finds (flat.exact key) self.now result }
         ensures range { IfSome result IsDescriptor }
     {
-        match exact(self.blocks.as_slice(), key) {
+        match exact(&self.blocks, key) {
             None => None,
             Some(block) => Some(block.fd),
         }
@@ -171,7 +172,7 @@ impl Pcbs {
     pub fn next_port(&self) -> u16
         ensures { ChoosesNext self.now result }
     {
-        next_free(self.blocks.as_slice(), None, self.last_port)
+        next_free(&self.blocks, None, self.last_port)
     }
 
     // ---- calls
@@ -185,11 +186,11 @@ impl Pcbs {
         ensures opened { IfOk result (λ fd. OpensOnly self.old fd self.new) }
         ensures err { OnErr result (self.new ≡ self.old) }
     {
-        if self.blocks.is_full() {
+        if self.blocks.len() == SOCKETS {
             return Err(Errno::TooManyFiles);
         }
-        let fd = lowest_free(self.blocks.as_slice());
-        insert_first(&mut self.blocks, Block::unbound(fd));
+        let fd = lowest_free(&self.blocks);
+        self.blocks.insert_first(Block::unbound(fd));
         Ok(fd)
     }
 
@@ -199,11 +200,11 @@ impl Pcbs {
         ensures closed { OnOk result (ClosesOnly self.old fd self.new) }
         ensures err { OnErr result (self.new ≡ self.old) }
     {
-        let Some(at) = locate(self.blocks.as_slice(), fd) else {
+        let Some(at) = self.blocks.locate(fd) else {
             return Err(Errno::BadDescriptor);
         };
         self.cache = without(self.cache, fd);
-        remove_at(&mut self.blocks, at.index);
+        self.blocks.remove_at(at.index);
         Ok(())
     }
 
@@ -213,10 +214,11 @@ impl Pcbs {
         ensures descriptors { KeepsOpen self.old self.new }
         ensures err { OnErr result (self.new ≡ self.old) }
     {
-        let Some(at) = locate(self.blocks.as_slice(), fd) else {
+        let Some(at) = self.blocks.locate(fd) else {
             return Err(Errno::BadDescriptor);
         };
-        set_block(&mut self.blocks, at.index, at.block.with_option(option, on));
+        self.blocks
+            .set_block(at.index, at.block.with_option(option, on));
         Ok(())
     }
 
@@ -229,26 +231,23 @@ impl Pcbs {
         ensures descriptors { KeepsOpen self.old self.new }
         ensures err { OnErr result (self.new ≡ self.old) }
     {
-        let Some(at) = locate(self.blocks.as_slice(), fd) else {
+        let Some(at) = self.blocks.locate(fd) else {
             return Err(Errno::BadDescriptor);
         };
-        let fault = bind_fault(self.blocks.as_slice(), self.interface, &at.block, address);
+        let fault = bind_fault(&self.blocks, self.interface, &at.block, address);
         if let Some(errno) = fault {
             return Err(errno);
         }
         let local = unless_zero(address.ip);
         let chosen = port_for(
-            self.blocks.as_slice(),
+            &self.blocks,
             local,
             self.last_port,
             port_unless_zero(address.port),
         );
         self.last_port = chosen.last;
-        set_block(
-            &mut self.blocks,
-            at.index,
-            at.block.bound_to(local, chosen.port),
-        );
+        self.blocks
+            .set_block(at.index, at.block.bound_to(local, chosen.port));
         Ok(())
     }
 
@@ -261,29 +260,21 @@ impl Pcbs {
         ensures step { IsCall self.old (Connect fd address) (done_reply result) self.new }
         ensures descriptors { KeepsOpen self.old self.new }
     {
-        let Some(at) = locate(self.blocks.as_slice(), fd) else {
+        let Some(at) = self.blocks.locate(fd) else {
             return Err(Errno::BadDescriptor);
         };
         let block = at.block.disconnected();
         self.cache = without(self.cache, fd);
-        set_block(&mut self.blocks, at.index, block);
+        self.blocks.set_block(at.index, block);
         let to = self.interface.read(address);
-        if let Some(errno) = destination_fault(self.blocks.as_slice(), self.interface, &block, to) {
+        if let Some(errno) = destination_fault(&self.blocks, self.interface, &block, to) {
             return Err(errno);
         }
         let source = self.interface.source(&block, to.ip);
-        let chosen = port_for(
-            self.blocks.as_slice(),
-            block.local,
-            self.last_port,
-            block.port,
-        );
+        let chosen = port_for(&self.blocks, block.local, self.last_port, block.port);
         self.last_port = chosen.last;
-        set_block(
-            &mut self.blocks,
-            at.index,
-            block.connected_to(source, chosen.port, to),
-        );
+        self.blocks
+            .set_block(at.index, block.connected_to(source, chosen.port, to));
         Ok(())
     }
 
@@ -294,9 +285,9 @@ impl Pcbs {
         ensures step { Changes self.old fd disconnected self.new }
         ensures descriptors { KeepsOpen self.old self.new }
     {
-        let at = located(self.blocks.as_slice(), fd);
+        let at = self.blocks.located(fd);
         self.cache = without(self.cache, fd);
-        set_block(&mut self.blocks, at.index, at.block.disconnected());
+        self.blocks.set_block(at.index, at.block.disconnected());
     }
 
     /// A destination as it is read, 0.0.0.0 as this machine and 255.255.255.255 as its broadcast address.
@@ -307,7 +298,7 @@ impl Pcbs {
         requires { IsOpen fd self.now }
         ensures { ChecksDestination self.now fd to result }
     {
-        let block = located(self.blocks.as_slice(), fd).block;
+        let block = self.blocks.located(fd).block;
         self.check_destination_of(&block, to)
     }
 
@@ -320,7 +311,7 @@ impl Pcbs {
         if block.peer.is_some() {
             return Err(Errno::IsConnected);
         }
-        match destination_fault(self.blocks.as_slice(), self.interface, block, to) {
+        match destination_fault(&self.blocks, self.interface, block, to) {
             Some(errno) => Err(errno),
             None => Ok(to),
         }
@@ -332,7 +323,7 @@ impl Pcbs {
         requires { IsOpen fd self.now }
         ensures { SendsFrom self.now fd ip result }
     {
-        let block = located(self.blocks.as_slice(), fd).block;
+        let block = self.blocks.located(fd).block;
         self.source_of(&block, ip)
     }
 
@@ -363,19 +354,11 @@ impl Pcbs {
         ensures port { EnsuresPort self.old fd result self.new }
         ensures descriptors { KeepsOpen self.old self.new }
     {
-        let at = located(self.blocks.as_slice(), fd);
-        let chosen = port_for(
-            self.blocks.as_slice(),
-            at.block.local,
-            self.last_port,
-            at.block.port,
-        );
+        let at = self.blocks.located(fd);
+        let chosen = port_for(&self.blocks, at.block.local, self.last_port, at.block.port);
         self.last_port = chosen.last;
-        set_block(
-            &mut self.blocks,
-            at.index,
-            at.block.bound_to(at.block.local, chosen.port),
-        );
+        self.blocks
+            .set_block(at.index, at.block.bound_to(at.block.local, chosen.port));
         chosen.port
     }
 }

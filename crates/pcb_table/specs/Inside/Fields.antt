@@ -1,5 +1,7 @@
 -- What holds of the fields of a table, and where a block stands in it (this project's own).
-use Rattle.std.specs.Prelude.{◌≡◌, ℕ, ◌<◌, ◌≤◌, Bool, ◌&&◌, List, length, slice_index_or, count_by, find, Option, Some, None, IsSome}
+use Rattle.std.specs.Prelude.{◌≡◌, ℕ, ◌+◌, ◌<◌, ◌≤◌, Bool, false, ◌&&◌, ◌==◌, List, length, get_or, slice_index_or, count_by, find, Option, Some, None, IsSome, unwrap_or}
+use Rattle.std.specs.Prelude.{if◌then◌else◌}
+use Rattle.std.specs.Int.{w64, trailing_zeros}
 use Rattle.params.specs.declared.TheConstants.{FIRST_DESCRIPTOR, FIRST_EPHEMERAL_PORT, LAST_EPHEMERAL_PORT}
 use Rattle.pcb_table.specs.Apart.{has_fd, has_four}
 use Rattle.pcb_table.specs.declared.block.Block.{Block}
@@ -35,3 +37,19 @@ pub record IsLocated (fd : ℕ) (bs : List Block) (index : ℕ) (block : Block) 
 abbrev pub Locates : ℕ → List Block → Option Place → Type 0
 Locates fd bs None = find (has_fd fd) bs ≡ None
 Locates fd bs (Some place) = IsLocated fd bs place.index place.block
+
+-- the port that is noted of a block: 0 if it has none
+abbrev pub noted : Block → ℕ
+noted b = unwrap_or b.port 0
+
+-- the port of each block is noted at its place
+abbrev pub HasPorts : List Block → List ℕ → Type 0
+HasPorts bs ports = (k : ℕ) (d : Block) → k < length bs → get_or ports k 0 ≡ noted (slice_index_or bs k d)
+
+-- how many lanes come before the first whose bit is set, of sixteen
+abbrev pub lanes_clear : ℕ → ℕ
+lanes_clear mask = if mask == 0 then 16 else trailing_zeros w64 mask
+
+-- the first n of the ports from a place on are others
+abbrev pub PassesLanes : List ℕ → ℕ → ℕ → ℕ → Type 0
+PassesLanes ports port at n = (k : ℕ) → at ≤ k → k < at + n → (get_or ports k 0 == port) ≡ false

@@ -12,7 +12,7 @@ use Rattle.pcb_table.proofs.table.Pcbs.check_destination_of.Goals as goal
 pub returns-then-is_some : goal.returns-then-is_some
 returns-then-is_some c =
     let i = c.self.inside.interface in
-    let bs = c.self.inside.blocks.items in
+    let bs = c.self.inside.blocks in
     let last = c.self.inside.last_port in
     let b = c.args.block.now in
     let at : find (has_fd b.fd) bs ≡ Some b = subst (λ (t : Table). block_at b.fd t ≡ Some b) (sym c.self.view_is) c.requires in
@@ -22,23 +22,23 @@ returns-then-is_some c =
 pub returns-in-Some : goal.returns-in-Some
 returns-in-Some c =
     let i = c.self.inside.interface in
-    let bs = c.self.inside.blocks.items in
+    let bs = c.self.inside.blocks in
     let last = c.self.inside.last_port in
     let b = c.args.block.now in
     let at : find (has_fd b.fd) bs ≡ Some b = subst (λ (t : Table). block_at b.fd t ≡ Some b) (sym c.self.view_is) c.requires in
     let fault : first_fault (block_connect_faults (config_of i) bs b (read_addr (config_of i) c.args.to)) ≡ Some c.in-Some.errno =
-    (λ k. first_fault (block_connect_faults (config_of i) (sym c.as_slice.ensures.value k) b (sym c.read-to.ensures k))) ∙ sym c.destination_fault.ensures ∙ c.in-Some.is in
+    (λ k. first_fault (block_connect_faults (config_of i) bs b (sym c.read-to.ensures k))) ∙ sym c.destination_fault.ensures ∙ c.in-Some.is in
     subst (λ (t : Table). ChecksDestination t b.fd c.args.to (Err c.in-Some.errno)) c.self.view_is
     (checks_refused i bs last b.fd b at c.args.to c.in-Some.errno (sym c.is_some.ensures ∙ c.if-is_some.false) fault)
 
 pub returns-in-None : goal.returns-in-None
 returns-in-None c =
     let i = c.self.inside.interface in
-    let bs = c.self.inside.blocks.items in
+    let bs = c.self.inside.blocks in
     let last = c.self.inside.last_port in
     let b = c.args.block.now in
     let at : find (has_fd b.fd) bs ≡ Some b = subst (λ (t : Table). block_at b.fd t ≡ Some b) (sym c.self.view_is) c.requires in
     let none : first_fault (block_connect_faults (config_of i) bs b (read_addr (config_of i) c.args.to)) ≡ None =
-    (λ k. first_fault (block_connect_faults (config_of i) (sym c.as_slice.ensures.value k) b (sym c.read-to.ensures k))) ∙ sym c.destination_fault.ensures ∙ c.in-None.is in
+    (λ k. first_fault (block_connect_faults (config_of i) bs b (sym c.read-to.ensures k))) ∙ sym c.destination_fault.ensures ∙ c.in-None.is in
     subst (λ (t : Table). ChecksDestination t b.fd c.args.to (Ok c.read-to.result)) c.self.view_is
     (checks_passed i bs last b.fd b at c.args.to c.read-to.result (sym c.is_some.ensures ∙ c.if-is_some.false) c.read-to.ensures none)

@@ -7,21 +7,21 @@ use Rattle.pcb_table.specs.Table.{Table, IsCall, ClosesOnly}
 use Rattle.pcb_table.specs.Apart.{AreApart}
 use Rattle.pcb_table.specs.Inside.Fields.{IsCached, IsInCircle, IsLocated}
 use Rattle.pcb_table.proofs.Keeping.{apart_remove, cached_remove}
-use Rattle.pcb_table.proofs.Steps.{closed, located_in, close_step, table_of}
+use Rattle.pcb_table.proofs.Steps.{closed, close_step, table_of}
 use Rattle.pcb_table.proofs.Opened.{remove_closes}
 use Rattle.pcb_table.proofs.table.Pcbs.close.Goals as goal
 
 pub returns-in_default-clause-step : goal.returns-in_default-clause-step
 returns-in_default-clause-step c = λ rest queues.
-    closed c.self.inside.interface _ c.self.inside.blocks.items c.self.inside.last_port _ _ c.self.view_is c.as_slice.ensures.value c.in_default.ensures rest queues _
+    closed c.self.inside.interface c.self.inside.blocks c.self.inside.last_port _ _ c.self.view_is c.in_default.ensures rest queues _
 
 pub invariant_of-self : goal.invariant_of-self
 invariant_of-self c =
     let i = c.self.inside.interface in
-    let bs = c.self.inside.blocks.items in
+    let bs = c.self.inside.blocks in
     let last = c.self.inside.last_port in
     let b = c.in-Some.at.block in
-    let at : IsLocated c.args.fd bs c.in-Some.at.index b = located_in _ _ _ _ _ c.as_slice.ensures.value c.in-Some.ensures in
+    let at : IsLocated c.args.fd bs c.in-Some.at.index b = c.in-Some.ensures in
     let index = c.in-Some.at.index in
     let apart = apart_remove bs index b c.self.invariant.0 at.within in
     let cached = cached_remove bs index b c.self.inside.cache c.args.fd at.within (ap (λ (d : Block). d.fd) (at.is b) ∙ at.named) c.self.invariant.1 in
@@ -31,21 +31,21 @@ invariant_of-self c =
 pub returns-clause-step : goal.returns-clause-step
 returns-clause-step c =
     let i = c.self.inside.interface in
-    let bs = c.self.inside.blocks.items in
+    let bs = c.self.inside.blocks in
     let last = c.self.inside.last_port in
     let b = c.in-Some.at.block in
-    let at : IsLocated c.args.fd bs c.in-Some.at.index b = located_in _ _ _ _ _ c.as_slice.ensures.value c.in-Some.ensures in
-    let new = c.remove_at.new.blocks.items in
+    let at : IsLocated c.args.fd bs c.in-Some.at.index b = c.in-Some.ensures in
+    let new = c.remove_at.new.self in
     subst (λ (t : Table). IsCall t (Close c.args.fd) Done (table_of i new last)) c.self.view_is
     (close_step i bs last c.args.fd c.in-Some.at.index b c.self.invariant.0 at new c.remove_at.ensures)
 
 pub returns-clause-closed : goal.returns-clause-closed
 returns-clause-closed c =
     let i = c.self.inside.interface in
-    let bs = c.self.inside.blocks.items in
+    let bs = c.self.inside.blocks in
     let last = c.self.inside.last_port in
     let index = c.in-Some.at.index in
     let b = c.in-Some.at.block in
-    let at : IsLocated c.args.fd bs index b = located_in _ _ _ _ _ c.as_slice.ensures.value c.in-Some.ensures in
-    subst (λ (t : Table). ClosesOnly t c.args.fd (table_of i c.remove_at.new.blocks.items last)) c.self.view_is
+    let at : IsLocated c.args.fd bs index b = c.in-Some.ensures in
+    subst (λ (t : Table). ClosesOnly t c.args.fd (table_of i c.remove_at.new.self last)) c.self.view_is
     (subst (λ (cs : List Block). ClosesOnly (table_of i bs last) c.args.fd (table_of i cs last)) (sym c.remove_at.ensures) (remove_closes i bs last c.args.fd index b c.self.invariant.0 at))

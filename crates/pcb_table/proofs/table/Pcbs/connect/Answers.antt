@@ -11,26 +11,26 @@ use Rattle.pcb_table.specs.Inside.Changed.{connected_block, disconnected_block, 
 use Rattle.flat_model.specs.Machine.Calls.{read_addr, source_for}
 use Rattle.flat_model.specs.declared.address.Addr.{Addr}
 use Rattle.pcb_table.proofs.Keeping.{connected_keeps, disconnected_fd, disconnected_keeps, disconnected_peer, located_after, no_four, unmet_four}
-use Rattle.pcb_table.proofs.Steps.{closed, located_in, connect_refused, connect_step, table_of}
+use Rattle.pcb_table.proofs.Steps.{closed, connect_refused, connect_step, table_of}
 use Rattle.pcb_table.proofs.Opened.{set_keeps_open}
 use Rattle.pcb_table.proofs.table.Pcbs.connect.Goals as goal
 
 pub returns-in_default-clause-step : goal.returns-in_default-clause-step
 returns-in_default-clause-step c = λ rest queues.
-    closed c.self.inside.interface _ c.self.inside.blocks.items c.self.inside.last_port _ _ c.self.view_is c.as_slice.ensures.value c.in_default.ensures rest queues _
+    closed c.self.inside.interface c.self.inside.blocks c.self.inside.last_port _ _ c.self.view_is c.in_default.ensures rest queues _
 
 -- where the call is refused, the block is disconnected
 pub invariant_of-self : goal.invariant_of-self
 invariant_of-self c =
     let i = c.self.inside.interface in
-    let bs = c.self.inside.blocks.items in
+    let bs = c.self.inside.blocks in
     let last = c.self.inside.last_port in
     let a = c.args.address in
     let index = c.in-Some.at.index in
     let b = c.in-Some.at.block in
     let me : Block = disconnected_block b in
-    let gone = c.set_block.new.blocks.items in
-    let at : IsLocated c.args.fd bs index b = located_in _ _ _ _ _ c.as_slice.ensures.value c.in-Some.ensures in
+    let gone = c.set_block.new.self in
+    let at : IsLocated c.args.fd bs index b = c.in-Some.ensures in
     let g : gone ≡ set bs index me = c.set_block.ensures ∙ ap (set bs index) c.disconnected-block.ensures in
     let kept = disconnected_keeps bs c.args.fd index b c.self.invariant.0 at c.self.inside.cache c.self.invariant.1 in
     let apart : AreApart gone = subst AreApart (sym g) kept.0 in
@@ -41,50 +41,50 @@ invariant_of-self c =
 pub returns-in-Some-destination_fault-clause-step : goal.returns-in-Some-destination_fault-clause-step
 returns-in-Some-destination_fault-clause-step c =
     let i = c.self.inside.interface in
-    let bs = c.self.inside.blocks.items in
+    let bs = c.self.inside.blocks in
     let last = c.self.inside.last_port in
     let a = c.args.address in
     let index = c.in-Some.at.index in
     let b = c.in-Some.at.block in
     let me : Block = disconnected_block b in
-    let gone = c.set_block.new.blocks.items in
-    let at : IsLocated c.args.fd bs index b = located_in _ _ _ _ _ c.as_slice.ensures.value c.in-Some.ensures in
+    let gone = c.set_block.new.self in
+    let at : IsLocated c.args.fd bs index b = c.in-Some.ensures in
     let g : gone ≡ set bs index me = c.set_block.ensures ∙ ap (set bs index) c.disconnected-block.ensures in
     let fault : first_fault (block_connect_faults (config_of i) gone me (read_addr (config_of i) a)) ≡ Some c.in-Some-destination_fault.errno =
-    (λ k. first_fault (block_connect_faults (config_of i) (sym c.as_slice-2.ensures.value k) (sym c.disconnected-block.ensures k) (sym c.read-to.ensures k))) ∙ sym c.destination_fault.ensures ∙ c.in-Some-destination_fault.is in
+    (λ k. first_fault (block_connect_faults (config_of i) gone (sym c.disconnected-block.ensures k) (sym c.read-to.ensures k))) ∙ sym c.destination_fault.ensures ∙ c.in-Some-destination_fault.is in
     subst (λ (t : Table). IsCall t (Connect c.args.fd a) (Refused c.in-Some-destination_fault.errno) (table_of i gone last)) c.self.view_is
     (connect_refused i bs last c.args.fd index b c.self.invariant.0 at gone a c.in-Some-destination_fault.errno g fault)
 
 pub invariant_of-self-2 : goal.invariant_of-self-2
 invariant_of-self-2 c =
     let i = c.self.inside.interface in
-    let bs = c.self.inside.blocks.items in
+    let bs = c.self.inside.blocks in
     let last = c.self.inside.last_port in
     let a = c.args.address in
     let index = c.in-Some.at.index in
     let b = c.in-Some.at.block in
     let me : Block = disconnected_block b in
-    let gone = c.set_block.new.blocks.items in
-    let at : IsLocated c.args.fd bs index b = located_in _ _ _ _ _ c.as_slice.ensures.value c.in-Some.ensures in
+    let gone = c.set_block.new.self in
+    let at : IsLocated c.args.fd bs index b = c.in-Some.ensures in
     let g : gone ≡ set bs index me = c.set_block.ensures ∙ ap (set bs index) c.disconnected-block.ensures in
     let kept = disconnected_keeps bs c.args.fd index b c.self.invariant.0 at c.self.inside.cache c.self.invariant.1 in
     let apart : AreApart gone = subst AreApart (sym g) kept.0 in
     let cached : IsCached gone c.without-self-inside.result =
     subst (λ (k : Option Connection). IsCached gone k) (sym c.without-self-inside.ensures) (subst (λ (cs : List Block). IsCached cs (forgotten c.args.fd c.self.inside.cache)) (sym g) kept.1) in
     let fault : first_fault (block_connect_faults (config_of i) gone me (read_addr (config_of i) a)) ≡ None =
-    (λ k. first_fault (block_connect_faults (config_of i) (sym c.as_slice-2.ensures.value k) (sym c.disconnected-block.ensures k) (sym c.read-to.ensures k))) ∙ sym c.destination_fault.ensures ∙ c.in_default-destination_fault.is in
+    (λ k. first_fault (block_connect_faults (config_of i) gone (sym c.disconnected-block.ensures k) (sym c.read-to.ensures k))) ∙ sym c.destination_fault.ensures ∙ c.in_default-destination_fault.is in
     let there : IsLocated c.args.fd gone index me =
     subst (λ (cs : List Block). IsLocated c.args.fd cs index me) (sym g) (located_after bs c.args.fd index b c.self.invariant.0 at me (disconnected_fd b)) in
     let to : Addr = read_addr (config_of i) a in
     let source = c.source-source.result in
     let port = c.port_for-chosen.result.port in
     let later = c.port_for-chosen.result.last in
-    let new = c.set_block-2.new.blocks.items in
+    let new = c.set_block-2.new.self in
     let from : source ≡ source_for (config_of i) (plain me) to.ip =
     c.source-source.ensures ∙ (λ k. source_for (config_of i) (plain (c.disconnected-block.ensures k)) (c.read-to.ensures k).ip) in
     let given : GivesPort gone last me.local me.port port later =
     subst (λ (d : Block). GivesPort gone last d.local d.port port later) c.disconnected-block.ensures
-    (subst (λ (cs : List Block). GivesPort cs last c.disconnected-block.result.local c.disconnected-block.result.port port later) c.as_slice-3.ensures.value c.port_for-chosen.ensures.port) in
+    (c.port_for-chosen.ensures.port) in
     let written : new ≡ set gone index (connected_block source port to me) =
     c.set_block-2.ensures ∙ ap (set gone index) (c.connected_to.ensures ∙ (λ k. connected_block source port (c.read-to.ensures k) (c.disconnected-block.ensures k))) in
     let unmet = subst (λ (k : ℕ). is_some (youngest_block 0 (record { local = Some k; port = me.port; peer = Some to }) gone) ≡ false) (sym from) (unmet_four (config_of i) gone me to fault) in
@@ -95,33 +95,33 @@ invariant_of-self-2 c =
 pub returns-clause-step : goal.returns-clause-step
 returns-clause-step c =
     let i = c.self.inside.interface in
-    let bs = c.self.inside.blocks.items in
+    let bs = c.self.inside.blocks in
     let last = c.self.inside.last_port in
     let a = c.args.address in
     let index = c.in-Some.at.index in
     let b = c.in-Some.at.block in
     let me : Block = disconnected_block b in
-    let gone = c.set_block.new.blocks.items in
-    let at : IsLocated c.args.fd bs index b = located_in _ _ _ _ _ c.as_slice.ensures.value c.in-Some.ensures in
+    let gone = c.set_block.new.self in
+    let at : IsLocated c.args.fd bs index b = c.in-Some.ensures in
     let g : gone ≡ set bs index me = c.set_block.ensures ∙ ap (set bs index) c.disconnected-block.ensures in
     let kept = disconnected_keeps bs c.args.fd index b c.self.invariant.0 at c.self.inside.cache c.self.invariant.1 in
     let apart : AreApart gone = subst AreApart (sym g) kept.0 in
     let cached : IsCached gone c.without-self-inside.result =
     subst (λ (k : Option Connection). IsCached gone k) (sym c.without-self-inside.ensures) (subst (λ (cs : List Block). IsCached cs (forgotten c.args.fd c.self.inside.cache)) (sym g) kept.1) in
     let fault : first_fault (block_connect_faults (config_of i) gone me (read_addr (config_of i) a)) ≡ None =
-    (λ k. first_fault (block_connect_faults (config_of i) (sym c.as_slice-2.ensures.value k) (sym c.disconnected-block.ensures k) (sym c.read-to.ensures k))) ∙ sym c.destination_fault.ensures ∙ c.in_default-destination_fault.is in
+    (λ k. first_fault (block_connect_faults (config_of i) gone (sym c.disconnected-block.ensures k) (sym c.read-to.ensures k))) ∙ sym c.destination_fault.ensures ∙ c.in_default-destination_fault.is in
     let there : IsLocated c.args.fd gone index me =
     subst (λ (cs : List Block). IsLocated c.args.fd cs index me) (sym g) (located_after bs c.args.fd index b c.self.invariant.0 at me (disconnected_fd b)) in
     let to : Addr = read_addr (config_of i) a in
     let source = c.source-source.result in
     let port = c.port_for-chosen.result.port in
     let later = c.port_for-chosen.result.last in
-    let new = c.set_block-2.new.blocks.items in
+    let new = c.set_block-2.new.self in
     let from : source ≡ source_for (config_of i) (plain me) to.ip =
     c.source-source.ensures ∙ (λ k. source_for (config_of i) (plain (c.disconnected-block.ensures k)) (c.read-to.ensures k).ip) in
     let given : GivesPort gone last me.local me.port port later =
     subst (λ (d : Block). GivesPort gone last d.local d.port port later) c.disconnected-block.ensures
-    (subst (λ (cs : List Block). GivesPort cs last c.disconnected-block.result.local c.disconnected-block.result.port port later) c.as_slice-3.ensures.value c.port_for-chosen.ensures.port) in
+    (c.port_for-chosen.ensures.port) in
     let written : new ≡ set gone index (connected_block source port to me) =
     c.set_block-2.ensures ∙ ap (set gone index) (c.connected_to.ensures ∙ (λ k. connected_block source port (c.read-to.ensures k) (c.disconnected-block.ensures k))) in
     subst (λ (t : Table). IsCall t (Connect c.args.fd a) Done (table_of i new later)) c.self.view_is
@@ -130,14 +130,14 @@ returns-clause-step c =
 pub returns-in-Some-destination_fault-clause-descriptors : goal.returns-in-Some-destination_fault-clause-descriptors
 returns-in-Some-destination_fault-clause-descriptors c =
     let i = c.self.inside.interface in
-    let bs = c.self.inside.blocks.items in
+    let bs = c.self.inside.blocks in
     let last = c.self.inside.last_port in
     let a = c.args.address in
     let index = c.in-Some.at.index in
     let b = c.in-Some.at.block in
     let me : Block = disconnected_block b in
-    let gone = c.set_block.new.blocks.items in
-    let at : IsLocated c.args.fd bs index b = located_in _ _ _ _ _ c.as_slice.ensures.value c.in-Some.ensures in
+    let gone = c.set_block.new.self in
+    let at : IsLocated c.args.fd bs index b = c.in-Some.ensures in
     let g : gone ≡ set bs index me = c.set_block.ensures ∙ ap (set bs index) c.disconnected-block.ensures in
     subst (λ (t : Table). KeepsOpen t (table_of i gone last)) c.self.view_is
     (subst (λ (cs : List Block). KeepsOpen (table_of i bs last) (table_of i cs last)) (sym g) (set_keeps_open i bs last last c.args.fd index b me at (disconnected_fd b)))
@@ -145,33 +145,33 @@ returns-in-Some-destination_fault-clause-descriptors c =
 pub returns-clause-descriptors : goal.returns-clause-descriptors
 returns-clause-descriptors c =
     let i = c.self.inside.interface in
-    let bs = c.self.inside.blocks.items in
+    let bs = c.self.inside.blocks in
     let last = c.self.inside.last_port in
     let a = c.args.address in
     let index = c.in-Some.at.index in
     let b = c.in-Some.at.block in
     let me : Block = disconnected_block b in
-    let gone = c.set_block.new.blocks.items in
-    let at : IsLocated c.args.fd bs index b = located_in _ _ _ _ _ c.as_slice.ensures.value c.in-Some.ensures in
+    let gone = c.set_block.new.self in
+    let at : IsLocated c.args.fd bs index b = c.in-Some.ensures in
     let g : gone ≡ set bs index me = c.set_block.ensures ∙ ap (set bs index) c.disconnected-block.ensures in
     let kept = disconnected_keeps bs c.args.fd index b c.self.invariant.0 at c.self.inside.cache c.self.invariant.1 in
     let apart : AreApart gone = subst AreApart (sym g) kept.0 in
     let cached : IsCached gone c.without-self-inside.result =
     subst (λ (k : Option Connection). IsCached gone k) (sym c.without-self-inside.ensures) (subst (λ (cs : List Block). IsCached cs (forgotten c.args.fd c.self.inside.cache)) (sym g) kept.1) in
     let fault : first_fault (block_connect_faults (config_of i) gone me (read_addr (config_of i) a)) ≡ None =
-    (λ k. first_fault (block_connect_faults (config_of i) (sym c.as_slice-2.ensures.value k) (sym c.disconnected-block.ensures k) (sym c.read-to.ensures k))) ∙ sym c.destination_fault.ensures ∙ c.in_default-destination_fault.is in
+    (λ k. first_fault (block_connect_faults (config_of i) gone (sym c.disconnected-block.ensures k) (sym c.read-to.ensures k))) ∙ sym c.destination_fault.ensures ∙ c.in_default-destination_fault.is in
     let there : IsLocated c.args.fd gone index me =
     subst (λ (cs : List Block). IsLocated c.args.fd cs index me) (sym g) (located_after bs c.args.fd index b c.self.invariant.0 at me (disconnected_fd b)) in
     let to : Addr = read_addr (config_of i) a in
     let source = c.source-source.result in
     let port = c.port_for-chosen.result.port in
     let later = c.port_for-chosen.result.last in
-    let new = c.set_block-2.new.blocks.items in
+    let new = c.set_block-2.new.self in
     let from : source ≡ source_for (config_of i) (plain me) to.ip =
     c.source-source.ensures ∙ (λ k. source_for (config_of i) (plain (c.disconnected-block.ensures k)) (c.read-to.ensures k).ip) in
     let given : GivesPort gone last me.local me.port port later =
     subst (λ (d : Block). GivesPort gone last d.local d.port port later) c.disconnected-block.ensures
-    (subst (λ (cs : List Block). GivesPort cs last c.disconnected-block.result.local c.disconnected-block.result.port port later) c.as_slice-3.ensures.value c.port_for-chosen.ensures.port) in
+    (c.port_for-chosen.ensures.port) in
     let written : new ≡ set gone index (connected_block source port to me) =
     c.set_block-2.ensures ∙ ap (set gone index) (c.connected_to.ensures ∙ (λ k. connected_block source port (c.read-to.ensures k) (c.disconnected-block.ensures k))) in
     let first : KeepsOpen (table_of i bs last) (table_of i gone last) =

@@ -8,7 +8,7 @@ use Rattle.pcb_table.proofs.table.Pcbs.source_of.Goals as goal
 pub returns : goal.returns
 returns c =
     let i = c.self.inside.interface in
-    let bs = c.self.inside.blocks.items in
+    let bs = c.self.inside.blocks in
     let last = c.self.inside.last_port in
     let b = c.args.block.now in
     let at : find (has_fd b.fd) bs ≡ Some b = subst (λ (t : Table). block_at b.fd t ≡ Some b) (sym c.self.view_is) c.requires in
