@@ -21,9 +21,9 @@ const NOTED: usize = SOCKETS + LANES;
 /// The blocks of at most 64 sockets, the youngest first.
 ///
 /// Beside them stand two notes, written anew by each change. `ports` has the port of the block at each place, so that
-/// sixteen blocks with another port are passed by one comparison: beside 63 others a block is found in some 40
-/// instructions, and by a walk from block to block in 380. `places` has where the block of each descriptor stood. It's
-/// only looked at first: a block found there is tested, and else a walk finds it.
+/// sixteen blocks with another port are passed by one comparison: a datagram of 2 bytes takes 1,638 instructions beside
+/// 63 other sockets, and took 2,600 by walks from block to block. `places` has where the block of each descriptor stood.
+/// It's only looked at first: a block found there is tested, and else a walk finds it.
 #[derive(Drop)]
 pub(crate) struct Blocks {
     blocks: ArrayVec<Block, SOCKETS>,
@@ -125,7 +125,7 @@ impl Blocks {
     }
 
     /// The blocks after so many others, from the first one that has the port on.
-    // Inlined, as `best` is, which calls it alone: by calls a datagram of 2 bytes took 100 instructions more.
+    // Inlined, as `best` is, which calls it alone.
     #[inline(always)]
     pub(crate) fn from_port(&self, passed: usize, port: u16) -> &[Block]
         requires { passed ≤ length self.now }
