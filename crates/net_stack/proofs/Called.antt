@@ -26,12 +26,23 @@ use Rattle.net_stack.specs.Inside.Fields.{seen, IsInside}
 use Rattle.net_stack.specs.declared.stack.Stack.TheInside.{Inside}
 use Rattle.net_stack.proofs.Lifted.{Stepped, socks_step, output_step, reass_step}
 
+-- the fields with another pool, and other sockets, another output queue, or other unfinished datagrams and counters
+abbrev pub with_socks : Inside → PoolView → SocksView → Inside
+with_socks s q w = record s { host = record (s.host) { pool = q; socks = w } }
+
+abbrev pub with_out : Inside → PoolView → TrainView → Inside
+with_out s q u = record s { host = record (s.host) { pool = q; net = record (s.host.net) { out = u } } }
+
+abbrev pub with_reass : Inside → PoolView → TableView → Counters → Inside
+with_reass s q r d =
+    record s { host = record (s.host) { pool = q; reass = r; net = record (s.host.net) { counters = d } } }
+
 -- the fields n are those of a stack again, one step from what was shown
 pub record Called (v : StackView) (event : Event) (reply : Reply) (n : Inside) : Type 0 where
   pub step : Step (state_of v) event reply (state_of (seen n))
   pub inside : IsInside n
 
-pub called : (s n : Inside) (v : StackView) (event : Event) (reply : Reply) → IsInside s → seen s ≡ v → n.net.mtu ≡ s.net.mtu → n.config ≡ s.config → n.net.looped ≡ s.net.looped
+pub called : (s n : Inside) (v : StackView) (event : Event) (reply : Reply) → IsInside s → seen s ≡ v → n.host.net.mtu ≡ s.host.net.mtu → n.config ≡ s.config → n.host.net.looped ≡ s.host.net.looped
     → Stepped (seen s) event reply (seen n) → Called v event reply n
 called s n v event reply is e mtu config looped t = record {
   step = subst (λ (w : StackView). Step (state_of w) event reply (state_of (seen n))) e t.step;
@@ -41,20 +52,20 @@ called s n v event reply is e mtu config looped t = record {
 -- ---- the sockets
 
 pub socks_called : (s : Inside) (v : StackView) (q : PoolView) (w : SocksView) (event : Event) (reply : Reply) → IsInside s → seen s ≡ v → IsEvent event
-    → ((rest : State) → Step (with_sockets s.pool s.socks rest) event reply (with_sockets q w rest))
-    → IsSocks q w → Moves s.pool (queued_chains s.pool s.socks.queues) q (queued_chains q w.queues)
-    → Called v event reply (record s { pool = q; socks = w })
+    → ((rest : State) → Step (with_sockets s.host.pool s.host.socks rest) event reply (with_sockets q w rest))
+    → IsSocks q w → Moves s.host.pool (queued_chains s.host.pool s.host.socks.queues) q (queued_chains q w.queues)
+    → Called v event reply (with_socks s q w)
 socks_called s v q w event reply is e can step ready m =
-    called s (record s { pool = q; socks = w }) v event reply is e refl refl refl
+    called s (with_socks s q w) v event reply is e refl refl refl
     (socks_step (seen s) q w event reply is.stack can step ready m)
 
 -- the same of a call on the control blocks alone
-pub blocks_called : (s : Inside) (v : StackView) (w : SocksView) (event : Event) (reply : Reply) → IsInside s → seen s ≡ v → IsEvent event → ((p : PoolView) → IsSocks p s.socks → IsCalled p s.socks event reply w)
-    → Called v event reply (record s { socks = w })
+pub blocks_called : (s : Inside) (v : StackView) (w : SocksView) (event : Event) (reply : Reply) → IsInside s → seen s ≡ v → IsEvent event → ((p : PoolView) → IsSocks p s.host.socks → IsCalled p s.host.socks event reply w)
+    → Called v event reply (with_socks s s.host.pool w)
 blocks_called s v w event reply is e can call =
-    let c : IsCalled s.pool s.socks event reply w = call s.pool is.stack.socks in
-    socks_called s v s.pool w event reply is e can c.step c.ready
-    (subst (λ (bs : List _). Moves s.pool (queued_chains s.pool s.socks.queues) s.pool (queued_chains s.pool bs)) (sym c.queues) (moves_none s.pool (queued_chains s.pool s.socks.queues)))
+    let c : IsCalled s.host.pool s.host.socks event reply w = call s.host.pool is.stack.socks in
+    socks_called s v s.host.pool w event reply is e can c.step c.ready
+    (subst (λ (bs : List _). Moves s.host.pool (queued_chains s.host.pool s.host.socks.queues) s.host.pool (queued_chains s.host.pool bs)) (sym c.queues) (moves_none s.host.pool (queued_chains s.host.pool s.host.socks.queues)))
 
 -- ---- the output queue
 
@@ -63,23 +74,23 @@ within config most [] le each = tt
 within config most (item ∷ items) le each = (omega (arith, each.0.fits), within config most items le each.1)
 
 -- each packet that waits fits a room of the greatest MTU
-pub are_within : (s : Inside) (most : ℕ) → IsInside s → MAX_MTU ≤ most → AreWithin s.pool s.net.out most
+pub are_within : (s : Inside) (most : ℕ) → IsInside s → MAX_MTU ≤ most → AreWithin s.host.pool s.host.net.out most
 are_within s most is le =
-    within (state_of (seen s)).config most (packets s.pool s.net.out) (omega (arith, is.stack.consistent.config.greatest_mtu)) is.stack.consistent.output
+    within (state_of (seen s)).config most (packets s.host.pool s.host.net.out) (omega (arith, is.stack.consistent.config.greatest_mtu)) is.stack.consistent.output
 
-pub output_called : (s : Inside) (v : StackView) (q : PoolView) (u : TrainView) (reply : Reply) → IsInside s → seen s ≡ v → IsGiven s.pool s.net.out reply q u
-    → Called v Transmit reply (record s { pool = q; net = record (s.net) { out = u } })
+pub output_called : (s : Inside) (v : StackView) (q : PoolView) (u : TrainView) (reply : Reply) → IsInside s → seen s ≡ v → IsGiven s.host.pool s.host.net.out reply q u
+    → Called v Transmit reply (with_out s q u)
 output_called s v q u reply is e g =
-    called s (record s { pool = q; net = record (s.net) { out = u } }) v Transmit reply is e refl refl refl
+    called s (with_out s q u) v Transmit reply is e refl refl refl
     (output_step (seen s) q u Transmit reply is.stack tt g.queue g.moves (g.step (state_of (seen s))))
 
 -- ---- the unfinished datagrams
 
 pub reass_called : (s : Inside) (v : StackView) (q : PoolView) (r : TableView) (n : ℕ) (d : Counters) → IsInside s → seen s ≡ v
-    → ((rest : State) (c : Counters) → ticked (machine s.pool s.reass.datagrams c rest) ≡ machine q r.datagrams (counts_more IpFragtimeout n c) rest)
-    → IsReady q r → Moves s.pool (held_all s.pool s.reass.datagrams) q (held_all q r.datagrams) → d ≡ counts_more IpFragtimeout n s.net.counters
-    → Called v Tick Done (record s { pool = q; reass = r; net = record (s.net) { counters = d } })
+    → ((rest : State) (c : Counters) → ticked (machine s.host.pool s.host.reass.datagrams c rest) ≡ machine q r.datagrams (counts_more IpFragtimeout n c) rest)
+    → IsReady q r → Moves s.host.pool (held_all s.host.pool s.host.reass.datagrams) q (held_all q r.datagrams) → d ≡ counts_more IpFragtimeout n s.host.net.counters
+    → Called v Tick Done (with_reass s q r d)
 reass_called s v q r n d is e step ready m counts =
-    called s (record s { pool = q; reass = r; net = record (s.net) { counters = d } }) v Tick Done is e refl refl refl
+    called s (with_reass s q r d) v Tick Done is e refl refl refl
     (reass_step (seen s) q r d Tick Done is.stack tt ready m
-    (refl, ap (λ (c : Counters). machine q r.datagrams c (state_of (seen s))) counts ∙ sym (step (state_of (seen s)) s.net.counters)))
+    (refl, ap (λ (c : Counters). machine q r.datagrams c (state_of (seen s))) counts ∙ sym (step (state_of (seen s)) s.host.net.counters)))

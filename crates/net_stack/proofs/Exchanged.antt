@@ -23,10 +23,12 @@ use Rattle.sock_calls.specs.Delivery.{seen}
 use Rattle.sock_calls.specs.Outgoing.{CanSend, sending}
 use Rattle.net_stack.specs.Stack.{StackView, IsStack, state_of, rest_of, chains_of}
 use Rattle.net_stack.specs.Inside.Arrivals.{HasCome}
+use Rattle.net_stack.specs.Inside.Hosts.{KeepsOutput, arrival_view, send_view}
 use Rattle.net_stack.specs.Inside.Sending.{HasSent, no_train, out_chains}
+use Rattle.net_stack.specs.declared.host.Host.{Host}
 use Rattle.net_stack.specs.Inside.Fields.{seen as seen_in, IsInside}
 use Rattle.net_stack.specs.declared.stack.Stack.TheInside.{Inside}
-use Rattle.net_stack.proofs.Called.{Called}
+use Rattle.net_stack.proofs.Called.{Called, called}
 use Rattle.net_stack.proofs.Lifted.{Stepped, accounts, stepped, input_step, split}
 
 -- the bytes behind a reference are bytes
@@ -84,11 +86,27 @@ send_step config p q s w r es n m fd to bytes result is mtu can sent =
     (sent.step (boot config) (sym mtu) is.consistent.keys (accounts (shown config p s r n) is))
 
 -- the fields of a stack after a send
-pub sent_called : (s : Inside) (v : StackView) (q : PoolView) (w : SocksView) (r : TableView) (m : Net) (fd : ℕ) (to : Option Addr) (bytes : List ℕ) (result : Result ℕ Errno) → IsInside s → seen_in s ≡ v
-    → IsEvent (Send fd to bytes) → HasSent fd to bytes (sending s.pool s.socks s.net) s.reass result (sending q w m) r → Called v (Send fd to bytes) (sent_reply result) (record s { pool = q; socks = w; reass = r; net = m })
-sent_called s v q w r m fd to bytes result is e can sent =
-    let t : Stepped (seen_in s) (Send fd to bytes) (sent_reply result) (shown s.config q w r m) = send_step s.config s.pool q s.socks w s.reass r s.net m fd to bytes result is.stack is.mtu can sent in
+pub sent_called : (s : Inside) (v : StackView) (h : Host) (fd : ℕ) (to : Option Addr) (bytes : List ℕ)
+    (result : Result ℕ Errno) → IsInside s → seen_in s ≡ v → IsEvent (Send fd to bytes)
+    → HasSent fd to bytes (send_view s.host) s.host.reass result (send_view h) h.reass
+    → Called v (Send fd to bytes) (sent_reply result) (record s { host = h })
+sent_called s v h fd to bytes result is e can sent =
+    let g : Host = s.host in
+    let new : StackView = shown s.config h.pool h.socks h.reass h.net in
+    let t : Stepped (seen_in s) (Send fd to bytes) (sent_reply result) new =
+    send_step s.config g.pool h.pool g.socks h.socks g.reass h.reass g.net h.net fd to bytes result is.stack is.mtu can sent in
     record {
-      step = subst (λ (x : StackView). Step (state_of x) (Send fd to bytes) (sent_reply result) (state_of (shown s.config q w r m))) e t.step;
+      step = subst (λ (x : StackView). Step (state_of x) (Send fd to bytes) (sent_reply result) (state_of new)) e t.step;
       inside = record { stack = t.stack; mtu = sent.mtu ∙ is.mtu; looped = sent.none };
     }
+
+-- the fields of a stack after a packet came
+pub come_called : (s : Inside) (v : StackView) (h : Host) (packet : List ℕ) → IsInside s → seen_in s ≡ v
+    → IsEvent (Comes packet) → HasCome (arrival_view s.host) packet (arrival_view h) → IsReady h.pool h.reass
+    → KeepsOutput s.host.net h.net → Called v (Comes packet) Done (record s { host = h })
+come_called s v h packet is e can came ready output =
+    let new : Net → Inside = λ n. record s { host = record h { net = n } } in
+    let same : Net = record (s.host.net) { counters = h.net.counters } in
+    subst (λ (n : Net). Called v (Comes packet) Done (new n)) (sym output)
+    (called s (new same) v (Comes packet) Done is e refl refl refl
+    (rx_step (seen_in s) packet h.pool h.socks h.reass h.net.counters is.stack can ready came))

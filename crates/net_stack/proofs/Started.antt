@@ -44,24 +44,24 @@ pool_of_store config store p e is =
 -- the parts that a stack starts with
 pub record Starts (config : Config) (s : Inside) : Type 0 where
   pub same : s.config ≡ config
-  pub pool : s.pool ≡ free_pool config
-  pub socks : (p : PoolView) → IsSocks p s.socks
-  pub blocks : s.socks.pcbs ≡ record { addr = config.addr; bcast = config.bcast; blocks = []; last_port = None }
-  pub none : s.reass.datagrams ≡ []
-  pub room : config.mbufs ≤ s.reass.room
-  pub mtu : s.net.mtu ≡ config.mtu
-  pub next_id : s.net.next_id ≡ config.first_id
-  pub counters : s.net.counters ≡ no_counts
-  pub out : (p : PoolView) → IsQueue p s.net.out
-  pub waits : s.net.out.len ≡ 0
-  pub looped : s.net.looped ≡ record { first = None; last = None; len = 0 }
+  pub pool : s.host.pool ≡ free_pool config
+  pub socks : (p : PoolView) → IsSocks p s.host.socks
+  pub blocks : s.host.socks.pcbs ≡ record { addr = config.addr; bcast = config.bcast; blocks = []; last_port = None }
+  pub none : s.host.reass.datagrams ≡ []
+  pub room : config.mbufs ≤ s.host.reass.room
+  pub mtu : s.host.net.mtu ≡ config.mtu
+  pub next_id : s.host.net.next_id ≡ config.first_id
+  pub counters : s.host.net.counters ≡ no_counts
+  pub out : (p : PoolView) → IsQueue p s.host.net.out
+  pub waits : s.host.net.out.len ≡ 0
+  pub looped : s.host.net.looped ≡ record { first = None; last = None; len = 0 }
 
 pub started_state : (config : Config) (s : Inside) → Starts config s → state_of (seen s) ≡ boot config
 started_state config s h = λ i. record {
   config = record (h.same i) { addr = (h.blocks i).addr; bcast = (h.blocks i).bcast };
-  sockets = sockets_with (queues_of s.pool s.socks.queues) (h.blocks i);
-  unfinished = unfinished s.pool (h.none i);
-  output = none_wait s.pool s.net.out h.waits i;
+  sockets = sockets_with (queues_of s.host.pool s.host.socks.queues) (h.blocks i);
+  unfinished = unfinished s.host.pool (h.none i);
+  output = none_wait s.host.pool s.host.net.out h.waits i;
   last_port = (h.blocks i).last_port;
   next_id = h.next_id i;
   counters = h.counters i;
@@ -70,13 +70,13 @@ started_state config s h = λ i. record {
 none_table : (p : PoolView) (ds : List Datagram) → ds ≡ [] → IsTable p ds
 none_table p ds e = subst (IsTable p) (sym e) (record { owned = λ k. omega arith; each = tt })
 
-started_all : (config : Config) (s : Inside) → Starts config s → IsAll s.pool (chains_of (seen s))
+started_all : (config : Config) (s : Inside) → Starts config s → IsAll s.host.pool (chains_of (seen s))
 started_all config s h = λ k. omega (
   arith,
   split (seen s) k,
-  ap (λ (ds : List Datagram). times k (held_all s.pool ds)) h.none,
-  (h.socks s.pool).owned k,
-  (h.out s.pool).held.owned k,
+  ap (λ (ds : List Datagram). times k (held_all s.host.pool ds)) h.none,
+  (h.socks s.host.pool).owned k,
+  (h.out s.host.pool).held.owned k,
   ap (λ (p : PoolView). live_at p k) h.pool,
   free_live config k,
 )
@@ -86,13 +86,13 @@ started config s is h = record {
   stack = record {
     mbufs = ap (λ (c : Config). c.mbufs) h.same ∙ sym (ap (λ (p : PoolView). p.mbufs) h.pool);
     clusters = ap (λ (c : Config). c.clusters) h.same ∙ sym (ap (λ (p : PoolView). p.clusters) h.pool);
-    socks = h.socks s.pool;
+    socks = h.socks s.host.pool;
     reass = record {
-      table = none_table s.pool s.reass.datagrams h.none;
+      table = none_table s.host.pool s.host.reass.datagrams h.none;
       room = omega (arith, h.room, ap (λ (p : PoolView). p.mbufs) h.pool);
-      distinct = subst (AreDistinct s.pool) (sym h.none) (none_distinct s.pool);
+      distinct = subst (AreDistinct s.host.pool) (sym h.none) (none_distinct s.host.pool);
     };
-    output = h.out s.pool;
+    output = h.out s.host.pool;
     all = started_all config s h;
     consistent = subst IsConsistent (sym (started_state config s h)) (boot_is_consistent config is);
   };
@@ -113,44 +113,44 @@ gone config p q xs em ec all m = moves_nothing {p = free_pool config} {q = q} (r
 
 -- once the sockets ended
 pub record SocksGone (s : Inside) (q : PoolView) : Type 0 where
-  pub reass : ReassKept s.pool q s.reass
-  pub output : OutputKept s.pool q s.net.out
+  pub reass : ReassKept s.host.pool q s.host.reass
+  pub output : OutputKept s.host.pool q s.host.net.out
 
-pub socks_gone : (s : Inside) (q : PoolView) → IsStack (seen s) → Moves s.pool (queued_chains s.pool s.socks.queues) q [] → SocksGone s q
+pub socks_gone : (s : Inside) (q : PoolView) → IsStack (seen s) → Moves s.host.pool (queued_chains s.host.pool s.host.socks.queues) q [] → SocksGone s q
 socks_gone s q is m =
-    let p : PoolView = s.pool in
-    let xs : List ℕ = held_all p s.reass.datagrams in
-    let zs : List ℕ = numbers p s.net.out in
+    let p : PoolView = s.host.pool in
+    let xs : List ℕ = held_all p s.host.reass.datagrams in
+    let zs : List ℕ = numbers p s.host.net.out in
     let same : SameAt p q (xs ++ zs) =
     same_beside (xs ++ zs) m (λ k. omega (arith, is.all k, split (seen s) k, times-append k xs zs)) (λ k h. omega (arith, h, is.all k, split (seen s) k, times-append k xs zs, live_at_most p k)) in
     record {
-      reass = reass_kept p q s.reass (same_part p q (xs ++ zs) xs same (λ k. omega (arith, times-append k xs zs))) is.reass;
-      output = output_kept p q s.net.out (same_part p q (xs ++ zs) zs same (λ k. omega (arith, times-append k xs zs))) is.output;
+      reass = reass_kept p q s.host.reass (same_part p q (xs ++ zs) xs same (λ k. omega (arith, times-append k xs zs))) is.reass;
+      output = output_kept p q s.host.net.out (same_part p q (xs ++ zs) zs same (λ k. omega (arith, times-append k xs zs))) is.output;
     }
 
 -- once the unfinished datagrams ended too
 pub record ReassGone (s : Inside) (r : PoolView) : Type 0 where
-  pub output : OutputKept s.pool r s.net.out
-  pub moves : Moves s.pool (held_all s.pool s.reass.datagrams ++ queued_chains s.pool s.socks.queues) r []
+  pub output : OutputKept s.host.pool r s.host.net.out
+  pub moves : Moves s.host.pool (held_all s.host.pool s.host.reass.datagrams ++ queued_chains s.host.pool s.host.socks.queues) r []
 
-pub reass_gone : (s : Inside) (q r : PoolView) → IsStack (seen s) → Moves s.pool (queued_chains s.pool s.socks.queues) q [] → Moves q (held_all q s.reass.datagrams) r [] → ReassGone s r
+pub reass_gone : (s : Inside) (q r : PoolView) → IsStack (seen s) → Moves s.host.pool (queued_chains s.host.pool s.host.socks.queues) q [] → Moves q (held_all q s.host.reass.datagrams) r [] → ReassGone s r
 reass_gone s q r is m n =
-    let p : PoolView = s.pool in
-    let xs : List ℕ = held_all p s.reass.datagrams in
-    let ys : List ℕ = queued_chains p s.socks.queues in
-    let zs : List ℕ = numbers p s.net.out in
+    let p : PoolView = s.host.pool in
+    let xs : List ℕ = held_all p s.host.reass.datagrams in
+    let ys : List ℕ = queued_chains p s.host.socks.queues in
+    let zs : List ℕ = numbers p s.host.net.out in
     let first : Moves p (xs ++ ys) q xs = moves_beside (xs ++ ys) xs xs m (λ k. omega (arith, times-append k xs ys)) (λ k. omega arith) in
     let both : Moves p (xs ++ ys) r [] = moves_trans first (subst (λ (l : List ℕ). Moves q l r []) (socks_gone s q is m).reass.chains n) in
     record {
-      output = output_kept p r s.net.out (same_beside zs both (λ k. omega (arith, is.all k, times-append k (xs ++ ys) zs)) (λ k h. omega (arith, h, is.all k, times-append k (xs ++ ys) zs, live_at_most p k))) is.output;
+      output = output_kept p r s.host.net.out (same_beside zs both (λ k. omega (arith, is.all k, times-append k (xs ++ ys) zs)) (λ k h. omega (arith, h, is.all k, times-append k (xs ++ ys) zs, live_at_most p k))) is.output;
       moves = both;
     }
 
 -- once all ended
-pub all_gone : (s : Inside) (r t : PoolView) → IsStack (seen s) → ReassGone s r → Moves r (numbers r s.net.out) t [] → t ≡ free_pool s.config
+pub all_gone : (s : Inside) (r t : PoolView) → IsStack (seen s) → ReassGone s r → Moves r (numbers r s.host.net.out) t [] → t ≡ free_pool s.config
 all_gone s r t is g n =
-    let p : PoolView = s.pool in
-    let xs : List ℕ = held_all p s.reass.datagrams ++ queued_chains p s.socks.queues in
-    let zs : List ℕ = numbers p s.net.out in
+    let p : PoolView = s.host.pool in
+    let xs : List ℕ = held_all p s.host.reass.datagrams ++ queued_chains p s.host.socks.queues in
+    let zs : List ℕ = numbers p s.host.net.out in
     let first : Moves p (xs ++ zs) r zs = moves_beside (xs ++ zs) zs zs g.moves (λ k. omega (arith, times-append k xs zs)) (λ k. omega arith) in
     gone s.config p t (chains_of (seen s)) is.mbufs is.clusters is.all (moves_trans first (subst (λ (l : List ℕ). Moves r l t []) g.output.chains n))

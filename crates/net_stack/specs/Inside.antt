@@ -2,4 +2,5 @@
 pub mod Fields
 pub mod Arrivals
 pub mod Sending
+pub mod Hosts
 pub mod Transmit

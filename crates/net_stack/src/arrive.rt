@@ -1,21 +1,23 @@
 //! A packet arrives.
 ghost use Rattle.std.specs.Prelude.{◌≡◌, ◌≤◌, ◌∷◌, ◌++◌, true, length};
 ghost use Rattle.flat_model.specs.Machine.Arrival as flat;
-ghost use Rattle.mbuf_chain.specs.Chain.{IsLive, chain_of, string, with_chain};
+ghost use Rattle.mbuf_chain.specs.Chain.{chain_of, string};
 ghost use Rattle.mbuf_chain.specs.Owners.{IsOwned};
 ghost use Rattle.mbuf_chain.specs.Train.{IsHeld, numbers};
 ghost use Rattle.ip_out.specs.Packets.{BeginPlain};
-ghost use Rattle.ip_reass.specs.Table.{IsReady, held_all, unfinished};
+ghost use Rattle.ip_reass.specs.Table.{IsReady};
 ghost use Rattle.ip_reass.specs.Arrivals.{flat_head};
-ghost use Rattle.sock_calls.specs.Sockets.{IsSocks, queued_chains};
-ghost use Rattle.sock_calls.specs.Delivery.{seen};
+ghost use Rattle.sock_calls.specs.Sockets.{IsSocks};
+ghost use Rattle.sock_calls.specs.Delivery.{chains_at};
 ghost use Rattle.net_stack.specs.Inside.Arrivals.{HaveArrived, IsArrived, IsTaken, is_ours_or_all};
+ghost use Rattle.net_stack.specs.Inside.Hosts.{KeepsOutput, arrival_view};
 
+use crate::host::Host;
 use chain_ops::{trim_back, trim_front};
-use flat_model::{Counter, Counters, Why};
+use flat_model::{Counter, Why};
 use ip_out::{IpHead, read_head};
-use ip_reass::{Arrival, Reass};
-use mbuf_chain::{Chain, Pool, Train};
+use ip_reass::Arrival;
+use mbuf_chain::{Chain, Train};
 use params::{IP_HEADER, IP_MAX_PACKET, LIMITED_BROADCAST, LOOPBACK};
 use sock_calls::Socks;
 
@@ -33,102 +35,96 @@ fn is_fragment(head: &IpHead) -> bool
     head.more || head.offset > 0
 }
 
-/// A fragment for this machine arrives, and where it makes its datagram whole, that arrives.
-fn take_fragment(
-    pool: &mut Pool,
-    socks: &mut Socks,
-    reass: &mut Reass,
-    counters: &mut Counters,
-    chain: Chain,
-    head: IpHead,
-)
-    requires socks { IsSocks pool.old socks.old }
-    requires reass { IsReady pool.old reass.old }
-    requires owned { IsOwned pool.old (chain ∷ (held_all pool.old reass.old.datagrams ++ queued_chains pool.old socks.old.queues)) }
-    requires headed { (chain_of pool.old chain).front.header ≡ true }
-    requires total { length (string (chain_of pool.old chain)) ≡ head.total }
-    requires header { IP_HEADER ≤ head.total }
-    requires offset { head.offset ≤ IP_MAX_PACKET }
-    ensures taken { IsTaken
-        (seen pool.old socks.old (unfinished pool.old reass.old.datagrams) (held_all pool.old reass.old.datagrams) counters.old) chain head
-        (seen pool.new socks.new (unfinished pool.new reass.new.datagrams) (held_all pool.new reass.new.datagrams) counters.new) }
-    ensures reass { IsReady pool.new reass.new }
-{
-    match reass.arrive(pool, counters, chain, head) {
-        Arrival::Whole(chain, head) => socks.input(pool, reass, counters, chain, head),
-        Arrival::Kept => {}
-        Arrival::Dropped(_) => {}
+impl Host {
+    /// A fragment for this machine arrives, and if it makes its datagram whole, that arrives.
+    fn take_fragment(&mut self, chain: Chain, head: IpHead)
+        requires socks { IsSocks self.old.pool self.old.socks }
+        requires reass { IsReady self.old.pool self.old.reass }
+        requires owned { IsOwned self.old.pool (chain ∷ chains_at (arrival_view self.old)) }
+        requires headed { (chain_of self.old.pool chain).front.header ≡ true }
+        requires total { length (string (chain_of self.old.pool chain)) ≡ head.total }
+        requires header { IP_HEADER ≤ head.total }
+        requires offset { head.offset ≤ IP_MAX_PACKET }
+        ensures taken { IsTaken (arrival_view self.old) chain head (arrival_view self.new) }
+        ensures reass { IsReady self.new.pool self.new.reass }
+        ensures output { KeepsOutput self.old.net self.new.net }
+    {
+        match self
+            .reass
+            .arrive(&mut self.pool, &mut self.net.counters, chain, head)
+        {
+            Arrival::Whole(chain, head) => self.socks.input(
+                &mut self.pool,
+                &mut self.reass,
+                &mut self.net.counters,
+                chain,
+                head,
+            ),
+            Arrival::Kept => {}
+            Arrival::Dropped(_) => {}
+        }
     }
-}
 
-/// A packet arrives, by loopback or from the wire, and its chain is spent: `ipintr` of volume 2, chapter 8.
-///
-/// It is counted; then, in this order, a packet whose header is refused ends, for the first test that it fails, and one
-/// for another machine, `CantForward`, since packets aren't forwarded. What is longer than the total length that the
-/// header tells is cut after. A fragment goes to the reassembly, and what that makes whole to the sockets; any other
-/// packet goes to the sockets at once, without its header. Each packet that ends is counted for its cause.
-pub(crate) fn arrive(
-    pool: &mut Pool,
-    socks: &mut Socks,
-    reass: &mut Reass,
-    counters: &mut Counters,
-    chain: Chain,
-)
-    requires socks { IsSocks pool.old socks.old }
-    requires reass { IsReady pool.old reass.old }
-    requires owned { IsOwned pool.old (chain ∷ (held_all pool.old reass.old.datagrams ++ queued_chains pool.old socks.old.queues)) }
-    requires headed { (chain_of pool.old chain).front.header ≡ true }
-    ensures arrived { IsArrived
-        (seen pool.old socks.old (unfinished pool.old reass.old.datagrams) (held_all pool.old reass.old.datagrams) counters.old) chain
-        (seen pool.new socks.new (unfinished pool.new reass.new.datagrams) (held_all pool.new reass.new.datagrams) counters.new) }
-    ensures reass { IsReady pool.new reass.new }
-{
-    counters.count(Counter::IpTotal);
-    let head = match read_head(pool, &chain) {
-        Ok(head) => head,
-        Err(why) => {
-            pool.free_chain(chain);
-            counters.count_ended(why);
+    /// A packet arrives, by loopback or from the wire, and its chain is spent: `ipintr` of volume 2, chapter 8.
+    ///
+    /// It is counted; then, in this order, a packet whose header is refused ends, for the first test that it fails, and
+    /// one for another machine, `CantForward`, since packets aren't forwarded. What is longer than the total length that
+    /// the header tells is cut after. A fragment goes to the reassembly, and what that makes whole to the sockets; any
+    /// other packet goes to the sockets at once, without its header. Each packet that ends is counted for its cause.
+    pub(crate) fn arrive(&mut self, chain: Chain)
+        requires socks { IsSocks self.old.pool self.old.socks }
+        requires reass { IsReady self.old.pool self.old.reass }
+        requires owned { IsOwned self.old.pool (chain ∷ chains_at (arrival_view self.old)) }
+        requires headed { (chain_of self.old.pool chain).front.header ≡ true }
+        ensures arrived { IsArrived (arrival_view self.old) chain (arrival_view self.new) }
+        ensures reass { IsReady self.new.pool self.new.reass }
+        ensures output { KeepsOutput self.old.net self.new.net }
+    {
+        self.net.counters.count(Counter::IpTotal);
+        let head = match read_head(&self.pool, &chain) {
+            Ok(head) => head,
+            Err(why) => {
+                self.pool.free_chain(chain);
+                self.net.counters.count_ended(why);
+                return;
+            }
+        };
+        if !is_for_us(&self.socks, head.dst) {
+            self.pool.free_chain(chain);
+            self.net.counters.count_ended(Why::CantForward);
             return;
         }
-    };
-    if !is_for_us(socks, head.dst) {
-        pool.free_chain(chain);
-        counters.count_ended(Why::CantForward);
-        return;
+        trim_back(&mut self.pool, &chain, u32::from(head.total));
+        if is_fragment(&head) {
+            self.take_fragment(chain, head);
+        } else {
+            trim_front(&mut self.pool, &chain, IP_HEADER);
+            self.socks.input(
+                &mut self.pool,
+                &mut self.reass,
+                &mut self.net.counters,
+                chain,
+                head,
+            );
+        }
     }
-    trim_back(pool, &chain, u32::from(head.total));
-    if is_fragment(&head) {
-        take_fragment(pool, socks, reass, counters, chain, head);
-    } else {
-        trim_front(pool, &chain, IP_HEADER);
-        socks.input(pool, reass, counters, chain, head);
-    }
-}
 
-/// The packets of a train arrive, one after another, while the later ones are held. Each begins in a plain mbuf, as
-/// those do that come back.
-pub(crate) fn arrive_all(
-    pool: &mut Pool,
-    socks: &mut Socks,
-    reass: &mut Reass,
-    counters: &mut Counters,
-    mut train: Train,
-)
-    requires socks { IsSocks pool.old socks.old }
-    requires reass { IsReady pool.old reass.old }
-    requires held { IsHeld pool.old train }
-    requires plain { BeginPlain pool.old train }
-    requires owned { IsOwned pool.old (numbers pool.old train
-        ++ (held_all pool.old reass.old.datagrams ++ queued_chains pool.old socks.old.queues)) }
-    ensures arrived { HaveArrived
-        (seen pool.old socks.old (unfinished pool.old reass.old.datagrams) (held_all pool.old reass.old.datagrams) counters.old) train
-        (seen pool.new socks.new (unfinished pool.new reass.new.datagrams) (held_all pool.new reass.new.datagrams) counters.new) }
-    ensures reass { IsReady pool.new reass.new }
-{
-    'packets: while !train.is_empty() {
-        let (chain, _) = train.take(pool, 0);
-        arrive(pool, socks, reass, counters, chain);
+    /// The packets of a train arrive, one after another, while the later ones are held. Each begins in a plain mbuf, as
+    /// those do that come back.
+    pub(crate) fn arrive_all(&mut self, mut train: Train)
+        requires socks { IsSocks self.old.pool self.old.socks }
+        requires reass { IsReady self.old.pool self.old.reass }
+        requires held { IsHeld self.old.pool train }
+        requires plain { BeginPlain self.old.pool train }
+        requires owned { IsOwned self.old.pool (numbers self.old.pool train ++ chains_at (arrival_view self.old)) }
+        ensures arrived { HaveArrived (arrival_view self.old) train (arrival_view self.new) }
+        ensures reass { IsReady self.new.pool self.new.reass }
+        ensures output { KeepsOutput self.old.net self.new.net }
+    {
+        'packets: while !train.is_empty() {
+            let (chain, _) = train.take(&mut self.pool, 0);
+            self.arrive(chain);
+        }
+        train.end_empty();
     }
-    train.end_empty();
 }

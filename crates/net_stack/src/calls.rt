@@ -16,7 +16,7 @@ impl Stack {
     pub fn socket(&mut self) -> Result<u32, Errno>
         ensures { Step (state_of self.old) Open (opened_reply result) (state_of self.new) }
     {
-        self.socks.socket()
+        self.host.socks.socket()
     }
 
     /// Gives an unbound socket its local address, unless that is 0.0.0.0, and its port, where that is 0 an ephemeral
@@ -26,7 +26,7 @@ impl Stack {
     pub fn bind(&mut self, fd: u32, local: Addr) -> Result<(), Errno>
         ensures { Step (state_of self.old) (Bind fd local) (done_reply result) (state_of self.new) }
     {
-        self.socks.bind(fd, local)
+        self.host.socks.bind(fd, local)
     }
 
     /// Connects a socket; one that is connected is disconnected first, and stays so where the call is refused (volume 2
@@ -35,14 +35,14 @@ impl Stack {
     pub fn connect(&mut self, fd: u32, to: Addr) -> Result<(), Errno>
         ensures { Step (state_of self.old) (Connect fd to) (done_reply result) (state_of self.new) }
     {
-        self.socks.connect(fd, to)
+        self.host.socks.connect(fd, to)
     }
 
     /// Sets or clears an option (volume 2 chapter 17). Refused, and then nothing changes: `BadDescriptor`.
     pub fn setsockopt(&mut self, fd: u32, option: Opt, on: bool) -> Result<(), Errno>
         ensures { Step (state_of self.old) (Set_option fd option on) (done_reply result) (state_of self.new) }
     {
-        self.socks.setsockopt(fd, option, on)
+        self.host.socks.setsockopt(fd, option, on)
     }
 
     /// Takes the oldest datagram that waits in a socket, copies as many of its bytes as there is room for, and answers
@@ -56,7 +56,7 @@ impl Stack {
         ensures same { OnErr result (room.new ≡ room.old) }
         ensures rest { IfOk result (λ r. drop r.1 room.new ≡ drop r.1 room.old) }
     {
-        self.socks.recvfrom(&mut self.pool, fd, room)
+        self.host.socks.recvfrom(&mut self.host.pool, fd, room)
     }
 
     /// Closes a socket, and frees all that waits in it; packets that it sent stay where they are (volume 2 chapter 15).
@@ -64,7 +64,7 @@ impl Stack {
     pub fn close(&mut self, fd: u32) -> Result<(), Errno>
         ensures { Step (state_of self.old) (Close fd) (done_reply result) (state_of self.new) }
     {
-        self.socks.close(&mut self.pool, fd)
+        self.host.socks.close(&mut self.host.pool, fd)
     }
 
     /// Gives the link the packet that has waited longest: its bytes stand in front of the room, and the answer is how many
@@ -77,7 +77,7 @@ impl Stack {
         ensures same { IfNone result (room.new ≡ room.old) }
         ensures rest { IfSome result (λ n. drop n room.new ≡ drop n room.old) }
     {
-        take_packet(&mut self.pool, &mut self.net.out, room)
+        take_packet(&mut self.host.pool, &mut self.host.net.out, room)
     }
 
     /// The clock ticks, in 4.4BSD each half second: each unfinished datagram has a tick less, and those that have none left
@@ -85,8 +85,9 @@ impl Stack {
     pub fn tick(&mut self)
         ensures { Step (state_of self.old) Tick Done (state_of self.new) }
     {
-        let ended = self.reass.tick(&mut self.pool);
-        self.net
+        let ended = self.host.reass.tick(&mut self.host.pool);
+        self.host
+            .net
             .counters
             .count_more(Counter::IpFragtimeout, u64::from(ended));
     }
@@ -95,14 +96,15 @@ impl Stack {
     pub fn counters(&self) -> Counters
         ensures { Step (state_of self.now) Ask_counters (Counted result) (state_of self.now) }
     {
-        self.net.counters
+        self.host.net.counters
     }
 
     /// How much of the pool is in use: what is free, the totals, the sum of all clusters' counts, and the greatest of
     /// them. Where nothing is held, all is free and nothing is counted. It takes one step for each cluster.
     pub fn mbstat(&self) -> Mbstat
         ensures step { Step (state_of self.now) Ask_usage (Shown result) (state_of self.now) }
-        ensures free { (state_of self.now).sockets ≡ [] → (state_of self.now).unfinished ≡ [] → (state_of self.now).output ≡ []
+        ensures free { (state_of self.now).sockets ≡ [] → (state_of self.now).unfinished ≡ []
+            → (state_of self.now).output ≡ []
             → result ≡ record {
               free_mbufs = self.now.config.mbufs;
               mbufs = self.now.config.mbufs;
@@ -112,6 +114,6 @@ impl Stack {
               most = 0;
             } }
     {
-        ledger::mbstat(&self.pool)
+        ledger::mbstat(&self.host.pool)
     }
 }

@@ -3,6 +3,7 @@
 
 mod arrive;
 mod calls;
+mod host;
 mod laws;
 mod questions;
 mod receive;

@@ -16,7 +16,7 @@ impl Stack {
     pub fn socket_name(&self, fd: u32) -> Result<SocketName, Errno>
         ensures { result ≡ socket_name fd (state_of self.now) }
     {
-        self.socks.name(fd)
+        self.host.socks.name(fd)
     }
 
     /// The oldest datagram that waits in a socket, which the next `recvfrom` takes: its sender, how many bytes it has,
@@ -25,7 +25,7 @@ impl Stack {
     pub fn next_datagram(&self, fd: u32) -> Result<NextDatagram, Errno>
         ensures { result ≡ next_datagram fd (state_of self.now) }
     {
-        self.socks.next_datagram(&self.pool, fd)
+        self.host.socks.next_datagram(&self.host.pool, fd)
     }
 
     /// The sockets in which a datagram waits, as a set of descriptors: bit k stands for descriptor 3 + k, the lowest bit
@@ -33,14 +33,14 @@ impl Stack {
     pub fn readable(&self) -> u64
         ensures { result ≡ readable (state_of self.now) }
     {
-        self.socks.readable()
+        self.host.socks.readable()
     }
 
     /// How many packets wait for the link, 0 to 50.
     pub fn output_len(&self) -> u32
         ensures { result ≡ length (state_of self.now).output }
     {
-        self.net.out.len()
+        self.host.net.out.len()
     }
 
     /// How many bytes the packet has that has waited longest, which the next `tx` gives: at most the MTU. `None` where
@@ -48,7 +48,7 @@ impl Stack {
     pub fn next_packet(&self) -> Option<u32>
         ensures { result ≡ oldest_length (state_of self.now).output }
     {
-        self.net.out.next_len(&self.pool)
+        self.host.net.out.next_len(&self.host.pool)
     }
 
     /// How many datagrams are unfinished: some of their fragments have come, and others are missing.

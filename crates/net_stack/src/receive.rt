@@ -1,22 +1,21 @@
 //! A packet from the wire.
-ghost use Rattle.std.specs.Prelude.{◌≡◌, ◌<◌, ◌≤◌, ◌++◌, length, if◌then◌else◌};
+ghost use Rattle.std.specs.Prelude.{◌≡◌, ◌≤◌, length, if◌then◌else◌};
 ghost use Rattle.flat_model.specs.Amounts.Layout.{is_cluster, need_of, next_room, size_of, wire};
 ghost use Rattle.mbuf_chain.specs.Owners.{IsOwned};
 ghost use Rattle.chain_ops.specs.Stored.{Has};
-ghost use Rattle.ip_reass.specs.Table.{IsReady, held_all, unfinished};
-ghost use Rattle.sock_calls.specs.Sockets.{IsSocks, queued_chains};
-ghost use Rattle.sock_calls.specs.Delivery.{seen};
+ghost use Rattle.ip_reass.specs.Table.{IsReady};
+ghost use Rattle.sock_calls.specs.Sockets.{IsSocks};
+ghost use Rattle.sock_calls.specs.Delivery.{chains_at};
 ghost use Rattle.net_stack.specs.Inside.Arrivals.{HasCome, IsLaidOut};
+ghost use Rattle.net_stack.specs.Inside.Hosts.{KeepsOutput, arrival_view};
 
-use crate::arrive::arrive;
+use crate::host::Host;
 use chain_ops::from_wire;
 use chain_ops::theorems::stored_layout;
-use flat_model::{Counters, Need, Why};
-use ip_reass::Reass;
+use flat_model::{Need, Why};
 use ledger::reserve;
 use mbuf_chain::{Chain, Pool};
 use params::{IP_MAX_PACKET, MCLBYTES, MHLEN, MINCLSIZE, MLEN};
-use sock_calls::Socks;
 
 /// How many bytes go into the next mbuf, of those left, and how many clusters it takes: `small` at most into a plain one.
 fn next_mbuf(small: u32, left: u32) -> (u32, u32)
@@ -69,29 +68,30 @@ fn put_packet(pool: &mut Pool, packet: &[u8]) -> Chain
     }
 }
 
-/// A packet comes from the wire and arrives; where the pool has too few buffers for it, all unfinished datagrams are given
-/// back, and where it has too few then, the packet is lost and counted. At most 65,535 bytes.
-pub(crate) fn come_in(
-    pool: &mut Pool,
-    socks: &mut Socks,
-    reass: &mut Reass,
-    counters: &mut Counters,
-    packet: &[u8],
-)
-    requires socks { IsSocks pool.old socks.old }
-    requires reass { IsReady pool.old reass.old }
-    requires owned { IsOwned pool.old (held_all pool.old reass.old.datagrams ++ queued_chains pool.old socks.old.queues) }
-    requires most { length packet.now ≤ IP_MAX_PACKET }
-    ensures came { HasCome
-        (seen pool.old socks.old (unfinished pool.old reass.old.datagrams) (held_all pool.old reass.old.datagrams) counters.old) packet.now
-        (seen pool.new socks.new (unfinished pool.new reass.new.datagrams) (held_all pool.new reass.new.datagrams) counters.new) }
-    ensures reass { IsReady pool.new reass.new }
-{
-    let need = wire_need(packet.len() as u32);
-    if !reserve(pool, reass, counters, need.mbufs, need.clusters) {
-        counters.count_ended(Why::NoBufs);
-        return;
+impl Host {
+    /// A packet comes from the wire and arrives; if the pool has too few buffers for it, all unfinished datagrams are given
+    /// back, and if it has too few then, the packet is lost and counted. At most 65,535 bytes.
+    pub(crate) fn come_in(&mut self, packet: &[u8])
+        requires socks { IsSocks self.old.pool self.old.socks }
+        requires reass { IsReady self.old.pool self.old.reass }
+        requires owned { IsOwned self.old.pool (chains_at (arrival_view self.old)) }
+        requires most { length packet.now ≤ IP_MAX_PACKET }
+        ensures came { HasCome (arrival_view self.old) packet.now (arrival_view self.new) }
+        ensures reass { IsReady self.new.pool self.new.reass }
+        ensures output { KeepsOutput self.old.net self.new.net }
+    {
+        let need = wire_need(packet.len() as u32);
+        if !reserve(
+            &mut self.pool,
+            &mut self.reass,
+            &mut self.net.counters,
+            need.mbufs,
+            need.clusters,
+        ) {
+            self.net.counters.count_ended(Why::NoBufs);
+            return;
+        }
+        let chain = put_packet(&mut self.pool, packet);
+        self.arrive(chain);
     }
-    let chain = put_packet(pool, packet);
-    arrive(pool, socks, reass, counters, chain);
 }

@@ -7,6 +7,7 @@ ghost use Rattle.ledger.specs.Accounts.{IsAccounted};
 ghost use Rattle.net_stack.specs.Boots.{IsUnbooted, free_pool};
 ghost use Rattle.net_stack.specs.Stack.{IsStack, state_of};
 
+use crate::host::Host;
 use flat_model::{Config, ConfigFault};
 use ip_reass::Reass;
 use mbuf_chain::Pool;
@@ -37,10 +38,7 @@ pub enum BootFault {
 /// call is a step from the state before it to the state after it. No call but `boot` takes host memory.
 pub struct Stack {
     pub(crate) config: Config,
-    pub(crate) pool: Pool,
-    pub(crate) socks: Socks,
-    pub(crate) reass: Reass,
-    pub(crate) net: Net,
+    pub(crate) host: Host,
 }
 
 impl Model for Stack {
@@ -70,7 +68,8 @@ impl Stack {
     pub fn boot(alloc: Global, config: Config) -> Result<Stack, BootFault>
         ensures sizes { (result ≡ Err BootFault.BadSizes) ↔ ¬ HasSizes config }
         ensures config { (result ≡ Err BootFault.BadConfig) ↔ (HasSizes config × ¬ IsConfig config) }
-        ensures booted { MatchResult result (λ s. IsConfig config × (state_of s ≡ flat_boot config)) (IsUnbooted config) }
+        ensures booted { MatchResult result (λ s. IsConfig config × (state_of s ≡ flat_boot config))
+            (IsUnbooted config) }
     {
         match config.check() {
             Ok(()) => Stack::start(alloc, config),
@@ -95,13 +94,13 @@ impl Stack {
         let Ok(reass) = Reass::boot(alloc, config.mbufs) else {
             return Err(BootFault::Memory);
         };
-        Ok(Stack {
-            config,
+        let host = Host {
             pool,
             socks: Socks::new(config.addr, config.bcast),
             reass,
             net: Net::new(config.mtu, config.first_id),
-        })
+        };
+        Ok(Stack { config, host })
     }
 
     /// What always holds of a stack: its parts fit together, and its pool holds what the state weighs. So the count of
@@ -117,13 +116,13 @@ impl Stack {
     pub fn end(self) -> Pool
         ensures { result ≡ free_pool self.config }
     {
-        let Stack {
-            config: _,
+        let Stack { config: _, host } = self;
+        let Host {
             mut pool,
             socks,
             reass,
             net,
-        } = self;
+        } = host;
         socks.end(&mut pool);
         reass.end(&mut pool);
         net.end(&mut pool);

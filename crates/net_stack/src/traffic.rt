@@ -6,8 +6,6 @@ ghost use Rattle.flat_model.specs.Machine.Replies.{sent_reply};
 ghost use Rattle.flat_model.specs.Machine.Step.{Step};
 ghost use Rattle.net_stack.specs.Stack.{state_of};
 
-use crate::receive::come_in;
-use crate::send::send;
 use crate::stack::Stack;
 use flat_model::{Addr, Errno};
 
@@ -33,13 +31,7 @@ impl Stack {
         requires { length packet.now ≤ IP_MAX_PACKET }
         ensures { Step (state_of self.old) (Comes packet.now) Done (state_of self.new) }
     {
-        come_in(
-            &mut self.pool,
-            &mut self.socks,
-            &mut self.reass,
-            &mut self.net.counters,
-            packet,
-        );
+        self.host.come_in(packet);
     }
 
     /// Sends a datagram to an address, or without one to the peer, and answers how many bytes it has, which are all
@@ -56,14 +48,6 @@ impl Stack {
         ensures { Step (state_of self.old) (Send fd to bytes.now) (sent_reply result) (state_of self.new) }
     {
         let to = in_range(to);
-        send(
-            &mut self.pool,
-            &mut self.socks,
-            &mut self.reass,
-            &mut self.net,
-            fd,
-            to,
-            bytes,
-        )
+        self.host.send(fd, to, bytes)
     }
 }

@@ -6,16 +6,16 @@ use Rattle.net_stack.specs.declared.stack.Stack.TheInside.{Inside}
 abbrev pub seen : Inside → StackView
 seen s = record {
   config = s.config;
-  pool = s.pool;
-  socks = s.socks;
-  reass = s.reass;
-  output = s.net.out;
-  next_id = s.net.next_id;
-  counters = s.net.counters;
+  pool = s.host.pool;
+  socks = s.host.socks;
+  reass = s.host.reass;
+  output = s.host.net.out;
+  next_id = s.host.net.next_id;
+  counters = s.host.net.counters;
 }
 
 -- what is shown fits together, the link is the configuration's, and no packet is left that was to come back
 pub record IsInside (s : Inside) : Type 0 where
   pub stack : IsStack (seen s)
-  pub mtu : s.net.mtu ≡ s.config.mtu
-  pub looped : s.net.looped ≡ record { first = None; last = None; len = 0 }
+  pub mtu : s.host.net.mtu ≡ s.config.mtu
+  pub looped : s.host.net.looped ≡ record { first = None; last = None; len = 0 }

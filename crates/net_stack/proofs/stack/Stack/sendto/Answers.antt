@@ -2,23 +2,29 @@ use Rattle.std.proofs.Common.{Option, subst}
 use Rattle.flat_model.specs.Machine.Event.{Send}
 use Rattle.flat_model.specs.declared.address.Addr.{Addr}
 use Rattle.flat_model.specs.Machine.Replies.{sent_reply}
+use Rattle.net_stack.specs.declared.host.Host.{Host}
 use Rattle.net_stack.proofs.Called.{Called}
 use Rattle.net_stack.proofs.Exchanged.{are_bytes, can_send, send_owned, sent_called}
 use Rattle.net_stack.proofs.stack.Stack.sendto.Goals as goal
 
 pub send-requires-clause-send : goal.send-requires-clause-send
 send-requires-clause-send c =
-    can_send c.self.inside.config c.self.inside.pool c.self.inside.socks c.self.inside.reass c.self.inside.net c.self.invariant.stack c.self.invariant.mtu c.self.invariant.looped
+    let h : Host = c.self.inside.host in
+    can_send c.self.inside.config h.pool h.socks h.reass h.net c.self.invariant.stack c.self.invariant.mtu
+    c.self.invariant.looped
 
 pub send-requires-clause-owned : goal.send-requires-clause-owned
-send-requires-clause-owned c = send_owned c.self.inside.config c.self.inside.pool c.self.inside.socks c.self.inside.reass c.self.inside.net c.self.invariant.stack
+send-requires-clause-owned c =
+    let h : Host = c.self.inside.host in
+    send_owned c.self.inside.config h.pool h.socks h.reass h.net c.self.invariant.stack
 
-all : (c : goal.After-send) → Called c.args.self.now (Send c.args.fd c.args.to c.args.bytes.now) (sent_reply c.send.result)
-    (record (c.self.inside) { pool = c.send.new.pool; socks = c.send.new.socks; reass = c.send.new.reass; net = c.send.new.net })
+all : (c : goal.After-send) → Called c.args.self.now (Send c.args.fd c.args.to c.args.bytes.now)
+    (sent_reply c.send.result) (record (c.self.inside) { host = c.send.new.self })
 all c =
-    subst (λ (o : Option Addr). Called c.args.self.now (Send c.args.fd o c.args.bytes.now) (sent_reply c.send.result)
-    (record (c.self.inside) { pool = c.send.new.pool; socks = c.send.new.socks; reass = c.send.new.reass; net = c.send.new.net })) c.in_range-to.ensures.same
-    (sent_called c.self.inside c.args.self.now c.send.new.pool c.send.new.socks c.send.new.reass c.send.new.net c.args.fd c.in_range-to.result c.args.bytes.now c.send.result c.self.invariant c.self.view_is
+    subst (λ (o : Option Addr). Called c.args.self.now (Send c.args.fd o c.args.bytes.now)
+    (sent_reply c.send.result) (record (c.self.inside) { host = c.send.new.self })) c.in_range-to.ensures.same
+    (sent_called c.self.inside c.args.self.now c.send.new.self c.args.fd c.in_range-to.result c.args.bytes.now
+    c.send.result c.self.invariant c.self.view_is
     (c.in_range-to.ensures.range, are_bytes c.args.bytes.now c.type_inv.bytes) c.send.ensures)
 
 pub invariant_of-self : goal.invariant_of-self

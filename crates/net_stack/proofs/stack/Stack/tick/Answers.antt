@@ -2,12 +2,12 @@ use Rattle.std.proofs.Common.{ℕ, ap, ◌∙◌}
 use Rattle.flat_model.specs.Machine.Event.{Tick, Done}
 use Rattle.flat_model.specs.Machine.Count.{counts_more}
 use Rattle.flat_model.specs.declared.counter.Counter.TheVariants.{IpFragtimeout}
-use Rattle.net_stack.proofs.Called.{Called, reass_called}
+use Rattle.net_stack.proofs.Called.{Called, reass_called, with_reass}
 use Rattle.net_stack.proofs.stack.Stack.tick.Goals as goal
 
-all : (c : goal.After-count_more) → Called c.args.self.now Tick Done (record (c.self.inside) { pool = c.tick-ended.new.pool; reass = c.tick-ended.new.self; net = record (c.self.inside.net) { counters = c.count_more.new.self } })
+all : (c : goal.After-count_more) → Called c.args.self.now Tick Done (with_reass c.self.inside c.tick-ended.new.pool c.tick-ended.new.self c.count_more.new.self)
 all c = reass_called c.self.inside c.args.self.now c.tick-ended.new.pool c.tick-ended.new.self c.tick-ended.result c.count_more.new.self c.self.invariant c.self.view_is c.tick-ended.ensures.step c.tick-ended.ensures.ready c.tick-ended.ensures.moves
-    (c.count_more.ensures ∙ ap (λ (n : ℕ). counts_more IpFragtimeout n c.self.inside.net.counters) c.from.ensures)
+    (c.count_more.ensures ∙ ap (λ (n : ℕ). counts_more IpFragtimeout n c.self.inside.host.net.counters) c.from.ensures)
 
 pub invariant_of-self : goal.invariant_of-self
 invariant_of-self c = (all c).inside

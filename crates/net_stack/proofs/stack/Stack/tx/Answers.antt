@@ -1,10 +1,10 @@
 use Rattle.flat_model.specs.Machine.Event.{Transmit}
 use Rattle.flat_model.specs.Machine.Replies.{given_reply}
 use Rattle.std.proofs.Common.{length}
-use Rattle.net_stack.proofs.Called.{Called, are_within, output_called}
+use Rattle.net_stack.proofs.Called.{Called, are_within, output_called, with_out}
 use Rattle.net_stack.proofs.stack.Stack.tx.Goals as goal
 
-all : (c : goal.After-slice_known-2-1) → Called c.args.self.now Transmit (given_reply c.take_packet.result c.take_packet.new.room) (record (c.self.inside) { pool = c.take_packet.new.pool; net = record (c.self.inside.net) { out = c.take_packet.new.out } })
+all : (c : goal.After-slice_known-2-1) → Called c.args.self.now Transmit (given_reply c.take_packet.result c.take_packet.new.room) (with_out c.self.inside c.take_packet.new.pool c.take_packet.new.out)
 all c = output_called c.self.inside c.args.self.now c.take_packet.new.pool c.take_packet.new.out (given_reply c.take_packet.result c.take_packet.new.room) c.self.invariant c.self.view_is c.take_packet.ensures.given
 
 pub take_packet-requires-clause-queue : goal.take_packet-requires-clause-queue

@@ -1,9 +1,8 @@
 use Rattle.std.proofs.Common.{◌≡◌, ◌<◌, ℕ, sym, ◌∙◌, arith}
 use Rattle.std.proofs.lemmas.Bool.{eqb-false, eqb-true}
-use Rattle.ip_reass.specs.Table.{held_all, unfinished}
-use Rattle.sock_calls.specs.Delivery.{seen}
+use Rattle.net_stack.specs.Inside.Hosts.{arrival_view}
 use Rattle.net_stack.proofs.Looping.{taken, one_owned, one_more, all_arrived}
-use Rattle.net_stack.proofs.arrive.arrive_all.Goals as goal
+use Rattle.net_stack.proofs.host.Host.arrive_all.Goals as goal
 
 some : (n : ℕ) → (n ≡ 0 → ⊥) → 0 < n
 some n ne = omega arith
@@ -19,7 +18,7 @@ arrive-requires-clause-owned c = one_owned c.packets.train c.take-chain.new.self
 
 pub packets-preserved : goal.packets-preserved
 packets-preserved c =
-    let more = one_more {ds = c.packets.reass} {ds2 = c.arrive.new.reass} c.take-chain.result.1 c.packets.invariant.way c.packets.invariant.held c.packets.invariant.plain c.packets.invariant.owned c.packets.invariant.reass
+    let more = one_more {ds = c.packets.self.reass} {ds2 = c.arrive.new.self.reass} c.take-chain.result.1 c.packets.invariant.way c.packets.invariant.held c.packets.invariant.plain c.packets.invariant.owned c.packets.invariant.reass
     (some c.packets.train.len (eqb-false _ _ (sym c.is_empty.ensures ∙ c.packets-test.true))) c.take-chain.ensures.queued_packets c.take-chain.ensures.taken c.take-chain.ensures.held c.take-chain.ensures.moves c.arrive.ensures.arrived in
     record {
       way = more.way;
@@ -27,9 +26,10 @@ packets-preserved c =
       held = more.held;
       plain = more.plain;
       owned = more.owned;
+      output = c.arrive.ensures.output ∙ (λ i. record (c.packets.invariant.output i) { counters = c.arrive.new.self.net.counters });
     }
 
 pub returns-clause-arrived : goal.returns-clause-arrived
 returns-clause-arrived c =
-    all_arrived _ c.args.train (seen c.packets.pool c.packets.socks (unfinished c.packets.pool c.packets.reass.datagrams) (held_all c.packets.pool c.packets.reass.datagrams) c.packets.counters) c.packets.train c.packets.invariant.way
+    all_arrived _ c.args.train (arrival_view c.packets.self) c.packets.train c.packets.invariant.way
     (eqb-true _ _ (sym c.is_empty.ensures ∙ c.packets-test.false))
