@@ -101,11 +101,11 @@ same_accounts {p} {q} {s} held c d a o m e =
       );
     })
 
-pub delivered_input : {p q r : PoolView} {t : Table} {bs cs : List SockBufView} {us vs ws : List Unfinished} {xs ys zs : List ℕ} {c e : Counters} {chain d : ℕ} {h : IpHead} {to : List ℕ} {from : Addr}
+pub delivered_input : {p q r : PoolView} {t u : Table} {bs cs : List SockBufView} {us vs ws : List Unfinished} {xs ys zs : List ℕ} {c e : Counters} {chain d : ℕ} {h : IpHead} {to : List ℕ} {from : Addr}
     → IsSocks p (record { pcbs = t; queues = bs }) → IsOwned p (chain ∷ (xs ++ queued_chains p bs)) → udp.IsDelivered p chain h t q to from d → Moves p (chain ∷ []) q (d ∷ []) → vs ≡ us → ys ≡ xs
-    → IsDelivered (seen q (record { pcbs = t; queues = bs }) vs ys c) d to from (seen r (record { pcbs = t; queues = cs }) ws zs e)
-    → IsInput (seen p (record { pcbs = t; queues = bs }) us xs c) chain h.src h.dst h.proto (seen r (record { pcbs = t; queues = cs }) ws zs e)
-delivered_input {p} {q} {r} {t} {bs} {cs} {us} {vs} {ws} {xs} {ys} {zs} {c} {e} {chain} {d} {h} {to} {from} socks owned is m same_vs same_ys done =
+    → IsDelivered (seen q (record { pcbs = t; queues = bs }) vs ys c) d to from (seen r (record { pcbs = u; queues = cs }) ws zs e)
+    → IsInput (seen p (record { pcbs = t; queues = bs }) us xs c) chain h.src h.dst h.proto (seen r (record { pcbs = u; queues = cs }) ws zs e)
+delivered_input {p} {q} {r} {t} {u} {bs} {cs} {us} {vs} {ws} {xs} {ys} {zs} {c} {e} {chain} {d} {h} {to} {from} socks owned is m same_vs same_ys done =
     let s : SocksView = record { pcbs = t; queues = bs } in
     let x = reached p q chain d xs s owned socks m in
     let heavy : weight_at q d ≡ weight_at p chain = kept_weight is in
@@ -118,7 +118,7 @@ delivered_input {p} {q} {r} {t} {bs} {cs} {us} {vs} {ws} {xs} {ys} {zs} {c} {e} 
     ap (sockets_named f t) is.heard.named ∙ sym (sockets_are f t is.heard.found (recursion_from_All (λ (b : Block). block_at b.fd t ≡ Some b) is.heard.found is.heard.held)) in
     record {
       step = λ rest held a.
-          let new : State = with_net r (record { pcbs = t; queues = cs }) ws e rest in
+          let new : State = with_net r (record { pcbs = u; queues = cs }) ws e rest in
           let one = done.step rest held (accounts rest held a) in
           let two = subst (λ (i : Item). Delivers exact_ledger held from i (sockets_named (queues_of q bs) t to) (with_net q s vs c rest) new) item one in
           let three = subst (λ (l : List Socket). Delivers exact_ledger held from (record { bytes = udp_bytes (string (chain_of p chain)); weight = weight_at p chain }) l (with_net q s vs c rest) new) (named (queues_of q bs)) two in
@@ -148,15 +148,15 @@ dropped_input {p} {q} {t} {bs} {us} {vs} {xs} {ys} {c} {e} {chain} {h} why socks
     }
 
 -- the table that the look-up leaves is the same
-pub delivered_to : {p q r : PoolView} {t t' : Table} {bs cs : List SockBufView} {us vs ws : List Unfinished} {xs ys zs : List ℕ} {c e : Counters} {chain d : ℕ} {h : IpHead} {to fds : List ℕ} {from : Addr}
+pub delivered_to : {p q r : PoolView} {t t' u : Table} {bs cs : List SockBufView} {us vs ws : List Unfinished} {xs ys zs : List ℕ} {c e : Counters} {chain d : ℕ} {h : IpHead} {to fds : List ℕ} {from : Addr}
     → IsSocks p (record { pcbs = t; queues = bs }) → IsOwned p (chain ∷ (xs ++ queued_chains p bs)) → udp.IsDelivered p chain h t q to from d → Moves p (chain ∷ []) q (d ∷ []) → vs ≡ us → ys ≡ xs → t' ≡ t → fds ≡ to
-    → IsDelivered (seen q (record { pcbs = t'; queues = bs }) vs ys c) d fds from (seen r (record { pcbs = t'; queues = cs }) ws zs e)
-    → IsInput (seen p (record { pcbs = t; queues = bs }) us xs c) chain h.src h.dst h.proto (seen r (record { pcbs = t'; queues = cs }) ws zs e)
-delivered_to {p} {q} {r} {t} {t'} {bs} {cs} {us} {vs} {ws} {xs} {ys} {zs} {c} {e} {chain} {d} {h} {to} {fds} {from} socks owned is m same_vs same_ys same_t same_to done =
-    subst (λ (u : Table). IsInput (seen p (record { pcbs = t; queues = bs }) us xs c) chain h.src h.dst h.proto (seen r (record { pcbs = u; queues = cs }) ws zs e)) (sym same_t)
-    (delivered_input socks owned is m same_vs same_ys
-    (subst (λ (l : List ℕ). IsDelivered (seen q (record { pcbs = t; queues = bs }) vs ys c) d l from (seen r (record { pcbs = t; queues = cs }) ws zs e)) same_to
-    (subst (λ (u : Table). IsDelivered (seen q (record { pcbs = u; queues = bs }) vs ys c) d fds from (seen r (record { pcbs = u; queues = cs }) ws zs e)) same_t done)))
+    → IsDelivered (seen q (record { pcbs = t'; queues = bs }) vs ys c) d fds from (seen r (record { pcbs = u; queues = cs }) ws zs e)
+    → IsInput (seen p (record { pcbs = t; queues = bs }) us xs c) chain h.src h.dst h.proto (seen r (record { pcbs = u; queues = cs }) ws zs e)
+delivered_to {p} {q} {r} {t} {t'} {u} {bs} {cs} {us} {vs} {ws} {xs} {ys} {zs} {c} {e} {chain} {d} {h} {to} {fds} {from} socks owned is m same_vs same_ys same_t same_to done =
+    let then = seen r (record { pcbs = u; queues = cs }) ws zs e in
+    delivered_input socks owned is m same_vs same_ys
+    (subst (λ (l : List ℕ). IsDelivered (seen q (record { pcbs = t; queues = bs }) vs ys c) d l from then) same_to
+    (subst (λ (x : Table). IsDelivered (seen q (record { pcbs = x; queues = bs }) vs ys c) d fds from then) same_t done))
 
 pub dropped_to : {p q : PoolView} {t t' : Table} {bs : List SockBufView} {us vs : List Unfinished} {xs ys : List ℕ} {c e : Counters} {chain : ℕ} {h : IpHead} (why : Why)
     → IsSocks p (record { pcbs = t; queues = bs }) → IsOwned p (chain ∷ (xs ++ queued_chains p bs)) → udp.IsDropped p chain h t q why → (SameAt p q xs → vs ≡ us) → (SameAt p q xs → ys ≡ xs) → t' ≡ t → e ≡ counted why c

@@ -143,11 +143,11 @@ copy_ready {p} {q} {r} {t} {bs} {us} {vs} {xs} {ys} {c} {d} {chain} {n} copy i m
     record { same = k.same; socks = k.socks.ready; owned = λ j. omega (arith, k.owned j) }
 
 -- the copy was made and delivered
-pub copy_offer : {p q r z : PoolView} {t : Table} {bs cs : List SockBufView} {us vs ws ks : List Unfinished} {xs ys ms zs : List ℕ} {c d e : Counters} {chain n : ℕ} (fd copy : ℕ) (sender : Addr)
+pub copy_offer : {p q r z : PoolView} {t u : Table} {bs cs : List SockBufView} {us vs ws ks : List Unfinished} {xs ys ms zs : List ℕ} {c d e : Counters} {chain n : ℕ} (fd copy : ℕ) (sender : Addr)
     → IsTested p t bs us xs c chain n true q vs ys d → n ≡ (weight_at p chain).mbufs → Moves q [] r (copy ∷ []) → item_at r copy ≡ item_at q chain → ws ≡ vs → ms ≡ ys
-    → IsAppended (seen r (record { pcbs = t; queues = bs }) ws ms d) copy fd sender (seen z (record { pcbs = t; queues = cs }) ks zs e)
-    → IsOffered (seen p (record { pcbs = t; queues = bs }) us xs c) chain fd sender (seen z (record { pcbs = t; queues = cs }) ks zs e)
-copy_offer {p} {q} {r} {z} {t} {bs} {cs} {us} {vs} {ws} {ks} {xs} {ys} {ms} {zs} {c} {d} {e} {chain} {n} fd copy sender i is_n m is_copy same_ws same_ms done =
+    → IsAppended (seen r (record { pcbs = t; queues = bs }) ws ms d) copy fd sender (seen z (record { pcbs = u; queues = cs }) ks zs e)
+    → IsOffered (seen p (record { pcbs = t; queues = bs }) us xs c) chain fd sender (seen z (record { pcbs = u; queues = cs }) ks zs e)
+copy_offer {p} {q} {r} {z} {t} {u} {bs} {cs} {us} {vs} {ws} {ks} {xs} {ys} {ms} {zs} {c} {d} {e} {chain} {n} fd copy sender i is_n m is_copy same_ws same_ms done =
     let s : SocksView = record { pcbs = t; queues = bs } in
     let x = tested p q chain xs ys s i.owned i.socks i.moves in
     let k = copy_came q r chain copy ys s x.owned x.socks.ready m in
@@ -157,7 +157,7 @@ copy_offer {p} {q} {r} {z} {t} {bs} {cs} {us} {vs} {ws} {ks} {xs} {ys} {ms} {zs}
       step = λ rest held b at a.
           let a1 = i.reserves rest (held ⊕ weight_at p chain) a in
           let a2 = subst (λ (m : State). IsAccounted r m ((held ⊕ weight_at p chain) ⊕ weight_at r copy)) (sym (now rest)) (copy_accounts copy a1.accounted m) in
-          appending_offers held sender (item_at p chain) (socket_with (queues_of p bs) b) (with_net p s us c rest) (with_net p s vs d rest) (with_net z (record { pcbs = t; queues = cs }) ks e rest) n is_n a1.has_buffers
+          appending_offers held sender (item_at p chain) (socket_with (queues_of p bs) b) (with_net p s us c rest) (with_net p s vs d rest) (with_net z (record { pcbs = u; queues = cs }) ks e rest) n is_n a1.has_buffers
           (item_at r copy) (socket_with (queues_of r bs) b) (with_net r s ws d rest)
           (is_copy ∙ ap (λ (v : ChainView). item_of v.entries) x.chain)
           (λ j. record (socket_with (queues_of p bs) b) { queue = (k.socks.shows b.fd ∙ x.socks.shows b.fd) j })
@@ -169,7 +169,7 @@ copy_offer {p} {q} {r} {z} {t} {bs} {cs} {us} {vs} {ws} {ks} {xs} {ys} {ms} {zs}
           (subst (λ (m : State). IsAccounted r m ((held ⊕ weight_at p chain) ⊕ weight_at r copy)) (sym (now rest)) (copy_accounts copy a1.accounted m));
       others = λ j ne. done.others j ne ∙ k.socks.shows j ∙ x.socks.shows j;
       ready = done.ready;
-      pcbs = refl;
+      pcbs = done.pcbs;
       chain = gone.chain ∙ k.chain ∙ x.chain;
       moves = moves_trans x.moves (moves_trans k.moves (subst (λ (l : List ℕ). Moves r (chain ∷ copy ∷ (l ++ queued_chains r bs)) z (chain ∷ (zs ++ queued_chains z cs))) same_ms gone.moves));
     }

@@ -1,12 +1,10 @@
 -- What a send puts where.
-use Rattle.std.proofs.Common.{◌≡◌, ℕ, ◌+◌, ◌%◌, Bool, List, [], ◌++◌, length, take, refl, sym, ap, ◌∙◌, subst}
+use Rattle.std.proofs.Common.{◌≡◌, ℕ, ◌+◌, ◌%◌, Bool, List, ◌++◌, length, take, refl, sym, ap, ◌∙◌, subst}
 use Rattle.std.specs.Prelude.{nat_lt}
 use Rattle.flat_model.specs.Amounts.Weight.{Item}
-use Rattle.flat_model.specs.Machine.State.{boot}
 use Rattle.flat_model.specs.Machine.Send.{need_to, to_link, to_self}
 use Rattle.flat_model.specs.Machine.Sending as flat
 use Rattle.flat_model.specs.declared.address.Addr.{Addr}
-use Rattle.flat_model.specs.declared.config.Config.{Config}
 use Rattle.flat_model.specs.declared.counters.Counters.{Counters}
 use Rattle.mbuf_chain.specs.Chain.{PoolView}
 use Rattle.mbuf_chain.specs.Train.{TrainView}
@@ -18,19 +16,12 @@ use Rattle.sock_calls.specs.declared.net.Net.{Net}
 use Rattle.sock_calls.specs.declared.packets.Heading.{Heading}
 use Rattle.sock_calls.specs.Inside.Putting.{config_of, sent_as, counts_sent, AreMade, IsPut}
 
--- a port that was chosen leaves the machine's addresses
-pub same_config : (t u : Table) (fd port mtu : ℕ) → EnsuresPort t fd port u → config_of u mtu ≡ config_of t mtu
-same_config t u fd port mtu e =
-    let s = e.changes (boot (config_of t 0)) (λ fd. []) in
-    λ i. record { addr = (s i).config.addr; bcast = (s i).config.bcast; mtu = mtu; mbufs = 0; clusters = 0; first_id = 0 }
-
 pub put_is : {p q : PoolView} {t u : Table} {n : Net} {made : Sent} {o back : TrainView} {d : Counters} {fd : ℕ} {to : Addr} {bytes : List ℕ} (h : Heading)
-    → h.id ≡ n.next_id → h.to ≡ to → SendsFrom t fd to.ip h.source → EnsuresPort t fd h.port u → KeepsOpen t u → AreMade p (config_of u n.mtu) (sent_as h bytes) n.out q made o
+    → h.id ≡ n.next_id → h.to ≡ to → SendsFrom t fd to.ip h.source → EnsuresPort t fd h.port u → KeepsOpen t u → AreMade p (config_of t n.mtu) (sent_as h bytes) n.out q made o
     → d ≡ counts_sent made.is_cut made.is_lost n.counters → back ≡ made.looped
     → IsPut fd to bytes p t n made.is_lost q u (record { mtu = n.mtu; next_id = (n.next_id + 1) % 65536; counters = d; out = o; looped = back })
-put_is {p} {q} {t} {u} {n} {made} {o} {back} {d} {fd} {to} {bytes} h id_is to_is source port keeps all d_is back_is =
+put_is {p} {q} {t} {u} {n} {made} {o} {back} {d} {fd} {to} {bytes} h id_is to_is source port keeps a d_is back_is =
     let x : flat.Sending = sent_as h bytes in
-    let a : AreMade p (config_of t n.mtu) x n.out q made o = subst (λ (c : Config). AreMade p c x n.out q made o) (same_config t u fd h.port n.mtu port) all in
     let ps : List Item = flat.packets (config_of t n.mtu) a.clusters x in
     subst (λ (b : TrainView). IsPut fd to bytes p t n made.is_lost q u (record { mtu = n.mtu; next_id = (n.next_id + 1) % 65536; counters = d; out = o; looped = b })) (sym back_is)
     record {

@@ -2,4 +2,5 @@
 pub mod Destination
 pub mod Putting
 pub mod Delivering
+pub mod Parts
 pub mod Asked

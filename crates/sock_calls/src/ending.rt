@@ -4,8 +4,8 @@ ghost use Rattle.mbuf_chain.specs.Owners.{IsOwned, Moves};
 ghost use Rattle.sockbuf.specs.SockBuf.{IsSockBuf};
 ghost use Rattle.sock_calls.specs.Sockets.{AreEmpty, queue_at, queued_chains};
 
+use crate::parts::QUEUES;
 use crate::receive::flush_at;
-use crate::sockets::QUEUES;
 use mbuf_chain::Pool;
 use sockbuf::SockBuf;
 

@@ -8,9 +8,9 @@
 mod delivery;
 mod destination;
 mod ending;
-mod input;
 mod net;
 mod packets;
+mod parts;
 mod questions;
 mod receive;
 mod send;

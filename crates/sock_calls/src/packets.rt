@@ -4,13 +4,12 @@ ghost use Rattle.flat_model.specs.Amounts.Layout.{sent};
 ghost use Rattle.flat_model.specs.Machine.Send.{need_to};
 ghost use Rattle.flat_model.specs.Machine.Sending.{is_looped, mtu_to};
 ghost use Rattle.chain_ops.specs.Stored.{Has};
-ghost use Rattle.ip_out.specs.Queues.{IsQueue};
-ghost use Rattle.sock_calls.specs.Inside.Putting.{config_of, head_as, sent_as, AreMade, IsBuilt, IsFreeFor, IsRouted, IsStored, way_of};
+ghost use Rattle.sock_calls.specs.Inside.Putting.{config_of, head_as, sent_as, IsBuilt, IsStored, way_of};
 
 use chain_ops::theorems::sent_layout;
 use chain_ops::{from_user, m_prepend};
 use flat_model::{Addr, Need};
-use ip_out::{IpHead, Queue, Sent, Way, need, need_bcast, send_packets};
+use ip_out::{IpHead, Way, need, need_bcast};
 use mbuf_chain::{Chain, Pool};
 use params::{
     IP_DEFAULT_TTL, IP_UDP_HEADERS, LOOPBACK, LOOPBACK_MTU, MIN_MTU, PROTOCOL_UDP, UDP_SEND_SPACE,
@@ -29,6 +28,17 @@ pub(crate) struct Heading {
     pub(crate) port: u16,
     /// The destination.
     pub(crate) to: Addr,
+}
+
+/// The way of a send.
+#[derive(Clone, Copy, Debug, PartialEq, Eq)]
+pub(crate) struct Route {
+    /// The destination.
+    pub(crate) to: Addr,
+    /// Where its packets go.
+    pub(crate) way: Way,
+    /// How many bytes the longest of them has, at most.
+    pub(crate) longest: u16,
 }
 
 /// Whether packets to an address come back and stay off the link.
@@ -84,7 +94,7 @@ fn with_headers(pool: &mut Pool, bytes: &[u8]) -> Chain
 }
 
 /// The datagram, with its header, after 20 bytes for that of IP.
-fn datagram(pool: &mut Pool, heading: Heading, bytes: &[u8]) -> Chain
+pub(crate) fn datagram(pool: &mut Pool, heading: Heading, bytes: &[u8]) -> Chain
     requires most { length bytes.now ≤ UDP_SEND_SPACE }
     requires free { Has pool.old (sent (length bytes.now)) }
     ensures { IsBuilt pool.old (sent_as heading bytes.now) pool.new result }
@@ -97,7 +107,7 @@ fn datagram(pool: &mut Pool, heading: Heading, bytes: &[u8]) -> Chain
 
 /// The IP header of all its packets, but for their lengths and offsets.
 #[inline(always)]
-fn ip_head(heading: Heading) -> IpHead
+pub(crate) fn ip_head(heading: Heading) -> IpHead
     ensures { result ≡ head_as heading }
 {
     IpHead {
@@ -111,35 +121,5 @@ fn ip_head(heading: Heading) -> IpHead
         proto: PROTOCOL_UDP,
         src: heading.source,
         dst: heading.to.ip,
-    }
-}
-
-/// Puts the packets of a send into the output queue, but for those that come back. They go by this route, and its buffers
-/// have to be free. A broadcast isn't cut.
-pub(crate) fn put_packets(
-    pool: &mut Pool,
-    pcbs: &Pcbs,
-    mtu: u16,
-    route: (Way, u16),
-    heading: Heading,
-    bytes: &[u8],
-    queue: &mut Queue,
-) -> Sent
-    requires most { length bytes.now ≤ UDP_SEND_SPACE }
-    requires routed { IsRouted (config_of pcbs.now mtu) }
-    requires way { route.0 ≡ way_of (config_of pcbs.now mtu) heading.to.ip }
-    requires longest { route.1 ≡ mtu_to (config_of pcbs.now mtu) heading.to.ip }
-    requires uncut { heading.to.ip ≡ pcbs.now.bcast → length bytes.now + IP_UDP_HEADERS ≤ mtu }
-    requires free { IsFreeFor pool.old (config_of pcbs.now mtu) heading.to.ip (length bytes.now) }
-    requires queue { IsQueue pool.old queue.old }
-    ensures { AreMade pool.old (config_of pcbs.now mtu) (sent_as heading bytes.now) queue.old pool.new result queue.new }
-{
-    let _ = pcbs;
-    let _ = mtu;
-    let (way, longest) = route;
-    let chain = datagram(pool, heading, bytes);
-    match send_packets(pool, chain, ip_head(heading), longest, way, queue) {
-        Ok(sent) => sent,
-        Err(_) => unreachable!(),
     }
 }

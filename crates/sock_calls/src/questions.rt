@@ -7,7 +7,7 @@ ghost use Rattle.sock_calls.specs.Questions.{set_below, next_of};
 ghost use Rattle.sock_calls.specs.Inside.Asked.{name_in, waits_at};
 ghost use Rattle.sock_calls.specs.Sockets.{queue_at, queues_of};
 
-use crate::sockets::QUEUES;
+use crate::parts::QUEUES;
 use flat_model::{Addr, Errno};
 use mbuf_chain::Pool;
 use pcb_table::Pcbs;

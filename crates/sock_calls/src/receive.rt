@@ -44,7 +44,8 @@ pub(crate) fn take_at(
     requires owned { IsOwned pool.old (queued_chains pool.old queues.old) }
     requires place { place < length queues.old }
     ensures takes { TakesAt pool.old queues.old place pool.new queues.new }
-    ensures taken { MatchOption result ((queues_of pool.old queues.old place ≡ []) × (queues_of pool.new queues.new place ≡ []))
+    ensures taken { MatchOption result
+        ((queues_of pool.old queues.old place ≡ []) × (queues_of pool.new queues.new place ≡ []))
         (λ found. (d : Datagram) × (queues_of pool.old queues.old place ≡ d ∷ queues_of pool.new queues.new place)
         × (found.0 ≡ d.sender) × (take found.1 room.new ≡ take (length room.old) d.item.bytes)) }
     ensures within { MatchOption result (Unit {0}) (λ found. found.1 ≤ length room.new) }

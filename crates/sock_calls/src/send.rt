@@ -5,18 +5,18 @@ ghost use Rattle.ledger.specs.Reserve.{are_free};
 ghost use Rattle.pcb_table.specs.Table.{block_at};
 ghost use Rattle.ip_out.specs.Queues.{IsQueue};
 ghost use Rattle.sock_calls.specs.Outgoing.{sending, CanSend, IsSent};
+ghost use Rattle.sock_calls.specs.Inside.Parts.{shown};
 ghost use Rattle.sock_calls.specs.Inside.Putting.{config_of, counts_sent, way_of, IsFreeFor, IsPut, IsRouted};
-ghost use Rattle.sock_calls.specs.Sockets.{from_three};
 
 use crate::destination::send_target;
 use crate::net::Net;
-use crate::packets::{Heading, need_to, put_packets, way_to};
+use crate::packets::{Heading, Route, datagram, ip_head, need_to, way_to};
+use crate::parts::Parts;
 use flat_model::{Addr, Counter, Counters, Errno, Lack, Need};
-use ip_out::{Sent, Way};
+use ip_out::{Sent, send_packets};
 use mbuf_chain::Pool;
 use params::{IP_UDP_HEADERS, UDP_SEND_SPACE};
-use pcb_table::{Block, Pcbs};
-use sockbuf::SockBuf;
+use pcb_table::Block;
 use std::mem;
 
 /// Counts a send.
@@ -41,79 +41,90 @@ fn are_free(pool: &Pool, need: Need) -> bool
     need.mbufs <= mbufs && need.clusters <= clusters
 }
 
-/// Sends a datagram by its route, and answers whether a packet of it was lost at the output queue. Its buffers have to be
-/// free.
-#[inline(always)]
-fn put(
-    pool: &mut Pool,
-    pcbs: &mut Pcbs,
-    net: &mut Net,
-    block: &Block,
-    to: Addr,
-    route: (Way, u16),
-    bytes: &[u8],
-) -> bool
-    requires opened { block_at block.now.fd pcbs.old ≡ Some block.now }
-    requires queue { IsQueue pool.old net.old.out }
-    requires none { net.old.looped.len ≡ 0 }
-    requires most { length bytes.now ≤ UDP_SEND_SPACE }
-    requires routed { IsRouted (config_of pcbs.old net.old.mtu) }
-    requires way { route.0 ≡ way_of (config_of pcbs.old net.old.mtu) to.ip }
-    requires longest { route.1 ≡ mtu_to (config_of pcbs.old net.old.mtu) to.ip }
-    requires uncut { to.ip ≡ pcbs.old.bcast → length bytes.now + IP_UDP_HEADERS ≤ net.old.mtu }
-    requires free { IsFreeFor pool.old (config_of pcbs.old net.old.mtu) to.ip (length bytes.now) }
-    ensures { IsPut block.now.fd to bytes.now pool.old pcbs.old net.old result pool.new pcbs.new net.new }
-{
-    let heading = Heading {
-        id: net.next_id,
-        source: pcbs.source_of(block, to.ip),
-        port: pcbs.ensure_port_of(block),
-        to,
-    };
-    let Sent {
-        looped,
-        is_cut,
-        is_lost,
-    } = put_packets(pool, pcbs, net.mtu, route, heading, bytes, &mut net.out);
-    net.next_id = net.next_id.wrapping_add(1);
-    count_send(&mut net.counters, is_cut, is_lost);
-    mem::replace(&mut net.looped, looped).end_empty();
-    is_lost
-}
+impl Parts {
+    /// Sends a datagram by its route, and answers whether a packet of it was lost at the output queue. Its buffers have to
+    /// be free. A broadcast isn't cut.
+    #[inline(always)]
+    fn put(
+        &mut self,
+        pool: &mut Pool,
+        net: &mut Net,
+        block: &Block,
+        route: Route,
+        bytes: &[u8],
+    ) -> bool
+        requires opened { block_at block.now.fd self.old.pcbs ≡ Some block.now }
+        requires queue { IsQueue pool.old net.old.out }
+        requires none { net.old.looped.len ≡ 0 }
+        requires most { length bytes.now ≤ UDP_SEND_SPACE }
+        requires routed { IsRouted (config_of self.old.pcbs net.old.mtu) }
+        requires way { route.way ≡ way_of (config_of self.old.pcbs net.old.mtu) route.to.ip }
+        requires longest { route.longest ≡ mtu_to (config_of self.old.pcbs net.old.mtu) route.to.ip }
+        requires uncut { route.to.ip ≡ self.old.pcbs.bcast → length bytes.now + IP_UDP_HEADERS ≤ net.old.mtu }
+        requires free { IsFreeFor pool.old (config_of self.old.pcbs net.old.mtu) route.to.ip (length bytes.now) }
+        ensures put { IsPut block.now.fd route.to bytes.now pool.old self.old.pcbs net.old
+            result pool.new self.new.pcbs net.new }
+        ensures queues { self.new.queues ≡ self.old.queues }
+    {
+        let heading = Heading {
+            id: net.next_id,
+            source: self.pcbs.source_of(block, route.to.ip),
+            port: self.pcbs.ensure_port_of(block),
+            to: route.to,
+        };
+        let chain = datagram(pool, heading, bytes);
+        let head = ip_head(heading);
+        let Ok(sent) = send_packets(pool, chain, head, route.longest, route.way, &mut net.out)
+        else {
+            unreachable!()
+        };
+        let Sent {
+            looped,
+            is_cut,
+            is_lost,
+        } = sent;
+        net.next_id = net.next_id.wrapping_add(1);
+        count_send(&mut net.counters, is_cut, is_lost);
+        mem::replace(&mut net.looped, looped).end_empty();
+        is_lost
+    }
 
-/// See `Socks::sendto`. The queues aren't touched.
-#[inline(always)]
-pub(crate) fn send(
-    pool: &mut Pool,
-    pcbs: &mut Pcbs,
-    queues: &[SockBuf],
-    net: &mut Net,
-    fd: u32,
-    to: Option<Addr>,
-    bytes: &[u8],
-) -> Result<usize, Errno>
-    requires { CanSend (sending pool.old (record { pcbs = pcbs.old; queues = from_three queues.now }) net.old) }
-    ensures { IsSent fd to bytes.now
-        (sending pool.old (record { pcbs = pcbs.old; queues = from_three queues.now }) net.old) result
-        (sending pool.new (record { pcbs = pcbs.new; queues = from_three queues.now }) net.new) }
-{
-    let _ = queues;
-    let Some(block) = pcbs.block(fd) else {
-        return Err(Errno::BadDescriptor);
-    };
-    let target = match send_target(pcbs, net.mtu, &block, to, bytes.len()) {
-        Ok(target) => target,
-        Err(errno) => return Err(errno),
-    };
-    let route = way_to(pcbs, net.mtu, target.ip);
-    let need = need_to(pcbs, net.mtu, target.ip, bytes.len() as u32);
-    if !are_free(pool, need) {
-        return Err(Errno::NoBufs(Lack::Pool));
+    /// See `Socks::sendto`. The queues aren't touched.
+    #[inline(always)]
+    pub(crate) fn send(
+        &mut self,
+        pool: &mut Pool,
+        net: &mut Net,
+        fd: u32,
+        to: Option<Addr>,
+        bytes: &[u8],
+    ) -> Result<usize, Errno>
+        requires { CanSend (sending pool.old (shown self.old) net.old) }
+        ensures { IsSent fd to bytes.now (sending pool.old (shown self.old) net.old) result
+            (sending pool.new (shown self.new) net.new) }
+    {
+        let Some(block) = self.pcbs.block(fd) else {
+            return Err(Errno::BadDescriptor);
+        };
+        let target = match send_target(&self.pcbs, net.mtu, &block, to, bytes.len()) {
+            Ok(target) => target,
+            Err(errno) => return Err(errno),
+        };
+        let (way, longest) = way_to(&self.pcbs, net.mtu, target.ip);
+        let route = Route {
+            to: target,
+            way,
+            longest,
+        };
+        let need = need_to(&self.pcbs, net.mtu, target.ip, bytes.len() as u32);
+        if !are_free(pool, need) {
+            return Err(Errno::NoBufs(Lack::Pool));
+        }
+        let is_lost = self.put(pool, net, &block, route, bytes);
+        self.pcbs.laws();
+        if is_lost {
+            return Err(Errno::NoBufs(Lack::Queue));
+        }
+        Ok(bytes.len())
     }
-    let is_lost = put(pool, pcbs, net, &block, target, route, bytes);
-    pcbs.laws();
-    if is_lost {
-        return Err(Errno::NoBufs(Lack::Queue));
-    }
-    Ok(bytes.len())
 }

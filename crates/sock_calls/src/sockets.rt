@@ -13,12 +13,12 @@ ghost use Rattle.sock_calls.specs.Outgoing.{sending, CanSend, IsSent};
 ghost use Rattle.sock_calls.specs.Questions.{next_datagram, readable, socket_name};
 ghost use Rattle.sock_calls.specs.Sockets.{IsSocks, IsCalled, queue_at, queued_chains, with_sockets};
 
+use crate::delivery::Datagram;
 use crate::ending::{end_empty, flush_all};
-use crate::input::input;
 use crate::net::Net;
+use crate::parts::{Parts, QUEUES};
 use crate::questions::{NextDatagram, SocketName, name_of, next_at, readable};
 use crate::receive::{flush_at, refusal, take_at};
-use crate::send::send;
 use arrayvec::ArrayVec;
 use flat_model::{Addr, Counters, Errno, Opt};
 use ip_out::IpHead;
@@ -29,9 +29,7 @@ use pcb_table::{Pcbs, SOCKETS};
 use sockbuf::SockBuf;
 use std::array;
 use std::marker::Model;
-
-/// How many receive queues there are.
-pub(crate) const QUEUES: usize = MAX_SOCKETS as usize;
+use udp::Outcome;
 
 /// A queue for each socket, in which nothing waits.
 fn no_queues() -> [SockBuf; QUEUES]
@@ -56,19 +54,18 @@ pub(crate) fn place_of(fd: u32) -> usize
 
 /// Up to 64 sockets: their control blocks, and for each descriptor its receive queue. It must be spent, by `end`.
 pub struct Socks {
-    pcbs: Pcbs,
-    // by descriptor, from 3 on
-    queues: [SockBuf; QUEUES],
+    parts: Parts,
     // room for the descriptors of those who hear a datagram, so that it isn't made for each one
     hearers: ArrayVec<u32, SOCKETS>,
 }
 
 impl Model for Socks {
-    ghost use Rattle.sock_calls.specs.Sockets.{SocksView, from_three};
+    ghost use Rattle.sock_calls.specs.Sockets.{SocksView};
+    ghost use Rattle.sock_calls.specs.Inside.Parts.{shown};
 
     ghost Value = { SocksView };
 
-    ghost view = { λ s. record { pcbs = s.pcbs; queues = from_three s.queues } };
+    ghost view = { λ s. shown s.parts };
 }
 
 impl Socks {
@@ -77,9 +74,12 @@ impl Socks {
         ensures blocks { result.pcbs ≡ record { addr = addr; bcast = bcast; blocks = []; last_port = None } }
         ensures ready { (p : PoolView) → IsSocks p result }
     {
-        Socks {
+        let parts = Parts {
             pcbs: Pcbs::new(addr, bcast),
             queues: no_queues(),
+        };
+        Socks {
+            parts,
             hearers: ArrayVec::new(),
         }
     }
@@ -88,14 +88,14 @@ impl Socks {
     pub fn addr(&self) -> u32
         ensures { result ≡ self.now.pcbs.addr }
     {
-        self.pcbs.addr()
+        self.parts.pcbs.addr()
     }
 
     /// The machine's broadcast address.
     pub fn bcast(&self) -> u32
         ensures { result ≡ self.now.pcbs.bcast }
     {
-        self.pcbs.bcast()
+        self.parts.pcbs.bcast()
     }
 
     /// What a socket is bound and connected to, and its options (`getsockname`, `getpeername` and `getsockopt` of volume
@@ -103,7 +103,7 @@ impl Socks {
     pub fn name(&self, fd: u32) -> Result<SocketName, Errno>
         ensures { (p : PoolView) (rest : State) → result ≡ socket_name fd (with_sockets p self.now rest) }
     {
-        name_of(&self.pcbs, fd)
+        name_of(&self.parts.pcbs, fd)
     }
 
     /// The oldest datagram that waits in a socket: its sender, how many bytes it has, and how many wait. It changes
@@ -112,8 +112,8 @@ impl Socks {
         requires { IsSocks pool.now self.now }
         ensures { (rest : State) → result ≡ next_datagram fd (with_sockets pool.now self.now rest) }
     {
-        match self.pcbs.block(fd) {
-            Some(_) => next_at(pool, &self.queues, place_of(fd)),
+        match self.parts.pcbs.block(fd) {
+            Some(_) => next_at(pool, &self.parts.queues, place_of(fd)),
             None => Err(Errno::BadDescriptor),
         }
     }
@@ -124,7 +124,7 @@ impl Socks {
         ensures { (p : PoolView) (rest : State) → IsSocks p self.now
             → result ≡ readable (with_sockets p self.now rest) }
     {
-        readable(&self.queues)
+        readable(&self.parts.queues)
     }
 
     /// Opens a socket, with the lowest free descriptor of 3 to 66 (volume 2 chapter 15). Refused, and then nothing
@@ -132,8 +132,8 @@ impl Socks {
     pub fn socket(&mut self) -> Result<u32, Errno>
         ensures { (p : PoolView) → IsSocks p self.old → IsCalled p self.old Open (opened_reply result) self.new }
     {
-        let opened = self.pcbs.open();
-        self.pcbs.laws();
+        let opened = self.parts.pcbs.open();
+        self.parts.pcbs.laws();
         opened
     }
 
@@ -142,10 +142,11 @@ impl Socks {
     /// the socket has a port or a local address; `AddressNotAvailable` where the address isn't 0.0.0.0 or one of the
     /// machine; `AddressInUse` where the port isn't 0 and another socket stands in the way.
     pub fn bind(&mut self, fd: u32, local: Addr) -> Result<(), Errno>
-        ensures { (p : PoolView) → IsSocks p self.old → IsCalled p self.old (Bind fd local) (done_reply result) self.new }
+        ensures { (p : PoolView) → IsSocks p self.old
+            → IsCalled p self.old (Bind fd local) (done_reply result) self.new }
     {
-        let done = self.pcbs.bind(fd, local);
-        self.pcbs.laws();
+        let done = self.parts.pcbs.bind(fd, local);
+        self.parts.pcbs.laws();
         done
     }
 
@@ -153,19 +154,21 @@ impl Socks {
     /// chapter 22). Refused, in this order: `BadDescriptor`; `AddressNotAvailable` where the port is 0;
     /// `HostUnreachable`; `AddressInUse` where another socket has the same four values.
     pub fn connect(&mut self, fd: u32, to: Addr) -> Result<(), Errno>
-        ensures { (p : PoolView) → IsSocks p self.old → IsCalled p self.old (Connect fd to) (done_reply result) self.new }
+        ensures { (p : PoolView) → IsSocks p self.old
+            → IsCalled p self.old (Connect fd to) (done_reply result) self.new }
     {
-        let done = self.pcbs.connect(fd, to);
-        self.pcbs.laws();
+        let done = self.parts.pcbs.connect(fd, to);
+        self.parts.pcbs.laws();
         done
     }
 
     /// Sets or clears an option (volume 2 chapter 17). Refused, and then nothing changes: `BadDescriptor`.
     pub fn setsockopt(&mut self, fd: u32, option: Opt, on: bool) -> Result<(), Errno>
-        ensures { (p : PoolView) → IsSocks p self.old → IsCalled p self.old (Set_option fd option on) (done_reply result) self.new }
+        ensures { (p : PoolView) → IsSocks p self.old
+            → IsCalled p self.old (Set_option fd option on) (done_reply result) self.new }
     {
-        let done = self.pcbs.set_option(fd, option, on);
-        self.pcbs.laws();
+        let done = self.parts.pcbs.set_option(fd, option, on);
+        self.parts.pcbs.laws();
         done
     }
 
@@ -192,9 +195,10 @@ impl Socks {
         bytes: &[u8],
     ) -> Result<usize, Errno>
         requires { CanSend (sending pool.old self.old net.old) }
-        ensures { IsSent fd to bytes.now (sending pool.old self.old net.old) result (sending pool.new self.new net.new) }
+        ensures { IsSent fd to bytes.now (sending pool.old self.old net.old) result
+            (sending pool.new self.new net.new) }
     {
-        send(pool, &mut self.pcbs, &self.queues, net, fd, to, bytes)
+        self.parts.send(pool, net, fd, to, bytes)
     }
 
     /// Takes the oldest datagram that waits in a socket, copies as many of its bytes as there is room for, and answers
@@ -208,21 +212,23 @@ impl Socks {
         room: &mut [u8],
     ) -> Result<(Addr, usize), Errno>
         requires ready { IsSocks pool.old self.old }
-        ensures step { (rest : State) → Step (with_sockets pool.old self.old rest) (Receive fd (length room.old)) (received_reply result room.new) (with_sockets pool.new self.new rest) }
+        ensures step { (rest : State) → Step (with_sockets pool.old self.old rest) (Receive fd (length room.old))
+            (received_reply result room.new) (with_sockets pool.new self.new rest) }
         ensures fits { FitsRoom result room.new }
         ensures same { OnErr result (room.new ≡ room.old) }
         ensures rest { IfOk result (λ r. drop r.1 room.new ≡ drop r.1 room.old) }
         ensures ready { IsSocks pool.new self.new }
-        ensures moves { Moves pool.old (queued_chains pool.old self.old.queues) pool.new (queued_chains pool.new self.new.queues) }
+        ensures moves { Moves pool.old (queued_chains pool.old self.old.queues)
+            pool.new (queued_chains pool.new self.new.queues) }
     {
-        self.pcbs.laws();
+        self.parts.pcbs.laws();
         if fd < FIRST_DESCRIPTOR || fd >= FIRST_DESCRIPTOR + MAX_SOCKETS {
             return Err(Errno::BadDescriptor);
         }
         // a datagram waits only where a socket is open, so that is asked only where none does
-        match take_at(pool, &mut self.queues, place_of(fd), room) {
+        match take_at(pool, &mut self.parts.queues, place_of(fd), room) {
             Some(taken) => Ok(taken),
-            None => Err(refusal(&self.pcbs, fd)),
+            None => Err(refusal(&self.parts.pcbs, fd)),
         }
     }
 
@@ -230,16 +236,17 @@ impl Socks {
     /// Refused, and then nothing changes: `BadDescriptor`.
     pub fn close(&mut self, pool: &mut Pool, fd: u32) -> Result<(), Errno>
         requires ready { IsSocks pool.old self.old }
-        ensures step { (rest : State) → Step (with_sockets pool.old self.old rest) (Close fd) (done_reply result) (with_sockets pool.new self.new rest) }
+        ensures step { (rest : State) → Step (with_sockets pool.old self.old rest) (Close fd) (done_reply result)
+            (with_sockets pool.new self.new rest) }
         ensures ready { IsSocks pool.new self.new }
-        ensures moves { Moves pool.old (queued_chains pool.old self.old.queues) pool.new (queued_chains pool.new self.new.queues) }
+        ensures moves { Moves pool.old (queued_chains pool.old self.old.queues)
+            pool.new (queued_chains pool.new self.new.queues) }
     {
-        let _ = self.pcbs.block(fd);
-        if let Err(errno) = self.pcbs.close(fd) {
+        if let Err(errno) = self.parts.pcbs.close(fd) {
             return Err(errno);
         }
-        self.pcbs.laws();
-        flush_at(pool, &mut self.queues, place_of(fd));
+        self.parts.pcbs.laws();
+        flush_at(pool, &mut self.parts.queues, place_of(fd));
         Ok(())
     }
 
@@ -256,7 +263,8 @@ impl Socks {
     )
         requires ready { IsSocks pool.old self.old }
         requires waits { R.is_ready pool.old waiting.old }
-        requires owned { IsOwned pool.old (chain ∷ (R.owned pool.old waiting.old ++ queued_chains pool.old self.old.queues)) }
+        requires owned { IsOwned pool.old
+            (chain ∷ (R.owned pool.old waiting.old ++ queued_chains pool.old self.old.queues)) }
         requires most { length (string (chain_of pool.old chain)) ≤ IP_MAX_PACKET }
         ensures input { IsInput
             (seen pool.old self.old (R.unfinished pool.old waiting.old) (R.owned pool.old waiting.old) counters.old)
@@ -264,16 +272,18 @@ impl Socks {
             (seen pool.new self.new (R.unfinished pool.new waiting.new) (R.owned pool.new waiting.new) counters.new) }
         ensures waits { R.is_ready pool.new waiting.new }
     {
-        input(
-            pool,
-            &mut self.pcbs,
-            &mut self.queues,
-            waiting,
-            counters,
-            chain,
-            head,
-            &mut self.hearers,
-        );
+        match udp::input(pool, chain, head, &mut self.parts.pcbs, &mut self.hearers) {
+            Outcome::Drop(why) => counters.count_ended(why),
+            Outcome::Deliver { from, chain } => {
+                let datagram = Datagram {
+                    sender: from,
+                    chain,
+                };
+                let hearers = self.hearers.as_slice();
+                self.parts
+                    .deliver_all(pool, waiting, counters, hearers, datagram);
+            }
+        }
     }
 
     /// Ends all sockets, and frees all that waits in them.
@@ -281,11 +291,11 @@ impl Socks {
         requires { IsSocks pool.old self }
         ensures { Moves pool.old (queued_chains pool.old self.queues) pool.new [] }
     {
-        let Socks {
+        let Socks { parts, hearers: _ } = self;
+        let Parts {
             pcbs: _,
             mut queues,
-            hearers: _,
-        } = self;
+        } = parts;
         flush_all(pool, &mut queues);
         end_empty(queues);
     }

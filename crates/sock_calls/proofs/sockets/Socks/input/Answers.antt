@@ -1,22 +1,107 @@
-use Rattle.std.proofs.Common.{◌∷◌, ◌++◌, sym, subst}
+use Rattle.std.proofs.Common.{◌≤◌, ◌∷◌, ◌++◌, ℕ, List, All, sym, subst}
+use Rattle.flat_model.specs.Amounts.Weight.{times}
 use Rattle.mbuf_chain.specs.Owners.{IsOwned}
+use Rattle.pcb_table.specs.Table.{Table, IsOpen}
 use Rattle.sock_calls.specs.Sockets.{SocksView, IsSocks, from_three, queued_chains}
 use Rattle.sock_calls.specs.Delivery.{seen, IsInput}
+use Rattle.sock_calls.specs.Inside.Parts.{shown}
+use Rattle.sock_calls.proofs.Delivered.{freed}
+use Rattle.sock_calls.proofs.Arriving.{all_open, reached, delivered_to, dropped_to}
 use Rattle.sock_calls.proofs.sockets.Socks.input.Goals as goal
 
-pub input-requires-clause-socks : goal.input-requires-clause-socks
-input-requires-clause-socks g c = subst (IsSocks c.args.pool.now) (sym c.self.view_is) c.requires.ready
-
-pub input-requires-clause-owned : goal.input-requires-clause-owned
-input-requires-clause-owned g c =
-    subst (λ (v : SocksView). IsOwned c.args.pool.now (c.args.chain ∷ (g.R.Reclaim.owned c.args.pool.now c.args.waiting.now ++ queued_chains c.args.pool.now v.queues))) (sym c.self.view_is) c.requires.owned
-
-pub returns-clause-input : goal.returns-clause-input
-returns-clause-input g c =
+pub deliver_all-requires-clause-socks : goal.deliver_all-requires-clause-socks
+deliver_all-requires-clause-socks g c =
     let p = c.args.pool.now in
     let q = c.input.new.pool in
+    let w = c.args.waiting.now in
+    let xs = g.R.Reclaim.owned p w in
+    let s : SocksView = shown c.self.inside.parts in
+    let socks : IsSocks p s = subst (IsSocks p) (sym c.self.view_is) c.requires.ready in
+    let owned : IsOwned p (c.args.chain ∷ (xs ++ queued_chains p s.queues)) =
+    subst (λ (v : SocksView). IsOwned p (c.args.chain ∷ (xs ++ queued_chains p v.queues))) (sym c.self.view_is) c.requires.owned in
+    let x = reached p q c.args.chain c.in-Deliver.chain xs _ owned socks c.in-Deliver.ensures.moves in
+    subst (λ (t : Table). IsSocks q (record { pcbs = t; queues = from_three c.self.inside.parts.queues })) (sym c.input.ensures.blocks) x.socks.ready
+
+pub deliver_all-requires-clause-opened : goal.deliver_all-requires-clause-opened
+deliver_all-requires-clause-opened g c =
+    subst (λ (l : List ℕ). All (λ (fd : ℕ). IsOpen fd c.input.new.pcbs) l) (sym c.as_slice-hearers.ensures.value)
+    (subst (λ (t : Table). All (λ (fd : ℕ). IsOpen fd t) c.input.new.to.items) (sym c.input.ensures.blocks)
+    (all_open c.self.inside.parts.pcbs _ _ c.input.new.to.items c.in-Deliver.ensures.answer.heard))
+
+pub deliver_all-requires-clause-distinct : goal.deliver_all-requires-clause-distinct
+deliver_all-requires-clause-distinct g c =
+    λ fd. subst (λ (l : List ℕ). times fd l ≤ 1) (sym c.as_slice-hearers.ensures.value) (c.in-Deliver.ensures.answer.heard.once fd)
+
+pub deliver_all-requires-clause-waits : goal.deliver_all-requires-clause-waits
+deliver_all-requires-clause-waits g c =
+    let p = c.args.pool.now in
+    let q = c.input.new.pool in
+    let w = c.args.waiting.now in
+    let xs = g.R.Reclaim.owned p w in
+    let s : SocksView = shown c.self.inside.parts in
+    let socks : IsSocks p s = subst (IsSocks p) (sym c.self.view_is) c.requires.ready in
+    let owned : IsOwned p (c.args.chain ∷ (xs ++ queued_chains p s.queues)) =
+    subst (λ (v : SocksView). IsOwned p (c.args.chain ∷ (xs ++ queued_chains p v.queues))) (sym c.self.view_is) c.requires.owned in
+    let x = reached p q c.args.chain c.in-Deliver.chain xs _ owned socks c.in-Deliver.ensures.moves in
+    g.met.R.Reclaim.ready_same p q w x.same c.requires.waits
+
+pub deliver_all-requires-clause-owned : goal.deliver_all-requires-clause-owned
+deliver_all-requires-clause-owned g c =
+    let p = c.args.pool.now in
+    let q = c.input.new.pool in
+    let w = c.args.waiting.now in
+    let xs = g.R.Reclaim.owned p w in
+    let s : SocksView = shown c.self.inside.parts in
+    let socks : IsSocks p s = subst (IsSocks p) (sym c.self.view_is) c.requires.ready in
+    let owned : IsOwned p (c.args.chain ∷ (xs ++ queued_chains p s.queues)) =
+    subst (λ (v : SocksView). IsOwned p (c.args.chain ∷ (xs ++ queued_chains p v.queues))) (sym c.self.view_is) c.requires.owned in
+    let x = reached p q c.args.chain c.in-Deliver.chain xs _ owned socks c.in-Deliver.ensures.moves in
+    subst (λ (zs : List ℕ). IsOwned q (c.in-Deliver.chain ∷ (zs ++ queued_chains q (from_three c.self.inside.parts.queues)))) (sym (g.met.R.Reclaim.owned_same p q w x.same)) x.owned
+
+pub returns-in-Deliver-clause-input : goal.returns-in-Deliver-clause-input
+returns-in-Deliver-clause-input g c =
+    let p = c.args.pool.now in
+    let q = c.input.new.pool in
+    let w = c.args.waiting.now in
+    let xs = g.R.Reclaim.owned p w in
+    let s : SocksView = shown c.self.inside.parts in
+    let socks : IsSocks p s = subst (IsSocks p) (sym c.self.view_is) c.requires.ready in
+    let owned : IsOwned p (c.args.chain ∷ (xs ++ queued_chains p s.queues)) =
+    subst (λ (v : SocksView). IsOwned p (c.args.chain ∷ (xs ++ queued_chains p v.queues))) (sym c.self.view_is) c.requires.owned in
+    let x = reached p q c.args.chain c.in-Deliver.chain xs _ owned socks c.in-Deliver.ensures.moves in
+    let r = c.deliver_all.new.pool in
     subst (λ (v : SocksView). IsInput
-    (seen p v (g.R.Waiting.unfinished p c.args.waiting.now) (g.R.Reclaim.owned p c.args.waiting.now) c.args.counters.now)
-    c.args.chain c.args.head.src c.args.head.dst c.args.head.proto
-    (seen q (record { pcbs = c.input.new.pcbs; queues = from_three c.input.new.queues }) (g.R.Waiting.unfinished q c.input.new.waiting) (g.R.Reclaim.owned q c.input.new.waiting) c.input.new.counters))
-    c.self.view_is c.input.ensures.input
+    (seen p v (g.R.Waiting.unfinished p w) xs c.args.counters.now) c.args.chain c.args.head.src c.args.head.dst c.args.head.proto
+    (seen r (shown c.deliver_all.new.self) (g.R.Waiting.unfinished r c.deliver_all.new.waiting) (g.R.Reclaim.owned r c.deliver_all.new.waiting) c.deliver_all.new.counters))
+    c.self.view_is
+    (delivered_to {h = c.args.head} socks owned c.in-Deliver.ensures.answer c.in-Deliver.ensures.moves (g.met.R.Waiting.unfinished_same p q w x.same) (g.met.R.Reclaim.owned_same p q w x.same)
+    c.input.ensures.blocks c.as_slice-hearers.ensures.value c.deliver_all.ensures.delivered)
+
+pub returns-in-Drop-clause-input : goal.returns-in-Drop-clause-input
+returns-in-Drop-clause-input g c =
+    let p = c.args.pool.now in
+    let q = c.input.new.pool in
+    let w = c.args.waiting.now in
+    let xs = g.R.Reclaim.owned p w in
+    let s : SocksView = shown c.self.inside.parts in
+    let socks : IsSocks p s = subst (IsSocks p) (sym c.self.view_is) c.requires.ready in
+    let owned : IsOwned p (c.args.chain ∷ (xs ++ queued_chains p s.queues)) =
+    subst (λ (v : SocksView). IsOwned p (c.args.chain ∷ (xs ++ queued_chains p v.queues))) (sym c.self.view_is) c.requires.owned in
+    subst (λ (v : SocksView). IsInput
+    (seen p v (g.R.Waiting.unfinished p w) xs c.args.counters.now) c.args.chain c.args.head.src c.args.head.dst c.args.head.proto
+    (seen q (record { pcbs = c.input.new.pcbs; queues = from_three c.self.inside.parts.queues }) (g.R.Waiting.unfinished q w) (g.R.Reclaim.owned q w) c.count_ended.new.self))
+    c.self.view_is
+    (dropped_to {h = c.args.head} c.in-Drop.why socks owned c.in-Drop.ensures.answer.1 (λ s. g.met.R.Waiting.unfinished_same p q w s) (λ s. g.met.R.Reclaim.owned_same p q w s) c.input.ensures.blocks c.count_ended.ensures)
+
+pub returns-in-Drop-clause-waits : goal.returns-in-Drop-clause-waits
+returns-in-Drop-clause-waits g c =
+    let p = c.args.pool.now in
+    let q = c.input.new.pool in
+    let w = c.args.waiting.now in
+    let xs = g.R.Reclaim.owned p w in
+    let s : SocksView = shown c.self.inside.parts in
+    let socks : IsSocks p s = subst (IsSocks p) (sym c.self.view_is) c.requires.ready in
+    let owned : IsOwned p (c.args.chain ∷ (xs ++ queued_chains p s.queues)) =
+    subst (λ (v : SocksView). IsOwned p (c.args.chain ∷ (xs ++ queued_chains p v.queues))) (sym c.self.view_is) c.requires.owned in
+    let gone = freed p q c.args.chain xs _ owned socks c.in-Drop.ensures.answer.1.freed in
+    g.met.R.Reclaim.ready_same p q w gone.same c.requires.waits

@@ -9,4 +9,4 @@ pub returns : goal.returns
 returns c = λ p rest is.
     let now = subst (IsSocks p) (sym c.self.view_is) is in
     subst (λ (v : SocksView). c.readable.result ≡ readable (with_sockets p v rest)) c.self.view_is
-    (c.readable.ensures p (each_from_three p c.self.inside.queues now.each) ∙ all_waiting p c.self.inside.queues c.self.inside.pcbs rest now)
+    (c.readable.ensures p (each_from_three p c.self.inside.parts.queues now.each) ∙ all_waiting p c.self.inside.parts.queues c.self.inside.parts.pcbs rest now)

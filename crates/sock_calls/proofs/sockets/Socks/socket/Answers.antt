@@ -7,8 +7,8 @@ use Rattle.sock_calls.proofs.sockets.Socks.socket.Goals as goal
 
 pub returns : goal.returns
 returns c = λ p is.
-    let old : SocksView = record { pcbs = c.self.inside.pcbs; queues = from_three c.self.inside.queues } in
-    let new : SocksView = record { pcbs = c.open-opened.new.self; queues = from_three c.self.inside.queues } in
+    let old : SocksView = record { pcbs = c.self.inside.parts.pcbs; queues = from_three c.self.inside.parts.queues } in
+    let new : SocksView = record { pcbs = c.open-opened.new.self; queues = from_three c.self.inside.parts.queues } in
     let is_old : IsSocks p old = subst (IsSocks p) (sym c.self.view_is) is in
     subst (λ (v : SocksView). IsCalled p v Open (opened_reply c.open-opened.result) new) c.self.view_is (record {
       step = λ rest. c.open-opened.ensures.step rest (queues_of p old.queues) (none_waits_there p old new.pcbs c.open-opened.result is_old c.open-opened.ensures.opened);

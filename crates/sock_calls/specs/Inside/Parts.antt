@@ -1,0 +1,6 @@
+-- What the parts of the sockets show (this project's own).
+use Rattle.sock_calls.specs.declared.parts.Parts.{Parts}
+use Rattle.sock_calls.specs.Sockets.{SocksView, from_three}
+
+abbrev pub shown : Parts → SocksView
+shown s = record { pcbs = s.pcbs; queues = from_three s.queues }
