@@ -17,7 +17,7 @@ use Rattle.flat_model.specs.declared.counter.Counter.TheVariants.{IpTotal}
 use Rattle.flat_model.specs.declared.counters.Counters.{Counters}
 use Rattle.flat_model.specs.declared.counters.Why.{Why}
 use Rattle.flat_model.specs.declared.counters.Why.TheVariants.{TooSmall, BadVersion, BadHeaderLength, Options, BadSum, BadLength, TooShort, CantForward}
-use Rattle.flat_model.proofs.Laws.{both-nothing}
+use Rattle.flat_model.proofs.Laws.{both-nothing, none_passed}
 use Rattle.mbuf_chain.specs.Chain.{ChainView, Entry, PoolView, IsLive, chain_of, entry_of, flat_bytes, no_entry, string, with_chain, without}
 use Rattle.mbuf_chain.specs.Owners.{IsOwned, Moves}
 use Rattle.mbuf_chain.proofs.Laws.Owners.{live_first, moves_with, moves_without, moves_trans, shown_with}
@@ -33,7 +33,6 @@ use Rattle.ip_reass.specs.Arrivals as reass
 use Rattle.sock_calls.specs.Sockets.{SocksView, IsSocks, queued_chains, with_sockets, with_net}
 use Rattle.sock_calls.specs.Delivery.{NetView, seen, state_at, IsInput}
 use Rattle.net_stack.specs.Inside.Arrivals.{HaveApartKeys, is_ours_or_all, IsTaken, IsArrived}
-use Rattle.net_stack.proofs.Cases.{none_passed}
 use Rattle.net_stack.proofs.Aside.{Aside, aside, BesideSocks, beside_socks, one_weighs}
 
 -- ---- trims leave weights

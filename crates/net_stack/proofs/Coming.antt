@@ -1,11 +1,10 @@
 -- A packet from the wire: what it takes, how it lies in its chain, and its arrival.
-use Rattle.std.proofs.Common.{◌≡◌, ◌⊎◌, ℕ, zero, suc, ◌+◌, ◌-◌, ◌<◌, ◌≤◌, min, max, Bool, true, false, cond, List, [], ◌∷◌, ◌++◌, length, Option, None, Some, is_some, refl, sym, ap, ◌∙◌, subst, arith, inl, inr}
-use Rattle.std.specs.Prelude.{◌==◌, count_by, nat_le, slice_index_or}
-use Rattle.std.specs.List.{AllByRecursion as Each}
+use Rattle.std.proofs.Common.{◌≡◌, ◌⊎◌, ℕ, zero, suc, ◌+◌, ◌-◌, ◌<◌, ◌≤◌, min, max, Bool, true, false, cond, List, [], ◌∷◌, ◌++◌, length, is_some, refl, sym, ap, ◌∙◌, subst, arith, inl, inr}
+use Rattle.std.specs.Prelude.{count_by, nat_le, slice_index_or}
 use Rattle.std.proofs.lemmas.Bool.{true≢false, cases_lt, leb-true}
 use Rattle.std.proofs.lemmas.List.{length-take}
 use Rattle.std.proofs.lemmas.List.Elements.{All-from_recursion}
-use Rattle.flat_model.specs.Amounts.Weight.{Weight, Item, nothing, ◌⊕◌, times as bag_times}
+use Rattle.flat_model.specs.Amounts.Weight.{Weight, Item, nothing, ◌⊕◌}
 use Rattle.flat_model.specs.Amounts.Layout as flat
 use Rattle.flat_model.specs.Amounts.Layout.{Need, Room, Plain, Cluster, filled, is_cluster, laid_on, need_of, next_room, or_empty, size_of, wire}
 use Rattle.flat_model.specs.Machine.Count.{counted}
@@ -15,8 +14,8 @@ use Rattle.flat_model.specs.Machine.Arrival.{Arrives, By_wire}
 use Rattle.flat_model.specs.declared.counters.Counters.{Counters}
 use Rattle.flat_model.specs.declared.counters.Why.TheVariants.{NoBufs}
 use Rattle.flat_model.proofs.Laws.{count_cons}
-use Rattle.mbuf_chain.specs.Chain.{ChainView, Entry, PoolView, chain_of, entry_of, no_entry, references, string}
-use Rattle.mbuf_chain.specs.Owners.{times, IsOwned, Moves}
+use Rattle.mbuf_chain.specs.Chain.{ChainView, Entry, PoolView, chain_of, entry_of, no_entry, string}
+use Rattle.mbuf_chain.specs.Owners.{IsOwned, Moves}
 use Rattle.mbuf_chain.proofs.Laws.Owners.{moves_adds, moves_trans, owned_after}
 use Rattle.chain_ops.specs.Stored.{stored_first}
 use Rattle.chain_ops.specs.Weights.{laid}
@@ -26,6 +25,7 @@ use Rattle.ledger.specs.Reserve.{Reserves}
 use Rattle.pcb_table.specs.Table.{machine}
 use Rattle.ip_reass.specs.Arrivals.{CameByWire}
 use Rattle.ip_reass.specs.Table.{TableView, IsReady, held_all, unfinished}
+use Rattle.sock_calls.proofs.Laws.{laid_weight, bag_of_times, free_each}
 use Rattle.sock_calls.specs.Sockets.{SocksView, IsSocks, queued_chains, with_net}
 use Rattle.sock_calls.specs.Delivery.{NetView, seen, state_at}
 use Rattle.net_stack.specs.Inside.Arrivals.{HaveApartKeys, HasCome, IsArrived, IsLaidOut}
@@ -131,24 +131,6 @@ came_by_wire v cs xs entries number bytes =
     go false e size l (inl m) = inr (omega (arith, size, m))
     go false e size l (inr m) = inl (omega (arith, size, m, ap (λ (ys : List ℕ). length ys) bytes))
 
--- ---- weights and clusters
-
-laid_weight : (es : List Entry) → flat.weight_of (laid es) ≡ weight_of es
-laid_weight [] = refl
-laid_weight (e ∷ es) = go e.cluster (laid_weight es)
-  where
-    go : (o : Option ℕ) → flat.weight_of (laid es) ≡ weight_of es → flat.weight_of (laid (record { bytes = e.bytes; start = e.start; cluster = o } ∷ es)) ≡ weight_of (record { bytes = e.bytes; start = e.start; cluster = o } ∷ es)
-    go None later = λ i. record { mbufs = suc (later i).mbufs; bag = (later i).bag }
-    go (Some k) later = λ i. record { mbufs = suc (later i).mbufs; bag = k ∷ (later i).bag }
-
-same_times : (c : ℕ) (xs : List ℕ) → bag_times c xs ≡ times c xs
-same_times c [] = refl
-same_times c (x ∷ xs) = omega (arith, same_times c xs, count_cons (λ (k : ℕ). k == c) x xs)
-
-all_free : (p : PoolView) (s : State) (cs : List ℕ) → IsAccounted p s nothing → Each (λ c. c < p.clusters) cs → Each (λ c. references p c ≡ 0) cs → Each (IsFree s nothing) cs
-all_free p s [] acc exist free = tt
-all_free p s (c ∷ cs) acc exist free = (record { exists = omega (arith, acc.clusters, exist.0); free = sym (acc.references c) ∙ free.0 }, all_free p s cs acc exist.1 free.1)
-
 -- ---- the event
 
 -- the pool was asked for the packet's buffers
@@ -222,8 +204,8 @@ came {p} {q} {q1} {s} {r} {t} {a} {b} {need} {answer} {c} {u} packet socks owned
             laid.clusters,
             record {
               number = laid.number;
-              distinct = λ k. omega (arith, same_times k laid.clusters, laid.free.once k);
-              free = All-from_recursion (IsFree (mid rest) nothing) laid.clusters (all_free q (mid rest) laid.clusters (asked rest acc).accounted laid.free.exist laid.free.free);
+              distinct = λ k. omega (arith, bag_of_times k laid.clusters, laid.free.once k);
+              free = All-from_recursion (IsFree (mid rest) nothing) laid.clusters (free_each q (mid rest) laid.clusters (asked rest acc).accounted laid.free.exist laid.free.free);
             },
             subst (λ (i : Item). Arrives exact_ledger (By_wire (length packet)) nothing i (mid rest) (state_at u rest)) item
                 (subst (λ (m : State). Arrives exact_ledger (By_wire (length packet)) nothing (item_at q1 c) m (state_at u rest)) (x.shows b rest ∙ now rest)

@@ -12,8 +12,7 @@ use Rattle.flat_model.specs.Machine.State.{State, Socket, Key, Unfinished, is_ke
 use Rattle.flat_model.specs.Machine.Ledger.{HasBuffers, exact_ledger, need_mbufs, reclaimed}
 use Rattle.flat_model.specs.Machine.Arrival.{Origin, By_wire, Looped, Tests, Appends, Delivers, GoesTo, WholeArrives, Settles, Lays, Joins, FragmentArrives, Arrives, counts_packet, counts_fragment, counts_reassembled, carried}
 use Rattle.flat_model.specs.declared.address.Addr.{Addr}
-use Rattle.flat_model.proofs.Laws.{count_cons, count-append}
-use Rattle.net_stack.proofs.Cases.{by_choice, by_case}
+use Rattle.flat_model.proofs.Laws.{count_cons, count-append, by_choice, by_case}
 use Rattle.net_stack.specs.Inside.Arrivals.{HaveApartKeys}
 
 -- ---- counting

@@ -1,7 +1,6 @@
 mod Aside
 mod Arriving
 mod Called
-mod Cases
 mod Coming
 mod Given
 mod Keys

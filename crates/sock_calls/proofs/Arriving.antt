@@ -35,7 +35,7 @@ use Rattle.sock_calls.proofs.Delivered.{freed, freed_accounts, ends_here, shows_
 use Rattle.sock_calls.proofs.Hearing.{named_is}
 
 -- ---- weights
-laid_weight : (es : List Entry) → flat.weight_of (laid es) ≡ weight_of es
+pub laid_weight : (es : List Entry) → flat.weight_of (laid es) ≡ weight_of es
 laid_weight [] = refl
 laid_weight (e ∷ es) = go e.cluster (laid_weight es)
   where

@@ -121,11 +121,11 @@ lacks_buffers {p} {fd} {mtu} {a} to bytes t f rest b at e accounted checks few =
     }
 
 -- ---- a send that has its buffers
-bag_of_times : (c : ℕ) (cs : List ℕ) → bag_times c cs ≡ times c cs
+pub bag_of_times : (c : ℕ) (cs : List ℕ) → bag_times c cs ≡ times c cs
 bag_of_times c [] = refl
 bag_of_times c (x ∷ cs) = omega (arith, count_cons (λ k. k == c) x cs, bag_of_times c cs)
 
-free_each : (p : PoolView) (s : State) (cs : List ℕ) → IsAccounted p s nothing → Each (λ c. c < p.clusters) cs → Each (λ c. references p c ≡ 0) cs → Each (IsFree s nothing) cs
+pub free_each : (p : PoolView) (s : State) (cs : List ℕ) → IsAccounted p s nothing → Each (λ c. c < p.clusters) cs → Each (λ c. references p c ≡ 0) cs → Each (IsFree s nothing) cs
 free_each p s [] a exist free = tt
 free_each p s (c ∷ cs) a exist free = (record { exists = omega (arith, exist.0, a.clusters); free = sym (a.references c) ∙ free.0 }, free_each p s cs a exist.1 free.1)
 

@@ -31,6 +31,7 @@ use Rattle.sock_calls.specs.Sockets.{SocksView, IsSocks, queues_of, queued_chain
 use Rattle.sock_calls.specs.Delivery.{NetView, seen, state_at, queues_at, Offers, IsAppended, IsOffered, IsDelivered, no_block, socket_named, sockets_named}
 use Rattle.sock_calls.specs.Inside.Delivering.{IsUnderWay}
 use Rattle.sock_calls.proofs.Frames.{Kept, kept}
+use Rattle.sock_calls.proofs.Going.{bag_of_times}
 use Rattle.sock_calls.proofs.Delivered.{IsTested, tested, ends_here, shows_same, ends_accounted}
 
 -- ---- a copy of all is the same item
@@ -235,11 +236,6 @@ open_block : (o : Option Block) → IsSome o → (b : Block) × (o ≡ Some b)
 open_block None h = absurd (false≢true h)
 open_block (Some b) h = (b, refl)
 
--- how often a number stands in a list, counted either way
-once_too : (k : ℕ) (xs : List ℕ) → times k xs ≡ bag_times k xs
-once_too k [] = refl
-once_too k (x ∷ xs) = omega (arith, once_too k xs, sum_by-cons (λ (j : ℕ). cond {A = ℕ} (j == k) 1 0) x xs)
-
 module _ (v : NetView) (c : ℕ) (fds : List ℕ) (sender : Addr) where
   pub starts : IsSocks v.pool v.socks → IsUnderWay v c fds sender 0 v
   starts ready = record {
@@ -292,7 +288,7 @@ module _ (v : NetView) (c : ℕ) (fds : List ℕ) (sender : Addr) where
       apart : (k : ℕ) → drop i fds ≡ fd ∷ drop (suc i) fds → 0 < times k (drop (suc i) fds) → k ≡ fd → ⊥
       apart k d h e =
           let some : 0 < times fd (drop (suc i) fds) = subst (λ (j : ℕ). 0 < times j (drop (suc i) fds)) e h in
-          omega (arith, once fd, once_too fd fds, times_drop fd fds i, ap (times fd) d, times_same fd (drop (suc i) fds), some)
+          omega (arith, once fd, bag_of_times fd fds, times_drop fd fds i, ap (times fd) d, times_same fd (drop (suc i) fds), some)
 
   pub delivered_all : (i fd : ℕ) (u x : NetView) → IsUnderWay v c fds sender i u → IsAppended u c fd sender x → suc i ≡ length fds → fd ≡ slice_index_or fds i 0 → IsSome (block_at fd u.socks.pcbs) → IsDelivered v c fds sender x
   delivered_all i fd u x w o end is is_open =
