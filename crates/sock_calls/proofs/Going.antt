@@ -5,6 +5,7 @@ use Rattle.std.specs.List.{AllByRecursion as Each}
 use Rattle.std.proofs.lemmas.Bool.{true≢false}
 use Rattle.std.proofs.lemmas.Option.{none-some, same_Some}
 use Rattle.std.proofs.lemmas.List.Elements.{All-from_recursion}
+use Rattle.params.specs.declared.TheConstants.{OUTPUT_QUEUE_PACKETS}
 use Rattle.flat_model.specs.Amounts.Weight.{Weight, Item, mbuf, nothing, ◌⊕◌, all_of, times as bag_times}
 use Rattle.flat_model.specs.Fragments.Whole.{weight_of_pieces}
 use Rattle.flat_model.specs.Machine.State.{State, Socket, Unfinished, socket_at, change_socket}
@@ -150,11 +151,11 @@ module _ (p q : PoolView) (t u : Table) (bs : List SockBufView) (n m : Net) (fd 
       let same_x : sent_as k.heading bytes ≡ y = λ i. record { id = k.id i; source = k.source before f b at i; to = k.to_is i; port = k.heading.port; bytes = bytes } in
       let items_are : flat.packets c k.clusters (sent_as k.heading bytes) ≡ flat.packets old.config k.clusters y = λ i. flat.packets (config_of t (sym e i)) k.clusters (same_x i) in
       let link_is : to_link c to.ip (flat.packets c k.clusters (sent_as k.heading bytes)) ≡ to_link old.config to.ip (flat.packets old.config k.clusters y) = ap (to_link c to.ip) items_are in
-      let lost_is : lost ≡ nat_lt 50 (length (packets p n.out ++ to_link old.config to.ip (flat.packets old.config k.clusters y))) = k.is_lost ∙ ap (λ (l : List Item). nat_lt 50 (length (packets p n.out ++ l))) link_is in
+      let lost_is : lost ≡ nat_lt OUTPUT_QUEUE_PACKETS (length (packets p n.out ++ to_link old.config to.ip (flat.packets old.config k.clusters y))) = k.is_lost ∙ ap (λ (l : List Item). nat_lt OUTPUT_QUEUE_PACKETS (length (packets p n.out ++ l))) link_is in
       let cut_is : nat_lt 1 (length (flat.parts_of c (sent_as k.heading bytes))) ≡ nat_lt 1 (length (flat.parts_of old.config y)) = λ i. nat_lt 1 (length (flat.parts_of (config_of t (sym e i)) (same_x i))) in
-      let counts_are : m.counters ≡ counts_sent (nat_lt 1 (length (flat.parts_of old.config y))) (nat_lt 50 (length (packets p n.out ++ to_link old.config to.ip (flat.packets old.config k.clusters y)))) n.counters =
+      let counts_are : m.counters ≡ counts_sent (nat_lt 1 (length (flat.parts_of old.config y))) (nat_lt OUTPUT_QUEUE_PACKETS (length (packets p n.out ++ to_link old.config to.ip (flat.packets old.config k.clusters y)))) n.counters =
       k.counters ∙ (λ i. counts_sent (cut_is i) (lost_is i) n.counters) in
-      let out_is : packets q m.out ≡ take 50 (packets p n.out ++ to_link old.config to.ip (flat.packets old.config k.clusters y)) = k.out ∙ ap (λ (l : List Item). take 50 (packets p n.out ++ l)) link_is in (
+      let out_is : packets q m.out ≡ take OUTPUT_QUEUE_PACKETS (packets p n.out ++ to_link old.config to.ip (flat.packets old.config k.clusters y)) = k.out ∙ ap (λ (l : List Item). take OUTPUT_QUEUE_PACKETS (packets p n.out ++ l)) link_is in (
         k.heading.port,
         named,
         k.clusters,

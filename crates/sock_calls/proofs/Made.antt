@@ -2,6 +2,7 @@
 use Rattle.std.proofs.Common.{◌≡◌, ℕ, ◌+◌, ◌-◌, ◌≤◌, Bool, true, false, cond, List, [], ◌∷◌, ◌++◌, length, map, take, refl, sym, ap, ◌∙◌, arith}
 use Rattle.std.specs.Prelude.{◌==◌, ◌||◌, nat_lt}
 use Rattle.std.proofs.lemmas.List.{length-drop}
+use Rattle.params.specs.declared.TheConstants.{OUTPUT_QUEUE_PACKETS}
 use Rattle.flat_model.specs.Amounts.Weight.{Item}
 use Rattle.flat_model.specs.Fragments.Cuts.{cuts}
 use Rattle.flat_model.specs.Machine.Send.{to_link, to_self}
@@ -54,7 +55,7 @@ back_is c ip items = go (is_looped c ip) (ip == c.bcast)
     go false false = refl
 
 pub packets_made : {p q r : PoolView} {chain mtu : ℕ} {way : Way} {head : IpHead} {o u : TrainView} {made : Sent} (c : Config) (x : sending.Sending) → IsBuilt p x q chain → way ≡ way_of c x.to.ip → mtu ≡ mtu_to c x.to.ip → head ≡ sending_head x
-    → IsHeld p o → packets r u ≡ take 50 (packets q o ++ ways.to_link way (packets_of (chain_of q chain) head mtu)) → made.is_lost ≡ nat_lt 50 (length (packets q o ++ ways.to_link way (packets_of (chain_of q chain) head mtu)))
+    → IsHeld p o → packets r u ≡ take OUTPUT_QUEUE_PACKETS (packets q o ++ ways.to_link way (packets_of (chain_of q chain) head mtu)) → made.is_lost ≡ nat_lt OUTPUT_QUEUE_PACKETS (length (packets q o ++ ways.to_link way (packets_of (chain_of q chain) head mtu)))
     → packets r made.looped ≡ ways.to_self way (packets_of (chain_of q chain) head mtu) → made.is_cut ≡ nat_lt 1 (length (parts_of (chain_of q chain) mtu)) → IsHeld r made.looped → BeginPlain r made.looped
     → IsQueue r u → Moves q (chain ∷ numbers q o) r (numbers r made.looped ++ numbers r u) → AreMade p c x o r made u
 packets_made {p} {q} {r} {chain} {mtu} {way} {head} {o} {u} {made} c x b way_is mtu_is head_is waits out lost back cut held plain queue moves =
@@ -71,10 +72,10 @@ packets_made {p} {q} {r} {chain} {mtu} {way} {head} {o} {u} {made} c x b way_is 
       clusters = b.clusters;
       number = b.lies.number ∙ sym (need_clusters c x.to.ip (length x.bytes));
       free = b.lies.free;
-      out = out ∙ ap (take 50) all;
+      out = out ∙ ap (take OUTPUT_QUEUE_PACKETS) all;
       back = back ∙ (λ i. ways.to_self (way_is i) (items_are i)) ∙ back_is c x.to.ip (sending.packets c b.clusters x);
       is_cut = cut ∙ (λ i. nat_lt 1 (length (cuts (size i) (mtu_is i))));
-      is_lost = lost ∙ ap (λ (l : List Item). nat_lt 50 (length l)) all;
+      is_lost = lost ∙ ap (λ (l : List Item). nat_lt OUTPUT_QUEUE_PACKETS (length l)) all;
       queue = queue;
       held = held;
       plain = plain;

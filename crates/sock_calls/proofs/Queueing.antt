@@ -1,6 +1,7 @@
 -- What a send puts where.
 use Rattle.std.proofs.Common.{◌≡◌, ℕ, ◌+◌, ◌%◌, Bool, List, ◌++◌, length, take, refl, sym, ap, ◌∙◌, subst}
 use Rattle.std.specs.Prelude.{nat_lt}
+use Rattle.params.specs.declared.TheConstants.{OUTPUT_QUEUE_PACKETS}
 use Rattle.flat_model.specs.Amounts.Weight.{Item}
 use Rattle.flat_model.specs.Machine.Send.{need_to, to_link, to_self}
 use Rattle.flat_model.specs.Machine.Sending as flat
@@ -35,8 +36,8 @@ put_is {p} {q} {t} {u} {n} {made} {o} {back} {d} {fd} {to} {bytes} h id_is to_is
       number = subst (λ (k : Addr). length a.clusters ≡ (need_to (config_of t n.mtu) k.ip (length bytes)).clusters) to_is a.number;
       free = a.free;
       back = a.back ∙ ap (λ (k : Addr). to_self (config_of t n.mtu) k.ip ps) to_is;
-      out = a.out ∙ ap (λ (k : Addr). take 50 (packets p n.out ++ to_link (config_of t n.mtu) k.ip ps)) to_is;
-      is_lost = a.is_lost ∙ ap (λ (k : Addr). nat_lt 50 (length (packets p n.out ++ to_link (config_of t n.mtu) k.ip ps))) to_is;
+      out = a.out ∙ ap (λ (k : Addr). take OUTPUT_QUEUE_PACKETS (packets p n.out ++ to_link (config_of t n.mtu) k.ip ps)) to_is;
+      is_lost = a.is_lost ∙ ap (λ (k : Addr). nat_lt OUTPUT_QUEUE_PACKETS (length (packets p n.out ++ to_link (config_of t n.mtu) k.ip ps))) to_is;
       next_id = refl;
       counters = d_is ∙ ap (λ (b : Bool). counts_sent b made.is_lost n.counters) a.is_cut;
       mtu = refl;
