@@ -9,8 +9,8 @@ ghost use Rattle.net_stack.specs.Stack.{state_of};
 use crate::stack::Stack;
 use flat_model::{Addr, Errno};
 
-/// The address as it is, with what its type says of its numbers.
-fn in_range(to: Option<Addr>) -> Option<Addr>
+/// The address as it is. Its clause tells what its type says of its numbers.
+fn with_range(to: Option<Addr>) -> Option<Addr>
     ensures same { result ≡ to }
     ensures range { IfSome result IsAddr }
 {
@@ -47,7 +47,7 @@ impl Stack {
     pub fn sendto(&mut self, fd: u32, to: Option<Addr>, bytes: &[u8]) -> Result<usize, Errno>
         ensures { Step (state_of self.old) (Send fd to bytes.now) (sent_reply result) (state_of self.new) }
     {
-        let to = in_range(to);
+        let to = with_range(to);
         self.host.send(fd, to, bytes)
     }
 }

@@ -22,10 +22,10 @@ all : (c : goal.After-send) → Called c.args.self.now (Send c.args.fd c.args.to
     (sent_reply c.send.result) (record (c.self.inside) { host = c.send.new.self })
 all c =
     subst (λ (o : Option Addr). Called c.args.self.now (Send c.args.fd o c.args.bytes.now)
-    (sent_reply c.send.result) (record (c.self.inside) { host = c.send.new.self })) c.in_range-to.ensures.same
-    (sent_called c.self.inside c.args.self.now c.send.new.self c.args.fd c.in_range-to.result c.args.bytes.now
+    (sent_reply c.send.result) (record (c.self.inside) { host = c.send.new.self })) c.with_range-to.ensures.same
+    (sent_called c.self.inside c.args.self.now c.send.new.self c.args.fd c.with_range-to.result c.args.bytes.now
     c.send.result c.self.invariant c.self.view_is
-    (c.in_range-to.ensures.range, are_bytes c.args.bytes.now c.type_inv.bytes) c.send.ensures)
+    (c.with_range-to.ensures.range, are_bytes c.args.bytes.now c.type_inv.bytes) c.send.ensures)
 
 pub invariant_of-self : goal.invariant_of-self
 invariant_of-self c = (all c).inside
