@@ -6,12 +6,12 @@ ghost use Rattle.mbuf_chain.specs.Chain.{IsLive, chain_of, string, with_chain, w
 ghost use Rattle.mbuf_chain.specs.Owners.{Moves};
 ghost use Rattle.pcb_table.specs.Table.{packet_key};
 ghost use Rattle.udp.specs.Datagrams.{AreHearers, IsInput, chains_of, without_header};
-ghost use Rattle.udp.specs.Inside.{broadcasts, cut_to, header_in, unheard};
+ghost use Rattle.udp.specs.Inside.{broadcasts, header_in, unheard};
 
 use crate::header::{Header, read_header};
 use crate::sums::is_right;
 use arrayvec::ArrayVec;
-use chain_ops::{m_adj, trim_front};
+use chain_ops::{trim_back, trim_front};
 use flat_model::{Addr, Why};
 use ip_out::IpHead;
 use mbuf_chain::{Chain, Pool};
@@ -91,27 +91,12 @@ fn find_hearers(
     }
 }
 
-// Takes off what stands after the first `len` bytes.
-fn drop_excess(pool: &mut Pool, chain: &Chain, len: u16)
-    requires live { IsLive pool.old chain.now }
-    requires most { length (string (chain_of pool.old chain.now)) ≤ IP_MAX_PACKET }
-    requires within { len ≤ length (string (chain_of pool.old chain.now)) }
-    ensures { pool.new ≡ with_chain pool.old chain.now (cut_to len (chain_of pool.old chain.now)) }
-{
-    let excess = pool.len(chain) - len as u32;
-    if excess > 0 {
-        m_adj(pool, chain, -(excess as i32));
-    }
-}
-
 // Leaves the data of a datagram of `len` bytes: what stands after them goes, and then the header. No mbuf is freed.
 fn trim(pool: &mut Pool, chain: &Chain, len: u16)
-    requires live { IsLive pool.old chain.now }
-    requires most { length (string (chain_of pool.old chain.now)) ≤ IP_MAX_PACKET }
-    requires within { len ≤ length (string (chain_of pool.old chain.now)) }
+    requires { IsLive pool.old chain.now }
     ensures { pool.new ≡ with_chain pool.old chain.now (without_header len (chain_of pool.old chain.now)) }
 {
-    drop_excess(pool, chain, len);
+    trim_back(pool, chain, u32::from(len));
     trim_front(pool, chain, UDP_HEADER);
 }
 
@@ -124,8 +109,8 @@ fn trim(pool: &mut Pool, chain: &Chain, len: u16)
 /// 255.255.255.255). Its chain is freed then, and nothing else changes.
 ///
 /// Else it goes to the socket that the look-up finds, or for those two addresses to all that hear it. Bytes after the
-/// UDP length and the header are taken off by `m_adj`: the chain keeps its number, its mbufs and its clusters. No
-/// control block changes.
+/// UDP length are taken off, and so is the header: the chain keeps its number, its mbufs and its clusters. No control
+/// block changes.
 ///
 /// The descriptors of those who get it are left in `to`, the youngest socket first; what was there goes. It's empty
 /// where the datagram was dropped.
