@@ -44,7 +44,6 @@ fn are_free(pool: &Pool, need: Need) -> bool
 impl Parts {
     /// Sends a datagram by its route, and answers whether a packet of it was lost at the output queue. Its buffers have to
     /// be free. A broadcast isn't cut.
-    #[inline(always)]
     fn put(
         &mut self,
         pool: &mut Pool,
@@ -74,15 +73,14 @@ impl Parts {
         };
         let chain = datagram(pool, heading, bytes);
         let head = ip_head(heading);
-        let Ok(sent) = send_packets(pool, chain, head, route.longest, route.way, &mut net.out)
-        else {
-            unreachable!()
-        };
         let Sent {
             looped,
             is_cut,
             is_lost,
-        } = sent;
+        } = match send_packets(pool, chain, head, route.longest, route.way, &mut net.out) {
+            Ok(sent) => sent,
+            Err(_) => unreachable!(),
+        };
         net.next_id = net.next_id.wrapping_add(1);
         count_send(&mut net.counters, is_cut, is_lost);
         mem::replace(&mut net.looped, looped).end_empty();

@@ -23,7 +23,7 @@ pub unreachable-requires : goal.unreachable-requires
 unreachable-requires c =
     let h : Heading = record { id = c.args.net.now.next_id; source = c.source_of.result; port = c.ensure_port_of.result; to = c.args.route.to } in
     packets_fit (config_of c.args.self.now.pcbs c.args.net.now.mtu) (sent_as h c.args.bytes.now) c.requires.routed
-    c.requires.uncut c.requires.free c.datagram-chain.ensures c.requires.way c.requires.longest c.in_default.ensures.err
+    c.requires.uncut c.requires.free c.datagram-chain.ensures c.requires.way c.requires.longest c.in-Err.ensures.err
 
 pub returns-clause-put : goal.returns-clause-put
 returns-clause-put c =
