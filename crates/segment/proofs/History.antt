@@ -29,7 +29,7 @@ get_last : {X : Type 0} (xs : List X) (x : X) → slice_get (xs ++ x ∷ []) (le
 get_last [] x = refl
 get_last (y ∷ xs) x = get_last xs x
 
-get_front : {X : Type 0} (xs ys : List X) (k : ℕ) → k < length xs → slice_get (xs ++ ys) k ≡ slice_get xs k
+pub get_front : {X : Type 0} (xs ys : List X) (k : ℕ) → k < length xs → slice_get (xs ++ ys) k ≡ slice_get xs k
 get_front [] ys k h = absurd (omega arith)
 get_front (x ∷ xs) ys zero h = refl
 get_front (x ∷ xs) ys (suc k) h = get_front xs ys k (omega arith)
@@ -40,12 +40,17 @@ get_after [] x (suc k) h = refl
 get_after (y ∷ xs) x zero h = absurd (omega arith)
 get_after (y ∷ xs) x (suc k) h = get_after xs x k (omega arith)
 
-length-last : {X : Type 0} (xs : List X) (x : X) → length (xs ++ x ∷ []) ≡ length xs + 1
+pub length-last : {X : Type 0} (xs : List X) (x : X) → length (xs ++ x ∷ []) ≡ length xs + 1
 length-last [] x = refl
 length-last (y ∷ xs) x = omega (arith, length-last xs x)
 
+pub get_within : {X : Type 0} (xs : List X) (i : ℕ) (x : X) → slice_get xs i ≡ Some x → i < length xs
+get_within [] i x e = absurd (none-some _ e)
+get_within (y ∷ xs) zero x e = omega arith
+get_within (y ∷ xs) (suc i) x e = omega (arith, get_within xs i x e)
+
 -- lists whose elements go together are of one length
-AtEach-length : {X : Type 0} (R : ℕ → X → X → Type 0) (xs ys : List X) → AtEach R xs ys → length xs ≡ length ys
+pub AtEach-length : {X : Type 0} (R : ℕ → X → X → Type 0) (xs ys : List X) → AtEach R xs ys → length xs ≡ length ys
 AtEach-length R [] [] h = refl
 AtEach-length R [] (y ∷ ys) h = absurd (h 0)
 AtEach-length R (x ∷ xs) [] h = absurd (h 0)
@@ -120,11 +125,6 @@ module _ (k : ℕ) (c : Config) (t : StackView) where
 
   some_both : (more : List Turn) (s u : StackView) (x y : Option StackView) → x ≡ Some s → y ≡ Some u → AreCalls s more u → AreBoth (λ a b. AreCalls a more b) x y
   some_both more s u x y e f calls = subst (λ z. AreBoth (λ a b. AreCalls a more b) z y) (sym e) (subst (λ z. AreBoth (λ a b. AreCalls a more b) (Some s) z) (sym f) calls)
-
-  get_within : {X : Type 0} (xs : List X) (i : ℕ) (x : X) → slice_get xs i ≡ Some x → i < length xs
-  get_within [] i x e = absurd (none-some _ e)
-  get_within (y ∷ xs) zero x e = omega arith
-  get_within (y ∷ xs) (suc i) x e = omega (arith, get_within xs i x e)
 
   calls : (place : ℕ) (turn : Turn) (turns : List Turn) (old new : SegmentView) → IsCalled place turn old new → Begins c turns t (slice_get new.configs k) (slice_get new.stacks k)
       → Begins c (turns_in k (Calls place turn) ++ turns) t (slice_get old.configs k) (slice_get old.stacks k)

@@ -3,4 +3,6 @@ mod Walking
 mod Giving
 mod Carrying
 mod History
+mod Sources
+mod Hosts
 mod Wires

@@ -5,12 +5,14 @@ use Rattle.std.specs.List.{AllByRecursion as Each, cons_option}
 use Rattle.std.proofs.lemmas.Bool.Decides.{eqb_tells}
 use Rattle.std.proofs.lemmas.List.Elements.{filter_map-append}
 use Rattle.flat_model.specs.Runs.Run.{Turn}
+use Rattle.flat_model.specs.Machine.State.{IsConfig}
 use Rattle.flat_model.specs.declared.config.Config.{Config}
 use Rattle.flat_model.proofs.Laws.{each-append, each-map_to, each-take, each-weaker}
 use Rattle.flat_wire.specs.Wire.{ComesFrom, packet_in, packet_out}
 use Rattle.net_stack.specs.Stack.{StackView}
 use Rattle.segment.specs.Flying.{Flying, comes, gives, goes_to, received, sent_by}
 use Rattle.segment.specs.Segment.{SegmentView, given_below, on_wire, received_in, waiting_in}
+use Rattle.segment.proofs.Hosts.{AreFine, act_fine, none_from, remains}
 use Rattle.segment.specs.Law.{Act, Joins, Calls, Carries, AreActs, called_in, called_of, turns_in, turns_of}
 
 -- the packets that turns gave out, and those that came in them
@@ -50,29 +52,30 @@ each_received Q place c (f ∷ flight) h = go (goes_to place c f) (each_received
     go true later = (h.0, later)
     go false later = later
 
-module _ (i j a : ℕ) (G : ℕ → List ℕ → Type 0) (others : (k : ℕ) → k ≢ i → (packet : List ℕ) → G k packet → ¬ ComesFrom a packet) where
+module _ (i j a : ℕ) (G : List ℕ → Type 0) where
   -- a packet with the address was given by the first
   abbrev P : List ℕ → Type 0
-  P packet = ComesFrom a packet → G i packet
+  P packet = ComesFrom a packet → G packet
 
-  from_sender : (k : ℕ) (packet : List ℕ) → G k packet → P packet
-  from_sender k packet g = go (eqb_tells k i)
+  -- what waits anywhere is so, if what waits elsewhere doesn't bear the address
+  from_senders : (v : SegmentView) → Each G (waiting_in (slice_get v.stacks i)) → ((k : ℕ) → i ≢ k → Each (λ p. ¬ ComesFrom a p) (waiting_in (slice_get v.stacks k))) → (k : ℕ) → Each P (waiting_in (slice_get v.stacks k))
+  from_senders v mine others k = go (eqb_tells i k)
     where
-      go : (((k == i) ≡ true) × (k ≡ i)) ⊎ (((k == i) ≡ false) × (k ≢ i)) → P packet
-      go (inl h) from = subst (λ m. G m packet) h.1 g
-      go (inr h) from = absurd (others k h.1 packet g from)
+      go : (((i == k) ≡ true) × (i ≡ k)) ⊎ (((i == k) ≡ false) × (i ≢ k)) → Each P (waiting_in (slice_get v.stacks k))
+      go (inl h) = subst (λ n. Each P (waiting_in (slice_get v.stacks n))) h.1 (each-weaker (λ p g from. g) (waiting_in (slice_get v.stacks i)) mine)
+      go (inr h) = each-weaker (λ p no from. absurd (no from)) (waiting_in (slice_get v.stacks k)) (others k h.1)
 
-  each_given : (stacks : List StackView) (n : ℕ) → ((k : ℕ) → Each (G k) (waiting_in (slice_get stacks k))) → Each (λ (f : Flying). P f.packet) (given_below stacks n)
+  each_given : (stacks : List StackView) (n : ℕ) → ((k : ℕ) → Each P (waiting_in (slice_get stacks k))) → Each (λ (f : Flying). P f.packet) (given_below stacks n)
   each_given stacks zero h = tt
   each_given stacks (suc n) h = each-append (λ (f : Flying). P f.packet) (given_below stacks n) (sent_by n (waiting_in (slice_get stacks n))) (each_given stacks n h)
-      (each-map_to (λ (f : Flying). P f.packet) _ (λ packet g. from_sender n packet g) (waiting_in (slice_get stacks n)) (h n))
+      (each-map_to (λ (f : Flying). P f.packet) _ (λ packet g. g) (waiting_in (slice_get stacks n)) (h n))
 
   each_came : (o : Option Config) (flight : List Flying) → Each (λ (f : Flying). P f.packet) flight → Each P (received_in j o flight)
   each_came None flight h = tt
   each_came (Some c) flight h = each_received P j c flight h
 
   -- the packets that a carry brings
-  each_wire : (v : SegmentView) (rest : List Turn) → v.flight ≡ [] → ((k : ℕ) → Each (G k) (waiting_in (slice_get v.stacks k))) → Each P (into rest) → Each P (into (turns_in j (Carries v) ++ rest))
+  each_wire : (v : SegmentView) (rest : List Turn) → v.flight ≡ [] → ((k : ℕ) → Each P (waiting_in (slice_get v.stacks k))) → Each P (into rest) → Each P (into (turns_in j (Carries v) ++ rest))
   each_wire v rest empty given later =
       let front = gives (waiting_in (slice_get v.stacks j)) in
       let came = received_in j (slice_get v.configs j) (on_wire v) in
@@ -96,22 +99,31 @@ module _ (i j a : ℕ) (G : ℕ → List ℕ → Type 0) (others : (k : ℕ) →
       go true h = one (packet_in turn) h
       go false h = later h
 
-  given_up : (v : SegmentView) (acts : List Act) → ((k : ℕ) (packet : List ℕ) → Contains (out (turns_of k (Carries v ∷ acts))) packet → G k packet) → (k : ℕ) → Each (G k) (waiting_in (slice_get v.stacks k))
-  given_up v acts up k =
-      let w = waiting_in (slice_get v.stacks k) in
-      let back = comes (received_in k (slice_get v.configs k) (on_wire v)) ++ turns_of k acts in
-      let is : out (turns_of k (Carries v ∷ acts)) ≡ w ++ out back =
-      ap out (append_assoc (gives w) (comes (received_in k (slice_get v.configs k) (on_wire v))) (turns_of k acts)) ∙ filter_map-append packet_out (gives w) back ∙ ap (λ ps. ps ++ out back) (out_gives w) in
-      each-weaker (λ packet h. up k packet (subst (λ ps. Contains ps packet) (sym is) h)) w (contains_each w (out back))
+  given_up : (v : SegmentView) (acts : List Act) → ((packet : List ℕ) → Contains (out (turns_of i (Carries v ∷ acts))) packet → G packet) → Each G (waiting_in (slice_get v.stacks i))
+  given_up v acts up =
+      let w = waiting_in (slice_get v.stacks i) in
+      let back = comes (received_in i (slice_get v.configs i) (on_wire v)) ++ turns_of i acts in
+      let is : out (turns_of i (Carries v ∷ acts)) ≡ w ++ out back =
+      ap out (append_assoc (gives w) (comes (received_in i (slice_get v.configs i) (on_wire v))) (turns_of i acts)) ∙ filter_map-append packet_out (gives w) back ∙ ap (λ ps. ps ++ out back) (out_gives w) in
+      each-weaker (λ packet h. up packet (subst (λ ps. Contains ps packet) (sym is) h)) w (contains_each w (out back))
 
-  up_later : (act : Act) (acts : List Act) → ((k : ℕ) (packet : List ℕ) → Contains (out (turns_of k (act ∷ acts))) packet → G k packet) → (k : ℕ) (packet : List ℕ) → Contains (out (turns_of k acts)) packet → G k packet
-  up_later act acts up k packet h = up k packet (subst (λ ps. Contains ps packet) (sym (filter_map-append packet_out (turns_in k act) (turns_of k acts))) (contains_after (out (turns_in k act)) (out (turns_of k acts)) packet h))
+  up_later : (act : Act) (acts : List Act) → ((packet : List ℕ) → Contains (out (turns_of i (act ∷ acts))) packet → G packet) → (packet : List ℕ) → Contains (out (turns_of i acts)) packet → G packet
+  up_later act acts up packet h = up packet (subst (λ ps. Contains ps packet) (sym (filter_map-append packet_out (turns_in i act) (turns_of i acts))) (contains_after (out (turns_in i act)) (out (turns_of i acts)) packet h))
 
-  pub wires : (acts : List Act) (v last : SegmentView) → AreActs v acts last → v.flight ≡ [] → ((k : ℕ) (packet : List ℕ) → Contains (out (turns_of k acts)) packet → G k packet)
-      → Each (λ p. ¬ ComesFrom a p) (into (called_of j acts)) → Each P (into (turns_of j acts))
-  wires [] v last done empty up outside = tt
-  wires (Joins c ∷ acts) v last (mid, is, done) empty up outside = wires acts mid last done (is.flight ∙ empty) (up_later (Joins c) acts up) outside
-  wires (Calls place turn ∷ acts) v last (mid, is, done) empty up outside = each_called place turn (turns_of j acts) (called_of j acts) outside
-      (λ later. wires acts mid last done (is.flight ∙ empty) (up_later (Calls place turn) acts up) later)
-  wires (Carries found ∷ acts) v last (mid, (found_is, is), done) empty up outside = each_wire found (turns_of j acts) (ap (λ (s : SegmentView). s.flight) found_is ∙ empty) (given_up found acts up)
-      (wires acts mid last done is.flight (up_later (Carries found) acts up) outside)
+  module _ (first : Config) (is_addr : a ≡ first.addr) (is_config : IsConfig first) (last : SegmentView) (whole : AreFine last) (first_is : slice_get last.configs i ≡ Some first) where
+    -- no other host has a packet with the address
+    elsewhere : (acts : List Act) (v : SegmentView) → AreFine v → AreActs v acts last → (k : ℕ) → i ≢ k → Each (λ p. ¬ ComesFrom a p) (waiting_in (slice_get v.stacks k))
+    elsewhere acts v fine done k other = subst (λ n. Each (λ p. ¬ ComesFrom n p) (waiting_in (slice_get v.stacks k))) (sym is_addr)
+        (none_from first v k (λ d e. whole.apart i k first d other first_is (remains acts v last k d done e)) is_config fine)
+
+    pub wires : (acts : List Act) (v : SegmentView) → AreActs v acts last → AreFine v → v.flight ≡ [] → ((packet : List ℕ) → Contains (out (turns_of i acts)) packet → G packet)
+        → Each (λ p. ¬ ComesFrom a p) (into (called_of j acts)) → Each P (into (turns_of j acts))
+    wires [] v done fine empty up outside = tt
+    wires (Joins c ∷ acts) v (mid, is, done) fine empty up outside = wires acts mid done (act_fine (Joins c) v mid fine is) (is.flight ∙ empty) (up_later (Joins c) acts up) outside
+    wires (Calls place turn ∷ acts) v (mid, is, done) fine empty up outside = each_called place turn (turns_of j acts) (called_of j acts) outside
+        (λ later. wires acts mid done (act_fine (Calls place turn) v mid fine is) (is.flight ∙ empty) (up_later (Calls place turn) acts up) later)
+    wires (Carries found ∷ acts) v (mid, (found_is, is), done) fine empty up outside =
+        subst (λ (f : SegmentView). Each P (into (turns_in j (Carries f) ++ turns_of j acts))) (sym found_is)
+        (each_wire v (turns_of j acts) empty
+        (from_senders v (given_up v acts (subst (λ (f : SegmentView). (packet : List ℕ) → Contains (out (turns_of i (Carries f ∷ acts))) packet → G packet) found_is up)) (elsewhere (Carries found ∷ acts) v fine (mid, (found_is, is), done)))
+        (wires acts mid done (act_fine (Carries found) v mid fine (found_is, is)) is.flight (up_later (Carries found) acts up) outside))

@@ -1,10 +1,10 @@
 -- Calls on a segment, one after another, and what is said of them all (this project's own).
-use Rattle.std.specs.Prelude.{◌≡◌, ◌≢◌, ◌<◌, ◌^◌, ℕ, ◌==◌, if◌then◌else◌, List, [], ◌∷◌, ◌++◌, slice_get, slice_set, filter_map, All, Contains, Some}
+use Rattle.std.specs.Prelude.{◌≡◌, ◌≢◌, ◌<◌, ◌^◌, ℕ, ◌==◌, if◌then◌else◌, List, [], ◌∷◌, ◌++◌, slice_get, slice_set, filter_map, All, Some}
 use Rattle.flat_model.specs.Machine.Count.{value_of}
 use Rattle.flat_model.specs.Runs.Run.{Turn}
 use Rattle.flat_model.specs.declared.config.Config.{Config}
 use Rattle.flat_model.specs.declared.counter.Counter.TheVariants.{IpLocalout}
-use Rattle.flat_wire.specs.Wire.{ComesFrom, packet_in, packet_out}
+use Rattle.flat_wire.specs.Wire.{ComesFrom, packet_in}
 use Rattle.net_stack.specs.Stack.{StackView}
 use Rattle.net_stack.specs.Runs.{AreCalls}
 use Rattle.segment.specs.Flying.{comes, gives}
@@ -57,16 +57,14 @@ abbrev pub called_of : ℕ → List Act → List Turn
 called_of place [] = []
 called_of place (act ∷ acts) = called_in place act ++ called_of place acts
 
--- Two hosts of a segment, and all that was done since it had none. The first has sent fewer than 65,536 times. Nobody
--- forged its address: no call brought the second a packet from there, and no other host's `tx` gave one.
+-- Two hosts of a segment, and all that was done since it had none. The first has sent fewer than 65,536 times, and no
+-- call brought the second a packet with the first's address as its source: nobody forged it.
 pub record AreOnSegment (room i j : ℕ) (first second : Config) (s t : StackView) (acts : List Act) (last : SegmentView) : Type 0 where
   pub done : AreActs (record { configs = []; stacks = []; flight = []; room = room }) acts last
-  pub not_addr : first.addr ≢ second.addr
-  pub not_bcast : first.addr ≢ second.bcast
+  pub two : i ≢ j
   pub first_is : slice_get last.configs i ≡ Some first
   pub second_is : slice_get last.configs j ≡ Some second
   pub first_stack : slice_get last.stacks i ≡ Some s
   pub second_stack : slice_get last.stacks j ≡ Some t
   pub few : value_of IpLocalout s.counters < 2 ^ 16
   pub outside : All (λ packet. ¬ ComesFrom first.addr packet) (filter_map packet_in (called_of j acts))
-  pub others : (k : ℕ) → k ≢ i → (packet : List ℕ) → Contains (filter_map packet_out (turns_of k acts)) packet → ¬ ComesFrom first.addr packet

@@ -9,6 +9,7 @@ use Rattle.net_stack.specs.Wire.{AreOnOneWire}
 use Rattle.segment.specs.Segment.{SegmentView}
 use Rattle.segment.specs.Law.{Act, AreOnSegment, turns_of}
 use Rattle.segment.proofs.History.{Started, began}
+use Rattle.segment.proofs.Hosts.{AreApart, AreFine, acts_fine, none_fine}
 use Rattle.segment.proofs.Wires.{wires}
 use Rattle.segment.proofs.laws.hosts_on_a_segment.Goals as goal
 
@@ -18,6 +19,8 @@ on_one_wire room i j first second s t acts last w =
     let start : SegmentView = record { configs = []; stacks = []; flight = []; room = room } in
     let one : Started first (turns_of i acts) s = began i first s acts start last refl w.done w.first_is w.first_stack in
     let two : Started second (turns_of j acts) t = began j second t acts start last refl w.done w.second_is w.second_stack in
+    let fine : AreFine last = acts_fine acts start last (none_fine room) w.done in
+    let apart : AreApart first second = fine.apart i j first second w.two w.first_is w.second_is in
     record {
       first_boots = one.1;
       second_boots = two.1;
@@ -27,10 +30,10 @@ on_one_wire room i j first second s t acts last w =
       second_starts = two.2;
       first_calls = one.3;
       second_calls = two.3;
-      not_addr = w.not_addr;
-      not_bcast = w.not_bcast;
+      not_addr = apart.addr;
+      not_bcast = apart.bcast;
       few = w.few;
-      wire = All-from_recursion _ _ (wires i j first.addr (λ k packet. Contains (filter_map packet_out (turns_of k acts)) packet) w.others acts start last w.done refl (λ k packet h. h)
+      wire = All-from_recursion _ _ (wires i j first.addr (λ packet. Contains (filter_map packet_out (turns_of i acts)) packet) first refl one.1 last fine w.first_is acts start w.done (none_fine room) refl (λ packet h. h)
           (recursion_from_All _ _ w.outside));
     }
 
