@@ -10,8 +10,8 @@ use Rattle.flat_model.specs.declared.config.Config.{Config}
 use Rattle.net_stack.specs.Stack.{StackView, state_of}
 use Rattle.net_stack.specs.Runs.{AreCalls}
 use Rattle.segment.specs.Flying.{Flying, comes, gives, waiting}
-use Rattle.segment.specs.Segment.{SegmentView, AreBoth, AtEach, IsCarried, IsJoined, on_wire, received_in, waiting_in}
-use Rattle.segment.specs.Law.{Act, Joins, Calls, Carries, IsCalled, AreActs, turns_in, turns_of}
+use Rattle.segment.specs.Segment.{SegmentView, AreBoth, AtEach, IsCollected, IsDelivered, IsJoined, leaving, received_in, waiting_in}
+use Rattle.segment.specs.Law.{Act, Joins, Calls, Collects, Delivers, Impairs, Seeds, IsCalled, AreActs, turns_in, turns_of}
 use Rattle.segment.proofs.Taking.{then_calls}
 use Rattle.segment.proofs.Walking.{below_or, get_set_same, get_set_other, get_past}
 
@@ -97,24 +97,34 @@ module _ (k : ℕ) (c : Config) (t : StackView) where
   on turns more (Some d) (Some s) None none h b = absurd h
   on turns more (Some d) (Some s) (Some u) none h b = (b.0, then_calls s u t more turns h b.1)
 
-  carried_none : (flight : List Flying) (o : Option Config) (x : Option StackView) → o ≡ None → x ≡ None → gives (waiting_in x) ++ comes (received_in k o flight) ≡ []
-  carried_none flight None None e f = refl
-  carried_none flight None (Some s) e f = absurd (none-some _ (sym f))
-  carried_none flight (Some d) x e f = absurd (none-some _ (sym e))
+  none_waits : (x : Option StackView) → x ≡ None → gives (waiting_in x) ≡ []
+  none_waits None e = refl
+  none_waits (Some s) e = absurd (none-some _ (sym e))
 
-  carried_both : (flight : List Flying) (o : Option Config) (x y : Option StackView) → AreBoth (λ s u. AreCalls s (gives (waiting s) ++ comes (received_in k o flight)) u) x y
-      → AreBoth (λ s u. AreCalls s (gives (waiting_in x) ++ comes (received_in k o flight)) u) x y
-  carried_both flight o None None h = tt
-  carried_both flight o None (Some u) h = absurd h
-  carried_both flight o (Some s) None h = absurd h
-  carried_both flight o (Some s) (Some u) h = h
+  none_comes : (flight : List Flying) (o : Option Config) → o ≡ None → comes (received_in k o flight) ≡ []
+  none_comes flight None e = refl
+  none_comes flight (Some d) e = absurd (none-some _ (sym e))
 
-  carries : (turns : List Turn) (old new : SegmentView) → IsCarried old new → Begins c turns t (slice_get new.configs k) (slice_get new.stacks k)
-      → Begins c (turns_in k (Carries old) ++ turns) t (slice_get old.configs k) (slice_get old.stacks k)
-  carries turns old new is from =
-      on turns (turns_in k (Carries old)) (slice_get old.configs k) (slice_get old.stacks k) (slice_get new.stacks k)
-      (carried_none (on_wire old) (slice_get old.configs k) (slice_get old.stacks k))
-      (carried_both (on_wire old) (slice_get old.configs k) (slice_get old.stacks k) (slice_get new.stacks k) (is.hosts k))
+  both_give : (x y : Option StackView) → AreBoth (λ s u. AreCalls s (gives (waiting s)) u) x y → AreBoth (λ s u. AreCalls s (gives (waiting_in x)) u) x y
+  both_give None None h = tt
+  both_give None (Some u) h = absurd h
+  both_give (Some s) None h = absurd h
+  both_give (Some s) (Some u) h = h
+
+  collects : (turns : List Turn) (old new : SegmentView) → IsCollected old new → Begins c turns t (slice_get new.configs k) (slice_get new.stacks k)
+      → Begins c (turns_in k (Collects old) ++ turns) t (slice_get old.configs k) (slice_get old.stacks k)
+  collects turns old new is from =
+      on turns (turns_in k (Collects old)) (slice_get old.configs k) (slice_get old.stacks k) (slice_get new.stacks k)
+      (λ o x. none_waits (slice_get old.stacks k) x)
+      (both_give (slice_get old.stacks k) (slice_get new.stacks k) (is.hosts k))
+      (subst (λ (xs : List Config). Begins c turns t (slice_get xs k) (slice_get new.stacks k)) is.configs from)
+
+  delivers : (turns : List Turn) (old new : SegmentView) → IsDelivered old new → Begins c turns t (slice_get new.configs k) (slice_get new.stacks k)
+      → Begins c (turns_in k (Delivers old) ++ turns) t (slice_get old.configs k) (slice_get old.stacks k)
+  delivers turns old new is from =
+      on turns (turns_in k (Delivers old)) (slice_get old.configs k) (slice_get old.stacks k) (slice_get new.stacks k)
+      (λ o x. none_comes (leaving old).0 (slice_get old.configs k) o)
+      (is.hosts k)
       (subst (λ (xs : List Config). Begins c turns t (slice_get xs k) (slice_get new.stacks k)) is.configs from)
 
   same_both : (x y : Option StackView) → y ≡ x → AreBoth (λ s u. AreCalls s [] u) x y
@@ -157,6 +167,15 @@ module _ (k : ℕ) (c : Config) (t : StackView) where
       (began acts mid last (ap length j.configs ∙ length-last v.configs d ∙ ap (λ n. n + 1) even ∙ sym (ap length j.stacks ∙ length-last v.stacks j.stack)) done is_c is_t)
   began (Calls place turn ∷ acts) v last even (mid, is, done) is_c is_t = calls place turn (turns_of k acts) v mid is
       (began acts mid last (ap length is.configs ∙ even ∙ sym (ap length is.stacks ∙ length-set v.stacks place is.after)) done is_c is_t)
-  began (Carries found ∷ acts) v last even (mid, (found_is, is), done) is_c is_t =
-      subst (λ (f : SegmentView). Begins c (turns_in k (Carries f) ++ turns_of k acts) t (slice_get v.configs k) (slice_get v.stacks k)) (sym found_is)
-      (carries (turns_of k acts) v mid is (began acts mid last (ap length is.configs ∙ even ∙ AtEach-length (λ place s u. AreCalls s (gives (waiting s) ++ comes (received_in place (slice_get v.configs place) (on_wire v))) u) v.stacks mid.stacks is.hosts) done is_c is_t))
+  began (Collects found ∷ acts) v last even (mid, (found_is, is), done) is_c is_t =
+      subst (λ (f : SegmentView). Begins c (turns_in k (Collects f) ++ turns_of k acts) t (slice_get v.configs k) (slice_get v.stacks k)) (sym found_is)
+      (collects (turns_of k acts) v mid is (began acts mid last (ap length is.configs ∙ even ∙ AtEach-length (λ place s u. AreCalls s (gives (waiting s)) u) v.stacks mid.stacks is.hosts) done is_c is_t))
+  began (Delivers found ∷ acts) v last even (mid, (found_is, is), done) is_c is_t =
+      subst (λ (f : SegmentView). Begins c (turns_in k (Delivers f) ++ turns_of k acts) t (slice_get v.configs k) (slice_get v.stacks k)) (sym found_is)
+      (delivers (turns_of k acts) v mid is (began acts mid last (ap length is.configs ∙ even ∙ AtEach-length (λ place s u. AreCalls s (comes (received_in place (slice_get v.configs place) (leaving v).0)) u) v.stacks mid.stacks is.hosts) done is_c is_t))
+  began (Impairs place chances ∷ acts) v last even (mid, is, done) is_c is_t =
+      subst (λ (w : SegmentView). Begins c (turns_of k acts) t (slice_get w.configs k) (slice_get w.stacks k)) is
+      (began acts mid last (subst (λ (w : SegmentView). length w.configs ≡ length w.stacks) (sym is) even) done is_c is_t)
+  began (Seeds seed ∷ acts) v last even (mid, is, done) is_c is_t =
+      subst (λ (w : SegmentView). Begins c (turns_of k acts) t (slice_get w.configs k) (slice_get w.stacks k)) is
+      (began acts mid last (subst (λ (w : SegmentView). length w.configs ≡ length w.stacks) (sym is) even) done is_c is_t)

@@ -15,8 +15,8 @@ use Rattle.flat_wire.specs.Wire.{ComesFrom, source_of}
 use Rattle.net_stack.specs.Stack.{StackView, state_of}
 use Rattle.net_stack.specs.Runs.{AreCalls}
 use Rattle.segment.specs.Flying.{comes, gives, waiting}
-use Rattle.segment.specs.Segment.{SegmentView, AreBoth, AtEach, IsCarried, IsJoined, are_apart, on_wire, received_in, waiting_in}
-use Rattle.segment.specs.Law.{Act, Joins, Calls, Carries, IsAct, IsCalled, AreActs}
+use Rattle.segment.specs.Segment.{SegmentView, AreBoth, AtEach, IsCollected, IsDelivered, IsJoined, are_apart, leaving, no_hosts, received_in, waiting_in}
+use Rattle.segment.specs.Law.{Act, Joins, Calls, Collects, Delivers, Impairs, Seeds, IsAct, IsCalled, AreActs}
 use Rattle.segment.proofs.Sources.{IsOwn, IsSourced, boot_sourced, calls_sourced}
 use Rattle.segment.proofs.Walking.{get_set_same, get_set_other}
 use Rattle.segment.proofs.History.{AtEach-length, get_front, get_within, length-last}
@@ -75,7 +75,7 @@ pub record AreFine (v : SegmentView) : Type 0 where
   pub booted : (k : ℕ) (c : Config) → slice_get v.configs k ≡ Some c → IsConfig c
   pub apart : (i k : ℕ) (c d : Config) → i ≢ k → slice_get v.configs i ≡ Some c → slice_get v.configs k ≡ Some d → AreApart c d
 
-pub none_fine : (room : ℕ) → AreFine (record { configs = []; stacks = []; flight = []; room = room })
+pub none_fine : (room : ℕ) → AreFine (no_hosts room)
 none_fine room = record {
   even = refl;
   sourced = λ k c s e f. absurd (none-some _ e);
@@ -150,7 +150,10 @@ called_fine place turn old new fine is = record {
 pub act_fine : (act : Act) (old new : SegmentView) → AreFine old → IsAct old act new → AreFine new
 act_fine (Joins d) old new fine is = joined_fine d old new fine is
 act_fine (Calls place turn) old new fine is = called_fine place turn old new fine is
-act_fine (Carries found) old new fine is = went_on old new (λ place s. gives (waiting s) ++ comes (received_in place (slice_get old.configs place) (on_wire old))) fine is.1.configs is.1.hosts
+act_fine (Collects found) old new fine is = went_on old new (λ place s. gives (waiting s)) fine is.1.configs is.1.hosts
+act_fine (Delivers found) old new fine is = went_on old new (λ place s. comes (received_in place (slice_get old.configs place) (leaving old).0)) fine is.1.configs is.1.hosts
+act_fine (Impairs place chances) old new fine is = subst AreFine (sym is) (record { even = fine.even; sourced = fine.sourced; booted = fine.booted; apart = fine.apart })
+act_fine (Seeds seed) old new fine is = subst AreFine (sym is) (record { even = fine.even; sourced = fine.sourced; booted = fine.booted; apart = fine.apart })
 
 pub acts_fine : (acts : List Act) (v last : SegmentView) → AreFine v → AreActs v acts last → AreFine last
 acts_fine [] v last fine e = subst AreFine (sym e) fine
@@ -160,7 +163,10 @@ acts_fine (act ∷ acts) v last fine (mid, is, done) = acts_fine acts mid last (
 stays : (act : Act) (old new : SegmentView) (k : ℕ) (c : Config) → IsAct old act new → slice_get old.configs k ≡ Some c → slice_get new.configs k ≡ Some c
 stays (Joins d) old new k c is e = ap (λ xs. slice_get xs k) is.configs ∙ get_front old.configs (d ∷ []) k (get_within old.configs k c e) ∙ e
 stays (Calls place turn) old new k c is e = ap (λ xs. slice_get xs k) is.configs ∙ e
-stays (Carries found) old new k c is e = ap (λ xs. slice_get xs k) is.1.configs ∙ e
+stays (Collects found) old new k c is e = ap (λ xs. slice_get xs k) is.1.configs ∙ e
+stays (Delivers found) old new k c is e = ap (λ xs. slice_get xs k) is.1.configs ∙ e
+stays (Impairs place chances) old new k c is e = ap (λ (w : SegmentView). slice_get w.configs k) is ∙ e
+stays (Seeds seed) old new k c is e = ap (λ (w : SegmentView). slice_get w.configs k) is ∙ e
 
 pub remains : (acts : List Act) (v last : SegmentView) (k : ℕ) (c : Config) → AreActs v acts last → slice_get v.configs k ≡ Some c → slice_get last.configs k ≡ Some c
 remains [] v last k c done e = ap (λ (w : SegmentView). slice_get w.configs k) done ∙ e

@@ -1,7 +1,9 @@
 mod Taking
 mod Walking
 mod Giving
-mod Carrying
+mod Entering
+mod Frames
+mod Choosing
 mod History
 mod Sources
 mod Hosts

@@ -64,15 +64,9 @@ more_calls a s t packets i before one = subst (λ (turns : List Turn). AreCalls 
     (sym (ap gives (take_next i packets) ∙ map-append _ (take i packets) (take 1 (drop i packets))))
     (then_calls a s t (gives (take i packets)) (gives (take 1 (drop i packets))) before one)
 
-pub more_flying : (sender room i : ℕ) (first mid last : List Flying) (packets : List (List ℕ)) → mid ≡ take room (first ++ sent_by sender (take i packets))
-    → last ≡ take room (mid ++ sent_by sender (take 1 (drop i packets))) → last ≡ take room (first ++ sent_by sender (take (suc i) packets))
-more_flying sender room i first mid last packets before one =
-    let one_more : List Flying = sent_by sender (take 1 (drop i packets)) in
-    let so_far : List Flying = sent_by sender (take i packets) in
-    one
-    ∙ ap (λ (m : List Flying). take room (m ++ one_more)) before
-    ∙ take_again room (first ++ so_far) one_more
-    ∙ ap (take room) (append_assoc first so_far one_more ∙ ap (λ (p : List Flying). first ++ p) (sym (ap (sent_by sender) (take_next i packets) ∙ map-append _ (take i packets) (take 1 (drop i packets)))))
+-- one more packet of those that wait
+pub sent_next : (sender i : ℕ) (packets : List (List ℕ)) → sent_by sender (take (suc i) packets) ≡ sent_by sender (take i packets) ++ sent_by sender (take 1 (drop i packets))
+sent_next sender i packets = ap (sent_by sender) (take_next i packets) ∙ map-append _ (take i packets) (take 1 (drop i packets))
 
 -- ---- packets that come
 

@@ -11,9 +11,10 @@ use Rattle.flat_model.proofs.Laws.{each-append, each-map_to, each-take, each-wea
 use Rattle.flat_wire.specs.Wire.{ComesFrom, packet_in, packet_out}
 use Rattle.net_stack.specs.Stack.{StackView}
 use Rattle.segment.specs.Flying.{Flying, comes, gives, goes_to, received, sent_by}
-use Rattle.segment.specs.Segment.{SegmentView, given_below, on_wire, received_in, waiting_in}
+use Rattle.segment.specs.Segment.{SegmentView, IsCollected, IsDelivered, collected, given_below, leaving, received_in, waiting_in}
+use Rattle.segment.proofs.Choosing.{each_entering, each_leaving, each_stay}
 use Rattle.segment.proofs.Hosts.{AreFine, act_fine, none_from, remains}
-use Rattle.segment.specs.Law.{Act, Joins, Calls, Carries, AreActs, called_in, called_of, turns_in, turns_of}
+use Rattle.segment.specs.Law.{Act, Joins, Calls, Collects, Delivers, Impairs, Seeds, AreActs, called_in, called_of, turns_in, turns_of}
 
 -- the packets that turns gave out, and those that came in them
 abbrev out : List Turn → List (List ℕ)
@@ -74,17 +75,28 @@ module _ (i j a : ℕ) (G : List ℕ → Type 0) where
   each_came None flight h = tt
   each_came (Some c) flight h = each_received P j c flight h
 
-  -- the packets that a carry brings
-  each_wire : (v : SegmentView) (rest : List Turn) → v.flight ≡ [] → ((k : ℕ) → Each P (waiting_in (slice_get v.stacks k))) → Each P (into rest) → Each P (into (turns_in j (Carries v) ++ rest))
-  each_wire v rest empty given later =
-      let front = gives (waiting_in (slice_get v.stacks j)) in
-      let came = received_in j (slice_get v.configs j) (on_wire v) in
-      let all : into (turns_in j (Carries v) ++ rest) ≡ came ++ into rest =
-      filter_map-append packet_in (front ++ comes came) rest
-      ∙ ap (λ ps. ps ++ into rest) (filter_map-append packet_in front (comes came) ∙ ap (λ ps. ps ++ into (comes came)) (into_gives (waiting_in (slice_get v.stacks j))) ∙ into_comes came) in
-      let flies : Each (λ (f : Flying). P f.packet) (on_wire v) = each-take (λ (f : Flying). P f.packet) v.room (v.flight ++ given_below v.stacks (length v.stacks))
-      (subst (λ (fs : List Flying). Each (λ (f : Flying). P f.packet) (fs ++ given_below v.stacks (length v.stacks))) (sym empty) (each_given v.stacks (length v.stacks) given)) in
-      subst (Each P) (sym all) (each-append P came (into rest) (each_came (slice_get v.configs j) (on_wire v) flies) later)
+  abbrev Fly : List Flying → Type 0
+  Fly = Each (λ (f : Flying). P f.packet)
+
+  -- the packets that a delivery brings
+  each_delivered : (v : SegmentView) (rest : List Turn) → Fly v.flight → Each P (into rest) → Each P (into (turns_in j (Delivers v) ++ rest))
+  each_delivered v rest flies later =
+      let came = received_in j (slice_get v.configs j) (leaving v).0 in
+      let all : into (turns_in j (Delivers v) ++ rest) ≡ came ++ into rest = filter_map-append packet_in (comes came) rest ∙ ap (λ ps. ps ++ into rest) (into_comes came) in
+      subst (Each P) (sym all) (each-append P came (into rest) (each_came (slice_get v.configs j) (leaving v).0 (each_leaving P v flies)) later)
+
+  -- a collection brings none
+  each_collected : (v : SegmentView) (rest : List Turn) → Each P (into rest) → Each P (into (turns_in j (Collects v) ++ rest))
+  each_collected v rest later =
+      let front = waiting_in (slice_get v.stacks j) in
+      subst (Each P) (sym (filter_map-append packet_in (gives front) rest ∙ ap (λ ps. ps ++ into rest) (into_gives front))) later
+
+  -- what is under way after it
+  flies_on : (old new : SegmentView) → IsCollected old new → Fly old.flight → ((k : ℕ) → Each P (waiting_in (slice_get old.stacks k))) → Fly new.flight
+  flies_on old new is flies given = subst Fly (sym is.flight)
+      (each-take (λ (f : Flying). P f.packet) old.room (old.flight ++ (collected old).0)
+      (each-append (λ (f : Flying). P f.packet) old.flight (collected old).0 flies
+      (each_entering P old.chances (given_below old.stacks (length old.stacks)) old.random (each_given old.stacks (length old.stacks) given))))
 
   -- what a call brings
   each_called : (place : ℕ) (turn : Turn) (rest called : List Turn) → Each (λ p. ¬ ComesFrom a p) (into (called_in j (Calls place turn) ++ called)) → (Each (λ p. ¬ ComesFrom a p) (into called) → Each P (into rest))
@@ -99,13 +111,11 @@ module _ (i j a : ℕ) (G : List ℕ → Type 0) where
       go true h = one (packet_in turn) h
       go false h = later h
 
-  given_up : (v : SegmentView) (acts : List Act) → ((packet : List ℕ) → Contains (out (turns_of i (Carries v ∷ acts))) packet → G packet) → Each G (waiting_in (slice_get v.stacks i))
+  given_up : (v : SegmentView) (acts : List Act) → ((packet : List ℕ) → Contains (out (turns_of i (Collects v ∷ acts))) packet → G packet) → Each G (waiting_in (slice_get v.stacks i))
   given_up v acts up =
       let w = waiting_in (slice_get v.stacks i) in
-      let back = comes (received_in i (slice_get v.configs i) (on_wire v)) ++ turns_of i acts in
-      let is : out (turns_of i (Carries v ∷ acts)) ≡ w ++ out back =
-      ap out (append_assoc (gives w) (comes (received_in i (slice_get v.configs i) (on_wire v))) (turns_of i acts)) ∙ filter_map-append packet_out (gives w) back ∙ ap (λ ps. ps ++ out back) (out_gives w) in
-      each-weaker (λ packet h. up packet (subst (λ ps. Contains ps packet) (sym is) h)) w (contains_each w (out back))
+      let is : out (turns_of i (Collects v ∷ acts)) ≡ w ++ out (turns_of i acts) = filter_map-append packet_out (gives w) (turns_of i acts) ∙ ap (λ ps. ps ++ out (turns_of i acts)) (out_gives w) in
+      each-weaker (λ packet h. up packet (subst (λ ps. Contains ps packet) (sym is) h)) w (contains_each w (out (turns_of i acts)))
 
   up_later : (act : Act) (acts : List Act) → ((packet : List ℕ) → Contains (out (turns_of i (act ∷ acts))) packet → G packet) → (packet : List ℕ) → Contains (out (turns_of i acts)) packet → G packet
   up_later act acts up packet h = up packet (subst (λ ps. Contains ps packet) (sym (filter_map-append packet_out (turns_in i act) (turns_of i acts))) (contains_after (out (turns_in i act)) (out (turns_of i acts)) packet h))
@@ -116,14 +126,21 @@ module _ (i j a : ℕ) (G : List ℕ → Type 0) where
     elsewhere acts v fine done k other = subst (λ n. Each (λ p. ¬ ComesFrom n p) (waiting_in (slice_get v.stacks k))) (sym is_addr)
         (none_from first v k (λ d e. whole.apart i k first d other first_is (remains acts v last k d done e)) is_config fine)
 
-    pub wires : (acts : List Act) (v : SegmentView) → AreActs v acts last → AreFine v → v.flight ≡ [] → ((packet : List ℕ) → Contains (out (turns_of i acts)) packet → G packet)
+    pub wires : (acts : List Act) (v : SegmentView) → AreActs v acts last → AreFine v → Fly v.flight → ((packet : List ℕ) → Contains (out (turns_of i acts)) packet → G packet)
         → Each (λ p. ¬ ComesFrom a p) (into (called_of j acts)) → Each P (into (turns_of j acts))
-    wires [] v done fine empty up outside = tt
-    wires (Joins c ∷ acts) v (mid, is, done) fine empty up outside = wires acts mid done (act_fine (Joins c) v mid fine is) (is.flight ∙ empty) (up_later (Joins c) acts up) outside
-    wires (Calls place turn ∷ acts) v (mid, is, done) fine empty up outside = each_called place turn (turns_of j acts) (called_of j acts) outside
-        (λ later. wires acts mid done (act_fine (Calls place turn) v mid fine is) (is.flight ∙ empty) (up_later (Calls place turn) acts up) later)
-    wires (Carries found ∷ acts) v (mid, (found_is, is), done) fine empty up outside =
-        subst (λ (f : SegmentView). Each P (into (turns_in j (Carries f) ++ turns_of j acts))) (sym found_is)
-        (each_wire v (turns_of j acts) empty
-        (from_senders v (given_up v acts (subst (λ (f : SegmentView). (packet : List ℕ) → Contains (out (turns_of i (Carries f ∷ acts))) packet → G packet) found_is up)) (elsewhere (Carries found ∷ acts) v fine (mid, (found_is, is), done)))
-        (wires acts mid done (act_fine (Carries found) v mid fine (found_is, is)) is.flight (up_later (Carries found) acts up) outside))
+    wires [] v done fine flies up outside = tt
+    wires (Joins c ∷ acts) v (mid, is, done) fine flies up outside = wires acts mid done (act_fine (Joins c) v mid fine is) (subst Fly (sym is.flight) flies) (up_later (Joins c) acts up) outside
+    wires (Calls place turn ∷ acts) v (mid, is, done) fine flies up outside = each_called place turn (turns_of j acts) (called_of j acts) outside
+        (λ later. wires acts mid done (act_fine (Calls place turn) v mid fine is) (subst Fly (sym is.flight) flies) (up_later (Calls place turn) acts up) later)
+    wires (Collects found ∷ acts) v (mid, (found_is, is), done) fine flies up outside =
+        let given : (k : ℕ) → Each P (waiting_in (slice_get v.stacks k)) = from_senders v
+        (given_up v acts (subst (λ (f : SegmentView). (packet : List ℕ) → Contains (out (turns_of i (Collects f ∷ acts))) packet → G packet) found_is up))
+        (elsewhere (Collects found ∷ acts) v fine (mid, (found_is, is), done)) in
+        each_collected found (turns_of j acts)
+        (wires acts mid done (act_fine (Collects found) v mid fine (found_is, is)) (flies_on v mid is flies given) (up_later (Collects found) acts up) outside)
+    wires (Delivers found ∷ acts) v (mid, (found_is, is), done) fine flies up outside =
+        subst (λ (f : SegmentView). Each P (into (turns_in j (Delivers f) ++ turns_of j acts))) (sym found_is)
+        (each_delivered v (turns_of j acts) flies
+        (wires acts mid done (act_fine (Delivers found) v mid fine (found_is, is)) (subst Fly (sym is.flight) (each_stay P v.flight flies)) (up_later (Delivers found) acts up) outside))
+    wires (Impairs place chances ∷ acts) v (mid, is, done) fine flies up outside = wires acts mid done (act_fine (Impairs place chances) v mid fine is) (subst (λ (w : SegmentView). Fly w.flight) (sym is) flies) (up_later (Impairs place chances) acts up) outside
+    wires (Seeds seed ∷ acts) v (mid, is, done) fine flies up outside = wires acts mid done (act_fine (Seeds seed) v mid fine is) (subst (λ (w : SegmentView). Fly w.flight) (sym is) flies) (up_later (Seeds seed) acts up) outside

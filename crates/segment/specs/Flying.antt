@@ -1,5 +1,5 @@
 -- Packets under way on a segment, and to which hosts they go (this project's own).
-use Rattle.std.specs.Prelude.{ℕ, nat_le, Bool, ◌==◌, ◌&&◌, ◌||◌, not, if◌then◌else◌, List, length, map, filter_map, Some, None}
+use Rattle.std.specs.Prelude.{ℕ, ◌-◌, nat_le, Bool, ◌==◌, ◌&&◌, ◌||◌, not, if◌then◌else◌, List, length, map, filter_map, Some, None}
 use Rattle.params.specs.declared.TheConstants.{IP_HEADER, LIMITED_BROADCAST}
 use Rattle.flat_model.specs.Amounts.Weight.{Item}
 use Rattle.flat_model.specs.Packets.Header.{u32_at}
@@ -8,10 +8,25 @@ use Rattle.flat_model.specs.Runs.Run.{Turn}
 use Rattle.flat_model.specs.declared.config.Config.{Config}
 use Rattle.net_stack.specs.Stack.{StackView, state_of}
 
--- a packet, and the place of the host that has sent it
+-- a packet, the place of the host that has sent it, and in how many carries it isn't due yet
 pub record Flying : Type 0 where
   pub sender : ℕ
   pub packet : List ℕ
+  pub wait : ℕ
+
+-- the packet with another delay, and a carry later
+abbrev pub waits : ℕ → Flying → Flying
+waits wait f = record f { wait = wait }
+
+abbrev pub aged : Flying → Flying
+aged f = record f { wait = f.wait - 1 }
+
+-- it's due in the next carry, or not
+abbrev pub is_due : Flying → Bool
+is_due f = f.wait == 0
+
+abbrev pub is_early : Flying → Bool
+is_early f = not (f.wait == 0)
 
 -- the destination that a packet names (RFC 791, section 3.1)
 abbrev pub destination_of : List ℕ → ℕ
@@ -42,4 +57,4 @@ comes packets = map (λ (packet : List ℕ). record { event = Comes packet; repl
 
 -- these packets, sent by the host at this place
 abbrev pub sent_by : ℕ → List (List ℕ) → List Flying
-sent_by place packets = map (λ (packet : List ℕ). record { sender = place; packet = packet }) packets
+sent_by place packets = map (λ (packet : List ℕ). record { sender = place; packet = packet; wait = 0 }) packets

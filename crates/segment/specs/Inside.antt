@@ -1,5 +1,5 @@
 -- How the fields mean what is under way (this project's own).
-use Rattle.std.specs.Prelude.{ℕ, List, ◌-◌, map, take, vec_len, Option}
+use Rattle.std.specs.Prelude.{ℕ, List, map, take, vec_capacity, Option}
 use Rattle.std.specs.Borrow.{LendsIf, MutBor, Fml}
 use Rattle.std.specs.Vec.{with_item}
 use Rattle.net_stack.specs.Stack.{StackView}
@@ -13,11 +13,11 @@ use Rattle.segment.specs.declared.segment.Segment.{Segment}
 
 -- what a frame carries
 abbrev pub flying : Frame → Flying
-flying f = record { sender = f.sender; packet = take f.len f.room }
+flying f = record { sender = f.sender; packet = take f.len f.room; wait = f.wait }
 
 -- what is under way
 abbrev pub under_way : Flight → List Flying
-under_way f = map flying (take f.count f.frames.items)
+under_way f = map flying f.frames.items
 
 -- what a segment shows
 abbrev pub view : Segment → SegmentView
@@ -25,7 +25,9 @@ view s = record {
   configs = s.configs.items;
   stacks = s.stacks.items;
   flight = under_way s.flight;
-  room = vec_len s.flight.frames - 1;
+  room = vec_capacity s.flight.frames;
+  chances = s.impairment.chances.items;
+  random = s.impairment.random;
 }
 
 -- the segment with another stack at a place

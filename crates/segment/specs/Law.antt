@@ -8,13 +8,20 @@ use Rattle.flat_wire.specs.Wire.{ComesFrom, packet_in}
 use Rattle.net_stack.specs.Stack.{StackView}
 use Rattle.net_stack.specs.Runs.{AreCalls}
 use Rattle.segment.specs.Flying.{comes, gives}
-use Rattle.segment.specs.Segment.{SegmentView, IsCarried, IsJoined, on_wire, received_in, waiting_in}
+use Rattle.segment.specs.Chances.{seeded}
+use Rattle.segment.specs.declared.chances.Chances.{Chances}
+use Rattle.segment.specs.Segment.{SegmentView, IsCollected, IsDelivered, IsJoined, leaving, no_hosts, received_in, waiting_in}
 
--- what was done: a host joined, a call was made on the host at a place, or a carry found the segment so
+-- what was done: a host joined, a call was made on the host at a place, what waited was collected or what was due was
+-- delivered by a segment that was found so, the chances of what the
+-- host at a place sends were set, or the generator was started with a seed
 pub data Act : Type 0 where
   Joins : (config : Config) → Act
   Calls : (place : ℕ) (turn : Turn) → Act
-  Carries : (found : SegmentView) → Act
+  Collects : (found : SegmentView) → Act
+  Delivers : (found : SegmentView) → Act
+  Impairs : (place : ℕ) (chances : Chances) → Act
+  Seeds : (seed : ℕ) → Act
 
 -- a call on the stack of the host at a place
 pub record IsCalled (place : ℕ) (turn : Turn) (old new : SegmentView) : Type 0 where
@@ -26,11 +33,16 @@ pub record IsCalled (place : ℕ) (turn : Turn) (old new : SegmentView) : Type 0
   pub configs : new.configs ≡ old.configs
   pub flight : new.flight ≡ old.flight
   pub room : new.room ≡ old.room
+  pub chances : new.chances ≡ old.chances
+  pub random : new.random ≡ old.random
 
 abbrev pub IsAct : SegmentView → Act → SegmentView → Type 0
 IsAct old (Joins config) new = IsJoined config old new
 IsAct old (Calls place turn) new = IsCalled place turn old new
-IsAct old (Carries found) new = (found ≡ old) × IsCarried old new
+IsAct old (Collects found) new = (found ≡ old) × IsCollected old new
+IsAct old (Delivers found) new = (found ≡ old) × IsDelivered old new
+IsAct old (Impairs place chances) new = new ≡ record old { chances = slice_set old.chances place chances }
+IsAct old (Seeds seed) new = new ≡ record old { random = seeded seed }
 
 -- these acts, one after another, make the first segment the last
 abbrev pub AreActs : SegmentView → List Act → SegmentView → Type 0
@@ -41,14 +53,17 @@ AreActs old (act ∷ acts) new = (mid : SegmentView) × IsAct old act mid × Are
 abbrev pub turns_in : ℕ → Act → List Turn
 turns_in place (Joins config) = []
 turns_in place (Calls other turn) = if other == place then turn ∷ [] else []
-turns_in place (Carries v) = gives (waiting_in (slice_get v.stacks place)) ++ comes (received_in place (slice_get v.configs place) (on_wire v))
+turns_in place (Collects v) = gives (waiting_in (slice_get v.stacks place))
+turns_in place (Delivers v) = comes (received_in place (slice_get v.configs place) (leaving v).0)
+turns_in place (Impairs other chances) = []
+turns_in place (Seeds seed) = []
 
 -- all turns of the host at a place, in their order
 abbrev pub turns_of : ℕ → List Act → List Turn
 turns_of place [] = []
 turns_of place (act ∷ acts) = turns_in place act ++ turns_of place acts
 
--- those of them that no carry made
+-- those of them that the segment's own calls didn't make
 abbrev pub called_in : ℕ → Act → List Turn
 called_in place (Calls other turn) = if other == place then turn ∷ [] else []
 called_in place _ = []
@@ -60,7 +75,7 @@ called_of place (act ∷ acts) = called_in place act ++ called_of place acts
 -- Two hosts of a segment, and all that was done since it had none. The first has sent fewer than 65,536 times, and no
 -- call brought the second a packet with the first's address as its source: nobody forged it.
 pub record AreOnSegment (room i j : ℕ) (first second : Config) (s t : StackView) (acts : List Act) (last : SegmentView) : Type 0 where
-  pub done : AreActs (record { configs = []; stacks = []; flight = []; room = room }) acts last
+  pub done : AreActs (no_hosts room) acts last
   pub two : i ≢ j
   pub first_is : slice_get last.configs i ≡ Some first
   pub second_is : slice_get last.configs j ≡ Some second

@@ -1,5 +1,5 @@
 -- What a segment shows, and what its calls make of it (this project's own).
-use Rattle.std.specs.Prelude.{◌≡◌, ℕ, zero, suc, ◌<◌, ◌≤◌, Bool, true, false, ◌==◌, ◌&&◌, not, List, [], ◌∷◌, ◌++◌, length, take, slice_get, Option, Some, None}
+use Rattle.std.specs.Prelude.{◌≡◌, ℕ, zero, suc, ◌<◌, ◌≤◌, Bool, true, false, ◌==◌, ◌&&◌, not, List, [], ◌∷◌, ◌++◌, length, map, filter, take, slice_get, Option, Some, None}
 use Rattle.std.specs.List.{list_all}
 use Rattle.flat_model.specs.Machine.State.{IsConfig, boot}
 use Rattle.flat_model.specs.declared.config.Config.{Config}
@@ -9,14 +9,24 @@ use Rattle.net_stack.specs.Boots.{IsUnbooted}
 use Rattle.net_stack.specs.declared.stack.BootFault.TheVariants.{Memory}
 use Rattle.segment.specs.declared.segment.JoinFault.{JoinFault}
 use Rattle.segment.specs.declared.segment.JoinFault.TheVariants.{TooManyHosts, AddressTaken, Unbooted}
-use Rattle.segment.specs.Flying.{Flying, comes, gives, received, sent_by, waiting}
+use Rattle.rand_pcg.specs.Lcg.{Lcg}
+use Rattle.segment.specs.declared.chances.Chances.{Chances}
+use Rattle.segment.specs.Flying.{Flying, aged, comes, gives, is_due, is_early, received, sent_by, waiting}
+use Rattle.segment.specs.Chances.{entering, no_chances, seeded, shuffled}
 
--- its hosts by their places, what is under way, and for how many packets there is room
+-- its hosts by their places, what is under way, for how many packets there is room, the chances of what each host
+-- sends, and the generator that decides
 pub record SegmentView : Type 0 where
   pub configs : List Config
   pub stacks : List StackView
   pub flight : List Flying
   pub room : ℕ
+  pub chances : List Chances
+  pub random : Lcg
+
+-- a segment without hosts
+abbrev pub no_hosts : ℕ → SegmentView
+no_hosts room = record { configs = []; stacks = []; flight = []; room = room; chances = []; random = seeded 1 }
 
 -- both are there, and in this relation, or neither is
 abbrev pub AreBoth : {A B : Type 0} → (A → B → Type 0) → Option A → Option B → Type 0
@@ -38,21 +48,40 @@ abbrev pub given_below : List StackView → ℕ → List Flying
 given_below stacks zero = []
 given_below stacks (suc place) = given_below stacks place ++ sent_by place (waiting_in (slice_get stacks place))
 
--- what is on the wire during a carry: what was under way, and then what each host gives, as far as there is room
-abbrev pub on_wire : SegmentView → List Flying
-on_wire v = take v.room (v.flight ++ given_below v.stacks (length v.stacks))
+-- what the hosts give, as it goes under way, and the generator then
+abbrev pub collected : SegmentView → List Flying × Lcg
+collected v = entering v.chances (given_below v.stacks (length v.stacks)) v.random
+
+-- what is due, in the order in which it comes, and the generator then
+abbrev pub leaving : SegmentView → List Flying × Lcg
+leaving v = shuffled v.chances (filter is_due v.flight) v.random
 
 -- what of it comes to the host at a place with this configuration
 abbrev pub received_in : ℕ → Option Config → List Flying → List (List ℕ)
 received_in place None flight = []
 received_in place (Some c) flight = received place c flight
 
--- A carry. Each host first gives all that waits, and then all that goes to it comes; nothing is under way then.
-pub record IsCarried (old new : SegmentView) : Type 0 where
+-- Each host gave all that waits. It went under way behind the rest, as far as there is room.
+pub record IsCollected (old new : SegmentView) : Type 0 where
   pub configs : new.configs ≡ old.configs
   pub room : new.room ≡ old.room
-  pub flight : new.flight ≡ []
-  pub hosts : AtEach (λ place s t. AreCalls s (gives (waiting s) ++ comes (received_in place (slice_get old.configs place) (on_wire old))) t) old.stacks new.stacks
+  pub chances : new.chances ≡ old.chances
+  pub flight : new.flight ≡ take old.room (old.flight ++ (collected old).0)
+  pub random : new.random ≡ (collected old).1
+  pub hosts : AtEach (λ place s t. AreCalls s (gives (waiting s)) t) old.stacks new.stacks
+
+-- What was due came, and the rest is a carry older.
+pub record IsDelivered (old new : SegmentView) : Type 0 where
+  pub configs : new.configs ≡ old.configs
+  pub room : new.room ≡ old.room
+  pub chances : new.chances ≡ old.chances
+  pub flight : new.flight ≡ map aged (filter is_early old.flight)
+  pub random : new.random ≡ (leaving old).1
+  pub hosts : AtEach (λ place s t. AreCalls s (comes (received_in place (slice_get old.configs place) (leaving old).0)) t) old.stacks new.stacks
+
+-- a carry is both
+abbrev pub IsCarried : SegmentView → SegmentView → Type 0
+IsCarried old new = (mid : SegmentView) × IsCollected old mid × IsDelivered mid new
 
 -- two hosts can be told apart: neither has the other's address, nor its broadcast address
 abbrev pub are_apart : Config → Config → Bool
@@ -69,6 +98,8 @@ pub record IsJoined (config : Config) (old new : SegmentView) : Type 0 where
   pub stacks : new.stacks ≡ old.stacks ++ stack ∷ []
   pub flight : new.flight ≡ old.flight
   pub room : new.room ≡ old.room
+  pub chances : new.chances ≡ old.chances ++ no_chances ∷ []
+  pub random : new.random ≡ old.random
 
 -- why a host doesn't join, the first that is true
 abbrev pub IsRefused : SegmentView → Config → JoinFault → Type 0

@@ -1,49 +1,77 @@
-//! What waits in the output queues passes once.
-ghost use Rattle.std.specs.Prelude.{◌≡◌, ◌-◌, ◌++◌, [], length, slice_get, take, vec_len};
+//! What waits in the output queues passes.
+ghost use Rattle.std.specs.Prelude.{◌≡◌, ◌-◌, ◌++◌, [], length, map, slice_get, take, vec_capacity};
 ghost use Rattle.net_stack.specs.Runs.{AreCalls};
+ghost use Rattle.segment.specs.Chances.{entering};
 ghost use Rattle.segment.specs.Flying.{comes, gives, waiting};
-ghost use Rattle.segment.specs.Segment.{AtEach, IsCarried, given_below, received_in};
-ghost use Rattle.segment.specs.Inside.{under_way, view};
+ghost use Rattle.segment.specs.Segment.{AtEach, IsCarried, IsCollected, IsDelivered, given_below, received_in};
+ghost use Rattle.segment.specs.Inside.{flying, under_way, view};
 
+use crate::chances::Impairment;
 use crate::flight::Flight;
+use crate::frame::Frame;
 use crate::segment::Segment;
 use crate::ways::{hand_all, take_all};
 use flat_model::Config;
 use net_stack::Stack;
 
 /// Each host gives all that waits for its link.
-fn collect(flight: &mut Flight, stacks: &mut Vec<Stack>)
+fn collect_all(flight: &mut Flight, impairment: &mut Impairment, stacks: &mut Vec<Stack>)
     ensures hosts { AtEach (λ place s t. AreCalls s (gives (waiting s)) t) stacks.old.items stacks.new.items }
-    ensures taken { under_way flight.new ≡ take (vec_len flight.old.frames - 1)
-        (under_way flight.old ++ given_below stacks.old.items (length stacks.old.items)) }
-    ensures same { vec_len flight.new.frames ≡ vec_len flight.old.frames }
+    ensures taken { under_way flight.new ≡ take (vec_capacity flight.old.frames) (under_way flight.old
+        ++ (entering impairment.old.chances.items (given_below stacks.old.items (length stacks.old.items)) impairment.old.random).0) }
+    ensures random { impairment.new.random
+        ≡ (entering impairment.old.chances.items (given_below stacks.old.items (length stacks.old.items)) impairment.old.random).1 }
+    ensures chances { impairment.new.chances ≡ impairment.old.chances }
+    ensures room { vec_capacity flight.new.frames ≡ vec_capacity flight.old.frames }
 {
     for place in 0..stacks.len() {
-        take_all(flight, place, &mut stacks[place]);
+        take_all(flight, impairment, place, &mut stacks[place]);
     }
 }
 
 /// All that goes to a host comes to it.
-fn deliver(flight: &Flight, configs: &[Config], stacks: &mut Vec<Stack>)
+fn deliver_all(due: &[Frame], configs: &[Config], stacks: &mut Vec<Stack>)
     ensures { AtEach (λ place s t. AreCalls s
-        (comes (received_in place (slice_get configs.now place) (under_way flight.now))) t) stacks.old.items stacks.new.items }
+        (comes (received_in place (slice_get configs.now place) (map flying due.now))) t) stacks.old.items stacks.new.items }
 {
     for place in 0..stacks.len() {
         if let Some(config) = configs.get(place) {
-            hand_all(flight, place, config, &mut stacks[place]);
+            hand_all(due, place, config, &mut stacks[place]);
         }
     }
 }
 
 impl Segment {
-    /// What waits in the output queues passes once: each host gives all that waits for its link, and then each packet
-    /// comes to whom its destination names, a broadcast to all others, and none to its sender. A packet that finds no
-    /// room is lost.
+    /// Each host gives all that waits for its link, from place 0 on. What becomes of a packet is drawn then, by the chances
+    /// of the host that sends it: whether it's lost; if it isn't, whether it goes twice; and in how many carries each copy
+    /// isn't due yet. A copy that finds no room is lost too.
+    pub fn collect(&mut self)
+        ensures { IsCollected (view self.old) (view self.new) }
+    {
+        collect_all(&mut self.flight, &mut self.impairment, &mut self.stacks);
+    }
+
+    /// What is due comes: each packet to whom its destination names, a broadcast to all others, and none to its sender.
+    /// Before that it's drawn for each but the last, from the first on, whether it changes places with the one after it.
+    /// What isn't due yet is a carry nearer then.
+    pub fn deliver(&mut self)
+        ensures { IsDelivered (view self.old) (view self.new) }
+    {
+        let flight = &mut self.flight;
+        flight.leave();
+        self.impairment.shuffle(&mut flight.due);
+        deliver_all(
+            flight.due.as_slice(),
+            self.configs.as_slice(),
+            &mut self.stacks,
+        );
+    }
+
+    /// What waits in the output queues passes once: `collect`, and then `deliver`.
     pub fn carry(&mut self)
         ensures { IsCarried (view self.old) (view self.new) }
     {
-        collect(&mut self.flight, &mut self.stacks);
-        deliver(&self.flight, self.configs.as_slice(), &mut self.stacks);
-        self.flight.count = 0;
+        self.collect();
+        self.deliver();
     }
 }

@@ -1,28 +1,32 @@
-//! The table of the packets that are under way.
-ghost use Rattle.std.specs.Prelude.{◌≡◌, ◌<◌, ◌+◌, vec_len, IfOk};
+//! The packets that are under way, and those that are due in a carry.
+ghost use Rattle.std.specs.Prelude.{◌≡◌, [], vec_capacity, IfOk};
 
 use crate::frame::Frame;
 use std::alloc::{AllocError, Global};
 
-/// The packets that are under way, at most as many as the table has frames but one. The last is for a packet that finds
-/// no other.
+/// The packets that are under way, at most as many as fit, and those that are due in a carry. `hand` has the packet that a
+/// host has given last, and `passed` is for use within a call.
 #[derive(Drop)]
 pub(crate) struct Flight {
     pub(crate) frames: Vec<Frame>,
-    pub(crate) count: usize,
-    ghost spare: { count < vec_len frames },
+    pub(crate) due: Vec<Frame>,
+    pub(crate) passed: Vec<Frame>,
+    pub(crate) hand: Frame,
+    ghost due_room: { vec_capacity due ≡ vec_capacity frames },
+    ghost passed_room: { vec_capacity passed ≡ vec_capacity frames },
 }
 
 impl Flight {
-    /// A table with room for so many packets.
+    /// Room for so many packets.
     pub(crate) fn new(alloc: Global, room: u16) -> Result<Flight, AllocError>
-        ensures { IfOk result (λ f. (f.count ≡ 0) × (vec_len f.frames ≡ room + 1)) }
+        ensures { IfOk result (λ f. (f.frames.items ≡ []) × (vec_capacity f.frames ≡ room)) }
     {
-        let frames_wanted = usize::from(room) + 1;
-        let mut frames = Vec::with_capacity(alloc, frames_wanted)?;
-        for _ in 0..frames_wanted {
-            frames.push(Frame::blank())?;
-        }
-        Ok(Flight { frames, count: 0 })
+        let room = usize::from(room);
+        Ok(Flight {
+            frames: Vec::with_capacity(alloc, room)?,
+            due: Vec::with_capacity(alloc, room)?,
+            passed: Vec::with_capacity(alloc, room)?,
+            hand: Frame::blank(),
+        })
     }
 }

@@ -15,10 +15,11 @@ pub(crate) const ROOM: usize = MAX_MTU as usize;
 /// The bytes of an IP header without options.
 const HEADER: usize = IP_HEADER as usize;
 
-/// A packet, and which host has sent it.
-#[derive(Drop)]
+/// A packet, which host has sent it, and for how many carries it isn't due yet.
+#[derive(Clone, Copy)]
 pub(crate) struct Frame {
     pub(crate) sender: usize,
+    pub(crate) wait: u64,
     pub(crate) len: usize,
     pub(crate) room: [u8; ROOM],
     ghost within: { len ≤ MAX_MTU },
@@ -29,6 +30,7 @@ impl Frame {
     pub(crate) fn blank() -> Frame {
         Frame {
             sender: 0,
+            wait: 0,
             len: 0,
             room: [0; ROOM],
         }
@@ -57,7 +59,8 @@ impl Frame {
 
     /// Whether the packet goes to the host at a place with this configuration.
     pub(crate) fn goes_to(&self, place: usize, config: &Config) -> bool
-        ensures { result ≡ goes_to place config.now (record { sender = self.now.sender; packet = take self.now.len self.now.room }) }
+        ensures { result ≡ goes_to place config.now
+            (record { sender = self.now.sender; packet = take self.now.len self.now.room; wait = self.now.wait }) }
     {
         let packet = self.bytes();
         self.sender != place && packet.len() >= HEADER && is_named(config, destination_of(packet))

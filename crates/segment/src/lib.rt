@@ -2,11 +2,14 @@
 #![tactic(auto)]
 
 mod carry;
+mod chances;
 mod flight;
 mod frame;
 mod laws;
+mod moves;
 mod segment;
 mod ways;
 
+pub use chances::{Chances, NO_CHANCES};
 pub use laws::hosts_on_a_segment;
 pub use segment::{JoinFault, MAX_HOSTS, Segment};

@@ -1,10 +1,12 @@
 //! A broadcast segment: its hosts, and what is under way.
-ghost use Rattle.std.specs.Prelude.{◌≡◌, ◌∷◌, [], ◌++◌, ◌+◌, length, IfOk, MatchResult};
+ghost use Rattle.std.specs.Prelude.{◌≡◌, ◌∷◌, [], ◌++◌, ◌+◌, length, nat_lt, slice_set, IfOk, MatchResult};
 ghost use Rattle.std.specs.List.{list_all};
-ghost use Rattle.segment.specs.Segment.{IsJoined, IsRefused, are_apart};
+ghost use Rattle.segment.specs.Chances.{seeded};
+ghost use Rattle.segment.specs.Segment.{IsJoined, IsRefused, are_apart, no_hosts};
 ghost use Rattle.segment.specs.Inside.{lends_stack, view, with_stack};
 ghost use Rattle.std.specs.Borrow.{sem};
 
+use crate::chances::{Chances, Impairment, NO_CHANCES, seeded};
 use crate::flight::Flight;
 use flat_model::Config;
 use net_stack::{BootFault, Stack};
@@ -35,6 +37,7 @@ pub struct Segment {
     pub(crate) configs: Vec<Config>,
     pub(crate) stacks: Vec<Stack>,
     pub(crate) flight: Flight,
+    pub(crate) impairment: Impairment,
 }
 
 /// Whether two hosts can be told apart by their addresses.
@@ -59,19 +62,23 @@ fn is_apart(config: &Config, others: &[Config]) -> bool
 }
 
 impl Segment {
-    /// A segment without hosts, with room for so many packets under way. All memory for these is taken here.
+    /// A segment without hosts, with room for so many packets under way, and the seed 1. All memory for these is taken here.
     ///
     /// # Errors
     ///
     /// Host memory was refused, and then nothing is left behind.
     pub fn new(alloc: Global, room: u16) -> Result<Segment, AllocError>
-        ensures { IfOk result (λ s. view s ≡ record { configs = []; stacks = []; flight = []; room = room }) }
+        ensures { IfOk result (λ s. view s ≡ no_hosts room) }
     {
         let flight = Flight::new(alloc, room)?;
         Ok(Segment {
             configs: Vec::new(alloc),
             stacks: Vec::new(alloc),
             flight,
+            impairment: Impairment {
+                chances: Vec::new(alloc),
+                random: seeded(1),
+            },
         })
     }
 
@@ -93,13 +100,17 @@ impl Segment {
         if !is_apart(&config, self.configs.as_slice()) {
             return Err(JoinFault::AddressTaken);
         }
-        if self.configs.reserve(1).is_err() || self.stacks.reserve(1).is_err() {
+        if self.configs.reserve(1).is_err()
+            || self.stacks.reserve(1).is_err()
+            || self.impairment.chances.reserve(1).is_err()
+        {
             return Err(JoinFault::Unbooted(BootFault::Memory));
         }
         match Stack::boot(alloc, config) {
             Ok(stack) => {
                 self.configs.push_reserved(config);
                 self.stacks.push_reserved(stack);
+                self.impairment.chances.push_reserved(NO_CHANCES);
                 Ok(())
             }
             Err(fault) => Err(JoinFault::Unbooted(fault)),
@@ -112,6 +123,27 @@ impl Segment {
         ensures* { sem 𝓛 (lends_stack self.entry place result) }
     {
         self.stacks.get_mut(place)
+    }
+
+    /// Starts the generator of all choices to come with a seed.
+    pub fn seed(&mut self, seed: u64)
+        ensures { view self.new ≡ record (view self.old) { random = seeded seed } }
+    {
+        self.impairment.random = seeded(seed);
+    }
+
+    /// Sets the chances of what the host at a place sends from now on. Whether there is such a host.
+    pub fn impair(&mut self, place: usize, chances: Chances) -> bool
+        ensures is { result ≡ nat_lt place (length (view self.old).chances) }
+        ensures set { view self.new ≡ record (view self.old) { chances = slice_set (view self.old).chances place chances } }
+    {
+        match self.impairment.chances.get_mut(place) {
+            Some(now) => {
+                *now = chances;
+                true
+            }
+            None => false,
+        }
     }
 
     /// How many hosts it has.
@@ -127,6 +159,7 @@ impl Segment {
             configs: _,
             mut stacks,
             flight: _,
+            impairment: _,
         } = self;
         while let Some(stack) = stacks.pop() {
             let _ = stack.end();

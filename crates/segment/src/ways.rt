@@ -1,40 +1,51 @@
-//! The ways of packets: from a host to the table, and from the table to a host.
-ghost use Rattle.std.specs.Prelude.{◌≡◌, ◌-◌, ◌<◌, ◌≤◌, ◌++◌, ◌∷◌, [], drop, length, take, vec_len};
+//! The ways of packets: from a host to the wire, and from the wire to a host.
+ghost use Rattle.std.specs.Prelude.{◌≡◌, ◌<◌, ◌≤◌, ◌++◌, ◌∷◌, [], drop, length, map, take, vec_capacity};
 ghost use Rattle.params.specs.declared.TheConstants.{MAX_MTU};
 ghost use Rattle.net_stack.specs.Runs.{AreCalls};
+ghost use Rattle.segment.specs.Chances.{entering};
 ghost use Rattle.segment.specs.Flying.{comes, gives, received, sent_by, waiting};
-ghost use Rattle.segment.specs.Inside.{under_way};
+ghost use Rattle.segment.specs.Inside.{flying, under_way};
 
+use crate::chances::Impairment;
 use crate::flight::Flight;
+use crate::frame::Frame;
 use flat_model::Config;
 use net_stack::Stack;
 
-/// Takes all packets that wait for the link of the host at a place. A packet that finds the table full is lost.
-pub(crate) fn take_all(flight: &mut Flight, sender: usize, stack: &mut Stack)
+/// Takes all packets that wait for the link of the host at a place. Each goes under way as its fate wants it; one that
+/// finds no room is lost.
+pub(crate) fn take_all(
+    flight: &mut Flight,
+    impairment: &mut Impairment,
+    sender: usize,
+    stack: &mut Stack,
+)
     ensures calls { AreCalls stack.old (gives (waiting stack.old)) stack.new }
-    ensures taken { under_way flight.new ≡ take (vec_len flight.old.frames - 1)
-        (under_way flight.old ++ sent_by sender (waiting stack.old)) }
-    ensures same { vec_len flight.new.frames ≡ vec_len flight.old.frames }
+    ensures taken { under_way flight.new ≡ take (vec_capacity flight.old.frames)
+        (under_way flight.old ++ (entering impairment.old.chances.items (sent_by sender (waiting stack.old)) impairment.old.random).0) }
+    ensures random { impairment.new.random ≡ (entering impairment.old.chances.items (sent_by sender (waiting stack.old)) impairment.old.random).1 }
+    ensures chances { impairment.new.chances ≡ impairment.old.chances }
+    ensures room { vec_capacity flight.new.frames ≡ vec_capacity flight.old.frames }
 {
     for _ in 0..stack.output_len() {
-        take_one(flight, sender, stack);
+        take_one(flight, impairment, sender, stack);
     }
 }
 
 /// Takes the packet that has waited longest for the link. One has to wait.
-fn take_one(flight: &mut Flight, sender: usize, stack: &mut Stack)
+fn take_one(flight: &mut Flight, impairment: &mut Impairment, sender: usize, stack: &mut Stack)
     requires { 0 < length (waiting stack.old) }
     ensures calls { AreCalls stack.old (gives (take 1 (waiting stack.old))) stack.new }
     ensures waits { waiting stack.new ≡ drop 1 (waiting stack.old) }
-    ensures taken { under_way flight.new ≡ take (vec_len flight.old.frames - 1)
-        (under_way flight.old ++ sent_by sender (take 1 (waiting stack.old))) }
-    ensures same { vec_len flight.new.frames ≡ vec_len flight.old.frames }
+    ensures taken { under_way flight.new ≡ take (vec_capacity flight.old.frames)
+        (under_way flight.old ++ (entering impairment.old.chances.items (sent_by sender (take 1 (waiting stack.old))) impairment.old.random).0) }
+    ensures random { impairment.new.random ≡ (entering impairment.old.chances.items (sent_by sender (take 1 (waiting stack.old))) impairment.old.random).1 }
+    ensures chances { impairment.new.chances ≡ impairment.old.chances }
+    ensures room { vec_capacity flight.new.frames ≡ vec_capacity flight.old.frames }
 {
-    let count = flight.count;
-    flight.frames[count].fill(sender, stack);
-    if count + 1 < flight.frames.len() {
-        flight.count = count + 1;
-    }
+    flight.hand.fill(sender, stack);
+    let fate = impairment.fate(sender);
+    flight.enter(fate);
 }
 
 /// Hands a packet to a host.
@@ -45,12 +56,12 @@ fn hand_over(stack: &mut Stack, packet: &[u8])
     stack.rx(packet);
 }
 
-/// Hands to the host at a place all packets that go to it.
-pub(crate) fn hand_all(flight: &Flight, place: usize, config: &Config, stack: &mut Stack)
-    ensures { AreCalls stack.old (comes (received place config.now (under_way flight.now))) stack.new }
+/// Hands to the host at a place all of these packets that go to it.
+pub(crate) fn hand_all(due: &[Frame], place: usize, config: &Config, stack: &mut Stack)
+    ensures { AreCalls stack.old (comes (received place config.now (map flying due.now))) stack.new }
 {
-    for at in 0..flight.count {
-        let frame = &flight.frames[at];
+    for at in 0..due.len() {
+        let frame = &due[at];
         if frame.goes_to(place, config) {
             hand_over(stack, frame.bytes());
         }

@@ -6,7 +6,7 @@ use Rattle.flat_model.specs.declared.config.Config.{Config}
 use Rattle.flat_wire.specs.Wire.{packet_out}
 use Rattle.net_stack.specs.Stack.{StackView}
 use Rattle.net_stack.specs.Wire.{AreOnOneWire}
-use Rattle.segment.specs.Segment.{SegmentView}
+use Rattle.segment.specs.Segment.{SegmentView, no_hosts}
 use Rattle.segment.specs.Law.{Act, AreOnSegment, turns_of}
 use Rattle.segment.proofs.History.{Started, began}
 use Rattle.segment.proofs.Hosts.{AreApart, AreFine, acts_fine, none_fine}
@@ -16,7 +16,7 @@ use Rattle.segment.proofs.laws.hosts_on_a_segment.Goals as goal
 on_one_wire : (room i j : ℕ) (first second : Config) (s t : StackView) (acts : List Act) (last : SegmentView) → AreOnSegment room i j first second s t acts last
     → AreOnOneWire first second (turns_of i acts) (turns_of j acts) s t
 on_one_wire room i j first second s t acts last w =
-    let start : SegmentView = record { configs = []; stacks = []; flight = []; room = room } in
+    let start : SegmentView = no_hosts room in
     let one : Started first (turns_of i acts) s = began i first s acts start last refl w.done w.first_is w.first_stack in
     let two : Started second (turns_of j acts) t = began j second t acts start last refl w.done w.second_is w.second_stack in
     let fine : AreFine last = acts_fine acts start last (none_fine room) w.done in
@@ -33,7 +33,7 @@ on_one_wire room i j first second s t acts last w =
       not_addr = apart.addr;
       not_bcast = apart.bcast;
       few = w.few;
-      wire = All-from_recursion _ _ (wires i j first.addr (λ packet. Contains (filter_map packet_out (turns_of i acts)) packet) first refl one.1 last fine w.first_is acts start w.done (none_fine room) refl (λ packet h. h)
+      wire = All-from_recursion _ _ (wires i j first.addr (λ packet. Contains (filter_map packet_out (turns_of i acts)) packet) first refl one.1 last fine w.first_is acts start w.done (none_fine room) tt (λ packet h. h)
           (recursion_from_All _ _ w.outside));
     }
 

@@ -2,6 +2,8 @@ use Rattle.std.proofs.Common.{◌∙◌, ◌∷◌, [], ◌++◌, List, arith, a
 use Rattle.std.proofs.lemmas.Grind.{common_steps}
 use Rattle.flat_model.specs.declared.config.Config.{Config}
 use Rattle.net_stack.specs.Stack.{StackView}
+use Rattle.segment.specs.Chances.{no_chances}
+use Rattle.segment.specs.declared.chances.Chances.{Chances}
 use Rattle.segment.proofs.segment.Segment.join.Goals as goal
 
 pub returns-in-Ok : goal.returns-in-Ok
@@ -15,4 +17,6 @@ returns-in-Ok c = record {
   stacks = c.push_reserved-in-Ok.ensures.items ∙ ap (λ (xs : List StackView). xs ++ c.in-Ok.stack ∷ []) c.reserve-else-is_err.ensures.items;
   flight = refl;
   room = refl;
+  chances = c.push_reserved-in-Ok-2.ensures.items ∙ ap (λ (xs : List Chances). xs ++ no_chances ∷ []) c.reserve-else-is_err-2.ensures.items;
+  random = refl;
 }

@@ -1,0 +1,56 @@
+-- Whatever is drawn, a packet that goes under way or comes is one of those that there were.
+use Rattle.std.proofs.Common.{◌≡◌, ℕ, ◌+◌, ◌-◌, Bool, true, false, List, [], ◌∷◌, ◌++◌, length, map, zero, suc, Option, None, Some, refl, sym, ap, ◌∙◌, cond, get_or}
+use Rattle.std.specs.Prelude.{filter, nat_lt, slice_get, slice_set, slice_index_or, swap}
+use Rattle.std.specs.List.{AllByRecursion as Each}
+use Rattle.rand_pcg.specs.Lcg.{Lcg}
+use Rattle.flat_model.proofs.Laws.{each-filter, each-map}
+use Rattle.segment.specs.Chances.{chances_at, copies_before, drawn, entering, fate_of, reorder_at, shuffled, shuffled_from}
+use Rattle.segment.specs.Flying.{Flying, aged, is_due, is_early}
+use Rattle.segment.specs.Segment.{SegmentView, leaving}
+use Rattle.segment.specs.declared.chances.Chances.{Chances}
+use Rattle.segment.specs.declared.chances.Fate.{Fate}
+use Rattle.segment.specs.declared.chances.Fate.TheVariants.{Lost, Once, Twice}
+
+module _ {X : Type 0} (P : X → Type 0) where
+  each_set : (xs : List X) (i : ℕ) (v : X) → Each P xs → P v → Each P (slice_set xs i v)
+  each_set [] i v h k = tt
+  each_set (x ∷ xs) zero v h k = (k, h.1)
+  each_set (x ∷ xs) (suc i) v h k = (h.0, each_set xs i v h.1 k)
+
+  at : (xs : List X) (i : ℕ) (d : X) → Each P xs → P d → P (slice_index_or xs i d)
+  at [] i d h k = k
+  at (x ∷ xs) zero d h k = h.0
+  at (x ∷ xs) (suc i) d h k = at xs i d h.1 k
+
+  pub each_swap : (xs : List X) (i j : ℕ) → Each P xs → Each P (swap xs i j)
+  each_swap [] i j h = tt
+  each_swap (d ∷ ys) i j h = each_set (slice_set (d ∷ ys) i (slice_index_or (d ∷ ys) j d)) j (slice_index_or (d ∷ ys) i d)
+      (each_set (d ∷ ys) i (slice_index_or (d ∷ ys) j d) h (at (d ∷ ys) j d h h.0)) (at (d ∷ ys) i d h h.0)
+
+module _ (Q : List ℕ → Type 0) where
+  abbrev Fly : List Flying → Type 0
+  Fly = Each (λ (f : Flying). Q f.packet)
+
+  each_copies : (fate : Fate) (f : Flying) (later : List Flying) → Q f.packet → Fly later → Fly (copies_before fate f later)
+  each_copies Lost f later q h = h
+  each_copies (Once wait) f later q h = (q, h)
+  each_copies (Twice first second) f later q h = (q, (q, h))
+
+  pub each_entering : (chances : List Chances) (fs : List Flying) (g : Lcg) → Fly fs → Fly (entering chances fs g).0
+  each_entering chances [] g h = tt
+  each_entering chances (f ∷ fs) g h = each_copies (fate_of (chances_at chances f.sender) g).0 f (entering chances fs (fate_of (chances_at chances f.sender) g).1).0 h.0
+      (each_entering chances fs (fate_of (chances_at chances f.sender) g).1 h.1)
+
+  each_shuffled : (chances : List Chances) (n place : ℕ) (fs : List Flying) (g : Lcg) → Fly fs → Fly (shuffled_from chances n place fs g).0
+  each_shuffled chances zero place fs g h = h
+  each_shuffled chances (suc n) place fs g h = each_shuffled chances n (place + 1) (cond (nat_lt (drawn g).0 (reorder_at chances (slice_get fs place))) (swap fs place (place + 1)) fs) (drawn g).1 (go (nat_lt (drawn g).0 (reorder_at chances (slice_get fs place))))
+    where
+      go : (b : Bool) → Fly (cond b (swap fs place (place + 1)) fs)
+      go true = each_swap (λ (f : Flying). Q f.packet) fs place (place + 1) h
+      go false = h
+
+  pub each_leaving : (v : SegmentView) → Fly v.flight → Fly (leaving v).0
+  each_leaving v h = each_shuffled v.chances (length (filter is_due v.flight) - 1) 0 (filter is_due v.flight) v.random (each-filter (λ (f : Flying). Q f.packet) is_due v.flight h)
+
+  pub each_stay : (fs : List Flying) → Fly fs → Fly (map aged (filter is_early fs))
+  each_stay fs h = each-map (λ (f : Flying). Q f.packet) aged (λ f q. q) (filter is_early fs) (each-filter (λ (f : Flying). Q f.packet) is_early fs h)

@@ -1,0 +1,12 @@
+use Rattle.std.proofs.Common.{ap, refl}
+use Rattle.segment.proofs.segment.Segment.collect.Goals as goal
+
+pub returns : goal.returns
+returns c = record {
+  configs = refl;
+  room = c.collect_all.ensures.room;
+  chances = ap (λ v. v.items) c.collect_all.ensures.chances;
+  flight = c.collect_all.ensures.taken;
+  random = c.collect_all.ensures.random;
+  hosts = c.collect_all.ensures.hosts;
+}
