@@ -1,9 +1,9 @@
 -- Whatever is drawn, a packet that goes under way or comes is one of those that there were.
-use Rattle.std.proofs.Common.{◌≡◌, ℕ, ◌+◌, ◌-◌, Bool, true, false, List, [], ◌∷◌, ◌++◌, length, map, zero, suc, Option, None, Some, refl, sym, ap, ◌∙◌, cond, get_or}
-use Rattle.std.specs.Prelude.{filter, nat_lt, slice_get, slice_set, slice_index_or, swap}
+use Rattle.std.proofs.Common.{◌≡◌, ℕ, ◌+◌, ◌-◌, Bool, true, false, List, [], ◌∷◌, ◌++◌, length, map, take, drop, zero, suc, Option, None, Some, refl, sym, ap, ◌∙◌, cond, get_or}
+use Rattle.std.specs.Prelude.{filter, nat_lt, slice_get, slice_set, slice_index_or, swap, remove, option_to_list}
 use Rattle.std.specs.List.{AllByRecursion as Each}
 use Rattle.rand_pcg.specs.Lcg.{Lcg}
-use Rattle.flat_model.proofs.Laws.{each-filter, each-map}
+use Rattle.flat_model.proofs.Laws.{each-append, each-filter, each-map, each-take}
 use Rattle.segment.specs.Chances.{chances_at, copies_before, drawn, entering, fate_of, reorder_at, shuffled, shuffled_from}
 use Rattle.segment.specs.Flying.{Flying, aged, is_due, is_early}
 use Rattle.segment.specs.Segment.{SegmentView, leaving}
@@ -54,3 +54,26 @@ module _ (Q : List ℕ → Type 0) where
 
   pub each_stay : (fs : List Flying) → Fly fs → Fly (map aged (filter is_early fs))
   each_stay fs h = each-map (λ (f : Flying). Q f.packet) aged (λ f q. q) (filter is_early fs) (each-filter (λ (f : Flying). Q f.packet) is_early fs h)
+
+  -- ---- by hand
+
+  each_drop : (n : ℕ) (fs : List Flying) → Fly fs → Fly (drop n fs)
+  each_drop zero fs h = h
+  each_drop (suc n) [] h = tt
+  each_drop (suc n) (f ∷ fs) h = each_drop n fs h.1
+
+  each_got : (fs : List Flying) (place : ℕ) → Fly fs → Fly (option_to_list (slice_get fs place))
+  each_got [] place h = tt
+  each_got (f ∷ fs) zero h = (h.0, tt)
+  each_got (f ∷ fs) (suc place) h = each_got fs place h.1
+
+  pub each_lost : (place : ℕ) (fs : List Flying) → Fly fs → Fly (remove fs place)
+  each_lost place fs h = each-append (λ (f : Flying). Q f.packet) (take place fs) (drop (suc place) fs) (each-take (λ (f : Flying). Q f.packet) place fs h) (each_drop (suc place) fs h)
+
+  pub each_repeated : (room place : ℕ) (fs : List Flying) → Fly fs → Fly (take room (fs ++ option_to_list (slice_get fs place)))
+  each_repeated room place fs h = each-take (λ (f : Flying). Q f.packet) room (fs ++ option_to_list (slice_get fs place))
+      (each-append (λ (f : Flying). Q f.packet) fs (option_to_list (slice_get fs place)) h (each_got fs place h))
+
+  pub each_swapped : (both : Bool) (place other : ℕ) (fs : List Flying) → Fly fs → Fly (cond both (swap fs place other) fs)
+  each_swapped true place other fs h = each_swap (λ (f : Flying). Q f.packet) fs place other h
+  each_swapped false place other fs h = h

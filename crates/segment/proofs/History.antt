@@ -11,7 +11,7 @@ use Rattle.net_stack.specs.Stack.{StackView, state_of}
 use Rattle.net_stack.specs.Runs.{AreCalls}
 use Rattle.segment.specs.Flying.{Flying, comes, gives, waiting}
 use Rattle.segment.specs.Segment.{SegmentView, AreBoth, AtEach, IsCollected, IsDelivered, IsJoined, leaving, received_in, waiting_in}
-use Rattle.segment.specs.Law.{Act, Joins, Calls, Collects, Delivers, Impairs, Seeds, IsCalled, AreActs, turns_in, turns_of}
+use Rattle.segment.specs.Law.{Act, Joins, Calls, Collects, Delivers, Impairs, Seeds, Loses, Repeats, Swaps, IsCalled, AreActs, turns_in, turns_of}
 use Rattle.segment.proofs.Taking.{then_calls}
 use Rattle.segment.proofs.Walking.{below_or, get_set_same, get_set_other, get_past}
 
@@ -177,5 +177,14 @@ module _ (k : ℕ) (c : Config) (t : StackView) where
       subst (λ (w : SegmentView). Begins c (turns_of k acts) t (slice_get w.configs k) (slice_get w.stacks k)) is
       (began acts mid last (subst (λ (w : SegmentView). length w.configs ≡ length w.stacks) (sym is) even) done is_c is_t)
   began (Seeds seed ∷ acts) v last even (mid, is, done) is_c is_t =
+      subst (λ (w : SegmentView). Begins c (turns_of k acts) t (slice_get w.configs k) (slice_get w.stacks k)) is
+      (began acts mid last (subst (λ (w : SegmentView). length w.configs ≡ length w.stacks) (sym is) even) done is_c is_t)
+  began (Loses at ∷ acts) v last even (mid, is, done) is_c is_t =
+      subst (λ (w : SegmentView). Begins c (turns_of k acts) t (slice_get w.configs k) (slice_get w.stacks k)) is
+      (began acts mid last (subst (λ (w : SegmentView). length w.configs ≡ length w.stacks) (sym is) even) done is_c is_t)
+  began (Repeats at ∷ acts) v last even (mid, is, done) is_c is_t =
+      subst (λ (w : SegmentView). Begins c (turns_of k acts) t (slice_get w.configs k) (slice_get w.stacks k)) is
+      (began acts mid last (subst (λ (w : SegmentView). length w.configs ≡ length w.stacks) (sym is) even) done is_c is_t)
+  began (Swaps at other ∷ acts) v last even (mid, is, done) is_c is_t =
       subst (λ (w : SegmentView). Begins c (turns_of k acts) t (slice_get w.configs k) (slice_get w.stacks k)) is
       (began acts mid last (subst (λ (w : SegmentView). length w.configs ≡ length w.stacks) (sym is) even) done is_c is_t)

@@ -16,7 +16,7 @@ use Rattle.net_stack.specs.Stack.{StackView, state_of}
 use Rattle.net_stack.specs.Runs.{AreCalls}
 use Rattle.segment.specs.Flying.{comes, gives, waiting}
 use Rattle.segment.specs.Segment.{SegmentView, AreBoth, AtEach, IsCollected, IsDelivered, IsJoined, are_apart, leaving, no_hosts, received_in, waiting_in}
-use Rattle.segment.specs.Law.{Act, Joins, Calls, Collects, Delivers, Impairs, Seeds, IsAct, IsCalled, AreActs}
+use Rattle.segment.specs.Law.{Act, Joins, Calls, Collects, Delivers, Impairs, Seeds, Loses, Repeats, Swaps, IsAct, IsCalled, AreActs}
 use Rattle.segment.proofs.Sources.{IsOwn, IsSourced, boot_sourced, calls_sourced}
 use Rattle.segment.proofs.Walking.{get_set_same, get_set_other}
 use Rattle.segment.proofs.History.{AtEach-length, get_front, get_within, length-last}
@@ -154,6 +154,9 @@ act_fine (Collects found) old new fine is = went_on old new (λ place s. gives (
 act_fine (Delivers found) old new fine is = went_on old new (λ place s. comes (received_in place (slice_get old.configs place) (leaving old).0)) fine is.1.configs is.1.hosts
 act_fine (Impairs place chances) old new fine is = subst AreFine (sym is) (record { even = fine.even; sourced = fine.sourced; booted = fine.booted; apart = fine.apart })
 act_fine (Seeds seed) old new fine is = subst AreFine (sym is) (record { even = fine.even; sourced = fine.sourced; booted = fine.booted; apart = fine.apart })
+act_fine (Loses place) old new fine is = subst AreFine (sym is) (record { even = fine.even; sourced = fine.sourced; booted = fine.booted; apart = fine.apart })
+act_fine (Repeats place) old new fine is = subst AreFine (sym is) (record { even = fine.even; sourced = fine.sourced; booted = fine.booted; apart = fine.apart })
+act_fine (Swaps place other) old new fine is = subst AreFine (sym is) (record { even = fine.even; sourced = fine.sourced; booted = fine.booted; apart = fine.apart })
 
 pub acts_fine : (acts : List Act) (v last : SegmentView) → AreFine v → AreActs v acts last → AreFine last
 acts_fine [] v last fine e = subst AreFine (sym e) fine
@@ -167,6 +170,9 @@ stays (Collects found) old new k c is e = ap (λ xs. slice_get xs k) is.1.config
 stays (Delivers found) old new k c is e = ap (λ xs. slice_get xs k) is.1.configs ∙ e
 stays (Impairs place chances) old new k c is e = ap (λ (w : SegmentView). slice_get w.configs k) is ∙ e
 stays (Seeds seed) old new k c is e = ap (λ (w : SegmentView). slice_get w.configs k) is ∙ e
+stays (Loses place) old new k c is e = ap (λ (w : SegmentView). slice_get w.configs k) is ∙ e
+stays (Repeats place) old new k c is e = ap (λ (w : SegmentView). slice_get w.configs k) is ∙ e
+stays (Swaps place other) old new k c is e = ap (λ (w : SegmentView). slice_get w.configs k) is ∙ e
 
 pub remains : (acts : List Act) (v last : SegmentView) (k : ℕ) (c : Config) → AreActs v acts last → slice_get v.configs k ≡ Some c → slice_get last.configs k ≡ Some c
 remains [] v last k c done e = ap (λ (w : SegmentView). slice_get w.configs k) done ∙ e

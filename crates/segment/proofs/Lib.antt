@@ -4,6 +4,8 @@ mod Giving
 mod Entering
 mod Frames
 mod Choosing
+mod Carries
+mod Changing
 mod History
 mod Sources
 mod Hosts

@@ -1,6 +1,6 @@
 -- What comes to a host of a segment from another's address is what that gave.
 use Rattle.std.proofs.Common.{◌≡◌, ◌≢◌, ◌⊎◌, inl, inr, ℕ, List, [], ◌∷◌, ◌++◌, length, zero, suc, Bool, true, false, Option, None, Some, refl, sym, ap, ◌∙◌, subst, arith, append_assoc}
-use Rattle.std.specs.Prelude.{slice_get, ◌==◌, if◌then◌else◌, Contains, filter_map}
+use Rattle.std.specs.Prelude.{slice_get, ◌==◌, ◌&&◌, nat_lt, if◌then◌else◌, Contains, filter_map}
 use Rattle.std.specs.List.{AllByRecursion as Each, cons_option}
 use Rattle.std.proofs.lemmas.Bool.Decides.{eqb_tells}
 use Rattle.std.proofs.lemmas.List.Elements.{filter_map-append}
@@ -12,9 +12,9 @@ use Rattle.flat_wire.specs.Wire.{ComesFrom, packet_in, packet_out}
 use Rattle.net_stack.specs.Stack.{StackView}
 use Rattle.segment.specs.Flying.{Flying, comes, gives, goes_to, received, sent_by}
 use Rattle.segment.specs.Segment.{SegmentView, IsCollected, IsDelivered, collected, given_below, leaving, received_in, waiting_in}
-use Rattle.segment.proofs.Choosing.{each_entering, each_leaving, each_stay}
+use Rattle.segment.proofs.Choosing.{each_entering, each_leaving, each_lost, each_repeated, each_stay, each_swapped}
 use Rattle.segment.proofs.Hosts.{AreFine, act_fine, none_from, remains}
-use Rattle.segment.specs.Law.{Act, Joins, Calls, Collects, Delivers, Impairs, Seeds, AreActs, called_in, called_of, turns_in, turns_of}
+use Rattle.segment.specs.Law.{Act, Joins, Calls, Collects, Delivers, Impairs, Seeds, Loses, Repeats, Swaps, AreActs, called_in, called_of, turns_in, turns_of}
 
 -- the packets that turns gave out, and those that came in them
 abbrev out : List Turn → List (List ℕ)
@@ -144,3 +144,6 @@ module _ (i j a : ℕ) (G : List ℕ → Type 0) where
         (wires acts mid done (act_fine (Delivers found) v mid fine (found_is, is)) (subst Fly (sym is.flight) (each_stay P v.flight flies)) (up_later (Delivers found) acts up) outside))
     wires (Impairs place chances ∷ acts) v (mid, is, done) fine flies up outside = wires acts mid done (act_fine (Impairs place chances) v mid fine is) (subst (λ (w : SegmentView). Fly w.flight) (sym is) flies) (up_later (Impairs place chances) acts up) outside
     wires (Seeds seed ∷ acts) v (mid, is, done) fine flies up outside = wires acts mid done (act_fine (Seeds seed) v mid fine is) (subst (λ (w : SegmentView). Fly w.flight) (sym is) flies) (up_later (Seeds seed) acts up) outside
+    wires (Loses place ∷ acts) v (mid, is, done) fine flies up outside = wires acts mid done (act_fine (Loses place) v mid fine is) (subst (λ (w : SegmentView). Fly w.flight) (sym is) (each_lost P place v.flight flies)) (up_later (Loses place) acts up) outside
+    wires (Repeats place ∷ acts) v (mid, is, done) fine flies up outside = wires acts mid done (act_fine (Repeats place) v mid fine is) (subst (λ (w : SegmentView). Fly w.flight) (sym is) (each_repeated P v.room place v.flight flies)) (up_later (Repeats place) acts up) outside
+    wires (Swaps place other ∷ acts) v (mid, is, done) fine flies up outside = wires acts mid done (act_fine (Swaps place other) v mid fine is) (subst (λ (w : SegmentView). Fly w.flight) (sym is) (each_swapped P (nat_lt place (length v.flight) && nat_lt other (length v.flight)) place other v.flight flies)) (up_later (Swaps place other) acts up) outside

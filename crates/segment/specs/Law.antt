@@ -10,11 +10,12 @@ use Rattle.net_stack.specs.Runs.{AreCalls}
 use Rattle.segment.specs.Flying.{comes, gives}
 use Rattle.segment.specs.Chances.{seeded}
 use Rattle.segment.specs.declared.chances.Chances.{Chances}
-use Rattle.segment.specs.Segment.{SegmentView, IsCollected, IsDelivered, IsJoined, leaving, no_hosts, received_in, waiting_in}
+use Rattle.segment.specs.Segment.{SegmentView, IsCollected, IsDelivered, IsJoined, leaving, lost_at, no_hosts, repeated_at, swapped_at, received_in, waiting_in}
 
 -- what was done: a host joined, a call was made on the host at a place, what waited was collected or what was due was
 -- delivered by a segment that was found so, the chances of what the
--- host at a place sends were set, or the generator was started with a seed
+-- host at a place sends were set, the generator was started with a seed, or packets under
+-- way were lost, repeated or put in each other's place by hand
 pub data Act : Type 0 where
   Joins : (config : Config) → Act
   Calls : (place : ℕ) (turn : Turn) → Act
@@ -22,6 +23,9 @@ pub data Act : Type 0 where
   Delivers : (found : SegmentView) → Act
   Impairs : (place : ℕ) (chances : Chances) → Act
   Seeds : (seed : ℕ) → Act
+  Loses : (place : ℕ) → Act
+  Repeats : (place : ℕ) → Act
+  Swaps : (place other : ℕ) → Act
 
 -- a call on the stack of the host at a place
 pub record IsCalled (place : ℕ) (turn : Turn) (old new : SegmentView) : Type 0 where
@@ -43,6 +47,9 @@ IsAct old (Collects found) new = (found ≡ old) × IsCollected old new
 IsAct old (Delivers found) new = (found ≡ old) × IsDelivered old new
 IsAct old (Impairs place chances) new = new ≡ record old { chances = slice_set old.chances place chances }
 IsAct old (Seeds seed) new = new ≡ record old { random = seeded seed }
+IsAct old (Loses place) new = new ≡ lost_at place old
+IsAct old (Repeats place) new = new ≡ repeated_at place old
+IsAct old (Swaps place other) new = new ≡ swapped_at place other old
 
 -- these acts, one after another, make the first segment the last
 abbrev pub AreActs : SegmentView → List Act → SegmentView → Type 0
@@ -57,6 +64,9 @@ turns_in place (Collects v) = gives (waiting_in (slice_get v.stacks place))
 turns_in place (Delivers v) = comes (received_in place (slice_get v.configs place) (leaving v).0)
 turns_in place (Impairs other chances) = []
 turns_in place (Seeds seed) = []
+turns_in place (Loses at) = []
+turns_in place (Repeats at) = []
+turns_in place (Swaps at other) = []
 
 -- all turns of the host at a place, in their order
 abbrev pub turns_of : ℕ → List Act → List Turn

@@ -1,6 +1,7 @@
 -- What a segment shows, and what its calls make of it (this project's own).
-use Rattle.std.specs.Prelude.{◌≡◌, ℕ, zero, suc, ◌<◌, ◌≤◌, Bool, true, false, ◌==◌, ◌&&◌, not, List, [], ◌∷◌, ◌++◌, length, map, filter, take, slice_get, Option, Some, None}
+use Rattle.std.specs.Prelude.{◌≡◌, ℕ, zero, suc, ◌<◌, ◌≤◌, Bool, true, false, ◌==◌, ◌&&◌, not, List, [], ◌∷◌, ◌++◌, length, map, filter, take, slice_get, nat_lt, if◌then◌else◌, remove, swap, option_to_list, Option, Some, None}
 use Rattle.std.specs.List.{list_all}
+use Rattle.flat_model.specs.Amounts.Choice.{Choice}
 use Rattle.flat_model.specs.Machine.State.{IsConfig, boot}
 use Rattle.flat_model.specs.declared.config.Config.{Config}
 use Rattle.net_stack.specs.Stack.{StackView, state_of}
@@ -82,6 +83,35 @@ pub record IsDelivered (old new : SegmentView) : Type 0 where
 -- a carry is both
 abbrev pub IsCarried : SegmentView → SegmentView → Type 0
 IsCarried old new = (mid : SegmentView) × IsCollected old mid × IsDelivered mid new
+
+-- nothing waits for its link
+abbrev pub is_silent : StackView → Bool
+is_silent s = length (state_of s).output == 0
+
+-- nothing is under way, and nothing waits for a link
+abbrev pub is_quiet : SegmentView → Bool
+is_quiet v = (length v.flight == 0) && list_all is_silent v.stacks
+
+-- carries, one after another, as long as something is left, and at most so many
+abbrev pub AreCarried : ℕ → SegmentView → SegmentView → Type 0
+AreCarried zero old new = new ≡ old
+AreCarried (suc n) old new = Choice (is_quiet old) (new ≡ old) ((mid : SegmentView) × IsCarried old mid × AreCarried n mid new)
+
+-- ---- by hand
+
+-- the packet at a place is lost
+abbrev pub lost_at : ℕ → SegmentView → SegmentView
+lost_at place v = record v { flight = remove v.flight place }
+
+-- a copy of it goes under way behind all others, if there is room
+abbrev pub repeated_at : ℕ → SegmentView → SegmentView
+repeated_at place v = record v { flight = take v.room (v.flight ++ option_to_list (slice_get v.flight place)) }
+
+-- two packets change places, if both are there
+abbrev pub swapped_at : ℕ → ℕ → SegmentView → SegmentView
+swapped_at place other v = record v { flight = if nat_lt place (length v.flight) && nat_lt other (length v.flight) then swap v.flight place other else v.flight }
+
+-- ---- joining
 
 -- two hosts can be told apart: neither has the other's address, nor its broadcast address
 abbrev pub are_apart : Config → Config → Bool

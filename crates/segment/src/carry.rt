@@ -1,9 +1,10 @@
 //! What waits in the output queues passes.
 ghost use Rattle.std.specs.Prelude.{◌≡◌, ◌-◌, ◌++◌, [], length, map, slice_get, take, vec_capacity};
+ghost use Rattle.std.specs.List.{list_all};
 ghost use Rattle.net_stack.specs.Runs.{AreCalls};
 ghost use Rattle.segment.specs.Chances.{entering};
 ghost use Rattle.segment.specs.Flying.{comes, gives, waiting};
-ghost use Rattle.segment.specs.Segment.{AtEach, IsCarried, IsCollected, IsDelivered, given_below, received_in};
+ghost use Rattle.segment.specs.Segment.{AreCarried, AtEach, IsCarried, IsCollected, IsDelivered, given_below, is_quiet, is_silent, received_in};
 ghost use Rattle.segment.specs.Inside.{flying, under_way, view};
 
 use crate::chances::Impairment;
@@ -13,6 +14,20 @@ use crate::segment::Segment;
 use crate::ways::{hand_all, take_all};
 use flat_model::Config;
 use net_stack::Stack;
+
+/// Whether no packet waits for the link of any of these.
+fn nothing_waits(stacks: &[Stack]) -> bool
+    ensures { result ≡ list_all is_silent stacks.now }
+{
+    let mut rest = stacks;
+    while let [stack, left @ ..] = rest {
+        if stack.output_len() != 0 {
+            return false;
+        }
+        rest = left;
+    }
+    true
+}
 
 /// Each host gives all that waits for its link.
 fn collect_all(flight: &mut Flight, impairment: &mut Impairment, stacks: &mut Vec<Stack>)
@@ -73,5 +88,26 @@ impl Segment {
     {
         self.collect();
         self.deliver();
+    }
+
+    /// Whether nothing is under way, and nothing waits for a link.
+    pub fn is_quiet(&self) -> bool
+        ensures { result ≡ is_quiet (view self.now) }
+    {
+        self.flight.frames.is_empty() && nothing_waits(self.stacks.as_slice())
+    }
+
+    /// Carries until nothing is under way and nothing waits for a link, but at most so many times. Whether nothing is left.
+    pub fn carry_all(&mut self, most: u32) -> bool
+        ensures carried { AreCarried most (view self.old) (view self.new) }
+        ensures quiet { result ≡ is_quiet (view self.new) }
+    {
+        for _ in 0..most {
+            if self.is_quiet() {
+                return true;
+            }
+            self.carry();
+        }
+        self.is_quiet()
     }
 }

@@ -5,11 +5,13 @@ mod carry;
 mod chances;
 mod flight;
 mod frame;
+mod hand;
 mod laws;
 mod moves;
 mod segment;
 mod ways;
 
 pub use chances::{Chances, NO_CHANCES};
+pub use hand::UnderWay;
 pub use laws::hosts_on_a_segment;
 pub use segment::{JoinFault, MAX_HOSTS, Segment};

@@ -1,0 +1,79 @@
+//! What is done by hand to the packets that are under way, and what is shown of them.
+ghost use Rattle.std.specs.Prelude.{◌≡◌, ◌&&◌, length, nat_lt, slice_get, MatchOption, None, Some};
+ghost use Rattle.segment.specs.Segment.{lost_at, repeated_at, swapped_at};
+ghost use Rattle.segment.specs.Inside.{view};
+
+use crate::segment::Segment;
+
+/// A packet that is under way.
+#[derive(Clone, Copy, Debug, PartialEq, Eq)]
+pub struct UnderWay<'a> {
+    /// The place of the host that has sent it.
+    pub sender: usize,
+    /// In how many carries it isn't due yet.
+    pub wait: u64,
+    /// Its bytes, with its IP header first.
+    pub packet: &'a [u8],
+}
+
+impl Segment {
+    /// How many packets are under way. They have places of their own, from 0 on, in the order in which they went.
+    pub fn flight_len(&self) -> usize
+        ensures { result ≡ length (view self.now).flight }
+    {
+        self.flight.frames.len()
+    }
+
+    /// The packet under way at a place. `None` if there is no such packet.
+    pub fn under_way(&self, at: usize) -> Option<UnderWay<'_>>
+        ensures { MatchOption result (slice_get (view self.now).flight at ≡ None) (λ shown.
+            slice_get (view self.now).flight at ≡ Some (record { sender = shown.sender; packet = shown.packet.now; wait = shown.wait })) }
+    {
+        let frame = self.flight.frames.get(at)?;
+        Some(UnderWay {
+            sender: frame.sender,
+            wait: frame.wait,
+            packet: frame.bytes(),
+        })
+    }
+
+    /// The packet under way at a place is lost. Whether there was one.
+    pub fn lose(&mut self, at: usize) -> bool
+        ensures is { result ≡ nat_lt at (length (view self.old).flight) }
+        ensures lost { view self.new ≡ lost_at at (view self.old) }
+    {
+        if at >= self.flight.frames.len() {
+            return false;
+        }
+        self.flight.frames.remove(at);
+        true
+    }
+
+    /// A copy of the packet under way at a place goes behind all others. Whether there was one, and room for a copy.
+    pub fn repeat(&mut self, at: usize) -> bool
+        ensures is { result ≡ (nat_lt at (length (view self.old).flight) && nat_lt (length (view self.old).flight) (view self.old).room) }
+        ensures repeated { view self.new ≡ repeated_at at (view self.old) }
+    {
+        if at >= self.flight.frames.len() {
+            return false;
+        }
+        if self.flight.frames.len() >= self.flight.frames.capacity() {
+            return false;
+        }
+        let copy = self.flight.frames[at];
+        self.flight.frames.push_reserved(copy);
+        true
+    }
+
+    /// Two packets under way change places. Whether there were both.
+    pub fn swap(&mut self, at: usize, other: usize) -> bool
+        ensures is { result ≡ (nat_lt at (length (view self.old).flight) && nat_lt other (length (view self.old).flight)) }
+        ensures swapped { view self.new ≡ swapped_at at other (view self.old) }
+    {
+        if at >= self.flight.frames.len() || other >= self.flight.frames.len() {
+            return false;
+        }
+        self.flight.frames.swap(at, other);
+        true
+    }
+}
