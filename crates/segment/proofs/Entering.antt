@@ -3,6 +3,8 @@ use Rattle.std.proofs.Common.{◌≡◌, ℕ, List, [], ◌∷◌, ◌++◌, tak
 use Rattle.rand_pcg.specs.Lcg.{Lcg}
 use Rattle.segment.specs.Chances.{chances_at, copies_before, entering, fate_of}
 use Rattle.segment.specs.Flying.{Flying}
+use Rattle.segment.specs.Tallies.{counts, tallied}
+use Rattle.segment.specs.declared.tally.Tally.{Tally}
 use Rattle.segment.specs.declared.chances.Chances.{Chances}
 use Rattle.segment.specs.declared.chances.Fate.{Fate}
 use Rattle.segment.specs.declared.chances.Fate.TheVariants.{Lost, Once, Twice}
@@ -23,8 +25,13 @@ entering-append chances (x ∷ xs) ys g =
     ap (λ (r : List Flying × Lcg). (copies_before fate.0 x r.0, r.1)) (entering-append chances xs ys fate.1)
     ∙ ap (λ (fs : List Flying). (fs, back.1)) (copies-append fate.0 x front.0 back.0)
 
+tallied-append : (chances : List Chances) (xs ys : List Flying) (g : Lcg) (tallies : List Tally) → tallied chances (xs ++ ys) g tallies ≡ tallied chances ys (entering chances xs g).1 (tallied chances xs g tallies)
+tallied-append chances [] ys g tallies = refl
+tallied-append chances (x ∷ xs) ys g tallies = tallied-append chances xs ys (fate_of (chances_at chances x.sender) g).1 (counts x.sender (fate_of (chances_at chances x.sender) g).0 tallies)
+
 -- these packets went under way, behind the first ones, as far as there was room
-pub record Entered (room : ℕ) (chances : List Chances) (first last : List Flying) (g h : Lcg) (fs : List Flying) : Type 0 where
+pub record Entered (room : ℕ) (chances : List Chances) (first last : List Flying) (g h : Lcg) (before after : List Tally) (fs : List Flying) : Type 0 where
+  pub tallies : after ≡ tallied chances fs g before
   pub taken : last ≡ take room (first ++ (entering chances fs g).0)
   pub random : h ≡ (entering chances fs g).1
 
@@ -35,17 +42,23 @@ take_short room first short = short ∙ ap (take room) (sym (append_nil first))
     append_nil [] = refl
     append_nil (x ∷ xs) = ap (λ ys. x ∷ ys) (append_nil xs)
 
-pub none_entered : (room : ℕ) (chances : List Chances) (first : List Flying) (g : Lcg) → first ≡ take room first → Entered room chances first first g g []
-none_entered room chances first g short = record { taken = take_short room first short; random = refl }
+pub none_entered : (room : ℕ) (chances : List Chances) (first : List Flying) (g : Lcg) (tallies : List Tally) → first ≡ take room first → Entered room chances first first g g tallies tallies []
+none_entered room chances first g tallies short = record { tallies = refl; taken = take_short room first short; random = refl }
 
-pub entered_more : (room now : ℕ) (chances those : List Chances) (first mid last : List Flying) (g k h : Lcg) (xs ys zs : List Flying) → now ≡ room → those ≡ chances
-    → Entered room chances first mid g k xs → Entered now those mid last k h ys → zs ≡ xs ++ ys → Entered room chances first last g h zs
-entered_more room now chances those first mid last g k h xs ys zs same equal before one is =
+pub entered_more : (room now : ℕ) (chances those : List Chances) (first mid last : List Flying) (g k h : Lcg) (old some all : List Tally) (xs ys zs : List Flying) → now ≡ room → those ≡ chances
+    → Entered room chances first mid g k old some xs → Entered now those mid last k h some all ys → zs ≡ xs ++ ys → Entered room chances first last g h old all zs
+entered_more room now chances those first mid last g k h old some whole xs ys zs same equal before one is =
     let all : entering chances zs g ≡ ((entering chances xs g).0 ++ (entering chances ys (entering chances xs g).1).0, (entering chances ys (entering chances xs g).1).1) =
     ap (λ (fs : List Flying). entering chances fs g) is ∙ entering-append chances xs ys g in
     let more : List Flying × Lcg = entering chances ys (entering chances xs g).1 in
     let here : entering those ys k ≡ more = ap (λ (cs : List Chances). entering cs ys k) equal ∙ ap (entering chances ys) before.random in
     record {
+      tallies = one.tallies
+          ∙ ap (λ (cs : List Chances). tallied cs ys k some) equal
+          ∙ ap (λ (r : Lcg). tallied chances ys r some) before.random
+          ∙ ap (tallied chances ys (entering chances xs g).1) before.tallies
+          ∙ sym (tallied-append chances xs ys g old)
+          ∙ ap (λ (fs : List Flying). tallied chances fs g old) (sym is);
       taken = one.taken
           ∙ ap (λ n. take n (mid ++ (entering those ys k).0)) same
           ∙ ap (λ (m : List Flying). take room (m ++ (entering those ys k).0)) before.taken

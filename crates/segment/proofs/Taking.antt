@@ -1,8 +1,8 @@
 -- Packets that wait, taken one by one.
-use Rattle.std.proofs.Common.{◌≡◌, ℕ, ◌+◌, ◌<◌, Bool, true, false, List, [], ◌∷◌, ◌++◌, length, map, take, drop, get_or, zero, suc, Option, None, Some, refl, sym, ap, ◌∙◌, subst, arith, append_assoc}
+use Rattle.std.proofs.Common.{◌≡◌, ℕ, ◌+◌, ◌<◌, Bool, true, false, List, [], ◌∷◌, ◌++◌, length, map, take, drop, get_or, zero, suc, Option, None, Some, refl, sym, ap, ◌∙◌, subst, arith, append_assoc, cond}
 use Rattle.std.specs.Prelude.{if◌then◌else◌}
 use Rattle.std.specs.List.{AllByRecursion as Each, cons_option}
-use Rattle.std.proofs.lemmas.List.{map-append, take_more}
+use Rattle.std.proofs.lemmas.List.{length-append, map-append, take_more}
 use Rattle.std.proofs.lemmas.List.Elements.{All-from_recursion, filter_map-append}
 use Rattle.flat_model.specs.declared.config.Config.{Config}
 use Rattle.segment.specs.Flying.{Flying, gives, comes, received, sent_by, goes_to}
@@ -95,3 +95,16 @@ come_goes place c f s t u bytes is same end calls = subst (λ (b : Bool). AreCal
 
 pub come_not : (place : ℕ) (c : Config) (f : Flying) (s t : StackView) → goes_to place c f ≡ false → t ≡ s → AreCalls s (comes (if_goes place c f)) t
 come_not place c f s t is same = subst (λ (b : Bool). AreCalls s (comes (cons_option (if b then Some f.packet else None) [])) t) (sym is) same
+
+-- how many packets go there, with one more looked at
+pub counted_next : (place : ℕ) (c : Config) (i : ℕ) (frames : List Frame) (frame : Frame) (n m : ℕ) (goes : Bool) → i < length frames → frame ≡ get_or frames i frame
+    → n ≡ length (received place c (map flying (take i frames))) → goes ≡ goes_to place c (flying frame) → m ≡ cond goes (n + 1) n
+    → m ≡ length (received place c (map flying (take (i + 1) frames)))
+counted_next place c i frames frame n m goes within is before test after = go goes test after
+  where
+    all : length (received place c (map flying (take (i + 1) frames))) ≡ length (received place c (map flying (take i frames))) + length (if_goes place c (flying frame))
+    all = ap length (received_next place c i frames frame within is) ∙ length-append (received place c (map flying (take i frames))) (if_goes place c (flying frame))
+
+    go : (b : Bool) → b ≡ goes_to place c (flying frame) → m ≡ cond b (n + 1) n → m ≡ length (received place c (map flying (take (i + 1) frames)))
+    go true e h = let one : length (if_goes place c (flying frame)) ≡ 1 = ap (λ b. length (cons_option (cond b (Some (flying frame).packet) None) [])) (sym e) in omega (arith, all, before)
+    go false e h = let none : length (if_goes place c (flying frame)) ≡ 0 = ap (λ b. length (cons_option (cond b (Some (flying frame).packet) None) [])) (sym e) in omega (arith, all, before)

@@ -28,6 +28,7 @@ view s = record {
   room = vec_capacity s.flight.frames;
   chances = s.impairment.chances.items;
   random = s.impairment.random;
+  tallies = s.impairment.tallies.items;
 }
 
 -- the segment with another stack at a place

@@ -39,6 +39,7 @@ pub record IsCalled (place : ℕ) (turn : Turn) (old new : SegmentView) : Type 0
   pub room : new.room ≡ old.room
   pub chances : new.chances ≡ old.chances
   pub random : new.random ≡ old.random
+  pub tallies : new.tallies ≡ old.tallies
 
 abbrev pub IsAct : SegmentView → Act → SegmentView → Type 0
 IsAct old (Joins config) new = IsJoined config old new

@@ -1,5 +1,6 @@
 pub mod Flying
 pub mod Chances
+pub mod Tallies
 pub mod Segment
 pub mod Inside
 pub mod Law

@@ -13,10 +13,12 @@ use Rattle.segment.specs.declared.segment.JoinFault.TheVariants.{TooManyHosts, A
 use Rattle.rand_pcg.specs.Lcg.{Lcg}
 use Rattle.segment.specs.declared.chances.Chances.{Chances}
 use Rattle.segment.specs.Flying.{Flying, aged, comes, gives, is_due, is_early, received, sent_by, waiting}
+use Rattle.segment.specs.declared.tally.Tally.{Tally}
+use Rattle.segment.specs.Tallies.{hears, nothing_counted, tallied}
 use Rattle.segment.specs.Chances.{entering, no_chances, seeded, shuffled}
 
 -- its hosts by their places, what is under way, for how many packets there is room, the chances of what each host
--- sends, and the generator that decides
+-- sends, the generator that decides, and what is counted of each
 pub record SegmentView : Type 0 where
   pub configs : List Config
   pub stacks : List StackView
@@ -24,10 +26,11 @@ pub record SegmentView : Type 0 where
   pub room : ℕ
   pub chances : List Chances
   pub random : Lcg
+  pub tallies : List Tally
 
 -- a segment without hosts
 abbrev pub no_hosts : ℕ → SegmentView
-no_hosts room = record { configs = []; stacks = []; flight = []; room = room; chances = []; random = seeded 1 }
+no_hosts room = record { configs = []; stacks = []; flight = []; room = room; chances = []; random = seeded 1; tallies = [] }
 
 -- both are there, and in this relation, or neither is
 abbrev pub AreBoth : {A B : Type 0} → (A → B → Type 0) → Option A → Option B → Type 0
@@ -69,6 +72,7 @@ pub record IsCollected (old new : SegmentView) : Type 0 where
   pub chances : new.chances ≡ old.chances
   pub flight : new.flight ≡ take old.room (old.flight ++ (collected old).0)
   pub random : new.random ≡ (collected old).1
+  pub tallies : new.tallies ≡ tallied old.chances (given_below old.stacks (length old.stacks)) old.random old.tallies
   pub hosts : AtEach (λ place s t. AreCalls s (gives (waiting s)) t) old.stacks new.stacks
 
 -- What was due came, and the rest is a carry older.
@@ -78,6 +82,7 @@ pub record IsDelivered (old new : SegmentView) : Type 0 where
   pub chances : new.chances ≡ old.chances
   pub flight : new.flight ≡ map aged (filter is_early old.flight)
   pub random : new.random ≡ (leaving old).1
+  pub tallies : AtEach (λ place t u. u ≡ hears (length (received_in place (slice_get old.configs place) (leaving old).0)) t) old.tallies new.tallies
   pub hosts : AtEach (λ place s t. AreCalls s (comes (received_in place (slice_get old.configs place) (leaving old).0)) t) old.stacks new.stacks
 
 -- a carry is both
@@ -129,6 +134,7 @@ pub record IsJoined (config : Config) (old new : SegmentView) : Type 0 where
   pub flight : new.flight ≡ old.flight
   pub room : new.room ≡ old.room
   pub chances : new.chances ≡ old.chances ++ no_chances ∷ []
+  pub tallies : new.tallies ≡ old.tallies ++ nothing_counted ∷ []
   pub random : new.random ≡ old.random
 
 -- why a host doesn't join, the first that is true

@@ -5,12 +5,14 @@ ghost use Rattle.net_stack.specs.Runs.{AreCalls};
 ghost use Rattle.segment.specs.Chances.{entering};
 ghost use Rattle.segment.specs.Flying.{comes, gives, waiting};
 ghost use Rattle.segment.specs.Segment.{AreCarried, AtEach, IsCarried, IsCollected, IsDelivered, given_below, is_quiet, is_silent, received_in};
+ghost use Rattle.segment.specs.Tallies.{tallied};
 ghost use Rattle.segment.specs.Inside.{flying, under_way, view};
 
 use crate::chances::Impairment;
 use crate::flight::Flight;
 use crate::frame::Frame;
 use crate::segment::Segment;
+use crate::tally::count_all;
 use crate::ways::{hand_all, take_all};
 use flat_model::Config;
 use net_stack::Stack;
@@ -36,6 +38,8 @@ fn collect_all(flight: &mut Flight, impairment: &mut Impairment, stacks: &mut Ve
         ++ (entering impairment.old.chances.items (given_below stacks.old.items (length stacks.old.items)) impairment.old.random).0) }
     ensures random { impairment.new.random
         ≡ (entering impairment.old.chances.items (given_below stacks.old.items (length stacks.old.items)) impairment.old.random).1 }
+    ensures tallies { impairment.new.tallies.items ≡ tallied impairment.old.chances.items
+        (given_below stacks.old.items (length stacks.old.items)) impairment.old.random impairment.old.tallies.items }
     ensures chances { impairment.new.chances ≡ impairment.old.chances }
     ensures room { vec_capacity flight.new.frames ≡ vec_capacity flight.old.frames }
 {
@@ -75,6 +79,11 @@ impl Segment {
         let flight = &mut self.flight;
         flight.leave();
         self.impairment.shuffle(&mut flight.due);
+        count_all(
+            flight.due.as_slice(),
+            self.configs.as_slice(),
+            &mut self.impairment.tallies,
+        );
         deliver_all(
             flight.due.as_slice(),
             self.configs.as_slice(),

@@ -1,9 +1,11 @@
 //! What becomes of a packet as it goes on the wire, by chances and the numbers of a generator.
 ghost use Rattle.std.specs.Prelude.{◌≡◌, map, nat_lt, vec_capacity};
 ghost use Rattle.segment.specs.Chances.{chances_at, drawn, fate_of, seeded, shuffled, wait_of};
+ghost use Rattle.segment.specs.Tallies.{counts};
 ghost use Rattle.segment.specs.Inside.{flying};
 
 use crate::frame::Frame;
+use crate::tally::{Tally, count};
 use rand_core::utils::NextWord;
 use rand_pcg::Pcg32;
 
@@ -96,11 +98,12 @@ impl Chances {
     }
 }
 
-/// The chances of what each host sends, by their places, and the generator.
+/// The chances of what each host sends, and what is counted of it, by their places; and the generator.
 #[derive(Drop)]
 pub(crate) struct Impairment {
     pub(crate) chances: Vec<Chances>,
     pub(crate) random: Pcg32,
+    pub(crate) tallies: Vec<Tally>,
 }
 
 impl Impairment {
@@ -114,13 +117,16 @@ impl Impairment {
         }
     }
 
-    /// What becomes of the next packet that the host at a place sends.
+    /// What becomes of the next packet that the host at a place sends. It's counted.
     pub(crate) fn fate(&mut self, sender: usize) -> Fate
         ensures value { result ≡ (fate_of (chances_at self.old.chances.items sender) self.old.random).0 }
         ensures after { self.new.random ≡ (fate_of (chances_at self.old.chances.items sender) self.old.random).1 }
         ensures chances { self.new.chances ≡ self.old.chances }
+        ensures tallies { self.new.tallies.items ≡ counts sender result self.old.tallies.items }
     {
-        self.chances_at(sender).fate(&mut self.random)
+        let fate = self.chances_at(sender).fate(&mut self.random);
+        count(&mut self.tallies, sender, fate);
+        fate
     }
 
     /// Whether two packets that are due change places, the first of which the host at a place has sent.
@@ -128,6 +134,7 @@ impl Impairment {
         ensures value { result ≡ nat_lt (drawn self.old.random).0 (chances_at self.old.chances.items sender).reorder }
         ensures after { self.new.random ≡ (drawn self.old.random).1 }
         ensures chances { self.new.chances ≡ self.old.chances }
+        ensures tallies { self.new.tallies ≡ self.old.tallies }
     {
         let limit = self.chances_at(sender).reorder;
         happens(&mut self.random, limit)
@@ -139,6 +146,7 @@ impl Impairment {
         ensures after { self.new.random ≡ (shuffled self.old.chances.items (map flying due.old.items) self.old.random).1 }
         ensures chances { self.new.chances ≡ self.old.chances }
         ensures room { vec_capacity due.new ≡ vec_capacity due.old }
+        ensures tallies { self.new.tallies ≡ self.old.tallies }
     {
         for at in 0..due.len().saturating_sub(1) {
             let sender = due[at].sender;

@@ -9,9 +9,11 @@ mod hand;
 mod laws;
 mod moves;
 mod segment;
+mod tally;
 mod ways;
 
 pub use chances::{Chances, NO_CHANCES};
 pub use hand::UnderWay;
 pub use laws::hosts_on_a_segment;
 pub use segment::{JoinFault, MAX_HOSTS, Segment};
+pub use tally::Tally;

@@ -1,5 +1,5 @@
 //! A broadcast segment: its hosts, and what is under way.
-ghost use Rattle.std.specs.Prelude.{◌≡◌, ◌∷◌, [], ◌++◌, ◌+◌, length, nat_lt, slice_set, IfOk, MatchResult};
+ghost use Rattle.std.specs.Prelude.{◌≡◌, ◌∷◌, [], ◌++◌, ◌+◌, length, nat_lt, slice_get, slice_set, IfOk, MatchResult};
 ghost use Rattle.std.specs.List.{list_all};
 ghost use Rattle.segment.specs.Chances.{seeded};
 ghost use Rattle.segment.specs.Segment.{IsJoined, IsRefused, are_apart, no_hosts};
@@ -8,6 +8,7 @@ ghost use Rattle.std.specs.Borrow.{sem};
 
 use crate::chances::{Chances, Impairment, NO_CHANCES, seeded};
 use crate::flight::Flight;
+use crate::tally::{NOTHING, Tally};
 use flat_model::Config;
 use net_stack::{BootFault, Stack};
 use std::alloc::{AllocError, Global};
@@ -78,6 +79,7 @@ impl Segment {
             impairment: Impairment {
                 chances: Vec::new(alloc),
                 random: seeded(1),
+                tallies: Vec::new(alloc),
             },
         })
     }
@@ -103,6 +105,7 @@ impl Segment {
         if self.configs.reserve(1).is_err()
             || self.stacks.reserve(1).is_err()
             || self.impairment.chances.reserve(1).is_err()
+            || self.impairment.tallies.reserve(1).is_err()
         {
             return Err(JoinFault::Unbooted(BootFault::Memory));
         }
@@ -111,6 +114,7 @@ impl Segment {
                 self.configs.push_reserved(config);
                 self.stacks.push_reserved(stack);
                 self.impairment.chances.push_reserved(NO_CHANCES);
+                self.impairment.tallies.push_reserved(NOTHING);
                 Ok(())
             }
             Err(fault) => Err(JoinFault::Unbooted(fault)),
@@ -144,6 +148,13 @@ impl Segment {
             }
             None => false,
         }
+    }
+
+    /// What was counted of the packets of the host at a place. `None` if there is no such host.
+    pub fn tally(&self, place: usize) -> Option<Tally>
+        ensures { result ≡ slice_get (view self.now).tallies place }
+    {
+        self.impairment.tallies.get(place).copied()
     }
 
     /// How many hosts it has.

@@ -4,6 +4,7 @@ ghost use Rattle.params.specs.declared.TheConstants.{MAX_MTU};
 ghost use Rattle.net_stack.specs.Runs.{AreCalls};
 ghost use Rattle.segment.specs.Chances.{entering};
 ghost use Rattle.segment.specs.Flying.{comes, gives, received, sent_by, waiting};
+ghost use Rattle.segment.specs.Tallies.{tallied};
 ghost use Rattle.segment.specs.Inside.{flying, under_way};
 
 use crate::chances::Impairment;
@@ -24,6 +25,8 @@ pub(crate) fn take_all(
     ensures taken { under_way flight.new ≡ take (vec_capacity flight.old.frames)
         (under_way flight.old ++ (entering impairment.old.chances.items (sent_by sender (waiting stack.old)) impairment.old.random).0) }
     ensures random { impairment.new.random ≡ (entering impairment.old.chances.items (sent_by sender (waiting stack.old)) impairment.old.random).1 }
+    ensures tallies { impairment.new.tallies.items
+        ≡ tallied impairment.old.chances.items (sent_by sender (waiting stack.old)) impairment.old.random impairment.old.tallies.items }
     ensures chances { impairment.new.chances ≡ impairment.old.chances }
     ensures room { vec_capacity flight.new.frames ≡ vec_capacity flight.old.frames }
 {
@@ -40,6 +43,8 @@ fn take_one(flight: &mut Flight, impairment: &mut Impairment, sender: usize, sta
     ensures taken { under_way flight.new ≡ take (vec_capacity flight.old.frames)
         (under_way flight.old ++ (entering impairment.old.chances.items (sent_by sender (take 1 (waiting stack.old))) impairment.old.random).0) }
     ensures random { impairment.new.random ≡ (entering impairment.old.chances.items (sent_by sender (take 1 (waiting stack.old))) impairment.old.random).1 }
+    ensures tallies { impairment.new.tallies.items
+        ≡ tallied impairment.old.chances.items (sent_by sender (take 1 (waiting stack.old))) impairment.old.random impairment.old.tallies.items }
     ensures chances { impairment.new.chances ≡ impairment.old.chances }
     ensures room { vec_capacity flight.new.frames ≡ vec_capacity flight.old.frames }
 {

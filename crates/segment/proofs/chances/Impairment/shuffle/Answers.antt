@@ -21,6 +21,7 @@ loop-at-preserved c =
         len = ap (λ v. vec_len v) w.due-is ∙ w.swap.ensures.len ∙ inv.len;
         end = inv.end;
         chances = c.turns.ensures.chances ∙ inv.chances;
+        tallies = c.turns.ensures.tallies ∙ inv.tallies;
         room = ap (λ v. vec_capacity v) w.due-is ∙ w.swap.ensures.capacity ∙ inv.room;
       }
       | else-turns w ↦ record {
@@ -30,6 +31,7 @@ loop-at-preserved c =
         len = ap (λ v. vec_len v) w.due-is ∙ inv.len;
         end = inv.end;
         chances = c.turns.ensures.chances ∙ inv.chances;
+        tallies = c.turns.ensures.tallies ∙ inv.tallies;
         room = ap (λ v. vec_capacity v) w.due-is ∙ inv.room;
       }
     ]

@@ -10,5 +10,6 @@ invariant-loop-at l = record {
   len : vec_len l.due ≡ vec_len l.fn.due;
   end : l.at-end ≡ vec_len l.fn.due - 1;
   chances : l.self.chances ≡ l.fn.self.chances;
+  tallies : l.self.tallies ≡ l.fn.self.tallies;
   room : vec_capacity l.due ≡ vec_capacity l.fn.due;
 }

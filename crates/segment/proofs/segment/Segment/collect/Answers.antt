@@ -8,5 +8,6 @@ returns c = record {
   chances = ap (λ v. v.items) c.collect_all.ensures.chances;
   flight = c.collect_all.ensures.taken;
   random = c.collect_all.ensures.random;
+  tallies = c.collect_all.ensures.tallies;
   hosts = c.collect_all.ensures.hosts;
 }

@@ -1,4 +1,4 @@
-use Rattle.std.proofs.Common.{◌≡◌, List, map, ap, refl, subst, ◌∙◌}
+use Rattle.std.proofs.Common.{◌≡◌, List, length, map, ap, refl, subst, ◌∙◌}
 use Rattle.std.specs.Prelude.{slice_get}
 use Rattle.flat_model.specs.declared.config.Config.{Config}
 use Rattle.net_stack.specs.Runs.{AreCalls}
@@ -6,6 +6,8 @@ use Rattle.segment.specs.Chances.{shuffled}
 use Rattle.segment.specs.Flying.{Flying, comes}
 use Rattle.segment.specs.Inside.{flying, view}
 use Rattle.segment.specs.Segment.{AtEach, leaving, received_in}
+use Rattle.segment.specs.Tallies.{hears}
+use Rattle.segment.specs.declared.tally.Tally.{Tally}
 use Rattle.segment.proofs.segment.Segment.deliver.Goals as goal
 
 pub returns : goal.returns
@@ -13,14 +15,19 @@ returns c =
     let old = view c.args.self.now in
     let due : map flying c.shuffle.new.due.items ≡ (leaving old).0 =
     c.shuffle.ensures.due ∙ ap (λ (fs : List Flying). (shuffled old.chances fs old.random).0) c.leave.ensures.due in
-    let now : map flying c.as_slice.result.now ≡ (leaving old).0 = ap (map flying) c.as_slice.ensures.value ∙ due in
+    let counted : map flying c.as_slice.result.now ≡ (leaving old).0 = ap (map flying) c.as_slice.ensures.value ∙ due in
+    let now : map flying c.as_slice-3.result.now ≡ (leaving old).0 = ap (map flying) c.as_slice-3.ensures.value ∙ due in
     record {
       configs = refl;
       room = c.leave.ensures.room;
       chances = ap (λ v. v.items) c.shuffle.ensures.chances;
       flight = c.leave.ensures.early;
       random = c.shuffle.ensures.after ∙ ap (λ (fs : List Flying). (shuffled old.chances fs old.random).1) c.leave.ensures.due;
+      tallies = subst (λ (ts : List Tally). AtEach (λ place t u. u ≡ hears (length (received_in place (slice_get old.configs place) (leaving old).0)) t) ts c.count_all.new.tallies.items) (ap (λ v. v.items) c.shuffle.ensures.tallies)
+          (subst (λ (fs : List Flying). AtEach (λ place t u. u ≡ hears (length (received_in place (slice_get old.configs place) fs)) t) c.shuffle.new.self.tallies.items c.count_all.new.tallies.items) counted
+          (subst (λ (configs : List Config). AtEach (λ place t u. u ≡ hears (length (received_in place (slice_get configs place) (map flying c.as_slice.result.now))) t) c.shuffle.new.self.tallies.items c.count_all.new.tallies.items)
+          c.as_slice-2.ensures.value c.count_all.ensures));
       hosts = subst (λ (fs : List Flying). AtEach (λ place s t. AreCalls s (comes (received_in place (slice_get old.configs place) fs)) t) old.stacks c.deliver_all.new.stacks.items) now
-          (subst (λ (configs : List Config). AtEach (λ place s t. AreCalls s (comes (received_in place (slice_get configs place) (map flying c.as_slice.result.now))) t) old.stacks c.deliver_all.new.stacks.items)
-          c.as_slice-2.ensures.value c.deliver_all.ensures);
+          (subst (λ (configs : List Config). AtEach (λ place s t. AreCalls s (comes (received_in place (slice_get configs place) (map flying c.as_slice-3.result.now))) t) old.stacks c.deliver_all.new.stacks.items)
+          c.as_slice-4.ensures.value c.deliver_all.ensures);
     }

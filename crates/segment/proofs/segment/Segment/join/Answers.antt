@@ -3,6 +3,8 @@ use Rattle.std.proofs.lemmas.Grind.{common_steps}
 use Rattle.flat_model.specs.declared.config.Config.{Config}
 use Rattle.net_stack.specs.Stack.{StackView}
 use Rattle.segment.specs.Chances.{no_chances}
+use Rattle.segment.specs.Tallies.{nothing_counted}
+use Rattle.segment.specs.declared.tally.Tally.{Tally}
 use Rattle.segment.specs.declared.chances.Chances.{Chances}
 use Rattle.segment.proofs.segment.Segment.join.Goals as goal
 
@@ -18,5 +20,6 @@ returns-in-Ok c = record {
   flight = refl;
   room = refl;
   chances = c.push_reserved-in-Ok-2.ensures.items ∙ ap (λ (xs : List Chances). xs ++ no_chances ∷ []) c.reserve-else-is_err-2.ensures.items;
+  tallies = c.push_reserved-in-Ok-3.ensures.items ∙ ap (λ (xs : List Tally). xs ++ nothing_counted ∷ []) c.reserve-else-is_err-3.ensures.items;
   random = refl;
 }

@@ -1,0 +1,40 @@
+-- What is counted of each host's packets (this project's own).
+use Rattle.std.specs.Prelude.{ℕ, List, [], ◌∷◌, slice_get, slice_set, Option, Some, None}
+use Rattle.rand_pcg.specs.Lcg.{Lcg}
+use Rattle.flat_model.specs.Machine.Count.{more_by}
+use Rattle.segment.specs.Chances.{chances_at, fate_of}
+use Rattle.segment.specs.Flying.{Flying}
+use Rattle.segment.specs.declared.chances.Chances.{Chances}
+use Rattle.segment.specs.declared.chances.Fate.{Fate}
+use Rattle.segment.specs.declared.chances.Fate.TheVariants.{Lost, Once, Twice}
+use Rattle.segment.specs.declared.tally.Tally.{Tally}
+
+-- nothing was counted
+abbrev pub nothing_counted : Tally
+nothing_counted = record { sent = 0; lost = 0; repeated = 0; received = 0 }
+
+-- one more packet went on the wire, with this fate
+abbrev pub counted : Fate → Tally → Tally
+counted Lost t = record t { sent = more_by 1 t.sent; lost = more_by 1 t.lost }
+counted (Once wait) t = record t { sent = more_by 1 t.sent }
+counted (Twice first second) t = record t { sent = more_by 1 t.sent; repeated = more_by 1 t.repeated }
+
+-- so many packets came
+abbrev pub hears : ℕ → Tally → Tally
+hears packets t = record t { received = more_by packets t.received }
+
+-- with the count at a place changed so, if there is one
+abbrev pub set_if : List Tally → ℕ → Fate → Option Tally → List Tally
+set_if tallies place fate None = tallies
+set_if tallies place fate (Some t) = slice_set tallies place (counted fate t)
+
+-- a packet of the host at a place is counted
+abbrev pub counts : ℕ → Fate → List Tally → List Tally
+counts place fate tallies = set_if tallies place fate (slice_get tallies place)
+
+-- these packets are, one after another
+abbrev pub tallied : List Chances → List Flying → Lcg → List Tally → List Tally
+tallied chances [] g tallies = tallies
+tallied chances (f ∷ fs) g tallies =
+    let fate = fate_of (chances_at chances f.sender) g in
+    tallied chances fs fate.1 (counts f.sender fate.0 tallies)
