@@ -1,4 +1,6 @@
 //! Hosts of 10.0.0.0/24 on one wire. All have a socket at port 7.
+mod impaired;
+
 use flat_model::{Addr, Config, Opt};
 use net_stack::BootFault;
 use segment::{JoinFault, Segment};
