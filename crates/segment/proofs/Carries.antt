@@ -1,6 +1,5 @@
 -- Carries, one after another.
-use Rattle.std.proofs.Common.{◌≡◌, ℕ, ◌+◌, ◌-◌, zero, suc, Bool, true, false, refl, sym, ◌∙◌, subst, arith}
-use Rattle.flat_model.specs.Amounts.Choice.{Choice}
+use Rattle.std.proofs.Common.{◌≡◌, ℕ, zero, suc, Bool, true, false, refl, sym, ◌∙◌, subst}
 use Rattle.segment.specs.Segment.{SegmentView, AreCarried, IsCarried, is_quiet}
 
 not_both : {A : Type 0} → (b : Bool) → b ≡ true → b ≡ false → A

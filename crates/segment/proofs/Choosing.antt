@@ -1,10 +1,10 @@
 -- Whatever is drawn, a packet that goes under way or comes is one of those that there were.
-use Rattle.std.proofs.Common.{◌≡◌, ℕ, ◌+◌, ◌-◌, Bool, true, false, List, [], ◌∷◌, ◌++◌, length, map, take, drop, zero, suc, Option, None, Some, refl, sym, ap, ◌∙◌, cond, get_or}
+use Rattle.std.proofs.Common.{ℕ, ◌+◌, ◌-◌, Bool, true, false, List, [], ◌∷◌, ◌++◌, length, map, take, drop, zero, suc, cond}
 use Rattle.std.specs.Prelude.{filter, nat_lt, slice_get, slice_set, slice_index_or, swap, remove, option_to_list}
 use Rattle.std.specs.List.{AllByRecursion as Each}
 use Rattle.rand_pcg.specs.Lcg.{Lcg}
 use Rattle.flat_model.proofs.Laws.{each-append, each-filter, each-map, each-take}
-use Rattle.segment.specs.Chances.{chances_at, copies_before, drawn, entering, fate_of, reorder_at, shuffled, shuffled_from}
+use Rattle.segment.specs.Chances.{chances_at, copies_before, drawn, entering, fate_of, reorder_at, shuffled_from}
 use Rattle.segment.specs.Flying.{Flying, aged, is_due, is_early}
 use Rattle.segment.specs.Segment.{SegmentView, leaving}
 use Rattle.segment.specs.declared.chances.Chances.{Chances}

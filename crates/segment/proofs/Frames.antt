@@ -1,11 +1,11 @@
 -- Frames and what they carry.
-use Rattle.std.proofs.Common.{◌≡◌, ◌≢◌, ℕ, ◌+◌, ◌-◌, ◌<◌, ◌≤◌, Bool, true, false, not, List, [], ◌∷◌, ◌++◌, length, map, take, drop, get_or, zero, suc, Option, None, Some, refl, sym, ap, ◌∙◌, cond, subst, eq-eqb, arith}
+use Rattle.std.proofs.Common.{◌≡◌, ◌≢◌, ℕ, ◌+◌, ◌<◌, Bool, true, false, not, List, [], ◌∷◌, ◌++◌, length, map, take, drop, get_or, zero, suc, Some, refl, sym, ap, ◌∙◌, cond, subst, eq-eqb, arith}
 use Rattle.std.specs.Prelude.{◌==◌, filter, nat_lt, slice_get, slice_set, slice_index_or, swap, remove}
 use Rattle.std.proofs.lemmas.Bool.{ne_eqb}
 use Rattle.std.proofs.lemmas.List.{append-nil, map-append, take_more}
 use Rattle.std.proofs.lemmas.List.Elements.{filter-append}
 use Rattle.rand_pcg.specs.Lcg.{Lcg}
-use Rattle.segment.specs.Chances.{chances_at, drawn, reorder_at, shuffled, shuffled_from}
+use Rattle.segment.specs.Chances.{chances_at, drawn, reorder_at, shuffled_from}
 use Rattle.segment.specs.Flying.{Flying, aged, is_due, is_early}
 use Rattle.segment.specs.Inside.{flying}
 use Rattle.segment.specs.declared.chances.Chances.{Chances}

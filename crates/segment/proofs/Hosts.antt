@@ -15,7 +15,7 @@ use Rattle.flat_wire.specs.Wire.{ComesFrom, source_of}
 use Rattle.net_stack.specs.Stack.{StackView, state_of}
 use Rattle.net_stack.specs.Runs.{AreCalls}
 use Rattle.segment.specs.Flying.{comes, gives, waiting}
-use Rattle.segment.specs.Segment.{SegmentView, AreBoth, AtEach, IsCollected, IsDelivered, IsJoined, are_apart, leaving, no_hosts, received_in, waiting_in}
+use Rattle.segment.specs.Segment.{SegmentView, AreBoth, AtEach, IsJoined, are_apart, leaving, no_hosts, received_in, waiting_in}
 use Rattle.segment.specs.Law.{Act, Joins, Calls, Collects, Delivers, Impairs, Seeds, Loses, Repeats, Swaps, IsAct, IsCalled, AreActs}
 use Rattle.segment.proofs.Sources.{IsOwn, IsSourced, boot_sourced, calls_sourced}
 use Rattle.segment.proofs.Walking.{get_set_same, get_set_other}

@@ -9,7 +9,7 @@ use Rattle.flat_model.specs.Fragments.Overlay.{Map, Fragment}
 use Rattle.flat_model.specs.Fragments.Whole.{bytes_below}
 use Rattle.flat_model.specs.Packets.Header.{Head, packet, u32_at, head_of}
 use Rattle.flat_model.specs.Machine.State.{IsConfig, State, Socket, Datagram, Key, Unfinished, boot, loopback, change_socket, begun, begin_unfinished, end_unfinished}
-use Rattle.flat_model.specs.Machine.Event.{Event, Reply, IsEvent, Open, Bind, Connect, Send, Receive, Close, Set_option, Comes, Transmit, Tick, Ask_counters, Ask_usage}
+use Rattle.flat_model.specs.Machine.Event.{Event, Reply, Open, Bind, Connect, Send, Receive, Close, Set_option, Comes, Transmit, Tick, Ask_counters, Ask_usage}
 use Rattle.flat_model.specs.Machine.Ledger.{HasBuffers, need_mbufs, exact_ledger}
 use Rattle.flat_model.specs.Machine.Calls as Calls
 use Rattle.flat_model.specs.Machine.Calls.{Refuses, OnSocket, GetsPort, is_ours, source_for}
@@ -23,7 +23,7 @@ use Rattle.flat_model.specs.Runs.Run.{Turn}
 use Rattle.flat_model.specs.Runs.Consistent.{IsConsistent, IsSocket}
 use Rattle.flat_model.specs.declared.address.Addr.{Addr}
 use Rattle.flat_model.specs.declared.config.Config.{Config}
-use Rattle.flat_model.proofs.Laws.{by_choice, by_case, each-append, each-find, each-map_to, each-take, boot_is_consistent, step_is_consistent}
+use Rattle.flat_model.proofs.Laws.{by_choice, by_case, each-append, each-find, each-take, boot_is_consistent, step_is_consistent}
 use Rattle.flat_wire.specs.Wire.{source_of}
 use Rattle.net_stack.specs.Stack.{StackView, state_of}
 use Rattle.net_stack.specs.Runs.{AreCalls}

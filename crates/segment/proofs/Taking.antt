@@ -1,5 +1,5 @@
 -- Packets that wait, taken one by one.
-use Rattle.std.proofs.Common.{◌≡◌, ℕ, ◌+◌, ◌<◌, Bool, true, false, List, [], ◌∷◌, ◌++◌, length, map, take, drop, get_or, zero, suc, Option, None, Some, refl, sym, ap, ◌∙◌, subst, arith, append_assoc, cond}
+use Rattle.std.proofs.Common.{◌≡◌, ℕ, ◌+◌, ◌<◌, Bool, true, false, List, [], ◌∷◌, ◌++◌, length, map, take, drop, get_or, zero, suc, Option, None, Some, refl, sym, ap, ◌∙◌, subst, arith, cond}
 use Rattle.std.specs.Prelude.{if◌then◌else◌}
 use Rattle.std.specs.List.{AllByRecursion as Each, cons_option}
 use Rattle.std.proofs.lemmas.List.{length-append, map-append, take_more}

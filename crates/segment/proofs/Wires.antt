@@ -1,5 +1,5 @@
 -- What comes to a host of a segment from another's address is what that gave.
-use Rattle.std.proofs.Common.{◌≡◌, ◌≢◌, ◌⊎◌, inl, inr, ℕ, List, [], ◌∷◌, ◌++◌, length, zero, suc, Bool, true, false, Option, None, Some, refl, sym, ap, ◌∙◌, subst, arith, append_assoc}
+use Rattle.std.proofs.Common.{◌≡◌, ◌≢◌, ◌⊎◌, inl, inr, ℕ, List, [], ◌∷◌, ◌++◌, length, zero, suc, Bool, true, false, Option, None, Some, refl, sym, ap, ◌∙◌, subst, arith}
 use Rattle.std.specs.Prelude.{slice_get, ◌==◌, ◌&&◌, nat_lt, if◌then◌else◌, Contains, filter_map}
 use Rattle.std.specs.List.{AllByRecursion as Each, cons_option}
 use Rattle.std.proofs.lemmas.Bool.Decides.{eqb_tells}
@@ -11,7 +11,7 @@ use Rattle.flat_model.proofs.Laws.{each-append, each-map_to, each-take, each-wea
 use Rattle.flat_wire.specs.Wire.{ComesFrom, packet_in, packet_out}
 use Rattle.net_stack.specs.Stack.{StackView}
 use Rattle.segment.specs.Flying.{Flying, comes, gives, goes_to, received, sent_by}
-use Rattle.segment.specs.Segment.{SegmentView, IsCollected, IsDelivered, collected, given_below, leaving, received_in, waiting_in}
+use Rattle.segment.specs.Segment.{SegmentView, IsCollected, collected, given_below, leaving, received_in, waiting_in}
 use Rattle.segment.proofs.Choosing.{each_entering, each_leaving, each_lost, each_repeated, each_stay, each_swapped}
 use Rattle.segment.proofs.Hosts.{AreFine, act_fine, none_from, remains}
 use Rattle.segment.specs.Law.{Act, Joins, Calls, Collects, Delivers, Impairs, Seeds, Loses, Repeats, Swaps, AreActs, called_in, called_of, turns_in, turns_of}

@@ -1,10 +1,15 @@
 -- How the fields mean what is under way (this project's own).
-use Rattle.std.specs.Prelude.{ℕ, List, map, take, vec_capacity, Option}
+use Rattle.std.specs.Prelude.{ℕ, List, ◌++◌, map, take, vec_capacity, Option}
 use Rattle.std.specs.Borrow.{LendsIf, MutBor, Fml}
 use Rattle.std.specs.Vec.{with_item}
 use Rattle.net_stack.specs.Stack.{StackView}
 use Rattle.net_stack.specs.contracts.stack.Stack.{the_row as stack_row}
 use Rattle.segment.specs.contracts.segment.Segment.{the_row}
+use Rattle.rand_pcg.specs.Lcg.{Lcg}
+use Rattle.segment.specs.Chances.{entering}
+use Rattle.segment.specs.Tallies.{tallied}
+use Rattle.segment.specs.declared.tally.Tally.{Tally}
+use Rattle.segment.specs.declared.chances.Impairment.{Impairment}
 use Rattle.segment.specs.Flying.{Flying}
 use Rattle.segment.specs.Segment.{SegmentView}
 use Rattle.segment.specs.declared.frame.Frame.{Frame}
@@ -18,6 +23,16 @@ flying f = record { sender = f.sender; packet = take f.len f.room; wait = f.wait
 -- what is under way
 abbrev pub under_way : Flight → List Flying
 under_way f = map flying f.frames.items
+
+-- what is under way once these packets went on the wire, as far as there is room; the generator and the counts then
+abbrev pub behind : Flight → Impairment → List Flying → List Flying
+behind f i fs = take (vec_capacity f.frames) (under_way f ++ (entering i.chances.items fs i.random).0)
+
+abbrev pub random_after : Impairment → List Flying → Lcg
+random_after i fs = (entering i.chances.items fs i.random).1
+
+abbrev pub tallies_after : Impairment → List Flying → List Tally
+tallies_after i fs = tallied i.chances.items fs i.random i.tallies.items
 
 -- what a segment shows
 abbrev pub view : Segment → SegmentView

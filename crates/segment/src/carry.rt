@@ -2,11 +2,9 @@
 ghost use Rattle.std.specs.Prelude.{◌≡◌, ◌-◌, ◌++◌, [], length, map, slice_get, take, vec_capacity};
 ghost use Rattle.std.specs.List.{list_all};
 ghost use Rattle.net_stack.specs.Runs.{AreCalls};
-ghost use Rattle.segment.specs.Chances.{entering};
 ghost use Rattle.segment.specs.Flying.{comes, gives, waiting};
 ghost use Rattle.segment.specs.Segment.{AreCarried, AtEach, IsCarried, IsCollected, IsDelivered, given_below, is_quiet, is_silent, received_in};
-ghost use Rattle.segment.specs.Tallies.{tallied};
-ghost use Rattle.segment.specs.Inside.{flying, under_way, view};
+ghost use Rattle.segment.specs.Inside.{behind, flying, random_after, tallies_after, under_way, view};
 
 use crate::chances::Impairment;
 use crate::flight::Flight;
@@ -34,12 +32,12 @@ fn nothing_waits(stacks: &[Stack]) -> bool
 /// Each host gives all that waits for its link.
 fn collect_all(flight: &mut Flight, impairment: &mut Impairment, stacks: &mut Vec<Stack>)
     ensures hosts { AtEach (λ place s t. AreCalls s (gives (waiting s)) t) stacks.old.items stacks.new.items }
-    ensures taken { under_way flight.new ≡ take (vec_capacity flight.old.frames) (under_way flight.old
-        ++ (entering impairment.old.chances.items (given_below stacks.old.items (length stacks.old.items)) impairment.old.random).0) }
+    ensures taken { under_way flight.new
+        ≡ behind flight.old impairment.old (given_below stacks.old.items (length stacks.old.items)) }
     ensures random { impairment.new.random
-        ≡ (entering impairment.old.chances.items (given_below stacks.old.items (length stacks.old.items)) impairment.old.random).1 }
-    ensures tallies { impairment.new.tallies.items ≡ tallied impairment.old.chances.items
-        (given_below stacks.old.items (length stacks.old.items)) impairment.old.random impairment.old.tallies.items }
+        ≡ random_after impairment.old (given_below stacks.old.items (length stacks.old.items)) }
+    ensures tallies { impairment.new.tallies.items
+        ≡ tallies_after impairment.old (given_below stacks.old.items (length stacks.old.items)) }
     ensures chances { impairment.new.chances ≡ impairment.old.chances }
     ensures room { vec_capacity flight.new.frames ≡ vec_capacity flight.old.frames }
 {
@@ -51,7 +49,8 @@ fn collect_all(flight: &mut Flight, impairment: &mut Impairment, stacks: &mut Ve
 /// All that goes to a host comes to it.
 fn deliver_all(due: &[Frame], configs: &[Config], stacks: &mut Vec<Stack>)
     ensures { AtEach (λ place s t. AreCalls s
-        (comes (received_in place (slice_get configs.now place) (map flying due.now))) t) stacks.old.items stacks.new.items }
+        (comes (received_in place (slice_get configs.now place) (map flying due.now))) t)
+        stacks.old.items stacks.new.items }
 {
     for place in 0..stacks.len() {
         if let Some(config) = configs.get(place) {

@@ -142,8 +142,10 @@ impl Impairment {
 
     /// Each of the packets that are due, but for the last, may change places with the one after it, from the first on.
     pub(crate) fn shuffle(&mut self, due: &mut Vec<Frame>)
-        ensures due { map flying due.new.items ≡ (shuffled self.old.chances.items (map flying due.old.items) self.old.random).0 }
-        ensures after { self.new.random ≡ (shuffled self.old.chances.items (map flying due.old.items) self.old.random).1 }
+        ensures due { map flying due.new.items
+            ≡ (shuffled self.old.chances.items (map flying due.old.items) self.old.random).0 }
+        ensures after { self.new.random
+            ≡ (shuffled self.old.chances.items (map flying due.old.items) self.old.random).1 }
         ensures chances { self.new.chances ≡ self.old.chances }
         ensures room { vec_capacity due.new ≡ vec_capacity due.old }
         ensures tallies { self.new.tallies ≡ self.old.tallies }

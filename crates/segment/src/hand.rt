@@ -27,7 +27,8 @@ impl Segment {
     /// The packet under way at a place. `None` if there is no such packet.
     pub fn under_way(&self, at: usize) -> Option<UnderWay<'_>>
         ensures { MatchOption result (slice_get (view self.now).flight at ≡ None) (λ shown.
-            slice_get (view self.now).flight at ≡ Some (record { sender = shown.sender; packet = shown.packet.now; wait = shown.wait })) }
+            slice_get (view self.now).flight at
+            ≡ Some (record { sender = shown.sender; packet = shown.packet.now; wait = shown.wait })) }
     {
         let frame = self.flight.frames.get(at)?;
         Some(UnderWay {
@@ -51,7 +52,8 @@ impl Segment {
 
     /// A copy of the packet under way at a place goes behind all others. Whether there was one, and room for a copy.
     pub fn repeat(&mut self, at: usize) -> bool
-        ensures is { result ≡ (nat_lt at (length (view self.old).flight) && nat_lt (length (view self.old).flight) (view self.old).room) }
+        ensures is { result ≡ (nat_lt at (length (view self.old).flight)
+            && nat_lt (length (view self.old).flight) (view self.old).room) }
         ensures repeated { view self.new ≡ repeated_at at (view self.old) }
     {
         if at >= self.flight.frames.len() {
@@ -67,7 +69,8 @@ impl Segment {
 
     /// Two packets under way change places. Whether there were both.
     pub fn swap(&mut self, at: usize, other: usize) -> bool
-        ensures is { result ≡ (nat_lt at (length (view self.old).flight) && nat_lt other (length (view self.old).flight)) }
+        ensures is { result ≡ (nat_lt at (length (view self.old).flight)
+            && nat_lt other (length (view self.old).flight)) }
         ensures swapped { view self.new ≡ swapped_at at other (view self.old) }
     {
         if at >= self.flight.frames.len() || other >= self.flight.frames.len() {

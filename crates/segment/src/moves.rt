@@ -34,7 +34,8 @@ fn part(all: &[Frame], due: &mut Vec<Frame>, early: &mut Vec<Frame>)
 impl Flight {
     /// A copy of the packet in hand goes under way for so many carries, if there is room.
     fn put(&mut self, wait: u64)
-        ensures put { under_way self.new ≡ take (vec_capacity self.old.frames) (under_way self.old ++ waits wait (flying self.old.hand) ∷ []) }
+        ensures put { under_way self.new
+            ≡ take (vec_capacity self.old.frames) (under_way self.old ++ waits wait (flying self.old.hand) ∷ []) }
         ensures hand { waits 0 (flying self.new.hand) ≡ waits 0 (flying self.old.hand) }
         ensures room { vec_capacity self.new.frames ≡ vec_capacity self.old.frames }
     {
@@ -46,7 +47,8 @@ impl Flight {
 
     /// The packet in hand goes under way as its fate wants it.
     pub(crate) fn enter(&mut self, fate: Fate)
-        ensures entered { under_way self.new ≡ take (vec_capacity self.old.frames) (under_way self.old ++ copies_before fate (flying self.old.hand) []) }
+        ensures entered { under_way self.new
+            ≡ take (vec_capacity self.old.frames) (under_way self.old ++ copies_before fate (flying self.old.hand) []) }
         ensures room { vec_capacity self.new.frames ≡ vec_capacity self.old.frames }
     {
         match fate {

@@ -139,7 +139,8 @@ impl Segment {
     /// Sets the chances of what the host at a place sends from now on. Whether there is such a host.
     pub fn impair(&mut self, place: usize, chances: Chances) -> bool
         ensures is { result ≡ nat_lt place (length (view self.old).chances) }
-        ensures set { view self.new ≡ record (view self.old) { chances = slice_set (view self.old).chances place chances } }
+        ensures set { view self.new
+            ≡ record (view self.old) { chances = slice_set (view self.old).chances place chances } }
     {
         match self.impairment.chances.get_mut(place) {
             Some(now) => {

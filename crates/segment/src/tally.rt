@@ -89,7 +89,8 @@ fn heard(due: &[Frame], place: usize, configs: &[Config]) -> u64
 
 /// Counts at each host the packets that come to it.
 pub(crate) fn count_all(due: &[Frame], configs: &[Config], tallies: &mut Vec<Tally>)
-    ensures { AtEach (λ place t u. u ≡ hears (length (received_in place (slice_get configs.now place) (map flying due.now))) t)
+    ensures { AtEach (λ place t u.
+        u ≡ hears (length (received_in place (slice_get configs.now place) (map flying due.now))) t)
         tallies.old.items tallies.new.items }
 {
     for place in 0..tallies.len() {

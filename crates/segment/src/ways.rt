@@ -2,10 +2,8 @@
 ghost use Rattle.std.specs.Prelude.{◌≡◌, ◌<◌, ◌≤◌, ◌++◌, ◌∷◌, [], drop, length, map, take, vec_capacity};
 ghost use Rattle.params.specs.declared.TheConstants.{MAX_MTU};
 ghost use Rattle.net_stack.specs.Runs.{AreCalls};
-ghost use Rattle.segment.specs.Chances.{entering};
 ghost use Rattle.segment.specs.Flying.{comes, gives, received, sent_by, waiting};
-ghost use Rattle.segment.specs.Tallies.{tallied};
-ghost use Rattle.segment.specs.Inside.{flying, under_way};
+ghost use Rattle.segment.specs.Inside.{behind, flying, random_after, tallies_after, under_way};
 
 use crate::chances::Impairment;
 use crate::flight::Flight;
@@ -22,11 +20,10 @@ pub(crate) fn take_all(
     stack: &mut Stack,
 )
     ensures calls { AreCalls stack.old (gives (waiting stack.old)) stack.new }
-    ensures taken { under_way flight.new ≡ take (vec_capacity flight.old.frames)
-        (under_way flight.old ++ (entering impairment.old.chances.items (sent_by sender (waiting stack.old)) impairment.old.random).0) }
-    ensures random { impairment.new.random ≡ (entering impairment.old.chances.items (sent_by sender (waiting stack.old)) impairment.old.random).1 }
+    ensures taken { under_way flight.new ≡ behind flight.old impairment.old (sent_by sender (waiting stack.old)) }
+    ensures random { impairment.new.random ≡ random_after impairment.old (sent_by sender (waiting stack.old)) }
     ensures tallies { impairment.new.tallies.items
-        ≡ tallied impairment.old.chances.items (sent_by sender (waiting stack.old)) impairment.old.random impairment.old.tallies.items }
+        ≡ tallies_after impairment.old (sent_by sender (waiting stack.old)) }
     ensures chances { impairment.new.chances ≡ impairment.old.chances }
     ensures room { vec_capacity flight.new.frames ≡ vec_capacity flight.old.frames }
 {
@@ -40,11 +37,10 @@ fn take_one(flight: &mut Flight, impairment: &mut Impairment, sender: usize, sta
     requires { 0 < length (waiting stack.old) }
     ensures calls { AreCalls stack.old (gives (take 1 (waiting stack.old))) stack.new }
     ensures waits { waiting stack.new ≡ drop 1 (waiting stack.old) }
-    ensures taken { under_way flight.new ≡ take (vec_capacity flight.old.frames)
-        (under_way flight.old ++ (entering impairment.old.chances.items (sent_by sender (take 1 (waiting stack.old))) impairment.old.random).0) }
-    ensures random { impairment.new.random ≡ (entering impairment.old.chances.items (sent_by sender (take 1 (waiting stack.old))) impairment.old.random).1 }
+    ensures taken { under_way flight.new ≡ behind flight.old impairment.old (sent_by sender (take 1 (waiting stack.old))) }
+    ensures random { impairment.new.random ≡ random_after impairment.old (sent_by sender (take 1 (waiting stack.old))) }
     ensures tallies { impairment.new.tallies.items
-        ≡ tallied impairment.old.chances.items (sent_by sender (take 1 (waiting stack.old))) impairment.old.random impairment.old.tallies.items }
+        ≡ tallies_after impairment.old (sent_by sender (take 1 (waiting stack.old))) }
     ensures chances { impairment.new.chances ≡ impairment.old.chances }
     ensures room { vec_capacity flight.new.frames ≡ vec_capacity flight.old.frames }
 {

@@ -1,4 +1,4 @@
-use Rattle.std.proofs.Common.{List, ℕ, [], refl, subst}
+use Rattle.std.proofs.Common.{List, ℕ, refl, subst}
 use Rattle.std.specs.Prelude.{Contains, filter_map}
 use Rattle.std.proofs.lemmas.List.Elements.{All-from_recursion, recursion_from_All}
 use Rattle.flat_model.specs.Runs.Run.{Turn}

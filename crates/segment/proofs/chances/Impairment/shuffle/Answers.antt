@@ -1,8 +1,6 @@
-use Rattle.std.proofs.Common.{◌≡◌, ◌+◌, ◌-◌, ◌∙◌, ap, cond, sym, arith, List}
+use Rattle.std.proofs.Common.{◌+◌, ◌-◌, ◌∙◌, ap, cond, sym, arith}
 use Rattle.std.specs.Prelude.{nat_lt, swap, vec_capacity, vec_len}
 use Rattle.segment.specs.Chances.{chances_at, drawn}
-use Rattle.segment.specs.declared.chances.Chances.{Chances}
-use Rattle.segment.specs.declared.frame.Frame.{Frame}
 use Rattle.segment.proofs.Frames.{shuffled_next}
 use Rattle.segment.proofs.chances.Impairment.shuffle.Goals as goal
 use Rattle.segment.proofs.chances.Impairment.shuffle.Goals.{then-turns, else-turns}

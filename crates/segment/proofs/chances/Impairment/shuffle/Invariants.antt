@@ -1,4 +1,4 @@
-use Rattle.std.proofs.Common.{◌≡◌, ◌-◌, map, length}
+use Rattle.std.proofs.Common.{◌≡◌, ◌-◌, map}
 use Rattle.std.specs.Prelude.{vec_capacity, vec_len}
 use Rattle.segment.specs.Chances.{shuffled, shuffled_from}
 use Rattle.segment.specs.Inside.{flying}
