@@ -1,10 +1,10 @@
 -- The plain line that a line for people stands for, byte by byte (this project's own).
-use Rattle.std.specs.Prelude.{ℕ, ◌≤◌, zero, suc, ◌+◌, ◌-◌, ◌*◌, ◌%◌, ◌==◌, not, List, [], ◌∷◌, ◌++◌, length, position, fold, if◌then◌else◌, codes, bytes_eq, nat_lt, nat_le, Option, Some, None, Result, Ok, Err}
+use Rattle.std.specs.Prelude.{ℕ, ◌≤◌, zero, suc, ◌+◌, ◌-◌, ◌*◌, ◌%◌, ◌==◌, not, List, [], ◌∷◌, ◌++◌, ◌&&◌, ◌||◌, Bool, length, position, fold, if◌then◌else◌, codes, bytes_eq, nat_lt, nat_le, Option, Some, None, Result, Ok, Err}
 use Rattle.std.specs.Borrow.{Bor}
 use Rattle.flat_model.specs.Machine.Count.{more_by}
 use Rattle.play_line.specs.Signs.{sign_of, is_decimal, is_hex_digit, digits, escape_of}
 use Rattle.play_line.specs.declared.fault.Fault.{Fault}
-use Rattle.play_line.specs.declared.fault.Fault.TheVariants.{NotHex, OddDigits, NoBytes, NotJoined, EmptyText, UnendedText, UnknownEscape, NoCount, ZeroCount, TooManyBytes, TooLong}
+use Rattle.play_line.specs.declared.fault.Fault.TheVariants.{NotHex, OddDigits, NoBytes, NotJoined, EmptyText, UnendedText, UnknownEscape, NoCount, ZeroCount, TooManyBytes, TooLong, NoEnd, NoPort, NoArrow, NoId, NoTtl, NoOffset, NoMore, NoSize, UnknownWord, ToldTwice, PastEnd, TooLarge}
 use Rattle.play_line.specs.declared.fault.Slip.{Slip}
 use Rattle.play_line.specs.declared.scanner.Mode.{Mode}
 use Rattle.play_line.specs.declared.scanner.Mode.TheVariants as mode
@@ -25,6 +25,18 @@ words_of NoCount = codes "a number is missing"
 words_of ZeroCount = codes "the number is 0"
 words_of TooManyBytes = codes "more than 65535 bytes"
 words_of TooLong = codes "the line is too long"
+words_of NoEnd = codes "an address with a port, as 10.0.0.2:7, is wanted"
+words_of NoPort = codes "not a port of 0 to 65535"
+words_of NoArrow = codes "`>` is wanted"
+words_of NoId = codes "not an identification of 0 to 65535"
+words_of NoTtl = codes "not a time to live of 0 to 255"
+words_of NoOffset = codes "not a multiple of 8 of 0 to 65528"
+words_of NoMore = codes "`more` or `last` is wanted"
+words_of NoSize = codes "not a size of 0 to 65515"
+words_of UnknownWord = codes "unknown word"
+words_of ToldTwice = codes "this was told already"
+words_of PastEnd = codes "the datagram has no such bytes"
+words_of TooLarge = codes "more bytes than a packet has room for"
 
 -- ---- pieces
 
@@ -72,8 +84,12 @@ places word =
     if bytes_eq word (codes "send") then 2 else
     if bytes_eq word (codes "sendto") then 4 else 0
 
+-- The word after `rx` is `udp`: a packet by name. After it stand the two ends with `>` between them, and then the bytes.
+abbrev pub is_named : Scanner → Bool
+is_named s = s.begin == 3 && (s.awaits == 1 && bytes_eq s.piece (codes "udp"))
+
 abbrev pub next_awaits : Scanner → ℕ
-next_awaits s = if s.begin == 0 then places s.piece else s.awaits - 1
+next_awaits s = if s.begin == 0 then places s.piece else if is_named s then 4 else s.awaits - 1
 
 -- a piece has ended
 abbrev pub append : Mode → Scanner → Scanner
@@ -136,9 +152,9 @@ in_word Other byte s = put byte s
 in_word Quote byte s = failed NotJoined s.column s
 in_word At byte s = failed NotJoined s.column s
 
--- A word of bytes ends, or a piece of them. A dash is a word of no bytes.
+-- A word of bytes ends, or a piece of them. A dash is a word of no bytes, and `udp` is one of a packet by name.
 abbrev pub end_hex : Mode → Scanner → Scanner
-end_hex now s = if bytes_eq s.piece (codes "-") then append now s else append_hex now s
+end_hex now s = if bytes_eq s.piece (codes "-") || is_named s then append now s else append_hex now s
 
 -- in digits, which have to be hexadecimal
 abbrev pub in_hex : Sign → ℕ → Scanner → Scanner
@@ -263,6 +279,16 @@ scanned line = feed (fold feed fresh line) 32
 -- the plain line that a line stands for, or what is wrong with it
 abbrev pub expanded : List ℕ → Result (List ℕ) Slip
 expanded line = ended (scanned line).mode (scanned line)
+
+-- the column of the byte by which a word begins at this place of the plain line, or of the line's last byte
+abbrev pub column_after : ℕ → Scanner → List ℕ → ℕ
+column_after place s [] = s.column
+column_after place s (byte ∷ bytes) =
+    if (feed s byte).begin == place then (feed s byte).column else column_after place (feed s byte) bytes
+
+-- the column of a word of a line, by its place in the plain line: that of its first byte, from 1 on
+abbrev pub column_of : List ℕ → ℕ → ℕ
+column_of line place = column_after place fresh line
 
 -- what a slice has
 abbrev pub now_or : Result (Bor (List ℕ)) Slip → Result (List ℕ) Slip

@@ -27,6 +27,30 @@ pub enum Fault {
     TooManyBytes,
     /// The plain line has more than 262,144 bytes.
     TooLong,
+    /// No address with a port stands where one has to.
+    NoEnd,
+    /// What stands after the colon of an address isn't a port.
+    NoPort,
+    /// No `>` stands between the two ends of a datagram.
+    NoArrow,
+    /// What stands after `id` isn't an identification.
+    NoId,
+    /// What stands after `ttl` isn't a time to live.
+    NoTtl,
+    /// What stands after `at` isn't where a fragment can begin.
+    NoOffset,
+    /// Neither `more` nor `last` stands after the place of a fragment.
+    NoMore,
+    /// What stands after `size` isn't a number of bytes.
+    NoSize,
+    /// A word about a packet that has no meaning.
+    UnknownWord,
+    /// A word says once more what another one has said.
+    ToldTwice,
+    /// What a packet is to carry isn't in the datagram.
+    PastEnd,
+    /// The datagram or the packet would be longer than one can be.
+    TooLarge,
 }
 
 /// What is wrong with a line, and where.
@@ -56,6 +80,18 @@ impl Fault {
             Fault::ZeroCount => "the number is 0",
             Fault::TooManyBytes => "more than 65535 bytes",
             Fault::TooLong => "the line is too long",
+            Fault::NoEnd => "an address with a port, as 10.0.0.2:7, is wanted",
+            Fault::NoPort => "not a port of 0 to 65535",
+            Fault::NoArrow => "`>` is wanted",
+            Fault::NoId => "not an identification of 0 to 65535",
+            Fault::NoTtl => "not a time to live of 0 to 255",
+            Fault::NoOffset => "not a multiple of 8 of 0 to 65528",
+            Fault::NoMore => "`more` or `last` is wanted",
+            Fault::NoSize => "not a size of 0 to 65515",
+            Fault::UnknownWord => "unknown word",
+            Fault::ToldTwice => "this was told already",
+            Fault::PastEnd => "the datagram has no such bytes",
+            Fault::TooLarge => "more bytes than a packet has room for",
         }
     }
 }

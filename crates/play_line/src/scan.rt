@@ -61,6 +61,21 @@ impl Scanner {
         self.feed(b' ');
     }
 
+    /// The column of a word of a line, by its place in the plain line: how many bytes stand there in front of it, at
+    /// least 1. If no word begins there, it's the column of the line's last byte. What was read before is lost.
+    pub fn column_of(&mut self, line: &[u8], place: usize) -> u64
+        ensures { result ≡ scans.column_of line.now place }
+    {
+        self.clear();
+        for byte in line {
+            self.feed(*byte);
+            if self.begin == place {
+                return self.column;
+            }
+        }
+        self.column
+    }
+
     /// The plain line that was read, or what is wrong with the line.
     fn outcome(&self) -> Result<&[u8], Slip>
         ensures is { scans.now_or result ≡ scans.ended self.now.mode self.now }

@@ -164,13 +164,24 @@ impl Scanner {
         }
     }
 
+    /// Whether the word after `rx` is `udp`, and so the line names a packet.
+    pub(crate) fn is_named(&self) -> bool
+        ensures { result ≡ scans.is_named self.now }
+    {
+        self.begin == 3 && (self.awaits == 1 && self.piece.as_slice() == b"udp".as_slice())
+    }
+
     /// How many words on the bytes of the line stand after this one.
     fn next_awaits(&self) -> usize
         ensures { result ≡ scans.next_awaits self.now }
     {
         let word = self.piece.as_slice();
         if self.begin != 0 {
-            self.awaits.saturating_sub(1)
+            if self.is_named() {
+                4
+            } else {
+                self.awaits.saturating_sub(1)
+            }
         } else if word == b"rx".as_slice() {
             1
         } else if word == b"send".as_slice() {

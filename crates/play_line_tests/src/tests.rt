@@ -4,7 +4,7 @@ use script_loop::Buffer;
 use std::process::Abort;
 
 /// Lines, and the plain lines that they stand for.
-static PLAIN: [(&str, &str); 18] = [
+static PLAIN: [(&str, &str); 20] = [
     ("", ""),
     ("  \t\r", ""),
     ("# only \"a comment", ""),
@@ -24,15 +24,23 @@ static PLAIN: [(&str, &str); 18] = [
         "recvfrom 3 9 => from _ _ 6869",
     ),
     ("rx 00=> ok", "rx 00=> ok"),
+    (
+        "rx udp 1.2.3.4:5 >  6.7.8.9:10 \"a\" + 62 id 7 # c",
+        "rx udp 1.2.3.4:5 > 6.7.8.9:10 6162 id 7",
+    ),
+    ("rx udp a > b -", "rx udp a > b -"),
     ("send 3 \"a\"=> ok", "send 3 61=> ok"),
     ("stat => stat ip.total=1", "stat => stat ip.total=1"),
 ];
 
 /// Lines that stand for none, with what is wrong with them, and in which column.
-static FAULTY: [(&str, &str, u64); 26] = [
+static FAULTY: [(&str, &str, u64); 29] = [
     ("rx 0g", "not a hex digit", 5),
     ("rx udq", "not a hex digit", 4),
     ("send 3 hi", "not a hex digit", 8),
+    ("send 3 udp", "not a hex digit", 8),
+    ("rx 00+udp", "not a hex digit", 7),
+    ("rx udp a > b id 3", "not a hex digit", 14),
     ("sendto 3 10.0.0.2 9 0x12", "not a hex digit", 22),
     ("rx 450", "odd number of hex digits", 4),
     ("rx 00+1", "odd number of hex digits", 7),
@@ -56,6 +64,15 @@ static FAULTY: [(&str, &str, u64); 26] = [
     ("rx @65536", "more than 65535 bytes", 4),
     ("rx 00*65536", "more than 65535 bytes", 4),
     ("rx @65535+00", "more than 65535 bytes", 11),
+];
+
+/// Lines, places in their plain lines, and the columns of the words that begin there.
+static COLUMNS: [(&str, usize, u64); 5] = [
+    ("  rx   00", 3, 8),
+    ("rx \"ab\" + 00*2  id # x", 12, 17),
+    ("rx \"ab\" + 00*2  id", 3, 4),
+    ("send 3 00", 7, 8),
+    ("rx 00", 9, 5),
 ];
 
 /// Lines, and what is told of them.
@@ -109,6 +126,17 @@ fn takes_long_lines(rt: HostRuntime) {
                 && slip.fault.words() == "the line is too long",
         };
         assert!(rt; is_right, "at 65533 or 65534");
+    }
+}
+
+#[test]
+fn tells_columns(rt: HostRuntime) {
+    let mut scanner = Scanner::new(rt.alloc()).expect(&rt, "memory");
+    for (line, place, column) in COLUMNS {
+        assert!(rt;
+            scanner.column_of(line.as_bytes(), place) == column,
+            "at {line}"
+        );
     }
 }
 
