@@ -14,6 +14,7 @@ pub mod fragment;
 pub mod hearing;
 pub mod line_echo;
 pub mod link_packets;
+pub mod named_packet;
 pub mod packet_sum;
 pub mod receive_queue;
 pub mod send;

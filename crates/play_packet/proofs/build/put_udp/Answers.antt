@@ -1,0 +1,32 @@
+use Rattle.std.proofs.Common.{refl}
+use Rattle.flat_model.specs.Packets.Header.{udp}
+use Rattle.play_packet.proofs.build.put_udp.Goals as goal
+
+pub returns-clause-is : goal.returns-clause-is
+unfolding udp
+returns-clause-is c =
+    rw (
+      c.append-13.ensures.items,
+      c.append-12.ensures.items,
+      c.append-11.ensures.items,
+      c.append-10.ensures.items,
+      c.append-9.ensures.items,
+      c.clear-2.ensures,
+      c.two_bytes.ensures,
+      c.not_zero-sum.ensures,
+      c.checksum.ensures,
+      c.as_slice.ensures,
+      c.append-8.ensures.items,
+      c.append-7.ensures.items,
+      c.append-6.ensures.items,
+      c.append-5.ensures.items,
+      c.append-4.ensures.items,
+      c.append-3.ensures.items,
+      c.append-2.ensures.items,
+      c.append.ensures.items,
+      c.clear.ensures,
+      c.address_bytes.ensures,
+      c.two_bytes-source_port.ensures,
+      c.two_bytes-destination_port.ensures,
+      c.two_bytes-len.ensures,
+    ) refl

@@ -1,0 +1,5 @@
+pub mod Numbers
+pub mod Ends
+pub mod Forms
+pub mod Builds
+pub mod Reads

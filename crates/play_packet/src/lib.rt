@@ -1,0 +1,11 @@
+//! Packets by name: a line that tells a UDP datagram, or a part of it, in words, as the plain line `rx` with the
+//! packet's bytes. A reader answers that plain line, or what is wrong with the words and in which column.
+#![tactic(auto)]
+
+mod build;
+mod ends;
+mod form;
+mod numbers;
+mod reader;
+
+pub use reader::LineReader;

@@ -1,0 +1,82 @@
+//! What reads a line, whether it names a packet or not.
+ghost use Rattle.std.specs.Prelude.{◌≡◌, ◌≤◌, length, IfErr};
+ghost use Rattle.play_line.specs.Scans.{expanded, now_or, IsShort};
+ghost use Rattle.play_packet.specs.Builds.{named};
+ghost use Rattle.play_packet.specs.Reads.{put_or};
+
+use crate::build::Builder;
+use crate::form::{Form, Stage};
+use play_line::{Fault, LONGEST, Scanner, Slip};
+use script_loop::Buffer;
+use std::alloc::{AllocError, Global};
+
+/// What reads lines, with all memory that it needs.
+#[derive(Drop)]
+pub struct LineReader {
+    scanner: Scanner,
+    form: Form,
+    builder: Builder,
+}
+
+impl LineReader {
+    /// A reader, with its memory.
+    ///
+    /// # Errors
+    ///
+    /// If host memory is lacking.
+    pub fn new(alloc: Global) -> Result<LineReader, AllocError> {
+        Ok(LineReader {
+            scanner: Scanner::new(alloc)?,
+            form: Form::new(alloc)?,
+            builder: Builder::new(alloc)?,
+        })
+    }
+
+    /// The plain line that a line stands for, as a [`Scanner`] answers it. If the line names a packet, the words that do
+    /// are still there.
+    ///
+    /// # Errors
+    ///
+    /// What is wrong with the bytes of the line, and in which column.
+    pub fn plain_line(&mut self, line: &[u8]) -> Result<&[u8], Slip>
+        ensures is { now_or result ≡ expanded line.now }
+        ensures short { IsShort result }
+    {
+        self.scanner.plain_line(line)
+    }
+
+    /// Puts `rx` and the digits of a packet in the place of the words that name it. `words` are those of the plain line
+    /// that `line` stands for. They stay as they are if they name no packet.
+    ///
+    /// # Errors
+    ///
+    /// What is wrong with the words, and in which column of `line`. The words stay then too.
+    pub fn put_packet(&mut self, line: &[u8], words: &mut Buffer<LONGEST>) -> Result<(), Slip>
+        ensures is { put_or result words.new ≡ named line.now words.old }
+        ensures kept { IfErr result (λ slip. words.new ≡ words.old) }
+    {
+        self.form.read(words.as_slice());
+        let misfit = match self.form.stage {
+            Stage::Keyword | Stage::Kind | Stage::Other => return Ok(()),
+            Stage::More => match self.builder.build(&self.form) {
+                Ok(()) => {
+                    self.builder.put_line(words);
+                    return Ok(());
+                }
+                Err(misfit) => misfit,
+            },
+            Stage::Source | Stage::Destination => self.form.misfit_here(Fault::NoEnd),
+            Stage::Arrow => self.form.misfit_here(Fault::NoArrow),
+            Stage::Bytes => self.form.misfit_here(Fault::NoBytes),
+            Stage::Id | Stage::Ttl | Stage::Offset | Stage::Size => {
+                self.form.misfit_here(Fault::NoCount)
+            }
+            Stage::Last => self.form.misfit_here(Fault::NoMore),
+            Stage::Failed => self.form.misfit,
+        };
+        Err(Slip {
+            fault: misfit.fault,
+            column: self.scanner.column_of(line, misfit.place),
+        })
+    }
+}
