@@ -4,6 +4,7 @@ use Rattle.flat_model.specs.Scripts.Grammar.{words, IsNumber}
 use Rattle.play_line.specs.Scans.{expanded}
 use Rattle.play_line.specs.Shown.{shown}
 use Rattle.play_line.specs.declared.fault.Slip.{Slip}
+use Rattle.play_packet.specs.Builds.{named}
 use Rattle.play_line.specs.declared.scanner.TheConstants.{LONGEST}
 
 -- a space, a tab, or the carriage return in front of a line feed
@@ -52,7 +53,7 @@ expected text = back_at text (position (λ byte. byte == 61) text)
 pub data Reading : Type 0 where
   Nothing : Reading  -- a blank line, or a comment alone
   TooLong : Reading  -- more than 262,144 bytes
-  Faulty : (slip : Slip) → Reading  -- bytes that can't be read
+  Faulty : (slip : Slip) → Reading  -- bytes that can't be read, or words that name no packet
   -- the line as it's written, the plain line that it stands for, and the reply that is expected
   Asks : (shown plain : List ℕ) (wanted : Option (List ℕ)) → Reading
 
@@ -66,15 +67,21 @@ reading_of shown [] None = Nothing
 reading_of shown [] (Some wanted) = Asks shown [] (Some wanted)
 reading_of shown (byte ∷ bytes) wanted = Asks shown (byte ∷ bytes) wanted
 
--- the words of a plain line, and what is expected of it
+-- the words of a line, with the bytes of a packet in the place of those that name it, and what is expected
+abbrev pub reading_words : List ℕ → Result (List ℕ) Slip → Option (List ℕ) → Reading
+reading_words shown (Ok words) wanted = reading_of shown words wanted
+reading_words shown (Err slip) wanted = Faulty slip
+
+-- a line and its plain line
 abbrev pub reading_plain : List ℕ → Result (List ℕ) Slip → Reading
-reading_plain shown (Ok text) = reading_of shown (spaced (asked text)) (spaced_option (expected text))
-reading_plain shown (Err slip) = Faulty slip
+reading_plain line (Ok text) =
+    reading_words (shown line) (named line (spaced (asked text))) (spaced_option (expected text))
+reading_plain line (Err slip) = Faulty slip
 
 abbrev pub reading : List ℕ → Reading
 reading line =
     if nat_lt LONGEST (length line) then TooLong
-    else reading_plain (shown line) (expanded line)
+    else reading_plain line (expanded line)
 
 -- ---- `tick N`
 

@@ -3,7 +3,8 @@ ghost use Rattle.std.specs.Prelude.{◌≡◌, ◌≤◌, ◌==◌, length, posi
 ghost use Rattle.play_script.specs.Lines.{is_blank, spaced, asked, expected, reading};
 ghost use Rattle.play_script.specs.Inside.{is_reading};
 
-use play_line::{LONGEST, Scanner, Slip, put_shown};
+use play_line::{LONGEST, Slip, put_shown};
+use play_packet::LineReader;
 use script_loop::Buffer;
 
 /// What a line is. Its words stand in a buffer beside it, and so does what is expected.
@@ -13,7 +14,7 @@ pub(crate) enum Kind {
     Nothing,
     /// It has more bytes than a line may have.
     TooLong,
-    /// It has bytes that can't be read.
+    /// It has bytes that can't be read, or words that name no packet.
     Faulty(Slip),
     /// A line, and whether something is expected.
     Asks(bool),
@@ -76,7 +77,7 @@ fn cut(text: &[u8]) -> (&[u8], Option<&[u8]>)
 /// that are expected in `wanted`.
 pub(crate) fn read_line(
     line: &[u8],
-    scanner: &mut Scanner,
+    reader: &mut LineReader,
     shown: &mut Buffer<LONGEST>,
     words: &mut Buffer<LONGEST>,
     wanted: &mut Buffer<LONGEST>,
@@ -87,18 +88,22 @@ pub(crate) fn read_line(
         return Kind::TooLong;
     }
     put_shown(line, shown);
-    let plain = match scanner.plain_line(line) {
+    let plain = match reader.plain_line(line) {
         Ok(plain) => plain,
         Err(slip) => return Kind::Faulty(slip),
     };
     let (front, back) = cut(plain);
     put_spaced(front, words);
-    match back {
+    let expects = match back {
         Some(text) => {
             put_spaced(text, wanted);
-            Kind::Asks(true)
+            true
         }
-        None if words.is_empty() => Kind::Nothing,
-        None => Kind::Asks(false),
+        None => false,
+    };
+    match reader.put_packet(line, words) {
+        Ok(()) if expects || !words.is_empty() => Kind::Asks(expects),
+        Ok(()) => Kind::Nothing,
+        Err(slip) => Kind::Faulty(slip),
     }
 }

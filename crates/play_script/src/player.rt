@@ -13,7 +13,8 @@ use crate::line::{Kind, read_line};
 use crate::outcome::{DROPS, TOLD, put_drops, put_told};
 use crate::print::{NAME, ROOM, put_difference, put_fault, put_line, put_slip};
 use link_script::{Caller, Machine, TEXT};
-use play_line::{LONGEST, Scanner};
+use play_line::LONGEST;
+use play_packet::LineReader;
 use script_loop::{Answers, Buffer, HELD, first_word, number, one};
 
 /// The most ticks that a line asks for.
@@ -132,7 +133,7 @@ pub(crate) struct Sheet {
 /// What plays a script.
 pub(crate) struct Player<M> {
     pub(crate) caller: Caller<M>,
-    pub(crate) scanner: Scanner,
+    pub(crate) reader: LineReader,
     pub(crate) desk: Desk,
     pub(crate) notes: Notes,
     pub(crate) sheet: Sheet,
@@ -203,7 +204,7 @@ impl<M: Machine> Player<M> {
     pub(crate) fn end(self) {
         let Player {
             caller,
-            scanner: _scanner,
+            reader: _reader,
             desk: _desk,
             notes: _notes,
             sheet: _sheet,
@@ -234,7 +235,7 @@ impl<M: Machine> Answers<ROOM> for Player<M> {
         self.sheet.number = self.sheet.number.saturating_add(1);
         match read_line(
             line,
-            &mut self.scanner,
+            &mut self.reader,
             &mut self.desk.shown,
             &mut self.desk.words,
             &mut self.desk.wanted,

@@ -13,7 +13,7 @@ use crate::print::NAME;
 use flat_model::Config;
 use link_script::{Caller, Machine};
 use net_stack::Stack;
-use play_line::Scanner;
+use play_packet::LineReader;
 use script_loop::{Buffer, LineBuffers, RunFault, Sink, Source, serve_script};
 use std::alloc::{AllocError, Global};
 
@@ -54,7 +54,7 @@ impl Played {
 #[derive(Drop)]
 struct Parts {
     buffers: LineBuffers,
-    scanner: Scanner,
+    reader: LineReader,
     desk: Desk,
     notes: Notes,
     sheet: Sheet,
@@ -93,7 +93,7 @@ fn parts_for(alloc: Global, style: Style<'_>) -> Result<Parts, AllocError>
 {
     Ok(Parts {
         buffers: LineBuffers::new(alloc)?,
-        scanner: Scanner::new(alloc)?,
+        reader: LineReader::new(alloc)?,
         desk: Desk {
             shown: Buffer::new(alloc)?,
             words: Buffer::new(alloc)?,
@@ -136,14 +136,14 @@ fn play_machine<M: Machine, R: Source, W: Sink>(
     };
     let Parts {
         buffers,
-        scanner,
+        reader: lines,
         desk,
         notes,
         sheet,
     } = parts;
     let mut player = Player {
         caller: Caller { machine, buffers },
-        scanner,
+        reader: lines,
         desk,
         notes,
         sheet,
