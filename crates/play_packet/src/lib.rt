@@ -5,7 +5,9 @@
 mod build;
 mod ends;
 mod form;
+mod laws;
 mod numbers;
 mod reader;
 
+pub use laws::wrong_sum_law;
 pub use reader::LineReader;
