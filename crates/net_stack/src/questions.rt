@@ -55,7 +55,7 @@ impl Stack {
     pub fn unfinished_len(&self) -> u32
         ensures { result ≡ length (state_of self.now).unfinished }
     {
-        self.reass.len()
+        self.host.reass.len()
     }
 
     /// The unfinished datagram at a place, in the order of their beginning, from 0: what its fragments go by, its ticks
@@ -63,7 +63,7 @@ impl Stack {
     pub fn unfinished(&self, i: u32) -> Option<UnfinishedDatagram>
         ensures { result ≡ nth_unfinished i (state_of self.now).unfinished }
     {
-        self.reass.unfinished(&self.pool, i)
+        self.host.reass.unfinished(&self.host.pool, i)
     }
 
     /// The `k`th range of bytes that the unfinished datagram at place `i` holds, in order of offset, from 0. `None` exactly
@@ -71,6 +71,6 @@ impl Stack {
     pub fn unfinished_range(&self, i: u32, k: u32) -> Option<HeldRange>
         ensures { result ≡ nth_range i k (state_of self.now).unfinished }
     {
-        self.reass.range(&self.pool, i, k)
+        self.host.reass.range(&self.host.pool, i, k)
     }
 }
