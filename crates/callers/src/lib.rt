@@ -19,6 +19,7 @@ pub mod packet_sum;
 pub mod receive_queue;
 pub mod send;
 pub mod shared_cluster;
+pub mod shown_topics;
 pub mod socket_lines;
 pub mod text_lines;
 pub mod two_chains;

@@ -1,4 +1,5 @@
 mod TextLemmas
 mod FitLemmas
 mod RunLemmas
+mod AnswerLemmas
 mod TurnLemmas

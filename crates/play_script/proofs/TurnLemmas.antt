@@ -1,16 +1,22 @@
 -- The turns that lines make.
-use Rattle.std.proofs.Common.{◌≡◌, ℕ, zero, suc, List, [], ◌∷◌, ◌++◌, replicate, codes, Option, Some, None, inl, inr, refl, sym, ap, ◌∙◌, arith, subst}
+use Rattle.std.proofs.Common.{◌≡◌, ℕ, zero, suc, List, [], ◌∷◌, ◌++◌, get_or, replicate, codes, Option, Some, None, inl, inr, refl, sym, ap, ◌∙◌, arith, subst}
 use Rattle.std.proofs.lemmas.Fmt.{decimal_injective}
-use Rattle.flat_model.specs.Machine.Event.{Reply, Tick, Done}
+use Rattle.flat_model.specs.Machine.Event.{Event, Reply, Open, Bind, Connect, Send, Receive, Close, Set_option, Comes, Transmit, Tick, Ask_counters, Ask_usage, Done}
 use Rattle.flat_model.specs.Machine.Ledger.{exact_ledger}
 use Rattle.flat_model.specs.Machine.State.{State}
 use Rattle.flat_model.specs.Machine.Step.{Step}
 use Rattle.flat_model.specs.Runs.Run.{Turn, Leads}
+use Rattle.flat_model.specs.Scripts.Grammar.{keyword}
+use Rattle.flat_model.specs.Scripts.Script as script
+use Rattle.flat_model.specs.Scripts.Script.{all_events}
 use Rattle.flat_model.proofs.Laws.{in_range, one_more_turn}
 use Rattle.script_loop.specs.Printed.{Prints}
+use Rattle.play_show.specs.Topics.{topic_asked}
+use Rattle.play_show.specs.declared.topic.Topic.{Topic}
+use Rattle.play_show.proofs.Laws.{begins_with_show}
 use Rattle.play_script.specs.Lines.{Reading, Nothing, TooLong, Faulty, Asks, IsTicks, reading}
 use Rattle.play_script.specs.Runs.{AreTurns, IsRunOf, turn_of}
-use Rattle.play_script.specs.Tells.{Play, Tells, TellsReading, Ticks, Does, next_line}
+use Rattle.play_script.specs.Tells.{Play, Tells, TellsReading, Ticks, Does, IsAnswered, next_line}
 
 -- a line asks for one number of ticks at most
 pub one_count : (plain : List ℕ) (m n : ℕ) → IsTicks plain m → IsTicks plain n → m ≡ n
@@ -45,13 +51,57 @@ Does-turns old new shown plain wanted (Some reply) (inr (n, is, done, ticks)) =
     (replicate n (turn_of Tick Done), inr (inl (n, is, refl)), Ticks-lead n old new ticks)
 Does-turns old new shown plain wanted None ((none, same), no_ticks) = ([], inr (inr (none, no_ticks, refl)), same)
 
+-- the second byte of `show` is no other word's
+no_keyword : (event : Event) → get_or (keyword event) 1 0 ≡ 104 → ⊥
+no_keyword Open h = omega (arith, h)
+no_keyword (Bind fd address) h = omega (arith, h)
+no_keyword (Connect fd address) h = omega (arith, h)
+no_keyword (Send fd (Some to) bytes) h = omega (arith, h)
+no_keyword (Send fd None bytes) h = omega (arith, h)
+no_keyword (Receive fd most) h = omega (arith, h)
+no_keyword (Close fd) h = omega (arith, h)
+no_keyword (Set_option fd option on) h = omega (arith, h)
+no_keyword (Comes packet) h = omega (arith, h)
+no_keyword Transmit h = omega (arith, h)
+no_keyword Tick h = omega (arith, h)
+no_keyword Ask_counters h = omega (arith, h)
+no_keyword Ask_usage h = omega (arith, h)
+
+second_of : List (List ℕ) → ℕ
+second_of [] = 0
+second_of (word ∷ more) = get_or word 1 0
+
+-- a line that asks to be shown something asks for no event, and for no ticks
+Shown-no_event : (plain : List ℕ) (topic : Topic) → topic_asked plain ≡ Some topic → (event : Event) → ¬ script.Asks all_events plain event
+unfolding second_of
+Shown-no_event plain topic is event asks =
+    let shows = begins_with_show plain topic is in
+    no_keyword event (sym (ap second_of (asks.form).words_are) ∙ ap second_of shows.1)
+
+Shown-no_ticks : (plain : List ℕ) (topic : Topic) → topic_asked plain ≡ Some topic → (n : ℕ) → ¬ IsTicks plain n
+unfolding second_of
+Shown-no_ticks plain topic is n ticks =
+    let shows = begins_with_show plain topic is in
+    let same : get_or (codes "tick") 1 0 ≡ 104 = sym (ap second_of ticks.1) ∙ ap second_of shows.1 in
+    omega (arith, same)
+
+-- what is told of a plain line, by its turns
+Answered-turns : (old new : State) (shown plain : List ℕ) (wanted : Option (List ℕ)) (topic : Option Topic) → topic_asked plain ≡ topic
+    → (told : Option (List ℕ)) (below : List ℕ) → IsAnswered Step old topic plain told below new
+    → (turns : List Turn) × AreTurns (Asks shown plain wanted) turns × Leads exact_ledger old turns new
+Answered-turns old new shown plain wanted (Some topic) is None below answered = absurd answered
+Answered-turns old new shown plain wanted (Some topic) is (Some told) below (shows, same) =
+    ([], inr (inr (Shown-no_event plain topic is, Shown-no_ticks plain topic is, refl)), same)
+Answered-turns old new shown plain wanted None is told below (reply, before, after, does, was, now, tells, none) =
+    Does-turns old new shown plain wanted reply does
+
 Tells-turns : (now new : Play) (line : Reading) (text : List ℕ) → TellsReading Step now line text new
     → (turns : List Turn) × AreTurns line turns × Leads exact_ledger now.machine turns new.machine
 Tells-turns now new Nothing text (is, same) = ([], refl, ap (λ (p : Play). p.machine) same)
 Tells-turns now new TooLong text (is, same) = ([], refl, ap (λ (p : Play). p.machine) same)
 Tells-turns now new (Faulty slip) text (is, same) = ([], refl, ap (λ (p : Play). p.machine) same)
-Tells-turns now new (Asks shown plain wanted) text (reply, machine, before, after, does, was, is, told, same) =
-    let made = Does-turns now.machine machine shown plain wanted reply does in (
+Tells-turns now new (Asks shown plain wanted) text (machine, told, below, answered, is, same) =
+    let made = Answered-turns now.machine machine shown plain wanted (topic_asked plain) refl told below answered in (
       made.0,
       made.1,
       subst (λ s. Leads exact_ledger now.machine made.0 s) (sym (ap (λ (p : Play). p.machine) same)) made.2,

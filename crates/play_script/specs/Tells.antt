@@ -10,6 +10,9 @@ use Rattle.script_loop.specs.declared.fault.RunFault.{RunFault}
 use Rattle.script_loop.specs.declared.fault.RunFault.TheVariants.{Read, Write, Memory, TooManyLines, BadSizes, BadConfig}
 use Rattle.play_line.specs.Scans.{words_of}
 use Rattle.play_line.specs.declared.fault.Slip.{Slip}
+use Rattle.play_show.specs.Tells.{Shows}
+use Rattle.play_show.specs.Topics.{topic_asked}
+use Rattle.play_show.specs.declared.topic.Topic.{Topic}
 use Rattle.play_script.specs.Lines.{Reading, Nothing, TooLong, Faulty, Asks, IsTicks, reading}
 use Rattle.play_script.specs.Outcomes.{outcome, meets}
 
@@ -53,14 +56,15 @@ abbrev pub difference_text : List ℕ → ℕ → Option (List ℕ) → List ℕ
 difference_text name number None told = []
 difference_text name number (Some wanted) told = if meets wanted told then [] else differs_text name number wanted told
 
--- what is told of a line, and the difference if something else was expected
-abbrev pub told_text : Bool → List ℕ → ℕ → List ℕ → Option (List ℕ) → List ℕ → List ℕ
-told_text quiet name number shown wanted told = line_text quiet number shown told ++ difference_text name number wanted told
+-- what is told of a line, the lines below it, and the difference if something else was expected
+abbrev pub told_text : Bool → List ℕ → ℕ → List ℕ → Option (List ℕ) → List ℕ → List ℕ → List ℕ
+told_text quiet name number shown wanted told below =
+    line_text quiet number shown told ++ below ++ difference_text name number wanted told
 
 -- the text of a line that asks for something, or for nothing
-abbrev pub printed : Bool → List ℕ → ℕ → List ℕ → Option (List ℕ) → Option (List ℕ) → List ℕ
-printed quiet name number shown wanted None = fault_text name number (codes "this asks for nothing")
-printed quiet name number shown wanted (Some told) = told_text quiet name number shown wanted told
+abbrev pub printed : Bool → List ℕ → ℕ → List ℕ → Option (List ℕ) → Option (List ℕ) → List ℕ → List ℕ
+printed quiet name number shown wanted None below = fault_text name number (codes "this asks for nothing")
+printed quiet name number shown wanted (Some told) below = told_text quiet name number shown wanted told below
 
 -- the line could be read, and what was told is what was expected
 abbrev pub is_sound : Option (List ℕ) → Option (List ℕ) → Bool
@@ -92,6 +96,16 @@ module _ (step : State → Event → Reply → State → Type 0) where
   abbrev pub Counts : State → Counters → Type 0
   Counts s counters = step s Ask_counters (Counted counters) s
 
+  -- What may be told of a plain line, with the lines below it: what it asks to be shown, and then nothing changes; else its
+  -- reply and what was dropped.
+  abbrev pub IsAnswered : State → Option Topic → List ℕ → Option (List ℕ) → List ℕ → State → Type 0
+  IsAnswered old (Some topic) plain None below new = ⊥
+  IsAnswered old (Some topic) plain (Some told) below new = Shows step old topic told below × (new ≡ old)
+  IsAnswered old None plain told below new =
+      (reply : Option Reply) × (before after : Counters)
+      × Does old plain reply new × Counts old before × Counts new after
+      × (told ≡ outcome reply before after) × (below ≡ [])
+
   -- what a line of some kind may have as its text, where `now` has its number
   abbrev pub TellsReading : Play → Reading → List ℕ → Play → Type 0
   TellsReading now Nothing text new = (text ≡ []) × (new ≡ now)
@@ -100,10 +114,10 @@ module _ (step : State → Event → Reply → State → Type 0) where
   TellsReading now (Faulty slip) text new =
       (text ≡ slip_text now.name now.number slip) × (new ≡ record now { sound = false })
   TellsReading now (Asks shown plain wanted) text new =
-      (reply : Option Reply) × (machine : State) × (before after : Counters)
-      × Does now.machine plain reply machine × Counts now.machine before × Counts machine after
-      × (text ≡ printed now.quiet now.name now.number shown wanted (outcome reply before after))
-      × (new ≡ record now { machine = machine; sound = now.sound && is_sound wanted (outcome reply before after) })
+      (machine : State) × (told : Option (List ℕ)) × (below : List ℕ)
+      × IsAnswered now.machine (topic_asked plain) plain told below machine
+      × (text ≡ printed now.quiet now.name now.number shown wanted told below)
+      × (new ≡ record now { machine = machine; sound = now.sound && is_sound wanted told })
 
   abbrev pub Tells : Play → List ℕ → List ℕ → Play → Type 0
   Tells old line text new = TellsReading (next_line old) (reading line) text new

@@ -5,7 +5,8 @@ ghost use Rattle.flat_model.specs.declared.counters.Counters.{Counters};
 ghost use Rattle.flat_model.specs.Scripts.Texts.{answer_text};
 ghost use Rattle.play_script.specs.Lines.{IsTicks};
 ghost use Rattle.play_script.specs.Outcomes.{outcome, drops_text};
-ghost use Rattle.play_script.specs.Tells.{Play, Ticks, Does, Counts, Tells, told_text, printed, is_sound};
+ghost use Rattle.play_show.specs.Topics.{topic_asked};
+ghost use Rattle.play_script.specs.Tells.{Play, Ticks, Does, Counts, IsAnswered, Tells, told_text, printed, is_sound};
 ghost use Rattle.play_script.specs.Inside.{if_there, expected_on};
 
 use crate::fits::meets;
@@ -15,6 +16,7 @@ use crate::print::{NAME, ROOM, put_difference, put_fault, put_line, put_slip};
 use link_script::{Caller, Machine, TEXT};
 use play_line::LONGEST;
 use play_packet::LineReader;
+use play_show::{Questions, SHOWN, tell_topic, topic_of};
 use script_loop::{Answers, Buffer, HELD, first_word, number, one};
 
 /// The most ticks that a line asks for.
@@ -91,6 +93,9 @@ pub(crate) struct Notes {
     pub(crate) reply: Buffer<TEXT>,
     pub(crate) drops: Buffer<DROPS>,
     pub(crate) told: Buffer<TOLD>,
+    /// What is shown, and the lines below it.
+    pub(crate) shown: Buffer<SHOWN>,
+    pub(crate) below: Buffer<SHOWN>,
 }
 
 /// Does a line, puts what is told of it into the notes, and answers whether it asks for something.
@@ -110,6 +115,27 @@ fn tell_line<M: Machine>(caller: &mut Caller<M>, words: &[u8], notes: &mut Notes
         bytes_of(&notes.drops),
         &mut notes.told,
     )
+}
+
+/// Does what a line asks for or tells what it asks to be shown, puts what is told of it into the notes, and answers
+/// whether it asks for something.
+fn answer_line<M: Questions>(caller: &mut Caller<M>, words: &[u8], notes: &mut Notes) -> bool
+    ensures { IsAnswered M.may_step (M.state caller.old.machine) (topic_asked words.now) words.now
+        (if_there result notes.new.told) notes.new.below (M.state caller.new.machine) }
+{
+    match topic_of(words) {
+        Some(topic) => {
+            tell_topic(&caller.machine, topic, &mut notes.shown, &mut notes.below);
+            notes.told.clear();
+            notes.told.append(bytes_of(&notes.shown));
+            true
+        }
+        None => {
+            let asks = tell_line(caller, words, notes);
+            notes.below.clear();
+            asks
+        }
+    }
 }
 
 /// A line as it's written, the plain line that it stands for, and the words that are expected.
@@ -142,20 +168,21 @@ pub(crate) struct Player<M> {
 }
 
 /// Prints what is told of a line, and answers whether that's what was expected.
-fn print_told(sheet: &Sheet, desk: &Desk, told: &Buffer<TOLD>, text: &mut Buffer<ROOM>) -> bool
+fn print_told(sheet: &Sheet, desk: &Desk, notes: &Notes, text: &mut Buffer<ROOM>) -> bool
     requires { length text.old ≤ HELD }
     ensures text { text.new ≡ text.old ++ told_text sheet.now.quiet sheet.now.name sheet.now.number
-        desk.now.shown (expected_on desk.now) told.now }
-    ensures sound { result ≡ is_sound (expected_on desk.now) (Some told.now) }
+        desk.now.shown (expected_on desk.now) notes.now.told notes.now.below }
+    ensures sound { result ≡ is_sound (expected_on desk.now) (Some notes.now.told) }
 {
     put_line(
         text,
         sheet.quiet,
         sheet.number,
         bytes_of(&desk.shown),
-        bytes_of(told),
+        bytes_of(&notes.told),
     );
-    if !desk.expects || meets(bytes_of(&desk.wanted), bytes_of(told)) {
+    text.append(bytes_of(&notes.below));
+    if !desk.expects || meets(bytes_of(&desk.wanted), bytes_of(&notes.told)) {
         return true;
     }
     put_difference(
@@ -163,14 +190,14 @@ fn print_told(sheet: &Sheet, desk: &Desk, told: &Buffer<TOLD>, text: &mut Buffer
         bytes_of(&sheet.name),
         sheet.number,
         bytes_of(&desk.wanted),
-        bytes_of(told),
+        bytes_of(&notes.told),
     );
     false
 }
 
 /// Does the line whose words stand on the desk, prints what is told of it, and answers whether it asks for something,
 /// and what is told of it is what was expected.
-fn play_line<M: Machine>(
+fn play_line<M: Questions>(
     caller: &mut Caller<M>,
     desk: &Desk,
     notes: &mut Notes,
@@ -178,16 +205,15 @@ fn play_line<M: Machine>(
     text: &mut Buffer<ROOM>,
 ) -> bool
     requires { length text.old ≤ HELD }
-    ensures { (reply : Option Reply) × (before after : Counters)
-        × Does M.may_step (M.state caller.old.machine) desk.now.words reply (M.state caller.new.machine)
-        × Counts M.may_step (M.state caller.old.machine) before
-        × Counts M.may_step (M.state caller.new.machine) after
+    ensures { (told : Option (List ℕ)) × (below : List ℕ)
+        × IsAnswered M.may_step (M.state caller.old.machine) (topic_asked desk.now.words) desk.now.words told below
+        (M.state caller.new.machine)
         × (text.new ≡ text.old ++ printed sheet.now.quiet sheet.now.name sheet.now.number
-        desk.now.shown (expected_on desk.now) (outcome reply before after))
-        × (result ≡ is_sound (expected_on desk.now) (outcome reply before after)) }
+        desk.now.shown (expected_on desk.now) told below)
+        × (result ≡ is_sound (expected_on desk.now) told) }
 {
-    if tell_line(caller, bytes_of(&desk.words), notes) {
-        print_told(sheet, desk, &notes.told, text)
+    if answer_line(caller, bytes_of(&desk.words), notes) {
+        print_told(sheet, desk, notes, text)
     } else {
         put_fault(
             text,
@@ -218,7 +244,7 @@ impl<M: Machine> Player<M> {
     }
 }
 
-impl<M: Machine> Answers<ROOM> for Player<M> {
+impl<M: Questions> Answers<ROOM> for Player<M> {
     ghost State = { Play };
 
     ghost state = { λ p. record {

@@ -4,13 +4,14 @@ ghost use Rattle.play_script.specs.Tells.{place_text, fault_text, slip_text, lin
 
 use crate::outcome::TOLD;
 use play_line::{LONGEST, Slip};
+use play_show::SHOWN;
 use script_loop::{Buffer, HELD};
 
 /// The most bytes of a script's name that are printed.
 pub(crate) const NAME: usize = 4096;
 
 /// Room for the longest text of a line, after those that are held.
-pub(crate) const ROOM: usize = HELD + NAME + 2 * LONGEST + 2 * TOLD + 256;
+pub(crate) const ROOM: usize = HELD + NAME + 2 * LONGEST + 2 * TOLD + SHOWN + 256;
 
 /// Puts the digits of a number after the text, twenty of them at most.
 fn put_count(text: &mut Buffer<ROOM>, n: u64)

@@ -11,9 +11,10 @@ ghost use Rattle.play_script.specs.Tells.{Play, Tells, started, status_of};
 use crate::player::{Desk, Notes, Player, Sheet};
 use crate::print::NAME;
 use flat_model::Config;
-use link_script::{Caller, Machine};
+use link_script::Caller;
 use net_stack::Stack;
 use play_packet::LineReader;
+use play_show::Questions;
 use script_loop::{Buffer, LineBuffers, RunFault, Sink, Source, serve_script};
 use std::alloc::{AllocError, Global};
 
@@ -104,13 +105,15 @@ fn parts_for(alloc: Global, style: Style<'_>) -> Result<Parts, AllocError>
             reply: Buffer::new(alloc)?,
             drops: Buffer::new(alloc)?,
             told: Buffer::new(alloc)?,
+            shown: Buffer::new(alloc)?,
+            below: Buffer::new(alloc)?,
         },
         sheet: sheet_for(alloc, style)?,
     })
 }
 
 /// Plays a script on a machine, and spends it.
-fn play_machine<M: Machine, R: Source, W: Sink>(
+fn play_machine<M: Questions, R: Source, W: Sink>(
     alloc: Global,
     machine: M,
     style: Style<'_>,
@@ -156,7 +159,7 @@ fn play_machine<M: Machine, R: Source, W: Sink>(
 }
 
 /// Plays a script on a new machine, which is spent then.
-fn play_on<M: Machine, R: Source, W: Sink>(
+fn play_on<M: Questions, R: Source, W: Sink>(
     alloc: Global,
     config: Config,
     style: Style<'_>,

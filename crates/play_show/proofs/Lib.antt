@@ -1,0 +1,4 @@
+mod SocketLemmas
+mod ShownLemmas
+mod JoinLemmas
+pub mod Laws

@@ -1,0 +1,5 @@
+pub mod Topics
+pub mod Texts
+pub mod Sockets
+pub mod Counts
+pub mod Tells

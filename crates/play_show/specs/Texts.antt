@@ -1,0 +1,62 @@
+-- Sockets and the output queue in words (this project's own).
+use Rattle.std.specs.Prelude.{ℕ, ◌==◌, Bool, List, [], ◌++◌, codes, decimal, if◌then◌else◌, Option, Some, None, Result, Ok, Err}
+use Rattle.flat_model.specs.Scripts.Grammar.{address_text}
+use Rattle.flat_model.specs.declared.address.Addr.{Addr}
+use Rattle.flat_model.specs.declared.errno.Errno.{Errno}
+use Rattle.sock_calls.specs.declared.questions.SocketName.{SocketName}
+use Rattle.sock_calls.specs.declared.questions.NextDatagram.{NextDatagram}
+
+-- `1 packet`, `2 packets`
+abbrev pub amount : ℕ → List ℕ → List ℕ
+amount n what = decimal n ++ codes " " ++ what ++ (if n == 1 then [] else codes "s")
+
+-- so many are free of so many
+abbrev pub free_text : ℕ → ℕ → List ℕ → List ℕ
+free_text free all what = decimal free ++ codes " of " ++ amount all what ++ codes " free, "
+
+-- ---- addresses and ports: a star for what isn't set
+
+abbrev pub ip_text : Option ℕ → List ℕ
+ip_text (Some ip) = address_text ip
+ip_text None = codes "*"
+
+abbrev pub port_text : Option ℕ → List ℕ
+port_text (Some port) = decimal port
+port_text None = codes "*"
+
+abbrev pub end_text : Addr → List ℕ
+end_text a = address_text a.ip ++ codes ":" ++ decimal a.port
+
+-- ---- a socket
+
+abbrev pub peer_text : Option Addr → List ℕ
+peer_text (Some peer) = codes ", peer " ++ end_text peer
+peer_text None = []
+
+abbrev pub switch_text : Bool → List ℕ → List ℕ
+switch_text on name = if on then codes ", " ++ name else []
+
+-- what it's bound and connected to
+abbrev pub ends_text : SocketName → List ℕ
+ends_text name = codes "local " ++ ip_text name.local ++ codes ":" ++ port_text name.port ++ peer_text name.peer
+
+abbrev pub options_text : SocketName → List ℕ
+options_text name = switch_text name.broadcast (codes "broadcast") ++ switch_text name.reuse_port (codes "reuseport")
+
+-- how many datagrams wait, how many bytes the oldest one has, and who sent it
+abbrev pub waiting_text : Result NextDatagram Errno → List ℕ
+waiting_text (Ok next) =
+    amount next.waiting (codes "datagram") ++ codes ", the next of " ++ amount next.len (codes "byte") ++ codes " from "
+    ++ end_text next.sender
+waiting_text (Err errno) = codes "no datagram"
+
+abbrev pub socket_line : ℕ → SocketName → Result NextDatagram Errno → List ℕ
+socket_line fd name next =
+    codes "    socket " ++ decimal fd ++ codes ": " ++ ends_text name ++ options_text name ++ codes "; " ++ waiting_text next ++ codes "\n"
+
+-- ---- the output queue
+
+-- how many packets wait for the link, and how many bytes the oldest one has
+abbrev pub queue_text : ℕ → Option ℕ → List ℕ
+queue_text count (Some len) = amount count (codes "packet") ++ codes ", the next of " ++ amount len (codes "byte")
+queue_text count None = codes "no packet"

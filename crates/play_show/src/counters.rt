@@ -1,0 +1,90 @@
+//! Counters and the pool in words.
+ghost use Rattle.std.specs.Prelude.{◌≡◌, ◌+◌, ◌*◌, ◌≤◌, ◌++◌, length, decimal};
+ghost use Rattle.play_show.specs.Counts.{meaning, counter_line, counters_text, pool_text};
+
+use crate::amounts::{SHOWN, put_amount, put_free};
+use flat_model::{Counter, Counters, Mbstat};
+use script_loop::{Buffer, put_number};
+
+/// What a counter counts.
+fn meaning_of(counter: Counter) -> &'static str
+    ensures is { result.now ≡ meaning counter }
+    ensures short { length result.now ≤ 80 }
+{
+    match counter {
+        Counter::IpTotal => "packets that reached the input of IP, from the wire or by loopback",
+        Counter::IpToosmall => "packets of fewer than 20 bytes",
+        Counter::IpBadvers => "packets of another version than 4",
+        Counter::IpBadhlen => "packets with a header shorter than 5 words",
+        Counter::IpOptions => "packets with a header longer than 5 words, which hold options",
+        Counter::IpBadsum => "packets with a wrong header checksum",
+        Counter::IpBadlen => "packets with a total length below 20",
+        Counter::IpTooshort => "packets with fewer bytes than their total length",
+        Counter::IpCantforward => "packets for another machine",
+        Counter::IpBadfrag => "fragments of a size or at an offset that none can have",
+        Counter::IpFragments => "fragments that passed that test",
+        Counter::IpFragdropped => "fragments all of whose bytes were held already",
+        Counter::IpFragtimeout => "unfinished datagrams dropped after their 60 ticks",
+        Counter::IpReclaimed => "unfinished datagrams dropped for their buffers",
+        Counter::IpReassembled => "datagrams put together whole",
+        Counter::IpNoproto => "whole datagrams of another protocol than 17",
+        Counter::UdpHdrops => "datagrams of fewer than 8 bytes",
+        Counter::UdpBadlen => "datagrams with a UDP length below 8 or above what is carried",
+        Counter::UdpBadsum => "datagrams with a wrong UDP checksum",
+        Counter::UdpNoport => "datagrams that no socket gets, but for broadcasts",
+        Counter::UdpNoportbcast => "broadcasts that no socket gets",
+        Counter::UdpFullsock => "datagrams that found a socket's receive queue full",
+        Counter::IpLocalout => "sends that left",
+        Counter::IpFragmented => "those of them whose datagram was cut",
+        Counter::OutDropped => "those of them whose packets the output queue didn't all take",
+        Counter::Nobufs => "packets that ended for want of buffers",
+    }
+}
+
+/// Puts the digits of a number after the text, twenty of them at most.
+fn put_long(text: &mut Buffer<SHOWN>, n: u64)
+    requires { length text.old + 20 ≤ SHOWN }
+    ensures items { text.new ≡ text.old ++ decimal n }
+    ensures len { length text.new ≤ length text.old + 20 }
+{
+    let mut digits = itoa::Buffer::new();
+    text.append(digits.format(n).as_bytes());
+}
+
+/// Puts the line of a counter after the text.
+fn put_counter(text: &mut Buffer<SHOWN>, counter: Counter, counters: &Counters)
+    requires { length text.old + 130 ≤ SHOWN }
+    ensures items { text.new ≡ text.old ++ counter_line counters.now counter }
+    ensures len { length text.new ≤ length text.old + 130 }
+{
+    text.append(b"    ");
+    text.append(counter.name().as_bytes());
+    text.append(b" ");
+    put_long(text, counters.value(counter));
+    text.append(b": ");
+    text.append(meaning_of(counter).as_bytes());
+    text.append(b"\n");
+}
+
+/// Puts the lines of all counters into a buffer.
+pub(crate) fn put_counters(text: &mut Buffer<SHOWN>, counters: &Counters)
+    ensures { text.new ≡ counters_text counters.now }
+{
+    text.clear();
+    for counter in Counter::all() {
+        put_counter(text, counter, counters);
+    }
+}
+
+/// Puts after the text how much of the pool is free, and how its clusters are shared.
+pub(crate) fn put_pool(text: &mut Buffer<SHOWN>, usage: Mbstat)
+    requires { length text.old + 200 ≤ SHOWN }
+    ensures { text.new ≡ text.old ++ pool_text usage }
+{
+    put_free(text, usage.free_mbufs, usage.mbufs, b"mbuf");
+    put_free(text, usage.free_clusters, usage.clusters, b"cluster");
+    put_amount(text, usage.refs, b"reference");
+    text.append(b", at most ");
+    put_number(text, usage.most);
+    text.append(b" to a cluster");
+}

@@ -1,0 +1,47 @@
+//! What may be asked of a machine beside its calls.
+ghost use Rattle.std.specs.Prelude.{◌≡◌, length};
+ghost use Rattle.ip_out.specs.Questions.{oldest_length};
+ghost use Rattle.sock_calls.specs.Questions.{next_datagram, socket_name};
+
+use flat_model::Errno;
+use link_script::Machine;
+use net_stack::{NextDatagram, SocketName, Stack};
+
+/// A machine of which its sockets and its output queue may be asked. A question changes nothing, and its answer is a
+/// function of the machine's state.
+pub trait Questions: Machine {
+    /// What a socket is bound and connected to, and its options. Refused: `BadDescriptor`.
+    fn socket_name(&self, fd: u32) -> Result<SocketName, Errno>
+        ensures { result ≡ socket_name fd (Self.state self.now) };
+
+    /// The oldest datagram that waits in a socket: its sender, how many bytes it has, and how many datagrams wait.
+    /// Refused, in this order: `BadDescriptor`; `WouldBlock` if none waits.
+    fn next_datagram(&self, fd: u32) -> Result<NextDatagram, Errno>
+        ensures { result ≡ next_datagram fd (Self.state self.now) };
+
+    /// How many packets wait for the link.
+    fn output_len(&self) -> u32
+        ensures { result ≡ length (Self.state self.now).output };
+
+    /// How many bytes the packet has that has waited longest. `None` if none waits.
+    fn next_packet(&self) -> Option<u32>
+        ensures { result ≡ oldest_length (Self.state self.now).output };
+}
+
+impl Questions for Stack {
+    fn socket_name(&self, fd: u32) -> Result<SocketName, Errno> {
+        Stack::socket_name(self, fd)
+    }
+
+    fn next_datagram(&self, fd: u32) -> Result<NextDatagram, Errno> {
+        Stack::next_datagram(self, fd)
+    }
+
+    fn output_len(&self) -> u32 {
+        Stack::output_len(self)
+    }
+
+    fn next_packet(&self) -> Option<u32> {
+        Stack::next_packet(self)
+    }
+}

@@ -1,0 +1,12 @@
+//! Laws of what is told. Each is a function that does nothing, and its contract is the law.
+ghost use Rattle.std.specs.Prelude.{◌≡◌, ℕ, List};
+ghost use Rattle.flat_model.specs.Machine.State.{State};
+ghost use Rattle.flat_model.specs.Machine.Step.{Step};
+ghost use Rattle.play_show.specs.declared.topic.Topic.{Topic};
+ghost use Rattle.play_show.specs.Tells.{Shows, told_of, below_of};
+
+/// What is told of a stack is a function of its state.
+pub fn shows_law()
+    ensures { (s : State) (topic : Topic) (told below : List ℕ) → Shows Step s topic told below
+        → (told ≡ told_of s topic) × (below ≡ below_of s topic) }
+{}

@@ -1,0 +1,38 @@
+//! What is told of a machine.
+ghost use Rattle.play_show.specs.Tells.{Shows};
+
+use crate::amounts::{SHOWN, put_amount};
+use crate::counters::{put_counters, put_pool};
+use crate::questions::Questions;
+use crate::sockets::{put_queue, put_sockets};
+use crate::topic::Topic;
+use script_loop::Buffer;
+
+/// Tells of a machine what is asked. What is told in a word or two stands in `told` then, and in `below` the lines under
+/// it, each with its line feed: one for each open socket, by their descriptors, and one for each counter, in the order
+/// of [`Counter::all`](flat_model::Counter::all); no line for the output queue and the pool. What the buffers held
+/// before is lost. The machine isn't changed. It takes a step for each of the 64 descriptors, and for the pool one for
+/// each cluster.
+pub fn tell_topic<M: Questions>(
+    machine: &M,
+    topic: Topic,
+    told: &mut Buffer<SHOWN>,
+    below: &mut Buffer<SHOWN>,
+)
+    ensures { Shows M.may_step (M.state machine.now) topic told.new below.new }
+{
+    told.clear();
+    below.clear();
+    match topic {
+        Topic::Sockets => {
+            let count = put_sockets(machine, below);
+            put_amount(told, count, b"socket");
+        }
+        Topic::Queue => put_queue(told, machine.output_len(), machine.next_packet()),
+        Topic::Counters => {
+            put_counters(below, &machine.counters());
+            told.append(b"26 counters");
+        }
+        Topic::Pool => put_pool(told, machine.mbstat()),
+    }
+}

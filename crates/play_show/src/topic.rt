@@ -1,0 +1,35 @@
+//! What a line asks to be shown.
+ghost use Rattle.std.specs.Prelude.{◌≡◌};
+ghost use Rattle.play_show.specs.Topics.{topic_asked};
+
+/// What of a machine is shown (this project's own).
+#[derive(Clone, Copy, Debug, PartialEq, Eq)]
+pub enum Topic {
+    /// Its sockets: what each is bound and connected to, its options, and what waits in it.
+    Sockets,
+    /// The packets that wait for the link.
+    Queue,
+    /// Each counter, with what it counts.
+    Counters,
+    /// How much of the pool is free.
+    Pool,
+}
+
+/// What a plain line asks to be shown, or `None` if it asks for something else.
+pub fn topic_of(plain: &[u8]) -> Option<Topic>
+    ensures { result ≡ topic_asked plain.now }
+{
+    if plain == b"show sockets".as_slice() {
+        return Some(Topic::Sockets);
+    }
+    if plain == b"show queue".as_slice() {
+        return Some(Topic::Queue);
+    }
+    if plain == b"show counters".as_slice() {
+        return Some(Topic::Counters);
+    }
+    if plain == b"show pool".as_slice() {
+        return Some(Topic::Pool);
+    }
+    None
+}
