@@ -54,7 +54,10 @@ fn chooses_as_the_python_package_does(rt: HostRuntime) -> Result<(), Fail> {
         segment.end();
         return Ok(());
     };
-    assert_eq!(rt; (tally.sent, tally.lost, tally.repeated, tally.received), (10, 4, 2, 0));
+    assert_eq!(rt;
+        (tally.sent, tally.lost, tally.repeated, tally.received),
+        (10, 4, 2, 0)
+    );
     assert_eq!(rt; segment.tally(1).map(|tally| tally.received), Some(8));
     assert_eq!(rt; segment.tally(2), None);
     segment.end();
@@ -65,14 +68,24 @@ fn chooses_as_the_python_package_does(rt: HostRuntime) -> Result<(), Fail> {
 fn always_loses_and_always_repeats(rt: HostRuntime) -> Result<(), Fail> {
     let mut segment = Segment::new(rt.alloc(), 100)?;
     assert_eq!(rt; two_hosts(rt.alloc(), &mut segment), Some(()));
-    let loses = Chances { loss: ALWAYS, ..NO_CHANCES };
-    let repeats = Chances { repeat: ALWAYS, delay: 1, ..NO_CHANCES };
+    let loses = Chances {
+        loss: ALWAYS,
+        ..NO_CHANCES
+    };
+    let repeats = Chances {
+        repeat: ALWAYS,
+        delay: 1,
+        ..NO_CHANCES
+    };
     assert_eq!(rt; segment.impair(0, loses), true);
     assert_eq!(rt; segment.impair(1, repeats), true);
     assert_eq!(rt; send(&mut segment, 0, SECOND, b"gone"), Some(4));
     assert_eq!(rt; send(&mut segment, 1, 0x0a00_0001, b"twice"), Some(5));
     segment.carry();
-    assert_eq!(rt; (receive(&mut segment, 0), receive(&mut segment, 1)), (None, None));
+    assert_eq!(rt;
+        (receive(&mut segment, 0), receive(&mut segment, 1)),
+        (None, None)
+    );
     assert_eq!(rt; segment.carry_all(1), true);
     assert_eq!(rt; receive(&mut segment, 0), Some((SECOND, 5)));
     assert_eq!(rt; receive(&mut segment, 0), Some((SECOND, 5)));
@@ -85,16 +98,27 @@ fn always_loses_and_always_repeats(rt: HostRuntime) -> Result<(), Fail> {
 fn shows_each_part_of_the_law(rt: HostRuntime) -> Result<(), Fail> {
     let mut segment = Segment::new(rt.alloc(), 3)?;
     for last in 1..3 {
-        let config = Config { mtu: 576, ..host(last) };
+        let config = Config {
+            mtu: 576,
+            ..host(last)
+        };
         assert_eq!(rt; segment.join(rt.alloc(), config), Ok(()));
     }
-    assert_eq!(rt; (open(&mut segment, 0), open(&mut segment, 1)), (Some(()), Some(())));
+    assert_eq!(rt;
+        (open(&mut segment, 0), open(&mut segment, 1)),
+        (Some(()), Some(()))
+    );
     assert_eq!(rt; send(&mut segment, 0, SECOND, &[1; 1000]), Some(1000));
     segment.collect();
     assert_eq!(rt; segment.flight_len(), 2);
     assert_eq!(rt; segment.swap(0, 1), true);
-    assert_eq!(rt; (segment.repeat(0), segment.repeat(0), segment.repeat(9)), (true, false, false));
-    let lens = (0..4).map(|at| segment.under_way(at).map(|shown| (shown.sender, shown.packet.len())));
+    assert_eq!(rt;
+        (segment.repeat(0), segment.repeat(0), segment.repeat(9)),
+        (true, false, false)
+    );
+    let lens = (0..4).map(|at| segment
+        .under_way(at)
+        .map(|shown| (shown.sender, shown.packet.len())));
     for (shown, want) in lens.zip([Some((0, 476)), Some((0, 572)), Some((0, 476)), None]) {
         assert_eq!(rt; shown, want);
     }
@@ -104,7 +128,10 @@ fn shows_each_part_of_the_law(rt: HostRuntime) -> Result<(), Fail> {
     // A fragment is lost, and the other waits until its time is over.
     assert_eq!(rt; send(&mut segment, 0, SECOND, &[2; 1000]), Some(1000));
     segment.collect();
-    assert_eq!(rt; (segment.lose(0), segment.lose(1), segment.swap(0, 1)), (true, false, false));
+    assert_eq!(rt;
+        (segment.lose(0), segment.lose(1), segment.swap(0, 1)),
+        (true, false, false)
+    );
     segment.deliver();
     assert_eq!(rt; receive(&mut segment, 1), None);
     if let Some(stack) = segment.stack(1) {
