@@ -168,6 +168,15 @@ static inline void memory_copy(const struct core *it, u32 to, u32 from, u32 len)
         memmove(writable(it, to, len), readable(it, from, len), len);
 }
 
+/* How many bits are 0 below the lowest that is 1: 32 if all are 0. */
+static inline u32 I32_CTZ(u32 bits)
+{
+    u32 count = 0;
+    while (count < 32 && (bits >> count & 1) == 0)
+        count++;
+    return count;
+}
+
 #define UNREACHABLE stop()
 #define DIV_U(x, y) ((y) != 0 ? (x) / (y) : stop())
 #define REM_U(x, y) ((y) != 0 ? (x) % (y) : stop())
