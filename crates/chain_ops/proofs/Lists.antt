@@ -28,6 +28,15 @@ none_after es i e = drop_all (i + 1) es (omega arith)
 pub flat_after : (es : List Entry) (i : ℕ) → i + 1 ≡ length es → length (flat_bytes (drop (i + 1) es)) ≡ 0
 flat_after es i e = ap (λ (xs : List Entry). length (flat_bytes xs)) (none_after es i e)
 
+-- bytes beyond an entry lie in another one
+pub another_follows : (v : ChainView) (at : Place) → IsPlace v at
+    → length (entry_of v at.index).bytes < length (flat_bytes (drop at.index v.entries)) → at.index + 1 < length v.entries
+another_follows v at p more = go (cases_lt (at.index + 1) (length v.entries))
+  where
+    go : (at.index + 1 < length v.entries) ⊎ (length v.entries ≤ at.index + 1) → at.index + 1 < length v.entries
+    go (inl lt) = lt
+    go (inr le) = absurd (omega (arith, more, flat_at v at p, flat_after v.entries at.index (omega (arith, le, p.within))))
+
 -- ---- where a byte lies
 pub position-stays : (e : Entry) (es : List Entry) (off : ℕ) → (off ≡ 0) ⊎ (off < length e.bytes) → position_of (e ∷ es) off ≡ record { entries = e ∷ es; skip = off }
 position-stays e es off (inl h) = cond-false {A = Position} _ _ _ (and_left _ _ (le-ltb 0 off (omega arith)))

@@ -19,9 +19,7 @@ pub(crate) fn drop_first(pool: &mut Pool, chain: Chain) -> Option<Chain>
         pool.free_chain(chain);
         return None;
     }
-    let rest = pool.cut(&chain, 1);
-    pool.free_chain(chain);
-    Some(rest)
+    Some(pool.free_first(chain))
 }
 
 /// The place of a chain's last mbuf, from another place on.

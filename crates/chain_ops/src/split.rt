@@ -142,7 +142,6 @@ pub fn m_split(pool: &mut Pool, chain: &Chain, at: u32) -> Result<Chain, NoBufs>
     let (counted, total) = counted_len(pool, chain);
     pool.laws();
     if !header && off == len {
-        let _ = pool.next(chain, place).unwrap();
         return Ok(pool.cut(chain, place.index + 1));
     }
     let head = new_head(pool, header, chain, place, off)?;

@@ -5,10 +5,11 @@ use Rattle.std.proofs.lemmas.List.{take_all, take_more, drop-set-lt, length-set}
 use Rattle.mbuf_chain.specs.declared.place.Segment.{Segment}
 use Rattle.mbuf_chain.specs.Chain.{Entry, ChainView, PoolView, no_entry, alone, chain_of, entry_of, with_chain, flat_bytes}
 use Rattle.mbuf_chain.specs.Steps.{narrowed, first_part}
+use Rattle.mbuf_chain.proofs.Laws.Accounts.{held-without}
 use Rattle.mbuf_chain.proofs.Laws.Owners.{live_here, live_adds, shown_adds, shown_with, kept_with, chain_here, chain_left}
 use Rattle.mbuf_chain.proofs.Laws.Steps.{live_beside, live_shown, place_after, apart}
 use Rattle.chain_ops.specs.Splits.{rest_of, split_back, split_need}
-use Rattle.chain_ops.proofs.Lists.{none_after, flat_at}
+use Rattle.chain_ops.proofs.Lists.{another_follows, none_after, flat_at}
 use Rattle.chain_ops.proofs.Laws.Makes.{makes_new, makes_as, makes_held, makes_mbufs, makes_kept}
 use Rattle.chain_ops.proofs.Laws.Strings.{split_front_bytes, split_back_bytes}
 use Rattle.chain_ops.proofs.Laws.Steps.{place_in, kept_adds}
@@ -21,6 +22,15 @@ no_next : {A : Type 0} (o : Option A) (b : Bool) → is_some o ≡ not b → b �
 no_next None b e t = refl
 no_next (Some x) b e t = absurd (true≢false (e ∙ ap not t))
 
+pub overflow_add-place : goal.overflow_add-place
+overflow_add-place c =
+    omega (arith, c.find_cut-off.ensures.place.within, held-without c.args.pool.now _ c.args.chain.now c.requires.live refl, c.laws.ensures.few, c.laws.ensures.small)
+
+pub cut-requires-clause-within : goal.cut-requires-clause-within
+cut-requires-clause-within c =
+    another_follows (chain_of c.args.pool.now c.args.chain.now) c.find_cut-off.result.0 c.find_cut-off.ensures.place
+    (omega (arith, c.find_cut-off.ensures.after, c.if-off-len.true, ap (λ (x : Segment). x.len) c.segment-len.ensures.value))
+
 pub narrow-requires-clause-live : goal.narrow-requires-clause-live
 narrow-requires-clause-live c = let two = two_new c.args.chain.now c.requires.live c.in_ok-head.ensures.ok.adds in two.live_first
 
@@ -31,11 +41,11 @@ pub narrow-requires-clause-within : goal.narrow-requires-clause-within
 narrow-requires-clause-within c =
     omega (arith, c.find_cut-off.ensures.within, ap (λ (v : ChainView). length (entry_of v c.find_cut-off.result.0.index).bytes) (makes_kept c.args.chain.now c.in_ok-head.ensures.ok c.requires.live))
 
-pub next-requires-2-clause-live : goal.next-requires-2-clause-live
-next-requires-2-clause-live c = live_shown _ _ _ _ c.narrow.ensures
+pub next-requires-clause-live : goal.next-requires-clause-live
+next-requires-clause-live c = live_shown _ _ _ _ c.narrow.ensures
 
-pub next-requires-2-clause-place : goal.next-requires-2-clause-place
-next-requires-2-clause-place c =
+pub next-requires-clause-place : goal.next-requires-clause-place
+next-requires-clause-place c =
     place_after _ _ _ _ _ _ c.narrow.ensures (place_in c.args.pool.now c.new_head.new.pool _ _ (makes_kept c.args.chain.now c.in_ok-head.ensures.ok c.requires.live) c.find_cut-off.ensures.place)
 
 pub returns-then-off-len-clause-ok : goal.returns-then-off-len-clause-ok
@@ -121,7 +131,7 @@ returns-then-is_none-clause-ok c =
     let kept_q = makes_kept k m c.requires.live in
     let kept_d = kept_with q r k _ d c.narrow.ensures (λ x. two.apart (sym x)) in
     let now = entries_now q r k i _ c.narrow.ensures ∙ ap (λ (x : ChainView). slice_set x.entries i (narrowed (entry_of x i) 0 off)) kept_q in
-    let end = is_end _ _ _ c.next-2.ensures (no_next c.next-2.result c.is_none.result c.is_none.ensures c.if-is_none.true) ∙ length_now q r k i _ c.narrow.ensures ∙ ap (λ (x : ChainView). length x.entries) kept_q in
+    let end = is_end _ _ _ c.next.ensures (no_next c.next.result c.is_none.result c.is_none.ensures c.if-is_none.true) ∙ length_now q r k i _ c.narrow.ensures ∙ ap (λ (x : ChainView). length x.entries) kept_q in
     record {
       made = makes_as (with_chain p k (chain_of r k)) (alone v.front.header) (split_back v.front.header v.entries c.args.at) fin refl (ap (λ (x : ChainView). x.front) kept_d ∙ m.front ∙ ap alone c.has_header-header.ensures)
           (ap (λ (x : ChainView). x.entries) kept_d ∙ m.entries ∙ sym (append-nil (rest_of h e off)) ∙ ap (λ (es : List Entry). rest_of h e off ++ es) (sym (none_after v.entries i end))
