@@ -7,19 +7,22 @@ ghost use Rattle.mbuf_chain.specs.Chain.{IsLive, chain_of, entry_of, string};
 use crate::boot::booted;
 use byteorder::{BigEndian, ByteOrder};
 use chain_ops::{from_user, from_wire, m_copydata, m_prepend};
+use flat_model::Addr;
 use mbuf_chain::{Chain, Pool};
 use mbuf_pool::NoBufs;
 use params::{IP_HEADER, IP_MAX_PACKET, IP_UDP_HEADERS, UDP_HEADER};
 use std::alloc::Global;
 use udp::{build, check};
 
-const SOURCE: u32 = 0x0a00_0001;
+const SOURCE: Addr = Addr {
+    ip: 0x0a00_0001,
+    port: 1024,
+};
 
-const DESTINATION: u32 = 0x0a00_0002;
-
-const SOURCE_PORT: u16 = 1024;
-
-const DESTINATION_PORT: u16 = 7;
+const DESTINATION: Addr = Addr {
+    ip: 0x0a00_0002,
+    port: 7,
+};
 
 /// A packet with this data after room for both headers.
 fn packet_of(pool: &mut Pool, data: &[u8]) -> Result<Chain, NoBufs>
@@ -43,14 +46,7 @@ fn build_turns(pool: &mut Pool, packet: &Chain, turns: u32)
     ensures { IsLive pool.new packet.now }
 {
     'turns: for _ in 0..turns {
-        build(
-            pool,
-            packet,
-            SOURCE,
-            DESTINATION,
-            SOURCE_PORT,
-            DESTINATION_PORT,
-        );
+        build(pool, packet, SOURCE, DESTINATION);
     }
 }
 
@@ -103,7 +99,7 @@ fn check_turns(pool: &Pool, datagram: &Chain, turns: u32) -> u32
 {
     let mut right = 0;
     'turns: for _ in 0..turns {
-        if check(pool, datagram, SOURCE, DESTINATION) {
+        if check(pool, datagram, SOURCE.ip, DESTINATION.ip) {
             right += 1;
         }
     }

@@ -29,7 +29,15 @@ pub fn datagram(pool: &mut Pool, data: &[u8; 100]) -> Result<Option<[u8; 108]>, 
         pool.free_chain(packet);
         return Ok(None);
     }
-    build(pool, &packet, 0x0a00_0001, 0x0a00_0002, 1024, 7);
+    let from = Addr {
+        ip: 0x0a00_0001,
+        port: 1024,
+    };
+    let to = Addr {
+        ip: 0x0a00_0002,
+        port: 7,
+    };
+    build(pool, &packet, from, to);
     let mut bytes = [0; 108];
     if pool.len(&packet) == 128 {
         m_copydata(pool, &packet, 20, &mut bytes);

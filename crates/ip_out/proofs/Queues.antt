@@ -5,6 +5,7 @@ use Rattle.std.specs.List.{insert, remove}
 use Rattle.std.proofs.lemmas.Bool.{lt-ltb, le-ltb}
 use Rattle.std.proofs.lemmas.List.{map-append, length-map, length-append, append_assoc}
 use Rattle.std.proofs.lemmas.List.Edits.{insert_end}
+use Rattle.params.specs.declared.TheConstants.{OUTPUT_QUEUE_PACKETS}
 use Rattle.flat_model.specs.Amounts.Weight.{Item}
 use Rattle.mbuf_chain.specs.Chain.{Entry, PoolView, IsLive, chain_of, entry_of, no_entry}
 use Rattle.mbuf_chain.specs.Owners.{Moves, IsOwned, times}
@@ -77,7 +78,7 @@ takes p q r t u t' u' u'' c tag m some left is held moves =
           (subst AreBegunPlain (sym b.queued_packets) before.0, first.0, first.1);
     }
 
-pub puts : (p r s : PoolView) (t u t' u'' w : TrainView) (c : ℕ) → IsTaken p t u r t' u'' c → t'.len < 50 → queued_packets s w ≡ insert (queued_packets r t') t'.len (record { number = c; entries = (chain_of r c).entries; tag = 0 })
+pub puts : (p r s : PoolView) (t u t' u'' w : TrainView) (c : ℕ) → IsTaken p t u r t' u'' c → t'.len < OUTPUT_QUEUE_PACKETS → queued_packets s w ≡ insert (queued_packets r t') t'.len (record { number = c; entries = (chain_of r c).entries; tag = 0 })
     → IsHeld s w → w.len ≡ t'.len + 1 → Moves r (c ∷ numbers r t') s (numbers s w) → IsMoving p t u s w u''
 puts p r s t u t' u'' w c m few is held len moves =
     let f : QueuedPacket → Item = λ queued_packet. item_of queued_packet.entries in
@@ -105,8 +106,8 @@ pub none_wait : (p : PoolView) (t : TrainView) → t.len ≡ 0 → packets p t �
 none_wait p t e = ap (λ (xs : List ℕ). map (λ (queued_packet : QueuedPacket). item_of queued_packet.entries) (map (queued_packet_of p) xs)) (none_left p t e)
 
 -- ---- the end: the rest is freed
-pub taken_50 : (xs ys : List Item) → length xs ≤ 50 → (length ys ≡ 0) ⊎ (length xs ≡ 50) → take 50 (xs ++ ys) ≡ xs
-taken_50 xs ys le h = go 50 xs ys le h
+pub taken_50 : (xs ys : List Item) → length xs ≤ OUTPUT_QUEUE_PACKETS → (length ys ≡ 0) ⊎ (length xs ≡ OUTPUT_QUEUE_PACKETS) → take OUTPUT_QUEUE_PACKETS (xs ++ ys) ≡ xs
+taken_50 xs ys le h = go OUTPUT_QUEUE_PACKETS xs ys le h
   where
     go : (n : ℕ) (xs ys : List Item) → length xs ≤ n → (length ys ≡ 0) ⊎ (length xs ≡ n) → take n (xs ++ ys) ≡ xs
     go zero [] ys le h = refl
@@ -120,17 +121,17 @@ taken_50 xs ys le h = go 50 xs ys le h
 
 pub record IsEnqueued (p : PoolView) (t u : TrainView) (s : PoolView) (w : TrainView) : Type 0 where
   pub queue : IsHeld s w
-  pub items : packets s w ≡ take 50 (packets p t ++ packets p u)
+  pub items : packets s w ≡ take OUTPUT_QUEUE_PACKETS (packets p t ++ packets p u)
   pub plain : BeginPlain p t → BeginPlain p u → BeginPlain s w
   pub moves : Moves p (numbers p t ++ numbers p u) s (numbers s w)
 
-pub enqueued : (p q s : PoolView) (t u t' u' : TrainView) → IsMoving p t u q t' u' → (u'.len ≡ 0) ⊎ (t'.len ≡ 50) → Moves q (numbers q u') s [] → IsEnqueued p t u s t'
+pub enqueued : (p q s : PoolView) (t u t' u' : TrainView) → IsMoving p t u q t' u' → (u'.len ≡ 0) ⊎ (t'.len ≡ OUTPUT_QUEUE_PACKETS) → Moves q (numbers q u') s [] → IsEnqueued p t u s t'
 enqueued p q s t u t' u' m ends freed =
     let b : Beside q s t' = beside_moves t' freed m.owned m.queue in
     let f : QueuedPacket → Item = λ queued_packet. item_of queued_packet.entries in
     record {
       queue = b.held;
-      items = ap (map f) b.queued_packets ∙ sym (ap (take 50) (sym m.items) ∙ taken_50 (packets q t') (packets q u') (omega (arith, packets_len q t' m.queue, m.room)) (elim ends [
+      items = ap (map f) b.queued_packets ∙ sym (ap (take OUTPUT_QUEUE_PACKETS) (sym m.items) ∙ taken_50 (packets q t') (packets q u') (omega (arith, packets_len q t' m.queue, m.room)) (elim ends [
         | inl e ↦ inl (omega (arith, packets_len q u' m.rest, e))
         | inr e ↦ inr (omega (arith, packets_len q t' m.queue, e))
       ]));
@@ -139,12 +140,12 @@ enqueued p q s t u t' u' m ends freed =
           (λ k. times-append k (numbers q t') (numbers q u')) (λ k. omega (arith, ap (times k) b.numbers)));
     }
 
-pub full_is : (p q : PoolView) (t u t' u' : TrainView) → IsMoving p t u q t' u' → (u'.len ≡ 0) ⊎ (t'.len ≡ 50) → nat_lt 0 u'.len ≡ nat_lt 50 (length (packets p t ++ packets p u))
+pub full_is : (p q : PoolView) (t u t' u' : TrainView) → IsMoving p t u q t' u' → (u'.len ≡ 0) ⊎ (t'.len ≡ OUTPUT_QUEUE_PACKETS) → nat_lt 0 u'.len ≡ nat_lt OUTPUT_QUEUE_PACKETS (length (packets p t ++ packets p u))
 full_is p q t u t' u' m ends = go u'.len refl
   where
     total : length (packets p t ++ packets p u) ≡ t'.len + u'.len
     total = omega (arith, ap (λ (xs : List Item). length xs) m.items, length-append (packets q t') (packets q u'), packets_len q t' m.queue, packets_len q u' m.rest)
 
-    go : (k : ℕ) → u'.len ≡ k → nat_lt 0 k ≡ nat_lt 50 (length (packets p t ++ packets p u))
-    go zero e = sym (le-ltb 50 (length (packets p t ++ packets p u)) (omega (arith, total, e, m.room)))
-    go (suc k) e = lt-ltb 0 (suc k) (omega arith) ∙ sym (lt-ltb 50 (length (packets p t ++ packets p u)) (omega (arith, total, e, ends)))
+    go : (k : ℕ) → u'.len ≡ k → nat_lt 0 k ≡ nat_lt OUTPUT_QUEUE_PACKETS (length (packets p t ++ packets p u))
+    go zero e = sym (le-ltb OUTPUT_QUEUE_PACKETS (length (packets p t ++ packets p u)) (omega (arith, total, e, m.room)))
+    go (suc k) e = lt-ltb 0 (suc k) (omega arith) ∙ sym (lt-ltb OUTPUT_QUEUE_PACKETS (length (packets p t ++ packets p u)) (omega (arith, total, e, ends)))

@@ -3,6 +3,7 @@ use Rattle.std.proofs.Common.{◌≡◌, ℕ, ◌+◌, ◌-◌, ◌<◌, ◌≤�
 use Rattle.std.specs.Prelude.{nat_lt}
 use Rattle.std.proofs.lemmas.Bool.{lt-ltb, le-ltb, ltb-false}
 use Rattle.std.proofs.lemmas.List.{length-append, take_all}
+use Rattle.params.specs.declared.TheConstants.{OUTPUT_QUEUE_PACKETS}
 use Rattle.flat_model.specs.Amounts.Weight.{Item}
 use Rattle.flat_model.specs.Fragments.Cuts.{Part, part}
 use Rattle.mbuf_chain.specs.Chain.{ChainView, PoolView, IsLive, string, without}
@@ -52,8 +53,8 @@ aside_gone {p} {q} c t is live held apart =
     (a.held, subst (Moves p (c ∷ numbers p t) q) (append-nil (numbers q t)) a.moves)
 
 -- all found room
-pub all_fit : (items : List Item) → nat_lt 50 (length items) ≡ false → take 50 items ≡ items
-all_fit items h = take_all 50 items (ltb-false 50 (length items) h)
+pub all_fit : (items : List Item) → nat_lt OUTPUT_QUEUE_PACKETS (length items) ≡ false → take OUTPUT_QUEUE_PACKETS items ≡ items
+all_fit items h = take_all OUTPUT_QUEUE_PACKETS items (ltb-false OUTPUT_QUEUE_PACKETS (length items) h)
 
 -- ---- a datagram that isn't cut
 -- it has one part
@@ -69,19 +70,19 @@ one_packet v h k mtu d is fits =
 
 -- a queue takes that packet, or is full
 pub record TakesOne (p q : PoolView) (t u : TrainView) (lost : Bool) (ys : List Item) : Type 0 where
-  pub items : packets q u ≡ take 50 (packets p t ++ ys)
-  pub is_lost : lost ≡ nat_lt 50 (length (packets p t ++ ys))
+  pub items : packets q u ≡ take OUTPUT_QUEUE_PACKETS (packets p t ++ ys)
+  pub is_lost : lost ≡ nat_lt OUTPUT_QUEUE_PACKETS (length (packets p t ++ ys))
 
-pub no_room : (p q : PoolView) (t : TrainView) (ys : List Item) → IsQueue p t → 50 ≤ t.len → length ys ≡ 1 → packets q t ≡ packets p t → TakesOne p q t t true ys
+pub no_room : (p q : PoolView) (t : TrainView) (ys : List Item) → IsQueue p t → OUTPUT_QUEUE_PACKETS ≤ t.len → length ys ≡ 1 → packets q t ≡ packets p t → TakesOne p q t t true ys
 no_room p q t ys is full one same = record {
   items = same ∙ sym (taken_50 (packets p t) ys (omega (arith, packets_len p t is.held, is.room)) (inr (omega (arith, packets_len p t is.held, is.room, full))));
-  is_lost = sym (lt-ltb 50 (length (packets p t ++ ys)) (omega (arith, length-append (packets p t) ys, packets_len p t is.held, full, one)));
+  is_lost = sym (lt-ltb OUTPUT_QUEUE_PACKETS (length (packets p t ++ ys)) (omega (arith, length-append (packets p t) ys, packets_len p t is.held, full, one)));
 }
 
-pub room : (p q : PoolView) (t u : TrainView) (ys : List Item) → IsQueue p t → t.len < 50 → length ys ≡ 1 → packets q u ≡ packets p t ++ ys → TakesOne p q t u false ys
+pub room : (p q : PoolView) (t u : TrainView) (ys : List Item) → IsQueue p t → t.len < OUTPUT_QUEUE_PACKETS → length ys ≡ 1 → packets q u ≡ packets p t ++ ys → TakesOne p q t u false ys
 room p q t u ys is few one more =
-    let fits : length (packets p t ++ ys) ≤ 50 = omega (arith, length-append (packets p t) ys, packets_len p t is.held, few, one) in
-    record { items = more ∙ sym (take_all 50 (packets p t ++ ys) fits); is_lost = sym (le-ltb 50 (length (packets p t ++ ys)) fits) }
+    let fits : length (packets p t ++ ys) ≤ OUTPUT_QUEUE_PACKETS = omega (arith, length-append (packets p t) ys, packets_len p t is.held, few, one) in
+    record { items = more ∙ sym (take_all OUTPUT_QUEUE_PACKETS (packets p t ++ ys) fits); is_lost = sym (le-ltb OUTPUT_QUEUE_PACKETS (length (packets p t ++ ys)) fits) }
 
 -- ---- the packets of a datagram, the queue, and what comes back
 pub record IsSentOut (p q r : PoolView) (c : ℕ) (o looped : TrainView) (o' : TrainView) : Type 0 where

@@ -1,5 +1,5 @@
 //! The packets of a datagram: the chain itself, trimmed, and copies that share its clusters.
-ghost use Rattle.std.specs.Prelude.{◌≡◌, ℕ, ◌+◌, ◌*◌, ◌%◌, ◌<◌, ◌≤◌, [], ◌∷◌, ◌++◌, true, false, length, sum_by, IfOk, OnOk, OnErr};
+ghost use Rattle.std.specs.Prelude.{◌≡◌, ℕ, ◌+◌, ◌-◌, ◌*◌, ◌/◌, ◌%◌, ◌<◌, ◌≤◌, [], ◌∷◌, ◌++◌, true, false, length, sum_by, IfOk, OnOk, OnErr};
 ghost use Rattle.flat_model.specs.Fragments.Cuts.{part};
 ghost use Rattle.mbuf_chain.specs.Chain.{IsLive, chain_of, string, alone, held_mbufs, without, Adds};
 ghost use Rattle.mbuf_chain.specs.Steps.{one_mbuf};
@@ -18,17 +18,31 @@ use mbuf_chain::{Chain, Pool, Train};
 use mbuf_pool::NoBufs;
 use params::{FRAGMENT_UNIT, IP_HEADER, IP_MAX_DATA, IP_MAX_PACKET, MIN_MTU, PACKET_START};
 
-/// How many bytes each packet but the last carries of `n` bytes, which are too many for one, and how many packets
-/// there are.
-fn cut_of(n: u32, mtu: u32) -> (u32, u32)
+/// How bytes are cut that are too many for one packet.
+#[derive(Clone, Copy)]
+pub(crate) struct Cut {
+    /// How many of them each packet but the last carries.
+    pub(crate) chunk: u32,
+    /// How many packets there are.
+    pub(crate) count: u32,
+}
+
+/// How `n` bytes are cut, which are too many for one packet.
+#[inline(always)]
+pub(crate) fn cut_of(n: u32, mtu: u32) -> Cut
     requires long { mtu < IP_HEADER + n }
     requires short { n ≤ IP_MAX_DATA }
     requires least { MIN_MTU ≤ mtu }
     requires most { mtu ≤ 65535 }
-    ensures { IsCut n mtu result.0 result.1 }
+    ensures cut { IsCut n mtu result.chunk result.count }
+    ensures chunk { result.chunk ≡ (mtu - IP_HEADER) / FRAGMENT_UNIT * FRAGMENT_UNIT }
+    ensures count { result.count ≡ (n + (result.chunk - 1)) / result.chunk }
 {
     let chunk = (mtu - IP_HEADER) / FRAGMENT_UNIT * FRAGMENT_UNIT;
-    (chunk, (n + (chunk - 1)) / chunk)
+    Cut {
+        chunk,
+        count: (n + (chunk - 1)) / chunk,
+    }
 }
 
 /// The header of the packet that carries part `i` of `n` bytes in chunks.
@@ -97,39 +111,32 @@ fn fragment(
     Ok(front)
 }
 
-/// The packets of the parts after the first. The chain is walked once.
-fn later(
-    pool: &mut Pool,
-    chain: &Chain,
-    head: IpHead,
-    n: u32,
-    chunk: u32,
-    count: u32,
-) -> Result<Train, NoBufs>
+/// The packets of the parts after the first of `n` bytes. The chain is walked once.
+fn later(pool: &mut Pool, chain: &Chain, head: IpHead, n: u32, cut: Cut) -> Result<Train, NoBufs>
     requires live { IsLive pool.old chain.now }
     requires datagram { IsDatagram (chain_of pool.old chain.now) }
     requires len { n + IP_HEADER ≡ length (string (chain_of pool.old chain.now)) }
-    requires chunk { 0 < chunk }
-    requires wide { chunk ≤ IP_MAX_PACKET }
-    requires unit { chunk % FRAGMENT_UNIT ≡ 0 }
-    requires count { 0 < count }
-    requires inside { (i : ℕ) → 0 < i → i < count → i * chunk < n }
-    ensures ok { IfOk result
-        (λ t. IsLater pool.old pool.new t (chain_of pool.old chain.now) head (parts_to n chunk count)) }
-    ensures enough { OnOk result
-        (HasMbufs pool.old (sum_by (part_need (chain_of pool.old chain.now)) (parts_to n chunk count))) }
-    ensures err { OnErr result
-        (LacksMbufs pool.old (sum_by (part_need (chain_of pool.old chain.now)) (parts_to n chunk count))) }
+    requires chunk { 0 < cut.chunk }
+    requires wide { cut.chunk ≤ IP_MAX_PACKET }
+    requires unit { cut.chunk % FRAGMENT_UNIT ≡ 0 }
+    requires count { 0 < cut.count }
+    requires inside { (i : ℕ) → 0 < i → i < cut.count → i * cut.chunk < n }
+    ensures ok { IfOk result (λ t. IsLater pool.old pool.new t
+        (chain_of pool.old chain.now) head (parts_to n cut.chunk cut.count)) }
+    ensures enough { OnOk result (HasMbufs pool.old
+        (sum_by (part_need (chain_of pool.old chain.now)) (parts_to n cut.chunk cut.count))) }
+    ensures err { OnErr result (LacksMbufs pool.old
+        (sum_by (part_need (chain_of pool.old chain.now)) (parts_to n cut.chunk cut.count))) }
     ensures same { OnErr result (pool.new ≡ pool.old) }
 {
     copy_weight();
     let mut train = Train::new();
     let mut from = cursor_at(pool, chain, 0);
-    'parts: for i in 1..count {
-        let off = IP_HEADER + i * chunk;
-        let size = chunk.min(n - i * chunk);
+    'parts: for i in 1..cut.count {
+        let off = IP_HEADER + i * cut.chunk;
+        let size = cut.chunk.min(n - i * cut.chunk);
         from = advance(pool, chain, from, off - from.off);
-        let Ok(packet) = fragment(pool, chain, head_of(head, n, chunk, i), from, size) else {
+        let Ok(packet) = fragment(pool, chain, head_of(head, n, cut.chunk, i), from, size) else {
             train.free(pool);
             return Err(NoBufs);
         };
@@ -140,8 +147,8 @@ fn later(
     Ok(train)
 }
 
-/// Puts the packet of a datagram that isn't cut at the end of a train: the chain itself, of `len` bytes, with its header
-/// written over its first bytes.
+/// Puts the packet of a datagram that isn't cut at the end of a train: the chain itself, of `len` bytes, with its
+/// header written over its first bytes.
 #[inline(always)]
 pub(crate) fn add_whole(pool: &mut Pool, train: &mut Train, chain: Chain, head: IpHead, len: u32)
     requires live { IsLive pool.old chain }
@@ -214,23 +221,23 @@ fn cut_packets(
     ensures freed { OnErr result (pool.new ≡ without pool.old chain) }
 {
     let n = len - IP_HEADER;
-    let (chunk, count) = cut_of(n, mtu as u32);
-    let Ok(mut train) = later(pool, &chain, head, n, chunk, count) else {
+    let cut = cut_of(n, mtu as u32);
+    let Ok(mut train) = later(pool, &chain, head, n, cut) else {
         pool.free_chain(chain);
         return Err(NoBufs);
     };
-    trim_back(pool, &chain, IP_HEADER + chunk.min(n));
+    trim_back(pool, &chain, IP_HEADER + cut.chunk.min(n));
     let at = pool.first(&chain);
     let mut bytes = [0; IP_HEADER as usize];
-    write_head(&mut bytes, head_of(head, n, chunk, 0));
+    write_head(&mut bytes, head_of(head, n, cut.chunk, 0));
     pool.overwrite(&chain, at, 0, &bytes);
     train.insert(pool, 0, chain, 0);
     Ok(train)
 }
 
 /// Cuts a datagram, which lies in a chain after 20 bytes for its header, into the packets for a link that takes
-/// packets of `mtu` bytes. The first is the chain itself, trimmed at its end; each other has an mbuf for its header, and
-/// after it a copy that shares clusters. All are made, or none: `NoBufs` comes exactly where fewer mbufs are free
+/// packets of `mtu` bytes. The first is the chain itself, trimmed at its end; each other has an mbuf for its header,
+/// and after it a copy that shares clusters. All are made, or none: `NoBufs` comes exactly where fewer mbufs are free
 /// than the later ones take, and then the chain is freed.
 pub(crate) fn fragments(
     pool: &mut Pool,

@@ -11,5 +11,5 @@ mod ways;
 pub use head::{IpHead, MAX_OFFSET, read_head, write_head};
 pub use needs::{need, need_bcast};
 pub use queue::Queue;
-pub use sending::{Sent, output, send_packets};
+pub use sending::{Sent, output};
 pub use ways::{Packets, Way, make_packets};

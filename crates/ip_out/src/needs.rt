@@ -3,10 +3,11 @@ ghost use Rattle.std.specs.Prelude.{◌≡◌, ◌+◌, ◌-◌, ◌*◌, ◌/�
 ghost use Rattle.flat_model.specs.Amounts.Layout.{need, need_bcast};
 ghost use Rattle.ip_out.specs.Inside.{Counts};
 
+use crate::fragments::cut_of;
 use flat_model::Need;
 use params::{
-    CLUSTER_LEADING_SPACE, FRAGMENT_UNIT, IP_HEADER, IP_UDP_HEADERS, MCLBYTES, MHLEN, MIN_MTU,
-    MINCLSIZE, MLEN, UDP_HEADER, UDP_MAX_DATA,
+    CLUSTER_LEADING_SPACE, IP_HEADER, IP_UDP_HEADERS, MCLBYTES, MHLEN, MIN_MTU, MINCLSIZE, MLEN,
+    UDP_HEADER, UDP_MAX_DATA,
 };
 
 /// The longest datagram that shares its mbuf with its headers.
@@ -30,9 +31,10 @@ fn later_met(chunk: u32, at: u32, end: u32) -> u32
 
 /// How many bytes each fragment but the last carries of a send of `n` bytes, and how many fragments there are after
 /// the first.
-fn cut_of(n: u32, mtu: u32) -> (u32, u32)
+fn later_of(n: u32, mtu: u32) -> (u32, u32)
     requires short { n ≤ UDP_MAX_DATA }
     requires least { MIN_MTU ≤ mtu }
+    requires top { mtu ≤ 65535 }
     ensures counts { Counts n mtu result.0 result.1 }
     ensures chunk { MIN_MTU - IP_HEADER ≤ result.0 }
     ensures most { result.1 ≤ 65536 }
@@ -40,18 +42,19 @@ fn cut_of(n: u32, mtu: u32) -> (u32, u32)
     if n + IP_UDP_HEADERS <= mtu {
         return (UNCUT, 0);
     }
-    let chunk = (mtu - IP_HEADER) / FRAGMENT_UNIT * FRAGMENT_UNIT;
-    (chunk, (n + UDP_HEADER + (chunk - 1)) / chunk - 1)
+    let cut = cut_of(n + UDP_HEADER, mtu);
+    (cut.chunk, cut.count - 1)
 }
 
 /// See `need`. It takes one step for each mbuf of the datagram.
 fn count(n: u32, mtu: u32) -> Need
     requires short { n ≤ UDP_MAX_DATA }
     requires least { MIN_MTU ≤ mtu }
+    requires top { mtu ≤ 65535 }
     ensures need { result ≡ need n mtu }
     ensures most { result.mbufs ≤ 200000000 }
 {
-    let (chunk, later) = cut_of(n, mtu);
+    let (chunk, later) = later_of(n, mtu);
     if n <= MAX_SHARED {
         return Need {
             mbufs: 1 + later + later_met(chunk, 0, IP_UDP_HEADERS + n),

@@ -24,9 +24,9 @@ use params::{MIN_MTU, OUTPUT_QUEUE_PACKETS};
 /// which is plain and has a packet header. No mbuf is empty, and the whole has at most 65,535 bytes. Of `head`, total
 /// length, offset and "more fragments" count for nothing: each packet has its own.
 ///
-/// All packets are made before any is queued. The first is the chain itself, trimmed at its end; each other has an mbuf for
-/// its header, and after it copies that share clusters. If each packet that waited begins in a plain mbuf, so does each
-/// that waits then. It takes one step for each mbuf and each packet.
+/// All packets are made before any is queued. The first is the chain itself, trimmed at its end; each other has an mbuf
+/// for its header, and after it copies that share clusters. If each packet that waited begins in a plain mbuf, so does
+/// each that waits then. It takes one step for each mbuf and each packet.
 ///
 /// Refused: `Lack::Pool` exactly where fewer mbufs are free than the later packets take; nothing is queued then, and
 /// the chain is freed. `Lack::Queue` where the queue has no room for all; those that fit are queued, the others freed
@@ -72,68 +72,70 @@ pub struct Sent {
     pub is_lost: bool,
 }
 
-/// Makes the packets of a datagram as `make_packets` does, puts those for the link into the output queue as
-/// `Queue::push_all` does, and answers those that come back. The chain is spent on each answer.
-///
-/// `NoBufs` comes exactly where fewer mbufs are free than copy and later packets take; nothing is queued then, and the
-/// chain is freed. Packets for which the queue has no room are freed, and that's no refusal (`ip_output`, `looutput` and
-/// `ether_output` of TCP/IP Illustrated volume 2, chapters 8, 5 and 4).
-#[inline(always)]
-pub fn send_packets(
-    pool: &mut Pool,
-    chain: Chain,
-    head: IpHead,
-    mtu: u16,
-    way: Way,
-    queue: &mut Queue,
-) -> Result<Sent, NoBufs>
-    requires live { IsLive pool.old chain }
-    requires datagram { IsDatagram (chain_of pool.old chain) }
-    requires least { MIN_MTU ≤ mtu }
-    requires queue { IsQueue pool.old queue.old }
-    requires apart { times chain (numbers pool.old queue.old) ≡ 0 }
-    ensures link { OnOk result (packets pool.new queue.new ≡ take OUTPUT_QUEUE_PACKETS
-        (packets pool.old queue.old ++ to_link way (packets_of (chain_of pool.old chain) head mtu))) }
-    ensures lost { IfOk result (λ s. s.is_lost ≡ nat_lt OUTPUT_QUEUE_PACKETS (length
-        (packets pool.old queue.old ++ to_link way (packets_of (chain_of pool.old chain) head mtu)))) }
-    ensures looped { IfOk result
-        (λ s. packets pool.new s.looped ≡ to_self way (packets_of (chain_of pool.old chain) head mtu)) }
-    ensures cut { IfOk result (λ s. s.is_cut ≡ nat_lt 1 (length (parts_of (chain_of pool.old chain) mtu))) }
-    ensures held { IfOk result (λ s. IsHeld pool.new s.looped) }
-    ensures plain { IfOk result (λ s. BeginPlain pool.new s.looped) }
-    ensures link_plain { BeginPlain pool.old queue.old → BeginPlain pool.new queue.new }
-    ensures queue { IsQueue pool.new queue.new }
-    ensures moves { IfOk result (λ s. Moves pool.old (chain ∷ numbers pool.old queue.old)
-        pool.new (numbers pool.new s.looped ++ numbers pool.new queue.new)) }
-    ensures enough { OnOk result (HasMbufs pool.old (way_need way (chain_of pool.old chain) mtu)) }
-    ensures err { OnErr result (LacksMbufs pool.old (way_need way (chain_of pool.old chain) mtu)) }
-    ensures freed { OnErr result (pool.new ≡ without pool.old chain) }
-    ensures same { OnErr result (queue.new ≡ queue.old) }
-{
-    let len = pool.len(&chain);
-    match way {
-        // Most datagrams: one packet, for which no train is made.
-        Way::Link if len <= mtu as u32 => {
-            pool.laws();
-            let is_lost = queue.push_whole(pool, chain, head, len);
-            Ok(Sent {
-                looped: Train::new(),
-                is_cut: false,
-                is_lost,
-            })
-        }
-        _ => {
-            let Packets {
-                link,
-                looped,
-                is_cut,
-            } = make_packets(pool, chain, head, mtu, way)?;
-            let is_lost = queue.push_all(pool, link);
-            Ok(Sent {
-                looped,
-                is_cut,
-                is_lost,
-            })
+impl Queue {
+    /// Makes the packets of a datagram as `make_packets` does, puts those for the link into the queue as `push_all`
+    /// does, and answers those that come back. The chain is spent on each answer.
+    ///
+    /// `NoBufs` comes exactly where fewer mbufs are free than copy and later packets take; nothing is queued then, and
+    /// the chain is freed. Packets for which the queue has no room are freed, and that's no refusal (`ip_output`,
+    /// `looutput` and `ether_output` of TCP/IP Illustrated volume 2, chapters 8, 5 and 4).
+    #[inline(always)]
+    pub fn send_packets(
+        &mut self,
+        pool: &mut Pool,
+        chain: Chain,
+        head: IpHead,
+        mtu: u16,
+        way: Way,
+    ) -> Result<Sent, NoBufs>
+        requires live { IsLive pool.old chain }
+        requires datagram { IsDatagram (chain_of pool.old chain) }
+        requires least { MIN_MTU ≤ mtu }
+        requires queue { IsQueue pool.old self.old }
+        requires apart { times chain (numbers pool.old self.old) ≡ 0 }
+        ensures link { OnOk result (packets pool.new self.new ≡ take OUTPUT_QUEUE_PACKETS
+            (packets pool.old self.old ++ to_link way (packets_of (chain_of pool.old chain) head mtu))) }
+        ensures lost { IfOk result (λ s. s.is_lost ≡ nat_lt OUTPUT_QUEUE_PACKETS (length
+            (packets pool.old self.old ++ to_link way (packets_of (chain_of pool.old chain) head mtu)))) }
+        ensures looped { IfOk result
+            (λ s. packets pool.new s.looped ≡ to_self way (packets_of (chain_of pool.old chain) head mtu)) }
+        ensures cut { IfOk result (λ s. s.is_cut ≡ nat_lt 1 (length (parts_of (chain_of pool.old chain) mtu))) }
+        ensures held { IfOk result (λ s. IsHeld pool.new s.looped) }
+        ensures plain { IfOk result (λ s. BeginPlain pool.new s.looped) }
+        ensures link_plain { BeginPlain pool.old self.old → BeginPlain pool.new self.new }
+        ensures queue { IsQueue pool.new self.new }
+        ensures moves { IfOk result (λ s. Moves pool.old (chain ∷ numbers pool.old self.old)
+            pool.new (numbers pool.new s.looped ++ numbers pool.new self.new)) }
+        ensures enough { OnOk result (HasMbufs pool.old (way_need way (chain_of pool.old chain) mtu)) }
+        ensures err { OnErr result (LacksMbufs pool.old (way_need way (chain_of pool.old chain) mtu)) }
+        ensures freed { OnErr result (pool.new ≡ without pool.old chain) }
+        ensures same { OnErr result (self.new ≡ self.old) }
+    {
+        let len = pool.len(&chain);
+        match way {
+            // Most datagrams: one packet, for which no train is made.
+            Way::Link if len <= mtu as u32 => {
+                pool.laws();
+                let is_lost = self.push_whole(pool, chain, head, len);
+                Ok(Sent {
+                    looped: Train::new(),
+                    is_cut: false,
+                    is_lost,
+                })
+            }
+            _ => {
+                let Packets {
+                    link,
+                    looped,
+                    is_cut,
+                } = make_packets(pool, chain, head, mtu, way)?;
+                let is_lost = self.push_all(pool, link);
+                Ok(Sent {
+                    looped,
+                    is_cut,
+                    is_lost,
+                })
+            }
         }
     }
 }

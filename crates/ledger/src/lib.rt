@@ -12,6 +12,6 @@ mod tests;
 mod usage;
 mod waiting;
 
-pub use reservation::reserve;
+pub use reservation::{are_free, reserve};
 pub use usage::mbstat;
 pub use waiting::Waiting;

@@ -11,8 +11,10 @@ use crate::Waiting;
 use flat_model::{Counter, Counters};
 use mbuf_chain::Pool;
 
-/// Whether so many mbufs and clusters are free.
-fn are_free(pool: &Pool, mbufs: u32, clusters: u32) -> bool
+/// Whether so many mbufs and clusters are free now. Nothing is set aside: a call of somebody else may take them. It
+/// takes a number of steps that doesn't depend on the pool (this project's own).
+#[inline(always)]
+pub fn are_free(pool: &Pool, mbufs: u32, clusters: u32) -> bool
     ensures { result ≡ are_free pool.now mbufs clusters }
 {
     let free = pool.free_mbufs();

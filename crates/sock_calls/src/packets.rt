@@ -100,8 +100,11 @@ pub(crate) fn datagram(pool: &mut Pool, heading: Heading, bytes: &[u8]) -> Chain
     ensures { IsBuilt pool.old (sent_as heading bytes.now) pool.new result }
 {
     let chain = with_headers(pool, bytes);
-    let Addr { ip, port } = heading.to;
-    build(pool, &chain, heading.source, ip, heading.port, port);
+    let from = Addr {
+        ip: heading.source,
+        port: heading.port,
+    };
+    build(pool, &chain, from, heading.to);
     chain
 }
 

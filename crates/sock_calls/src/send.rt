@@ -1,7 +1,6 @@
 //! A send.
 ghost use Rattle.std.specs.Prelude.{◌≡◌, ◌+◌, ◌≤◌, length, Some};
 ghost use Rattle.flat_model.specs.Machine.Sending.{mtu_to};
-ghost use Rattle.ledger.specs.Reserve.{are_free};
 ghost use Rattle.pcb_table.specs.Table.{block_at};
 ghost use Rattle.ip_out.specs.Queues.{IsQueue};
 ghost use Rattle.sock_calls.specs.Outgoing.{sending, CanSend, IsSent};
@@ -12,8 +11,9 @@ use crate::destination::send_target;
 use crate::net::Net;
 use crate::packets::{Heading, Route, datagram, ip_head, need_to, way_to};
 use crate::parts::Parts;
-use flat_model::{Addr, Counter, Counters, Errno, Lack, Need};
-use ip_out::{Sent, send_packets};
+use flat_model::{Addr, Counter, Counters, Errno, Lack};
+use ip_out::Sent;
+use ledger::are_free;
 use mbuf_chain::Pool;
 use params::{IP_UDP_HEADERS, UDP_SEND_SPACE};
 use pcb_table::Block;
@@ -30,15 +30,6 @@ fn count_send(counters: &mut Counters, is_cut: bool, is_lost: bool)
     if is_lost {
         counters.count(Counter::OutDropped);
     }
-}
-
-/// Whether these buffers are free.
-fn are_free(pool: &Pool, need: Need) -> bool
-    ensures { result ≡ are_free pool.now need.mbufs need.clusters }
-{
-    let mbufs = pool.free_mbufs();
-    let clusters = pool.free_clusters();
-    need.mbufs <= mbufs && need.clusters <= clusters
 }
 
 impl Parts {
@@ -77,7 +68,10 @@ impl Parts {
             looped,
             is_cut,
             is_lost,
-        } = match send_packets(pool, chain, head, route.longest, route.way, &mut net.out) {
+        } = match net
+            .out
+            .send_packets(pool, chain, head, route.longest, route.way)
+        {
             Ok(sent) => sent,
             Err(_) => unreachable!(),
         };
@@ -115,7 +109,7 @@ impl Parts {
             longest,
         };
         let need = need_to(&self.pcbs, net.mtu, target.ip, bytes.len() as u32);
-        if !are_free(pool, need) {
+        if !are_free(pool, need.mbufs, need.clusters) {
             return Err(Errno::NoBufs(Lack::Pool));
         }
         let is_lost = self.put(pool, net, &block, route, bytes);

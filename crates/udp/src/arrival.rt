@@ -20,8 +20,8 @@ use pcb_table::{Pcbs, SOCKETS};
 
 /// What becomes of a datagram. It holds a chain, and so must be spent.
 pub enum Outcome {
-    /// Sockets get it, one or more: those that `input` found. The chain has its data, after the UDP header and no longer
-    /// than its length says.
+    /// Sockets get it, one or more: those that `input` found. The chain has its data, after the UDP header and no
+    /// longer than its length says.
     Deliver {
         /// The sender.
         from: Addr,
@@ -32,7 +32,7 @@ pub enum Outcome {
     Drop(Why),
 }
 
-// The header of a datagram, or the first test that it fails.
+/// The header of a datagram, or the first test that it fails.
 fn examine(pool: &Pool, chain: &Chain, src: u32, dst: u32) -> Result<Header, Why>
     requires { IsLive pool.now chain.now }
     ensures ok { IfOk result (λ header. (udp_fault src dst (string (chain_of pool.now chain.now)) ≡ None)
@@ -53,45 +53,52 @@ fn examine(pool: &Pool, chain: &Chain, src: u32, dst: u32) -> Result<Header, Why
     Ok(header)
 }
 
-// Whether the address is one of the two broadcast addresses.
+/// Whether the address is one of the two broadcast addresses.
 fn is_broadcast(pcbs: &Pcbs, ip: u32) -> bool
     ensures { result ≡ broadcasts pcbs.now ip }
 {
     ip == pcbs.bcast() || ip == LIMITED_BROADCAST
 }
 
-// Puts into `to` all who hear a broadcast. It stands apart, since a function pays for the room of its values whenever
-// it's called, and here that is a whole array.
+/// Puts into `hearers` all who hear a broadcast.
+// It stands apart, since a function pays for the room of its values whenever it's called, and here that is a whole
+// array.
 #[inline(never)]
-fn find_all(pcbs: &Pcbs, destination: u32, port: u16, source: Addr, to: &mut ArrayVec<u32, SOCKETS>)
+fn find_all(
+    pcbs: &Pcbs,
+    destination: u32,
+    port: u16,
+    source: Addr,
+    hearers: &mut ArrayVec<u32, SOCKETS>,
+)
     requires { broadcasts pcbs.now destination ≡ true }
-    ensures { AreHearers pcbs.now destination (packet_key destination port source) to.new.items }
+    ensures { AreHearers pcbs.now destination (packet_key destination port source) hearers.new.items }
 {
-    *to = pcbs.receivers(destination, port, source);
+    *hearers = pcbs.receivers(destination, port, source);
 }
 
-// Puts into `to` who hears a datagram: many for a broadcast, else the best match.
+/// Puts into `hearers` who hears a datagram: many for a broadcast, else the best match.
 fn find_hearers(
     pcbs: &mut Pcbs,
     destination: u32,
     port: u16,
     source: Addr,
-    to: &mut ArrayVec<u32, SOCKETS>,
+    hearers: &mut ArrayVec<u32, SOCKETS>,
 )
-    requires { to.old.items ≡ [] }
-    ensures found { AreHearers pcbs.old destination (packet_key destination port source) to.new.items }
+    requires { hearers.old.items ≡ [] }
+    ensures found { AreHearers pcbs.old destination (packet_key destination port source) hearers.new.items }
     ensures blocks { pcbs.new ≡ pcbs.old }
 {
     if is_broadcast(pcbs, destination) {
-        find_all(pcbs, destination, port, source, to);
+        find_all(pcbs, destination, port, source, hearers);
         return;
     }
     if let Some(fd) = pcbs.lookup(destination, port, source) {
-        to.push(fd);
+        hearers.push(fd);
     }
 }
 
-// Leaves the data of a datagram of `len` bytes: what stands after them goes, and then the header. No mbuf is freed.
+/// Leaves the data of a datagram of `len` bytes: what stands after them goes, and then the header. No mbuf is freed.
 fn trim(pool: &mut Pool, chain: &Chain, len: u16)
     requires { IsLive pool.old chain.now }
     ensures { pool.new ≡ with_chain pool.old chain.now (without_header len (chain_of pool.old chain.now)) }
@@ -112,24 +119,24 @@ fn trim(pool: &mut Pool, chain: &Chain, len: u16)
 /// UDP length are taken off, and so is the header: the chain keeps its number, its mbufs and its clusters. No control
 /// block changes.
 ///
-/// The descriptors of those who get it are left in `to`, the youngest socket first; what was there goes. It's empty
-/// where the datagram was dropped.
+/// The descriptors of those who get it are left in `hearers`, the youngest socket first; what was there goes. It's
+/// empty where the datagram was dropped.
 pub fn input(
     pool: &mut Pool,
     chain: Chain,
     head: IpHead,
     pcbs: &mut Pcbs,
-    to: &mut ArrayVec<u32, SOCKETS>,
+    hearers: &mut ArrayVec<u32, SOCKETS>,
 ) -> Outcome
     requires live { IsLive pool.old chain }
     requires most { length (string (chain_of pool.old chain)) ≤ IP_MAX_PACKET }
-    ensures answer { IsInput pool.old chain head pcbs.old pool.new to.new.items result }
+    ensures answer { IsInput pool.old chain head pcbs.old pool.new hearers.new.items result }
     ensures moves { Moves pool.old (chain ∷ []) pool.new (chains_of result) }
     ensures blocks { pcbs.new ≡ pcbs.old }
 {
     // Mostly one stands there, and to pop it takes fewer steps than to clear an array.
-    let _ = to.pop();
-    to.clear();
+    let _ = hearers.pop();
+    hearers.clear();
     if head.proto != PROTOCOL_UDP {
         return drop_for(pool, chain, Why::NoProtocol);
     }
@@ -141,8 +148,8 @@ pub fn input(
         ip: head.src,
         port: header.source,
     };
-    find_hearers(pcbs, head.dst, header.destination, from, to);
-    if to.is_empty() {
+    find_hearers(pcbs, head.dst, header.destination, from, hearers);
+    if hearers.is_empty() {
         let why = no_port(pcbs, head.dst);
         return drop_for(pool, chain, why);
     }
@@ -150,7 +157,7 @@ pub fn input(
     Outcome::Deliver { from, chain }
 }
 
-// Frees a chain that ends here.
+/// Frees a chain that ends here.
 fn drop_for(pool: &mut Pool, chain: Chain, why: Why) -> Outcome
     requires { IsLive pool.old chain }
     ensures outcome { result ≡ Outcome.Drop why }
@@ -160,7 +167,7 @@ fn drop_for(pool: &mut Pool, chain: Chain, why: Why) -> Outcome
     Outcome::Drop(why)
 }
 
-// How a datagram is counted that nobody hears.
+/// How a datagram is counted that nobody hears.
 fn no_port(pcbs: &Pcbs, destination: u32) -> Why
     ensures { result ≡ unheard pcbs.now destination }
 {

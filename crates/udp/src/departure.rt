@@ -6,35 +6,37 @@ ghost use Rattle.udp.specs.Datagrams.{built};
 
 use crate::header::{Header, to_bytes};
 use crate::sums::headers_sum;
+use flat_model::Addr;
 use in_cksum::cksum_chain;
 use mbuf_chain::{Chain, Pool};
 use params::{IP_HEADER, IP_MAX_PACKET, IP_UDP_HEADERS, UDP_HEADER};
 
-/// Writes the UDP header of a datagram from `src`, port `sport`, to `dst`, port `dport`, with its checksum, which a
-/// computed 0 makes 65,535 (`udp_output` of volume 2, chapter 23; RFC 768).
+/// Writes the UDP header of a datagram from one address and port to another, with its checksum. A computed 0 is written
+/// as 65,535 (`udp_output` of volume 2, chapter 23; RFC 768).
 ///
 /// The chain is the whole packet: its first mbuf is plain and has the 28 bytes of both headers, of which the first 20
 /// are left as they are, and the data follows. It has at most 65,535 bytes. Nothing is taken and nothing can be
 /// refused: 8 bytes are written over, and every mbuf is where it was.
-pub fn build(pool: &mut Pool, chain: &Chain, src: u32, dst: u32, sport: u16, dport: u16)
+#[inline(always)]
+pub fn build(pool: &mut Pool, chain: &Chain, from: Addr, to: Addr)
     requires live { IsLive pool.old chain.now }
     requires plain { (entry_of (chain_of pool.old chain.now) 0).cluster ≡ None }
     requires headers { IP_UDP_HEADERS ≤ length (entry_of (chain_of pool.old chain.now) 0).bytes }
     requires most { length (string (chain_of pool.old chain.now)) ≤ IP_MAX_PACKET }
     ensures chain { pool.new ≡ with_chain pool.old chain.now
-        (built src dst sport dport (chain_of pool.old chain.now)) }
+        (built from.ip to.ip from.port to.port (chain_of pool.old chain.now)) }
     ensures string { string (chain_of pool.new chain.now)
         ≡ take IP_HEADER (string (chain_of pool.old chain.now))
-        ++ udp src dst sport dport (drop IP_UDP_HEADERS (string (chain_of pool.old chain.now))) }
+        ++ udp from.ip to.ip from.port to.port (drop IP_UDP_HEADERS (string (chain_of pool.old chain.now))) }
 {
     let len = (pool.len(chain) - IP_HEADER) as u16;
     let blank = Header {
-        source: sport,
-        destination: dport,
+        source: from.port,
+        destination: to.port,
         len,
         sum: 0,
     };
-    let covered = headers_sum(src, dst, blank);
+    let covered = headers_sum(from.ip, to.ip, blank);
     let data = len as u32 - UDP_HEADER;
     let computed = cksum_chain(pool, chain, IP_UDP_HEADERS, data, covered);
     let sum = if computed == 0 { u16::MAX } else { computed };

@@ -70,7 +70,7 @@ pub(crate) fn read_header(pool: &Pool, chain: &Chain) -> Header
     }
 }
 
-// Writes two numbers of 16 bits, one after the other.
+/// Writes two numbers of 16 bits, one after the other.
 fn put_pair(bytes: &mut [u8], first: u16, second: u16)
     requires { 4 ≤ length bytes.old }
     ensures { bytes.new ≡ (two_bytes first ++ two_bytes second) ++ drop 4 bytes.old }

@@ -279,7 +279,12 @@ fn builds(rt: &impl Abort, pool: &mut Pool, data: &[u8], cut: usize, want: &[u8]
     assert!(rt; segment.cluster.is_none());
     assert!(rt; segment.len >= 28);
     assert!(rt; pool.len(&chain) <= 65_535);
-    build(pool, &chain, OUR, PEER, 1024, 7);
+    let from = Addr {
+        ip: OUR,
+        port: 1024,
+    };
+    let to = Addr { ip: PEER, port: 7 };
+    build(pool, &chain, from, to);
     let mut ip = [0; 20];
     assert!(rt; pool.len(&chain) >= 20);
     m_copydata(pool, &chain, 0, &mut ip);

@@ -60,7 +60,7 @@ returns-clause-packets c =
     let l = c.in-Ok.ensures.ok in
     let w = written c.args.chain (20 + c.min.result) c.first-at.result c.write_head.new.bytes l.moves l.held c.requires.live c.trim_back.ensures c.first-at.ensures.index c.overwrite.ensures in
     let len : length c.write_head.new.bytes ≡ 20 = ap (λ (xs : List ℕ). length xs) c.write_head.ensures ∙ length_head c.head_of.result in
-    packets_are c.insert.new.pool c.insert.new.self c.args.chain _ _ (20 + c.min.result) _ c.args.mtu c.args.head c.head_of.result c.write_head.new.bytes c.requires.datagram (omega (arith, c.requires.len, string_long (chain_of c.args.pool.now c.args.chain).entries c.requires.datagram.room)) c.cut_of-chunk.ensures l
+    packets_are c.insert.new.pool c.insert.new.self c.args.chain _ _ (20 + c.min.result) _ c.args.mtu c.args.head c.head_of.result c.write_head.new.bytes c.requires.datagram (omega (arith, c.requires.len, string_long (chain_of c.args.pool.now c.args.chain).entries c.requires.datagram.room)) c.cut_of-cut.ensures.cut l
     (ap (λ (k : ℕ). 20 + k) c.min.ensures) c.head_of.ensures c.write_head.ensures len w c.insert.ensures.queued_packets
 
 pub returns-clause-plain : goal.returns-clause-plain
@@ -74,9 +74,9 @@ returns-clause-count c =
     let l = c.in-Ok.ensures.ok in
     let w = written c.args.chain (20 + c.min.result) c.first-at.result c.write_head.new.bytes l.moves l.held c.requires.live c.trim_back.ensures c.first-at.ensures.index c.overwrite.ensures in
     let len : length c.write_head.new.bytes ≡ 20 = ap (λ (xs : List ℕ). length xs) c.write_head.ensures ∙ length_head c.head_of.result in
-    let all = packets_are c.insert.new.pool c.insert.new.self c.args.chain _ _ (20 + c.min.result) _ c.args.mtu c.args.head c.head_of.result c.write_head.new.bytes c.requires.datagram (omega (arith, c.requires.len, string_long (chain_of c.args.pool.now c.args.chain).entries c.requires.datagram.room)) c.cut_of-chunk.ensures l
+    let all = packets_are c.insert.new.pool c.insert.new.self c.args.chain _ _ (20 + c.min.result) _ c.args.mtu c.args.head c.head_of.result c.write_head.new.bytes c.requires.datagram (omega (arith, c.requires.len, string_long (chain_of c.args.pool.now c.args.chain).entries c.requires.datagram.room)) c.cut_of-cut.ensures.cut l
     (ap (λ (k : ℕ). 20 + k) c.min.ensures) c.head_of.ensures c.write_head.ensures len w c.insert.ensures.queued_packets in
-    held_packets c.insert.new.self c.args.chain _ _ _ c.args.mtu c.args.head (moves_trans w.moves c.insert.ensures.moves) c.requires.live c.cut_of-chunk.ensures (omega (arith, c.requires.len, string_long (chain_of c.args.pool.now c.args.chain).entries c.requires.datagram.room)) all
+    held_packets c.insert.new.self c.args.chain _ _ _ c.args.mtu c.args.head (moves_trans w.moves c.insert.ensures.moves) c.requires.live c.cut_of-cut.ensures.cut (omega (arith, c.requires.len, string_long (chain_of c.args.pool.now c.args.chain).entries c.requires.datagram.room)) all
 
 pub returns-clause-moves : goal.returns-clause-moves
 returns-clause-moves c =

@@ -21,10 +21,10 @@ pub returns-in_default-clause-err : goal.returns-in_default-clause-err
 returns-in_default-clause-err c =
     let v : ChainView = chain_of c.args.pool.now c.args.chain.now in
     let i : ℕ = c.parts.i in
-    let p : Part = part c.args.n c.args.chunk i in
+    let p : Part = part c.args.n c.args.cut.chunk i in
     let inv = c.parts.invariant.later in
     let kept = kept_moves c.args.chain.now inv.moves c.requires.live in
-    let pos = part_some c.args.n c.args.chunk i c.requires.chunk (c.requires.inside i (omega arith) (omega arith)) in
+    let pos = part_some c.args.n c.args.cut.chunk i c.requires.chunk (c.requires.inside i (omega arith) (omega arith)) in
     let size : c.min-size.result ≡ p.size = c.min-size.ensures in
     let off : c.advance-from.result.off ≡ 20 + p.offset = omega (arith, c.advance-from.ensures.off, c.parts.invariant.after) in
     omega (
@@ -35,7 +35,7 @@ returns-in_default-clause-err c =
       (let same : length (copied false (chain_of c.parts.pool c.args.chain.now).entries c.advance-from.result.off c.min-size.result) ≡ length (copied false v.entries (20 + p.offset) p.size) =
           λ k. length (copied false ((kept.0 k).entries) (off k) (size k)) in same),
       need_copied c.copy_weight.ensures v p c.requires.datagram.bytes pos,
-      need_among v c.args.n c.args.chunk i c.args.count (omega arith) (omega arith),
+      need_among v c.args.n c.args.cut.chunk i c.args.cut.count (omega arith) (omega arith),
     )
 
 pub returns-in_default-clause-same : goal.returns-in_default-clause-same
@@ -51,7 +51,7 @@ advance-from-requires-clause-cursor c =
     subst (λ (w : ChainView). IsCursor w c.parts.from) (sym kept.0) c.parts.invariant.cursor
 
 pub fragment-requires-clause-unit : goal.fragment-requires-clause-unit
-fragment-requires-clause-unit c = ap (λ (h : IpHead). h.offset % 8) c.head_of.ensures ∙ offset_unit c.parts.i c.args.chunk c.requires.unit
+fragment-requires-clause-unit c = ap (λ (h : IpHead). h.offset % 8) c.head_of.ensures ∙ offset_unit c.parts.i c.args.cut.chunk c.requires.unit
 
 pub insert-requires-clause-held : goal.insert-requires-clause-held
 insert-requires-clause-held c = (beside_adds c.parts.train c.in-Ok.ensures.ok.adds c.parts.invariant.later.held).held
@@ -63,10 +63,10 @@ pub parts-preserved : goal.parts-preserved
 parts-preserved c =
     let v : ChainView = chain_of c.args.pool.now c.args.chain.now in
     let i : ℕ = c.parts.i in
-    let p : Part = part c.args.n c.args.chunk i in
+    let p : Part = part c.args.n c.args.cut.chunk i in
     let inv = c.parts.invariant.later in
     let kept = kept_moves c.args.chain.now inv.moves c.requires.live in
-    let pos = part_some c.args.n c.args.chunk i c.requires.chunk (c.requires.inside i (omega arith) (omega arith)) in
+    let pos = part_some c.args.n c.args.cut.chunk i c.requires.chunk (c.requires.inside i (omega arith) (omega arith)) in
     let off : c.advance-from.result.off ≡ 20 + p.offset = omega (arith, c.advance-from.ensures.off, c.parts.invariant.after) in
     let head : head_entry c.head_of.result ∷ copied false (chain_of c.parts.pool c.args.chain.now).entries c.advance-from.result.off c.min-size.result
     ≡ head_entry (head_for c.args.head p) ∷ copied false v.entries (20 + p.offset) p.size =
@@ -75,14 +75,14 @@ parts-preserved c =
     let end : insert (queued_packets c.fragment.new.pool c.parts.train) c.len-end.result new ≡ insert (queued_packets c.fragment.new.pool c.parts.train) c.parts.train.len new = ap (λ (k : ℕ). insert (queued_packets c.fragment.new.pool c.parts.train) k new) c.len-end.ensures in
     let item = ap item_of head ∙ later_is c.copy_weight.ensures v c.args.head p c.requires.datagram.bytes pos in
     record {
-      later = later_more p inv c.in-Ok.ensures.ok refl item (parts_more c.args.n c.args.chunk i (omega arith)) (c.insert.ensures.queued_packets ∙ end) c.insert.ensures.held c.insert.ensures.moves;
+      later = later_more p inv c.in-Ok.ensures.ok refl item (parts_more c.args.n c.args.cut.chunk i (omega arith)) (c.insert.ensures.queued_packets ∙ end) c.insert.ensures.held c.insert.ensures.moves;
       cursor = subst (λ (w : ChainView). IsCursor w c.advance-from.result) kept.0 c.advance-from.ensures.cursor;
-      after = omega (arith, c.advance-from.ensures.off, mul_more i c.args.chunk, c.requires.chunk);
+      after = omega (arith, c.advance-from.ensures.off, mul_more i c.args.cut.chunk, c.requires.chunk);
     }
 
 pub returns-clause-enough : goal.returns-clause-enough
 returns-clause-enough c =
     let inv = c.parts.invariant.later in
-    let e : c.parts.i ≡ c.args.count = omega arith in
+    let e : c.parts.i ≡ c.args.cut.count = omega arith in
     let v : ChainView = chain_of c.args.pool.now c.args.chain.now in
-    omega (arith, held_later inv, inv.moves.mbufs, ap (λ (k : ℕ). sum_by (part_need v) (parts_to c.args.n c.args.chunk k)) e, c.laws.ensures.few)
+    omega (arith, held_later inv, inv.moves.mbufs, ap (λ (k : ℕ). sum_by (part_need v) (parts_to c.args.n c.args.cut.chunk k)) e, c.laws.ensures.few)

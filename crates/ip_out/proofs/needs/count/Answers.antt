@@ -9,7 +9,7 @@ use Rattle.ip_out.proofs.needs.count.Goals.{then-left-ge-MINCLSIZE, else-left-ge
 
 pub returns-then-n-le-MAX_SHARED-clause-need : goal.returns-then-n-le-MAX_SHARED-clause-need
 returns-then-n-le-MAX_SHARED-clause-need c =
-    let mbufs = short_is c.args.n c.args.mtu _ _ _ (omega arith) c.cut_of-chunk.ensures.counts c.later_met.ensures.value in
+    let mbufs = short_is c.args.n c.args.mtu _ _ _ (omega arith) c.later_of-chunk.ensures.counts c.later_met.ensures.value in
     let clusters = short_clusters c.args.n c.args.mtu (omega arith) in
     λ i. record { mbufs = mbufs i; clusters = sym clusters i }
 
@@ -18,9 +18,9 @@ rooms-init c = record {
   left = omega arith;
   large = omega arith;
   small = omega arith;
-  mbufs = long_is c.args.n c.args.mtu _ _ _ (omega arith) c.cut_of-chunk.ensures.counts c.later_met-2.ensures.value;
+  mbufs = long_is c.args.n c.args.mtu _ _ _ (omega arith) c.later_of-chunk.ensures.counts c.later_met-2.ensures.value;
   clusters = omega (arith, long_clusters c.args.n c.args.mtu (omega arith));
-  few = omega (arith, c.cut_of-chunk.ensures.most, c.later_met-2.ensures.most);
+  few = omega (arith, c.later_of-chunk.ensures.most, c.later_met-2.ensures.most);
   some = omega arith;
 }
 
@@ -32,7 +32,7 @@ rooms-preserved c =
       | then-left-ge-MINCLSIZE w ↦ (inl (omega arith, omega arith, omega arith), omega arith)
       | else-left-ge-MINCLSIZE w ↦ (inr (omega arith, omega arith, omega arith), omega arith)
     ] in
-    let next = next_is c.args.n c.args.mtu _ _ c.rooms.left c.rooms.large c.rooms.small c.if-left-ge-MINCLSIZE.size one _ inv.large inv.small (omega arith) inv.left kind.0 c.cut_of-chunk.ensures.counts c.later_met-in-rooms.ensures.value in
+    let next = next_is c.args.n c.args.mtu _ _ c.rooms.left c.rooms.large c.rooms.small c.if-left-ge-MINCLSIZE.size one _ inv.large inv.small (omega arith) inv.left kind.0 c.later_of-chunk.ensures.counts c.later_met-in-rooms.ensures.value in
     record {
       left = omega (arith, inv.left);
       large = omega arith;

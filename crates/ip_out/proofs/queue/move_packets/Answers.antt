@@ -1,6 +1,7 @@
 use Rattle.std.proofs.Common.{◌≡◌, ℕ, arith, ap, ◌∙◌, inl, inr}
 use Rattle.std.specs.Prelude.{◌⊎◌, nat_lt}
 use Rattle.std.specs.List.{insert}
+use Rattle.params.specs.declared.TheConstants.{OUTPUT_QUEUE_PACKETS}
 use Rattle.mbuf_chain.specs.Chain.{chain_of}
 use Rattle.mbuf_chain.specs.Train.{QueuedPacket, queued_packets}
 use Rattle.ip_out.proofs.Queues.{takes, puts, enqueued, full_is}
@@ -26,7 +27,7 @@ packets-preserved c =
 pub returns-clause-packets : goal.returns-clause-packets
 returns-clause-packets c =
     let m = c.packets.invariant in
-    let ends : (c.packets.rest.len ≡ 0) ⊎ (c.packets.train.len ≡ 50) = elim c.packets-test.branch [
+    let ends : (c.packets.rest.len ≡ 0) ⊎ (c.packets.train.len ≡ OUTPUT_QUEUE_PACKETS) = elim c.packets-test.branch [
       | then-packets-test+else-len-gt0 w ↦ inl (omega (arith, w.if-len-gt0, w.len-in-packets.ensures))
       | else-packets-test w ↦ inr (omega (arith, w.packets-test, c.len.ensures, m.room))
     ] in
@@ -36,7 +37,7 @@ returns-clause-packets c =
 pub returns-clause-lost : goal.returns-clause-lost
 returns-clause-lost c =
     let m = c.packets.invariant in
-    let ends : (c.packets.rest.len ≡ 0) ⊎ (c.packets.train.len ≡ 50) = elim c.packets-test.branch [
+    let ends : (c.packets.rest.len ≡ 0) ⊎ (c.packets.train.len ≡ OUTPUT_QUEUE_PACKETS) = elim c.packets-test.branch [
       | then-packets-test+else-len-gt0 w ↦ inl (omega (arith, w.if-len-gt0, w.len-in-packets.ensures))
       | else-packets-test w ↦ inr (omega (arith, w.packets-test, c.len.ensures, m.room))
     ] in
@@ -45,7 +46,7 @@ returns-clause-lost c =
 pub returns-clause-plain : goal.returns-clause-plain
 returns-clause-plain c =
     let m = c.packets.invariant in
-    let ends : (c.packets.rest.len ≡ 0) ⊎ (c.packets.train.len ≡ 50) = elim c.packets-test.branch [
+    let ends : (c.packets.rest.len ≡ 0) ⊎ (c.packets.train.len ≡ OUTPUT_QUEUE_PACKETS) = elim c.packets-test.branch [
       | then-packets-test+else-len-gt0 w ↦ inl (omega (arith, w.if-len-gt0, w.len-in-packets.ensures))
       | else-packets-test w ↦ inr (omega (arith, w.packets-test, c.len.ensures, m.room))
     ] in
@@ -55,7 +56,7 @@ returns-clause-plain c =
 pub returns-clause-queue : goal.returns-clause-queue
 returns-clause-queue c =
     let m = c.packets.invariant in
-    let ends : (c.packets.rest.len ≡ 0) ⊎ (c.packets.train.len ≡ 50) = elim c.packets-test.branch [
+    let ends : (c.packets.rest.len ≡ 0) ⊎ (c.packets.train.len ≡ OUTPUT_QUEUE_PACKETS) = elim c.packets-test.branch [
       | then-packets-test+else-len-gt0 w ↦ inl (omega (arith, w.if-len-gt0, w.len-in-packets.ensures))
       | else-packets-test w ↦ inr (omega (arith, w.packets-test, c.len.ensures, m.room))
     ] in
@@ -65,7 +66,7 @@ returns-clause-queue c =
 pub returns-clause-moves : goal.returns-clause-moves
 returns-clause-moves c =
     let m = c.packets.invariant in
-    let ends : (c.packets.rest.len ≡ 0) ⊎ (c.packets.train.len ≡ 50) = elim c.packets-test.branch [
+    let ends : (c.packets.rest.len ≡ 0) ⊎ (c.packets.train.len ≡ OUTPUT_QUEUE_PACKETS) = elim c.packets-test.branch [
       | then-packets-test+else-len-gt0 w ↦ inl (omega (arith, w.if-len-gt0, w.len-in-packets.ensures))
       | else-packets-test w ↦ inr (omega (arith, w.packets-test, c.len.ensures, m.room))
     ] in

@@ -1,6 +1,7 @@
 use Rattle.std.proofs.Common.{◌≡◌, ◌++◌, true, false, List, length, take, ap, sym, ◌∙◌, subst}
 use Rattle.std.specs.Prelude.{nat_lt}
 use Rattle.std.proofs.lemmas.Bool.{ltb-true}
+use Rattle.params.specs.declared.TheConstants.{OUTPUT_QUEUE_PACKETS}
 use Rattle.flat_model.specs.Amounts.Weight.{Item}
 use Rattle.mbuf_chain.specs.Chain.{chain_of}
 use Rattle.mbuf_chain.proofs.Laws.Owners.{moves_trans, moves_without}
@@ -36,8 +37,8 @@ returns-then-push_all-clause-err c =
     let a = aside c.args.chain c.args.queue.now c.in-Ok.ensures.moves c.requires.live c.requires.queue.held c.requires.apart in
     let all : List Item = packets c.args.pool.now c.args.queue.now ++ packets_of (chain_of c.args.pool.now c.args.chain) c.args.head c.args.mtu in
     let same : packets c.fragments.new.pool c.args.queue.now ++ packets c.fragments.new.pool c.in-Ok.packets ≡ all = λ i. a.same_packets i ++ c.in-Ok.ensures.packets i in
-    let over : nat_lt 50 (length all) ≡ true = sym (ap (λ (xs : List Item). nat_lt 50 (length xs)) same) ∙ sym c.push_all.ensures.lost ∙ c.if-push_all.true in
-    (c.in-Ok.ensures.enough, ltb-true 50 (length all) over, c.push_all.ensures.packets ∙ ap (take 50) same)
+    let over : nat_lt OUTPUT_QUEUE_PACKETS (length all) ≡ true = sym (ap (λ (xs : List Item). nat_lt OUTPUT_QUEUE_PACKETS (length xs)) same) ∙ sym c.push_all.ensures.lost ∙ c.if-push_all.true in
+    (c.in-Ok.ensures.enough, ltb-true OUTPUT_QUEUE_PACKETS (length all) over, c.push_all.ensures.packets ∙ ap (take OUTPUT_QUEUE_PACKETS) same)
 
 pub returns-then-push_all-clause-plain : goal.returns-then-push_all-clause-plain
 returns-then-push_all-clause-plain c = λ before.
@@ -52,8 +53,8 @@ returns-clause-ok c =
     let a = aside c.args.chain c.args.queue.now c.in-Ok.ensures.moves c.requires.live c.requires.queue.held c.requires.apart in
     let all : List Item = packets c.args.pool.now c.args.queue.now ++ packets_of (chain_of c.args.pool.now c.args.chain) c.args.head c.args.mtu in
     let same : packets c.fragments.new.pool c.args.queue.now ++ packets c.fragments.new.pool c.in-Ok.packets ≡ all = λ i. a.same_packets i ++ c.in-Ok.ensures.packets i in
-    let within : nat_lt 50 (length all) ≡ false = sym (ap (λ (xs : List Item). nat_lt 50 (length xs)) same) ∙ sym c.push_all.ensures.lost ∙ c.if-push_all.false in
-    (c.in-Ok.ensures.enough, c.push_all.ensures.packets ∙ ap (take 50) same ∙ all_fit all within)
+    let within : nat_lt OUTPUT_QUEUE_PACKETS (length all) ≡ false = sym (ap (λ (xs : List Item). nat_lt OUTPUT_QUEUE_PACKETS (length xs)) same) ∙ sym c.push_all.ensures.lost ∙ c.if-push_all.false in
+    (c.in-Ok.ensures.enough, c.push_all.ensures.packets ∙ ap (take OUTPUT_QUEUE_PACKETS) same ∙ all_fit all within)
 
 pub returns-clause-plain : goal.returns-clause-plain
 returns-clause-plain c = λ before.

@@ -37,7 +37,7 @@ returns-clause-answer c =
     record {
       faultless = first_of (search rules, grind (arith, common_steps));
       sender = ap (λ (x : Header). record { ip = h.src; port = x.source }) said;
-      heard = subst (λ (x : Header). AreHearers c.args.pcbs.now h.dst (packet_key h.dst x.destination (record { ip = h.src; port = x.source })) c.find_hearers.new.to.items) said c.find_hearers.ensures.found;
+      heard = subst (λ (x : Header). AreHearers c.args.pcbs.now h.dst (packet_key h.dst x.destination (record { ip = h.src; port = x.source })) c.find_hearers.new.hearers.items) said c.find_hearers.ensures.found;
       some = first_of (search rules, grind (arith, common_steps));
       same = refl;
       chain = cut;

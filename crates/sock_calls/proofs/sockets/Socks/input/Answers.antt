@@ -25,8 +25,8 @@ deliver_all-requires-clause-socks g c =
 pub deliver_all-requires-clause-opened : goal.deliver_all-requires-clause-opened
 deliver_all-requires-clause-opened g c =
     subst (λ (l : List ℕ). All (λ (fd : ℕ). IsOpen fd c.input.new.pcbs) l) (sym c.as_slice-hearers.ensures.value)
-    (subst (λ (t : Table). All (λ (fd : ℕ). IsOpen fd t) c.input.new.to.items) (sym c.input.ensures.blocks)
-    (all_open c.self.inside.parts.pcbs _ _ c.input.new.to.items c.in-Deliver.ensures.answer.heard))
+    (subst (λ (t : Table). All (λ (fd : ℕ). IsOpen fd t) c.input.new.hearers.items) (sym c.input.ensures.blocks)
+    (all_open c.self.inside.parts.pcbs _ _ c.input.new.hearers.items c.in-Deliver.ensures.answer.heard))
 
 pub deliver_all-requires-clause-distinct : goal.deliver_all-requires-clause-distinct
 deliver_all-requires-clause-distinct g c =
