@@ -6,6 +6,7 @@ use Rattle.std.proofs.lemmas.List.{take-append-le, append_assoc, length-append, 
 use Rattle.std.proofs.lemmas.List.FromFn.{map-range_with_len_more}
 use Rattle.std.proofs.lemmas.List.Elements.{All-contains_itself, recursion_from_All, Contains-append_left}
 use Rattle.std.proofs.lemmas.Bool.{lt-ltb, cases_lt}
+use Rattle.params.specs.declared.TheConstants.{OUTPUT_QUEUE_PACKETS}
 use Rattle.flat_model.specs.Amounts.Weight.{Item}
 use Rattle.flat_model.specs.Amounts.Layout.{Entry}
 use Rattle.flat_model.specs.Fragments.Cuts.{Part, part, chunks, cuts}
@@ -54,20 +55,20 @@ cuts_split n mtu some low =
 
 -- What is queued then: of a send that overflows never the last packet.
 pub each_queued : (Q : List ℕ → Type 0) (old : List (List ℕ)) (f : Part → List ℕ) (parts : List Part) → Each Q old → IsSplit parts
-    → ((p : Part) → Contains parts p → ((p.more ≡ true) ⊎ (length old + length parts ≤ 50)) → Q (f p)) → Each Q (take 50 (old ++ map f parts))
-each_queued Q old f parts queued split good = go (cases_lt 50 (length old + length parts))
+    → ((p : Part) → Contains parts p → ((p.more ≡ true) ⊎ (length old + length parts ≤ OUTPUT_QUEUE_PACKETS)) → Q (f p)) → Each Q (take OUTPUT_QUEUE_PACKETS (old ++ map f parts))
+each_queued Q old f parts queued split good = go (cases_lt OUTPUT_QUEUE_PACKETS (length old + length parts))
   where
     itself : Each (Contains parts) parts
     itself = recursion_from_All (Contains parts) parts (All-contains_itself parts)
 
-    go : (50 < length old + length parts) ⊎ (length old + length parts ≤ 50) → Each Q (take 50 (old ++ map f parts))
-    go (inr h) = each-take Q 50 _ (each-append Q old (map f parts) queued (each-map_to Q f (λ p is. good p is (inr h)) parts itself))
+    go : (OUTPUT_QUEUE_PACKETS < length old + length parts) ⊎ (length old + length parts ≤ OUTPUT_QUEUE_PACKETS) → Each Q (take OUTPUT_QUEUE_PACKETS (old ++ map f parts))
+    go (inr h) = each-take Q OUTPUT_QUEUE_PACKETS _ (each-append Q old (map f parts) queued (each-map_to Q f (λ p is. good p is (inr h)) parts itself))
     go (inl h) =
         let size : length parts ≡ length split.front + 1 = ap length split.are ∙ length-append split.front (split.last ∷ []) in
         let shape : old ++ map f parts ≡ (old ++ map f split.front) ++ f split.last ∷ [] =
         ap (λ ps. old ++ map f ps) split.are ∙ ap (λ ys. old ++ ys) (map-append f split.front (split.last ∷ [])) ∙ sym (append_assoc old (map f split.front) (f split.last ∷ [])) in
-        let long : 50 ≤ length (old ++ map f split.front) = omega (arith, length-append old (map f split.front), length-map split.front f) in
+        let long : OUTPUT_QUEUE_PACKETS ≤ length (old ++ map f split.front) = omega (arith, length-append old (map f split.front), length-map split.front f) in
         let in_front : Each (Contains split.front) split.front = recursion_from_All (Contains split.front) split.front (All-contains_itself split.front) in
         let front_good : Each (λ p. Q (f p)) split.front = each-both (λ p is more. good p (subst (λ ps. Contains ps p) (sym split.are) (Contains-append_left split.front (split.last ∷ []) p is)) (inl more)) split.front in_front split.more in
-        subst (Each Q) (sym (ap (take 50) shape ∙ take-append-le 50 (old ++ map f split.front) (f split.last ∷ []) long))
-        (each-take Q 50 _ (each-append Q old (map f split.front) queued (each-map_to Q f (λ p h. h) split.front front_good)))
+        subst (Each Q) (sym (ap (take OUTPUT_QUEUE_PACKETS) shape ∙ take-append-le OUTPUT_QUEUE_PACKETS (old ++ map f split.front) (f split.last ∷ []) long))
+        (each-take Q OUTPUT_QUEUE_PACKETS _ (each-append Q old (map f split.front) queued (each-map_to Q f (λ p h. h) split.front front_good)))

@@ -6,6 +6,7 @@ use Rattle.std.proofs.lemmas.Bool.{or_parts, eqb-false, ltb-false, le-ltb, cond-
 use Rattle.std.proofs.lemmas.Option.{none-some, same_Some}
 use Rattle.std.proofs.lemmas.List.{append_assoc, length-append, map-append, take-map, length-map, append-nil}
 use Rattle.std.proofs.lemmas.List.Elements.{filter_map-append}
+use Rattle.params.specs.declared.TheConstants.{OUTPUT_QUEUE_PACKETS}
 use Rattle.flat_model.specs.Amounts.Weight.{Weight, Item, nothing}
 use Rattle.flat_model.specs.Fragments.Cuts.{Part, cuts}
 use Rattle.flat_model.specs.Amounts.Layout.{Need, sent, laid_on}
@@ -139,9 +140,9 @@ module _ (L : Ledger) (c : Config) (boots : IsConfig c) where
 
   -- ---- a send
 
-  fits_all : (s : State) (packets : List Item) (n : ℕ) (reply : Reply) → length (s.output ++ packets) ≤ 50
+  fits_all : (s : State) (packets : List Item) (n : ℕ) (reply : Reply) → length (s.output ++ packets) ≤ OUTPUT_QUEUE_PACKETS
       → reply ≡ cond (overflows s packets) (Event.Refused (NoBufs Queue)) (Sent n) → reply ≡ Sent n
-  fits_all s packets n reply h e = e ∙ cond-false (overflows s packets) _ _ (le-ltb 50 (length (s.output ++ packets)) h)
+  fits_all s packets n reply h e = e ∙ cond-false (overflows s packets) _ _ (le-ltb OUTPUT_QUEUE_PACKETS (length (s.output ++ packets)) h)
 
   gets_sockets : (old new : State) (local asked : Option ℕ) (port : ℕ) → GetsPort old local asked port new → new.sockets ≡ old.sockets
   gets_sockets old new local (Some q) port g = ap (λ (s : State). s.sockets) g.1
@@ -170,7 +171,7 @@ module _ (L : Ledger) (c : Config) (boots : IsConfig c) where
       got = First.gets L c before.output before.next_id (value_of IpLocalout before.counters) boots old named me.local me.port port k sound.port g
 
       abbrev Next : State → Type 0
-      Next = IsKept c (take 50 (before.output ++ link)) ((before.next_id + 1) % 65536) (more_by 1 (value_of IpLocalout before.counters))
+      Next = IsKept c (take OUTPUT_QUEUE_PACKETS (before.output ++ link)) ((before.next_id + 1) % 65536) (more_by 1 (value_of IpLocalout before.counters))
 
       counts_dropped : (b : Bool) (s : State) → value_of IpLocalout (cond b (counts_more OutDropped 1 s.counters) s.counters) ≡ value_of IpLocalout s.counters
       counts_dropped true s = refl
@@ -194,7 +195,7 @@ module _ (L : Ledger) (c : Config) (boots : IsConfig c) where
       unfolding link left x
       queued_is = record {
         config = left_is.config;
-        output = ap (λ o. take 50 (o ++ link)) left_is.output;
+        output = ap (λ o. take OUTPUT_QUEUE_PACKETS (o ++ link)) left_is.output;
         id = next_number fd out x named ∙ ap (λ n. (n + 1) % 65536) got.0.id;
         sends = counts_dropped (overflows left link) left ∙ left_is.sends;
         sockets = left_is.sockets;
@@ -229,8 +230,8 @@ module _ (L : Ledger) (c : Config) (boots : IsConfig c) where
         next = after.id ∙ (let next : before.next_id ≡ (c.first_id + length told.log) % 65536 = told.next in omega arith);
         numbered = (k.id ∙ told.next, told.numbered);
         output = subst (λ xs. Each Given (all_bytes xs)) (sym after.output)
-            (subst (Each Given) (take-map (λ (item : Item). item.bytes) 50 (before.output ++ link_out))
-            (subst (λ bs. Each Given (take 50 bs)) (sym (map-append (λ (item : Item). item.bytes) before.output link_out))
+            (subst (Each Given) (take-map (λ (item : Item). item.bytes) OUTPUT_QUEUE_PACKETS (before.output ++ link_out))
+            (subst (λ bs. Each Given (take OUTPUT_QUEUE_PACKETS bs)) (sym (map-append (λ (item : Item). item.bytes) before.output link_out))
             (on_link (is_looped named.config x.to.ip) refl)));
         gave = subst (Each Given) (sym (filter_map-append packet_out turns (turn ∷ []) ∙ append-nil (filter_map packet_out turns))) (each-weaker up (filter_map packet_out turns) told.gave);
       }
@@ -268,9 +269,9 @@ module _ (L : Ledger) (c : Config) (boots : IsConfig c) where
             not_limited_broadcast = aim.known;
           }
 
-          answered : length before.output + length parts ≤ 50 → is_looped named.config x.to.ip ≡ false → IsAnswered L c (turns ++ turn ∷ []) new port (target before me to) bytes
+          answered : length before.output + length parts ≤ OUTPUT_QUEUE_PACKETS → is_looped named.config x.to.ip ≡ false → IsAnswered L c (turns ++ turn ∷ []) new port (target before me to) bytes
           answered fit e =
-              let size : length (left.output ++ link_out) ≤ 50 =
+              let size : length (left.output ++ link_out) ≤ OUTPUT_QUEUE_PACKETS =
               omega (arith, length-append left.output link_out, ap length left_is.output, ap length (ap (λ b. cond b [] (packets named.config clusters x)) e), length_parts) in
               let is_sent : reply ≡ Sent (length bytes) = fits_all left link_out (length bytes) reply size h.1 in
               let port_then : HasPort fd port new = port_kept L fd port (to_self named.config x.to.ip (packets named.config clusters x)) (enqueued link_out left) new has_port h.0 in
@@ -296,12 +297,12 @@ module _ (L : Ledger) (c : Config) (boots : IsConfig c) where
           mtu_is : is_looped named.config x.to.ip ≡ false → parts ≡ cuts (length (datagram x)) c.mtu
           mtu_is e = ap (λ b. cuts (length (datagram x)) (cond b 1536 named.config.mtu)) e ∙ ap (λ (cc : Config). cuts (length (datagram x)) cc.mtu) got.0.config
 
-          on_link : (b : Bool) → is_looped named.config x.to.ip ≡ b → Each Given (take 50 (all_bytes before.output ++ all_bytes link_out))
-          on_link true e = rw e (each-take Given 50 (all_bytes before.output ++ []) (each-append Given (all_bytes before.output) [] held tt))
+          on_link : (b : Bool) → is_looped named.config x.to.ip ≡ b → Each Given (take OUTPUT_QUEUE_PACKETS (all_bytes before.output ++ all_bytes link_out))
+          on_link true e = rw e (each-take Given OUTPUT_QUEUE_PACKETS (all_bytes before.output ++ []) (each-append Given (all_bytes before.output) [] held tt))
           on_link false e =
               let is_out : all_bytes link_out ≡ map (packet_for x) parts = ap (λ b. all_bytes (cond b [] (packets named.config clusters x))) e ∙ bytes_of_packets (laid_on clusters (sent (length bytes))) (packet_for x) parts in
               let some : 0 < length (datagram x) = omega (arith, length-udp x.source x.to.ip port x.to.port bytes) in
-              subst (λ bs. Each Given (take 50 (all_bytes before.output ++ bs))) (sym is_out)
+              subst (λ bs. Each Given (take OUTPUT_QUEUE_PACKETS (all_bytes before.output ++ bs))) (sym is_out)
               (each_queued Given (all_bytes before.output) (packet_for x) parts held (subst IsSplit (sym (mtu_is e)) (cuts_split (length (datagram x)) c.mtu some (omega (arith, boots.least_mtu))))
               (λ p is ends. record {
                 sending = x;
@@ -313,15 +314,15 @@ module _ (L : Ledger) (c : Config) (boots : IsConfig c) where
                 is = refl;
               }))
             where
-              answered_at : (p : Part) → (p.more ≡ true) ⊎ (length (all_bytes before.output) + length parts ≤ 50) → p.more ≡ false → is_looped named.config x.to.ip ≡ false → IsAnswered L c (turns ++ turn ∷ []) new port (target before me to) bytes
+              answered_at : (p : Part) → (p.more ≡ true) ⊎ (length (all_bytes before.output) + length parts ≤ OUTPUT_QUEUE_PACKETS) → p.more ≡ false → is_looped named.config x.to.ip ≡ false → IsAnswered L c (turns ++ turn ∷ []) new port (target before me to) bytes
               answered_at p (inl more) last e = absurd (both (sym more ∙ last))
                 where
                   both : true ≡ false → ⊥
                   both e = cc
               answered_at p (inr fit) last e = answered (omega (arith, length-map before.output (λ (item : Item). item.bytes))) e
 
-          after : IsKept c (take 50 (before.output ++ to_link named.config x.to.ip (packets named.config clusters x))) ((before.next_id + 1) % 65536) (more_by 1 (value_of IpLocalout before.counters)) new
-          after = kept_all L Next (First.closed L c (take 50 (before.output ++ link)) ((before.next_id + 1) % 65536) (more_by 1 (value_of IpLocalout before.counters)) boots) (to_self named.config x.to.ip (packets named.config clusters x)) (enqueued link left) new queued_is h.0
+          after : IsKept c (take OUTPUT_QUEUE_PACKETS (before.output ++ to_link named.config x.to.ip (packets named.config clusters x))) ((before.next_id + 1) % 65536) (more_by 1 (value_of IpLocalout before.counters)) new
+          after = kept_all L Next (First.closed L c (take OUTPUT_QUEUE_PACKETS (before.output ++ link)) ((before.next_id + 1) % 65536) (more_by 1 (value_of IpLocalout before.counters)) boots) (to_self named.config x.to.ip (packets named.config clusters x)) (enqueued link left) new queued_is h.0
 
   -- ---- every step
 

@@ -31,11 +31,6 @@ swapped_sum_parts (a ∷ []) = omega arith
 swapped_sum_parts (a ∷ b ∷ s) = omega (arith, swapped_sum_parts s)
 
 -- a shift by 8 bits turns each word round
-shift-word_sum : (s : List ℕ) → fold16 (256 * word_sum s) ≡ fold16 (swapped_sum s)
-shift-word_sum s =
-    let parts : 256 * word_sum s ≡ 65536 * firsts s + 256 * seconds s = omega (arith, word_sum_parts s) in
-    ap fold16 parts ∙ fold16-high (firsts s) (256 * seconds s) ∙ ap fold16 (sym (swapped_sum_parts s))
-
 shift-swapped_sum : (s : List ℕ) → fold16 (256 * swapped_sum s) ≡ fold16 (word_sum s)
 shift-swapped_sum s =
     let parts : 256 * swapped_sum s ≡ 65536 * seconds s + 256 * firsts s = omega (arith, swapped_sum_parts s) in
@@ -50,9 +45,6 @@ swap-fold16 n =
     let parts : 256 * m ≡ 65536 * (m / 256) + 256 * (m % 256) = omega arith in
     let swapped : m / 256 + 256 * (m % 256) ≡ swap_bytes w16 m = omega arith in
     sym (sym (fold16-shift n) ∙ ap fold16 parts ∙ fold16-high (m / 256) (256 * (m % 256)) ∙ fold16-small (m / 256 + 256 * (m % 256)) (omega arith) ∙ swapped)
-
-swap-folded_sum : (s : List ℕ) → swap_bytes w16 (folded_sum s) ≡ fold16 (swapped_sum s)
-swap-folded_sum s = swap-fold16 (word_sum s) ∙ shift-word_sum s
 
 pub swap-swapped_sum : (s : List ℕ) → swap_bytes w16 (fold16 (swapped_sum s)) ≡ folded_sum s
 swap-swapped_sum s = swap-fold16 (swapped_sum s) ∙ shift-swapped_sum s

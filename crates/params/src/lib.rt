@@ -37,8 +37,6 @@ pub const IP_HEADER: u32 = 20;
 pub const UDP_HEADER: u32 = 8;
 /// Bytes of both: 28.
 pub const IP_UDP_HEADERS: u32 = IP_HEADER + UDP_HEADER;
-/// Bytes of the pseudo header that a UDP checksum covers (RFC 768).
-pub const PSEUDO_HEADER: u32 = 12;
 /// The longest IP packet: 65,535 bytes (RFC 791, section 3.1).
 pub const IP_MAX_PACKET: u32 = 65_535;
 /// The most bytes after the header of an IP packet: 65,515.
@@ -99,7 +97,7 @@ pub const fn numbers()
         × (MINCLSIZE ≡ 208) × (PACKET_START ≡ 28) × (MAX_PROTOCOL_HEADER ≡ 40) }
     ensures clusters { (MCLBYTES ≡ 2048) × (CLUSTER_LEADING_SPACE ≡ 56) }
     ensures pool { (MAX_MBUFS ≡ 65535) × (MAX_CLUSTERS ≡ 4096) }
-    ensures packets { (IP_HEADER ≡ 20) × (UDP_HEADER ≡ 8) × (IP_UDP_HEADERS ≡ 28) × (PSEUDO_HEADER ≡ 12)
+    ensures packets { (IP_HEADER ≡ 20) × (UDP_HEADER ≡ 8) × (IP_UDP_HEADERS ≡ 28)
         × (IP_MAX_PACKET ≡ 65535) × (IP_MAX_DATA ≡ 65515) × (UDP_MAX_DATA ≡ 65507) × (IP_DEFAULT_TTL ≡ 64)
         × (PROTOCOL_UDP ≡ 17) }
     ensures fragments { (FRAGMENT_UNIT ≡ 8) × (FRAGMENT_TICKS ≡ 60) }

@@ -10,6 +10,7 @@ use denote.Enum.Enum.{tag_below}
 use denote.Enum.Declared.{variants}
 use Rattle.flat_model.specs.Machine.Count.{all_counters, more_by, place, value_of, counts_more}
 use Rattle.flat_model.specs.contracts.counter.Counter.{the_type}
+use Rattle.flat_model.specs.declared.counter.TheConstants.{COUNTERS}
 use Rattle.flat_model.specs.declared.counter.Counter.{Counter}
 use Rattle.flat_model.specs.declared.counters.Counters.{Counters}
 
@@ -31,20 +32,20 @@ module _ (n : ℕ) (xs : List ℕ) (i : ℕ) (f : ℕ → ℕ) (long : length xs
       (λ j below. at j ∙ sym (get_or-map-range_with_len changed 0 n j j 0 (omega (arith, below, length-set xs i (f (get_or xs i 0)), long)) (omega arith)))
 
 -- the order of printing is that of the type
-places : map place all_counters ≡ range_with_len 0 26
+places : map place all_counters ≡ range_with_len 0 COUNTERS
 places = refl
 
 at_places : (f : ℕ → ℕ) → map f (map place all_counters) ≡ map (λ other. f (place other)) all_counters
 at_places f = refl
 
 -- the number at a counter's place, made so much more, is that counter's count
-pub counts_is : (counter : Counter) (k : ℕ) (c : Counters) (value : ℕ) → length c.values ≡ 26 → value ≡ more_by k (value_of counter c)
+pub counts_is : (counter : Counter) (k : ℕ) (c : Counters) (value : ℕ) → length c.values ≡ COUNTERS → value ≡ more_by k (value_of counter c)
     → ◌≡◌ {A = Counters} (record { values = set c.values (place counter) value }) (counts_more counter k c)
 counts_is counter k c value long is =
-    let below : place counter < 26 = tag_below (variants the_type) (the_type.to counter) in
+    let below : place counter < COUNTERS = tag_below (variants the_type) (the_type.to counter) in
     ap (λ (xs : List ℕ). record { values = xs }) (
     ap (set c.values (place counter)) is
-    ∙ set_is 26 c.values (place counter) (more_by k) long below
-    ∙ ap (map (changed 26 c.values (place counter) (more_by k) long below)) (sym places)
-    ∙ at_places (changed 26 c.values (place counter) (more_by k) long below)
+    ∙ set_is COUNTERS c.values (place counter) (more_by k) long below
+    ∙ ap (map (changed COUNTERS c.values (place counter) (more_by k) long below)) (sym places)
+    ∙ at_places (changed COUNTERS c.values (place counter) (more_by k) long below)
     )

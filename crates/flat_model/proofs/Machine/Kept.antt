@@ -26,6 +26,7 @@ use Rattle.flat_model.specs.Sockets.Fits.{bytes_queued, memory_queued}
 use Rattle.flat_model.specs.Sockets.Lookup.{best, receivers, matches, up_to_first}
 use Rattle.std.specs.Option.{option_or}
 use Rattle.std.proofs.lemmas.List.Sums.{sum_by-cons, sum_by-append}
+use Rattle.params.specs.declared.TheConstants.{OUTPUT_QUEUE_PACKETS}
 use Rattle.flat_model.proofs.Machine.Keys.{whole_key}
 use Rattle.flat_model.proofs.Machine.Sockets.{find-changed}
 use Rattle.flat_model.proofs.Lists.Each.{by_choice, by_case, each-map, each-map_to, each-both, each-weaker, each-append, each-filter, each-find}
@@ -283,7 +284,7 @@ pub record Good (c : Config) (h : ℕ) (s : State) : Type 0 where
   pub unfinished : Each (IsWaiting c) s.unfinished
   pub keys : (k : Key) → count_by (is_key k) s.unfinished ≤ 1
   pub output : Each (IsOutput c) s.output
-  pub short : length s.output ≤ 50
+  pub short : length s.output ≤ OUTPUT_QUEUE_PACKETS
   pub last_port : (p : ℕ) → s.last_port ≡ Some p → (1024 ≤ p) × (p ≤ 5000)
   pub next_id : s.next_id < 65536
   pub mbufs : (weight_of_state s).mbufs + h ≤ c.mbufs

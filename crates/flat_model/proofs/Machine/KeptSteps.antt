@@ -6,6 +6,7 @@ use Rattle.std.proofs.lemmas.Bool.{eqb-true, ltb-true, ltb-false, or_cases}
 use Rattle.std.proofs.lemmas.Option.{none-some, same_Some}
 use Rattle.std.proofs.lemmas.List.{length-take}
 use Rattle.std.proofs.lemmas.List.Elements.{recursion_from_All}
+use Rattle.params.specs.declared.TheConstants.{OUTPUT_QUEUE_PACKETS}
 use Rattle.flat_model.specs.Amounts.Weight.{Weight, Item, all_of, nothing}
 use Rattle.flat_model.specs.Fragments.Cuts.{Part, cuts}
 use Rattle.flat_model.specs.Amounts.Layout.{Need, Room, is_cluster, sent, wire, laid_on, weight_of, need, need_bcast, need_of, need_of_part}
@@ -121,11 +122,11 @@ module _ (c : Config) (boots : IsConfig c) where
     distinct = good.distinct;
     unfinished = good.unfinished;
     keys = good.keys;
-    output = each-take (IsOutput c) 50 (s.output ++ out) (each-append (IsOutput c) s.output out good.output (each out fits));
-    short = omega (arith, length-take 50 (s.output ++ out));
+    output = each-take (IsOutput c) OUTPUT_QUEUE_PACKETS (s.output ++ out) (each-append (IsOutput c) s.output out good.output (each out fits));
+    short = omega (arith, length-take OUTPUT_QUEUE_PACKETS (s.output ++ out));
     last_port = good.last_port;
     next_id = good.next_id;
-    mbufs = let le = mbufs-take 50 (s.output ++ out) in let app = mbufs-append weight_of_item s.output out in omega (arith, good.mbufs);
+    mbufs = let le = mbufs-take OUTPUT_QUEUE_PACKETS (s.output ++ out) in let app = mbufs-append weight_of_item s.output out in omega (arith, good.mbufs);
   }
     where
       each : (xs : List Item) → Each (ItemFits c c.mtu) xs → Each (IsOutput c) xs

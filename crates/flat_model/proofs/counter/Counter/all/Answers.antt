@@ -1,6 +1,7 @@
 use Rattle.std.proofs.Common.{arith, ◌≡◌, ◌∷◌, [], ◌++◌, ℕ, take, sym, ap, ◌∙◌, refl}
 use Rattle.std.proofs.lemmas.List.{take_more, take_more_set, take_all, length-set}
 use Rattle.flat_model.specs.Machine.Count.{all_counters}
+use Rattle.flat_model.specs.declared.counter.TheConstants.{COUNTERS}
 use Rattle.flat_model.specs.declared.counter.Counter.{Counter}
 use Rattle.flat_model.specs.declared.counter.Counter.TheVariants.{IpTotal}
 use Rattle.flat_model.proofs.counter.Counter.all.Goals as goal
@@ -19,6 +20,6 @@ loop-i-preserved c = (
 
 pub returns : goal.returns
 returns c =
-    let at : 26 ≡ c.loop-i.i = omega (arith, c.loop-i-test.false, c.loop-i.auto.i-end) in
-    sym (take_all 26 c.loop-i.all (omega (arith, c.loop-i.invariant.0)))
+    let at : COUNTERS ≡ c.loop-i.i = omega (arith, c.loop-i-test.false, c.loop-i.auto.i-end) in
+    sym (take_all COUNTERS c.loop-i.all (omega (arith, c.loop-i.invariant.0)))
     ∙ ap (λ (n : ℕ). take n c.loop-i.all) at ∙ c.loop-i.invariant.1 ∙ take_all c.loop-i.i all_counters c.loop-i-test.false
