@@ -7,7 +7,7 @@ use params::MCLBYTES;
 use raw_cells::{Buffer, Part, Region};
 use std::alloc::Global;
 
-// Copies one part to the other and back, so many times.
+/// Copies one part to the other and back, so many times.
 fn copy_to_and_fro(region: &mut Region, here: Part, there: Part, times: u64)
     requires sized { IsSized region.old }
     requires here { IsPart region.old here }
@@ -23,7 +23,7 @@ fn copy_to_and_fro(region: &mut Region, here: Part, there: Part, times: u64)
     }
 }
 
-// Writes the bytes of `from` to a part, and reads the part into `to`.
+/// Writes the bytes of `from` to a part, and reads the part into `to`.
 fn write_and_read(region: &mut Region, part: Part, from: &[u8], to: &mut [u8])
     requires sized { IsSized region.old }
     requires part { IsPart region.old part }

@@ -1,3 +1,5 @@
+//! Why a request isn't done.
+
 /// Why a request wasn't done. Nothing has changed then.
 #[derive(Clone, Copy, Debug, PartialEq, Eq)]
 pub(crate) enum Fault {

@@ -1,3 +1,5 @@
+//! One end of a conversation.
+
 /// An Internet address and a port, as UDP names one end of a conversation (RFC 768).
 ///
 /// The address `a.b.c.d` is the number `a * 2^24 + b * 2^16 + c * 2^8 + d`.

@@ -21,7 +21,7 @@ pub fn fold(bytes: &[u8]) -> u16
     }
 }
 
-// One's complement addition: the carry out of 16 bits is added at the low end.
+/// One's complement addition: the carry out of 16 bits is added at the low end.
 fn add_word(sum: u16, word: u16) -> u16
     ensures { result ≡ fold16 (sum + word) }
 {

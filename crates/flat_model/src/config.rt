@@ -1,3 +1,4 @@
+//! The configuration of a machine, and why one is refused.
 ghost use Rattle.std.specs.Prelude.{MatchResult, IsTrue, ◌↔◌};
 ghost use Rattle.flat_model.specs.Machine.State.{HasSizes, IsConfig, IsHost, IsRefused};
 

@@ -1,3 +1,4 @@
+//! The counters, each by its name.
 ghost use Rattle.std.specs.Prelude.{◌≡◌, ◌<◌, length, map, slice_index_or};
 ghost use Rattle.flat_model.specs.Machine.Count.{counter_name, all_counters};
 ghost use Rattle.flat_model.specs.declared.counter.Counter.TheVariants.{IpTotal};

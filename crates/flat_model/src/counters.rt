@@ -1,3 +1,4 @@
+//! What was counted, and why a packet ended.
 ghost use Rattle.std.specs.Prelude.{◌≡◌};
 ghost use Rattle.flat_model.specs.Machine.Count.{counted, counter_of, counts_more, no_counts, value_of};
 

@@ -1,3 +1,4 @@
+//! Why a call is refused.
 ghost use Rattle.std.specs.Prelude.{◌≡◌};
 
 use thiserror::Error;

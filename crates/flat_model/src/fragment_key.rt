@@ -1,3 +1,5 @@
+//! By what fragments find their datagram.
+
 /// What says that fragments are of one datagram (RFC 791, section 3.2).
 #[derive(Clone, Copy, Debug, PartialEq, Eq)]
 pub struct FragmentKey {

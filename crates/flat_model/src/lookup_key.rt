@@ -1,3 +1,4 @@
+//! By what a packet finds its socket.
 use crate::address::Addr;
 
 /// What is looked for among the sockets (`in_pcblookup` of volume 2, chapter 22).

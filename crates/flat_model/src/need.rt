@@ -1,3 +1,5 @@
+//! Numbers of buffers.
+
 /// How many free buffers something takes (this project's own).
 #[derive(Clone, Copy, Debug, PartialEq, Eq)]
 pub struct Need {

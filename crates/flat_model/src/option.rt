@@ -1,3 +1,5 @@
+//! The options of a socket.
+
 /// An option of a socket (volume 2, chapter 17), clear in a new one.
 #[derive(Clone, Copy, Debug, PartialEq, Eq)]
 pub enum Opt {

@@ -1,3 +1,5 @@
+//! How full a pool is.
+
 /// How much of the pool is in use (4.4BSD's `mbstat`, volume 2 chapter 2, in this project's own selection).
 #[derive(Clone, Copy, Debug, PartialEq, Eq)]
 pub struct Mbstat {

@@ -25,7 +25,7 @@ pub struct Head {
     pub destination: u32,
 }
 
-// The number in the two bytes from a place on.
+/// The number in the two bytes from a place on.
 fn u16_at(bytes: &[u8], at: usize) -> u16
     requires { at + 1 < length bytes.now }
     ensures { result ≡ Header.u16_at at bytes.now }
@@ -85,7 +85,7 @@ pub fn head_fault(bytes: &[u8]) -> Option<Why>
     None
 }
 
-// The ten bytes in front of the checksum, of a packet that carries n bytes, the checksum, and the addresses.
+/// The ten bytes in front of the checksum, of a packet that carries n bytes, the checksum, and the addresses.
 fn header(head: Head, n: u16, sum: u16) -> [u8; 20]
     requires total { n ≤ IP_MAX_DATA }
     requires offset { head.offset ≤ 65528 }
@@ -133,7 +133,7 @@ pub fn packet(alloc: Global, head: Head, carried: &[u8]) -> Result<Vec<u8>, Allo
     Ok(bytes)
 }
 
-// What the UDP checksum covers in front of the UDP header.
+/// What the UDP checksum covers in front of the UDP header.
 fn pseudo_header(source: u32, destination: u32, n: u16) -> [u8; 12]
     ensures { result ≡ Header.pseudo_header source destination n }
 {
@@ -153,7 +153,7 @@ fn pseudo_header(source: u32, destination: u32, n: u16) -> [u8; 12]
     ]
 }
 
-// The UDP header of a datagram of n bytes, header and all.
+/// The UDP header of a datagram of n bytes, header and all.
 fn udp_header(source_port: u16, destination_port: u16, n: u16, sum: u16) -> [u8; 8]
     ensures { result ≡ Header.two_bytes source_port ++ Header.two_bytes destination_port
         ++ Header.two_bytes n ++ Header.two_bytes sum }
@@ -170,7 +170,7 @@ fn udp_header(source_port: u16, destination_port: u16, n: u16, sum: u16) -> [u8;
     ]
 }
 
-// A computed checksum of 0 is written as 65,535.
+/// A computed checksum of 0 is written as 65,535.
 fn not_zero(sum: u16) -> u16
     ensures { result ≡ Header.not_zero sum }
 {

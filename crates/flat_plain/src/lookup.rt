@@ -99,7 +99,7 @@ pub fn score(q: LookupKey, pcb: Pcb) -> Option<u32>
     }
 }
 
-// The youngest that matches with so many wildcards.
+/// The youngest that matches with so many wildcards.
 fn youngest(wanted: u32, q: LookupKey, pcbs: &[Pcb]) -> Option<Pcb>
     ensures { option_map socket_of result ≡ Lookup.youngest wanted q (sockets_of pcbs.now) }
 {
@@ -138,7 +138,7 @@ pub fn best(q: LookupKey, pcbs: &[Pcb]) -> Option<Pcb>
     youngest(2, q, pcbs)
 }
 
-// Adds those that hear a broadcast.
+/// Adds those that hear a broadcast.
 fn hear(found: &mut Vec<Pcb>, q: LookupKey, pcbs: &[Pcb]) -> Result<(), AllocError>
     ensures { OnOk result (sockets_of found.new.items
         ≡ sockets_of found.old.items ++ Lookup.receivers q (sockets_of pcbs.now)) }

@@ -20,7 +20,7 @@ pub struct Cell {
     pub clusters: [Option<u32>; 5],
 }
 
-// Whether what lies there stays where a fragment at this offset comes.
+/// Whether what lies there stays where a fragment at this offset comes.
 fn stays(offset: u32, cell: Option<Cell>) -> bool
     ensures { result ≡ Overlay.stays offset (held_of cell) }
 {
@@ -30,7 +30,7 @@ fn stays(offset: u32, cell: Option<Cell>) -> bool
     }
 }
 
-// At how many of n offsets from `at` on what lies there stays.
+/// At how many of n offsets from `at` on what lies there stays.
 fn staying(cells: &[Option<Cell>], offset: u32, at: u32, n: u32) -> u32
     requires inside { at + n ≤ length cells.now }
     requires small { length cells.now ≤ 65536 }
@@ -62,7 +62,7 @@ pub struct Fragment {
     pub clusters: [Option<u32>; 5],
 }
 
-// Whether the offset is one of the fragment's.
+/// Whether the offset is one of the fragment's.
 fn is_within(fragment: Fragment, bytes: &[u8], k: u32) -> bool
     requires small { length bytes.now ≤ 65536 }
     requires offset { fragment.offset ≤ 65536 }
@@ -72,14 +72,14 @@ fn is_within(fragment: Fragment, bytes: &[u8], k: u32) -> bool
     fragment.offset <= k && k < fragment.offset + bytes.len() as u32
 }
 
-// Whether a piece begins between these two offsets.
+/// Whether a piece begins between these two offsets.
 fn begins_between(first: u32, offset: u32, after: u32) -> bool
     ensures { result ≡ (nat_lt offset first && nat_lt first after) }
 {
     offset < first && first < after
 }
 
-// What lies at an offset once the fragment is laid over it.
+/// What lies at an offset once the fragment is laid over it.
 fn laid(old: Option<Cell>, k: u32, fragment: Fragment, first: u32, bytes: &[u8]) -> Option<Cell>
     requires small { length bytes.now ≤ 65536 }
     requires offset { fragment.offset ≤ 65536 }
@@ -145,7 +145,7 @@ pub fn is_covered(cells: &[Option<Cell>], fragment: Fragment, bytes: &[u8]) -> b
     first_owned(cells, fragment, bytes) >= fragment.offset + bytes.len() as u32
 }
 
-// The least offset that the fragment's piece will own.
+/// The least offset that the fragment's piece will own.
 fn first_owned(cells: &[Option<Cell>], fragment: Fragment, bytes: &[u8]) -> u32
     requires small { length cells.now ≤ 65536 }
     requires inside { fragment.offset + length bytes.now ≤ length cells.now }
@@ -168,7 +168,7 @@ pub fn overlay(cells: &mut [Option<Cell>], fragment: Fragment, bytes: &[u8])
     }
 }
 
-// How many places in front have a byte.
+/// How many places in front have a byte.
 fn front_len(cells: &[Option<Cell>]) -> usize
     ensures within { result ≤ length cells.now }
     ensures filled { (k : ℕ) → k < result → IsSome (map_of cells.now k) }
@@ -182,7 +182,7 @@ fn front_len(cells: &[Option<Cell>]) -> usize
     cells.len()
 }
 
-// Whether no place from this one on has a byte.
+/// Whether no place from this one on has a byte.
 fn is_empty_from(cells: &[Option<Cell>], n: usize) -> bool
     requires { n ≤ length cells.now }
     ensures yes { result ≡ true → (k : ℕ) → n ≤ k → map_of cells.now k ≡ None }
@@ -196,7 +196,7 @@ fn is_empty_from(cells: &[Option<Cell>], n: usize) -> bool
     true
 }
 
-// Whether more come after the piece that lies there.
+/// Whether more come after the piece that lies there.
 fn has_more(cell: Option<Cell>) -> bool
     ensures { result ≡ more_of (held_of cell) }
 {

@@ -19,7 +19,7 @@ pub struct Buffers {
     pub clusters: u64,
 }
 
-// How many of the mbufs refer to a cluster.
+/// How many of the mbufs refer to a cluster.
 fn clusters_of(rooms: &[Room]) -> u64
     ensures number { result ≡ count_by Layout.is_cluster (rooms_of rooms.now) }
     ensures most { result ≤ length rooms.now }
@@ -33,7 +33,7 @@ fn clusters_of(rooms: &[Room]) -> u64
     }
 }
 
-// What these later fragments take, of a send with this layout.
+/// What these later fragments take, of a send with this layout.
 fn later_mbufs(rooms: &[Room], parts: &[Part]) -> u64
     requires rooms { length rooms.now ≤ 65536 }
     requires parts { length parts.now ≤ 65536 }

@@ -17,7 +17,7 @@ pub struct Part {
     pub more: bool,
 }
 
-// The i-th part of n bytes in chunks of `chunk`.
+/// The i-th part of n bytes in chunks of `chunk`.
 fn part_at(n: u32, chunk: u32, i: u32) -> Part
     requires some { i * chunk ≤ n }
     requires small { n + chunk ≤ 131072 }

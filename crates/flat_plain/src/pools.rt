@@ -9,7 +9,7 @@ ghost use Rattle.flat_plain.specs.Weights.{weight_of};
 use crate::weights::Weight;
 use flat_model::Mbstat;
 
-// How often the cluster stands in the bag.
+/// How often the cluster stands in the bag.
 fn times_of(bag: &[u32], cluster: u32) -> u32
     requires { length bag.now ≤ 65536 }
     ensures number { result ≡ times cluster bag.now }

@@ -49,7 +49,7 @@ fn next(large: u32, small: u32, left: u32) -> Room
     }
 }
 
-// Adds the mbufs for the bytes left, at most `most` of them.
+/// Adds the mbufs for the bytes left, at most `most` of them.
 fn fill(
     rooms: &mut Vec<Room>,
     most: u32,
@@ -70,7 +70,7 @@ fn fill(
     Ok(())
 }
 
-// The mbufs for n bytes, one of them at least. The first one has the rooms given.
+/// The mbufs for n bytes, one of them at least. The first one has the rooms given.
 fn layout(alloc: Global, large: u32, small: u32, n: u32) -> Result<Vec<Room>, AllocError>
     ensures { IfOk result (λ v. rooms_of v.items ≡ Layout.or_empty (filled n large small n)) }
 {
@@ -114,7 +114,7 @@ pub fn wire(alloc: Global, n: u32) -> Result<Vec<Room>, AllocError>
     layout(alloc, MCLBYTES, MHLEN, n)
 }
 
-// How many of these share a byte with the range from a up to b, where the first one begins at `at`.
+/// How many of these share a byte with the range from a up to b, where the first one begins at `at`.
 fn meets_from(rooms: &[Room], at: u64, a: u64, b: u64) -> u64
     requires short { at + 2 ^ 32 * length rooms.now < 2 ^ 63 }
     ensures number { result ≡ length (Layout.meets_from size_of at (rooms_of rooms.now) a b) }

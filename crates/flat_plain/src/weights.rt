@@ -32,7 +32,7 @@ pub struct Entry {
     pub cluster: Option<u32>,
 }
 
-// Adds those that share a byte with the range from a up to b, where the first one begins at `at`.
+/// Adds those that share a byte with the range from a up to b, where the first one begins at `at`.
 fn add_met(
     weight: &mut Weight,
     entries: &[Entry],
@@ -58,7 +58,7 @@ fn add_met(
     }
 }
 
-// Adds so many mbufs, and the clusters that are there.
+/// Adds so many mbufs, and the clusters that are there.
 fn add(weight: &mut Weight, mbufs: u32, clusters: &[Option<u32>]) -> Result<(), AllocError>
     requires { weight.old.mbufs + mbufs < 2 ^ 64 }
     ensures { OnOk result (weight_of weight.new ≡ weight_of weight.old ⊕ weight_at mbufs clusters.now) }
@@ -129,7 +129,7 @@ pub fn weight_of_pieces(alloc: Global, cells: &[Option<Cell>]) -> Result<Weight,
     Ok(weight)
 }
 
-// Adds the piece that lies at k, where it begins there.
+/// Adds the piece that lies at k, where it begins there.
 fn add_piece(weight: &mut Weight, cell: Option<Cell>, k: u32) -> Result<(), AllocError>
     requires { weight.old.mbufs < 2 ^ 63 }
     ensures weight { OnOk result (weight_of weight.new ≡ weight_of weight.old ⊕ weight_begun cell k) }

@@ -30,7 +30,7 @@ pub fn cksum_chain(pool: &Pool, chain: &Chain, off: u32, len: u32, mut start: Su
     start.finish()
 }
 
-// The same, wherever the bytes lie.
+/// The same, wherever the bytes lie.
 #[tactic(auto, using(mbuf_chain::proofs::Laws::Iterators::concat_pieces))]
 fn cksum_pieces(pool: &Pool, chain: &Chain, off: u32, len: u32, start: Sum) -> u16
     requires live { IsLive pool.now chain.now }

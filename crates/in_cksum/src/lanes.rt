@@ -11,8 +11,8 @@ pub(crate) const BLOCK_LEN: usize = 32;
 /// less than 2^32.
 pub(crate) const PART_LEN: usize = 65_536;
 
-// Adds the words of a block: to `all` the lanes, which wrap, and to `high` the high halves of the lanes.
-// So the low halves need no mask: they are what is left of `all` in the end.
+/// Adds the words of a block: to `all` the lanes, which wrap, and to `high` the high halves of the lanes.
+/// So the low halves need no mask: they are what is left of `all` in the end.
 #[inline(always)]
 fn add_block(all: u32x8, high: u32x8, block: &[u8]) -> (u32x8, u32x8)
     requires long { length block.now ≡ BLOCK_LEN }
@@ -33,8 +33,8 @@ fn sum_lanes(all: u32x8, high: u32x8) -> u32
     low.strict_reduce_sum() + high.strict_reduce_sum()
 }
 
-// Adds the next 8 bytes, where there are so many, as two words of 32 bits: the high half of each counts
-// 65,536 times, which a fold makes 1.
+/// Adds the next 8 bytes, where there are so many, as two words of 32 bits: the high half of each counts
+/// 65,536 times, which a fold makes 1.
 #[inline(always)]
 fn add_eight(sum: u64, bytes: &[u8]) -> (u64, &[u8])
     requires { sum < 2 ^ 40 }

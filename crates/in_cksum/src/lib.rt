@@ -19,7 +19,7 @@ pub use chain::cksum_chain;
 use lanes::{BLOCK_LEN, PART_LEN, sum_part, sum_rest};
 use params::IP_HEADER;
 
-// 65,536 counts as 1, so what is left is a remainder by 65,535: 1 to 65,535, and 0 of 0 alone.
+/// 65,536 counts as 1, so what is left is a remainder by 65,535: 1 to 65,535, and 0 of 0 alone.
 #[inline(always)]
 fn fold(sum: u64) -> u16
     ensures { result ≡ fold16 sum }
@@ -41,7 +41,7 @@ pub fn sum_slice(bytes: &[u8]) -> u16
     fold(sum_swapped(bytes)).swap_bytes()
 }
 
-// The sum of the words as they lie in memory, but for what a fold makes the same.
+/// The sum of the words as they lie in memory, but for what a fold makes the same.
 fn sum_long(bytes: &[u8]) -> u64
     ensures folded { fold16 result ≡ fold16 (swapped_sum bytes.now) }
     ensures small { result < 2 ^ 51 }
@@ -56,7 +56,7 @@ fn sum_long(bytes: &[u8]) -> u64
     total as u64 + sum_part(rest)
 }
 
-// The same, without a call where the bytes are fewer than a block has: those of most headers.
+/// The same, without a call where the bytes are fewer than a block has: those of most headers.
 #[inline(always)]
 fn sum_swapped(bytes: &[u8]) -> u64
     ensures folded { fold16 result ≡ fold16 (swapped_sum bytes.now) }
@@ -79,8 +79,8 @@ pub fn sum_head(bytes: &[u8; IP_HEADER as usize]) -> u16
     fold(sum_rest(bytes)).swap_bytes()
 }
 
-// A piece's sum as it counts after an even or an odd number of bytes: after an even number each byte, as it lies in
-// memory, stands in the other half of its word, and a shift by 8 bits turns the words round.
+/// A piece's sum as it counts after an even or an odd number of bytes: after an even number each byte, as it lies in
+/// memory, stands in the other half of its word, and a shift by 8 bits turns the words round.
 #[inline(always)]
 fn turned(sum: u64, is_odd: bool) -> u64
     requires { sum < 2 ^ 51 }
@@ -89,8 +89,8 @@ fn turned(sum: u64, is_odd: bool) -> u64
     if is_odd { sum } else { 256 * sum }
 }
 
-// The sum of two, with the carry out of 64 bits added at the low end: 2^64 counts as 1, as 65,536 does
-// ("end-around carry", RFC 1071 section 1).
+/// The sum of two, with the carry out of 64 bits added at the low end: 2^64 counts as 1, as 65,536 does
+/// ("end-around carry", RFC 1071 section 1).
 #[inline(always)]
 fn add_around(a: u64, b: u64) -> u64
     ensures { fold16 result ≡ fold16 (a + b) }
@@ -173,7 +173,7 @@ mod tests {
     use flat_model::fold;
     use std::alloc::AllocError;
 
-    // RFC 1071 section 3, "Numerical Examples".
+    /// RFC 1071 section 3, "Numerical Examples".
     const EXAMPLE: [u8; 8] = [0x00, 0x01, 0xf2, 0x03, 0xf4, 0xf5, 0xf6, 0xf7];
 
     fn checksum_of_pieces(pieces: &[&[u8]]) -> u16 {
@@ -202,8 +202,8 @@ mod tests {
         }
     }
 
-    // An IPv4 header as it was sent, its checksum 0xb861 (the worked example of Wikipedia's article
-    // "Internet checksum").
+    /// An IPv4 header as it was sent, its checksum 0xb861 (the worked example of Wikipedia's article
+    /// "Internet checksum").
     #[test]
     fn a_header_with_its_checksum_in_place(rt: HostRuntime) {
         let mut header = [
@@ -228,7 +228,7 @@ mod tests {
         assert_eq!(rt; Sum::default().finish(), 0xffff);
     }
 
-    // The sum and the checksum of two pieces, at each cut up to 64, are those of the plain program.
+    /// The sum and the checksum of two pieces, at each cut up to 64, are those of the plain program.
     fn agrees_with_the_plain_program(bytes: &[u8]) -> bool {
         let folded = fold(bytes);
         let cuts_agree = (0..=64).all(|cut| match bytes.split_at_checked(cut) {
@@ -252,7 +252,7 @@ mod tests {
         }
     }
 
-    // The longest IPv4 packet, and lengths of several parts of the sum by lanes.
+    /// The longest IPv4 packet, and lengths of several parts of the sum by lanes.
     #[test]
     fn long_bytes(rt: HostRuntime) -> Result<(), AllocError> {
         for (byte, len) in [

@@ -12,13 +12,13 @@ use mbuf_pool::{Sizes, Store};
 use std::alloc::Global;
 use std::process::Abort;
 
-// A packet of 30 bytes from 10.0.0.2, port 5000, to 10.0.0.1, port 7, that carries "hi".
+/// A packet of 30 bytes from 10.0.0.2, port 5000, to 10.0.0.1, port 7, that carries "hi".
 const PACKET: [u8; 30] = [
     0x45, 0x00, 0x00, 0x1e, 0x00, 0x01, 0x00, 0x00, 0x40, 0x11, 0x66, 0xcc, 0x0a, 0x00, 0x00, 0x02,
     0x0a, 0x00, 0x00, 0x01, 0x13, 0x88, 0x00, 0x07, 0x00, 0x0a, 0x6f, 0xdf, 0x68, 0x69,
 ];
 
-// What its header says.
+/// What its header says.
 const HEAD: IpHead = IpHead {
     tos: 0,
     total: 30,
@@ -32,7 +32,7 @@ const HEAD: IpHead = IpHead {
     dst: 0x0a00_0001,
 };
 
-// The most bytes of a send.
+/// The most bytes of a send.
 static BYTES: [u8; 9216] = [0x61; 9216];
 
 /// A pool of which all is free.
@@ -212,7 +212,7 @@ fn sent(rt: &impl Abort, pool: &mut Pool, mtu: u16) -> (Queue, Result<(), Lack>)
     (queue, answer)
 }
 
-// 9,216 bytes on a link of 1,500: offset, bytes and mbufs of each packet.
+/// 9,216 bytes on a link of 1,500: offset, bytes and mbufs of each packet.
 static CUT: [(u32, u32, u32); 7] = [
     (0, 1500, 6),
     (1480, 1500, 3),

@@ -152,8 +152,8 @@ fn units(first: u32, end: u32, byte: u8) -> Piece
     (8 * first, true, byte, 8 * (end - first))
 }
 
-// How the units of b can lie beside the units 3, 4 and 5 of a: all relations of two intervals. What is then held where a came
-// first, and where b did; a fragment that begins no later keeps its bytes.
+/// How the units of b can lie beside the units 3, 4 and 5 of a: all relations of two intervals. What is then held where
+/// a came first, and where b did; a fragment that begins no later keeps its bytes.
 static RELATIONS: [(u32, u32, &[u8; 9], &[u8; 9]); 13] = [
     (1, 2, b"fbfaaafft", b"fbfaaafft"),
     (1, 3, b"fbbaaafft", b"fbbaaafft"),

@@ -1,3 +1,4 @@
+//! Streams that fail, configurations that are refused, and memory that is asked for first.
 use link_script::{Config, RunFault, Silent, Sink, Source, program, run};
 use std::alloc::Global;
 use std::io::{self, Read, Write};

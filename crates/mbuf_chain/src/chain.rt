@@ -18,8 +18,8 @@ impl Model for Chain {
 }
 
 impl Chain {
-    // The chain's number, for a train, which keeps numbers in place of chains: `from_number` gives the chain
-    // back. Both stay in this crate, so that nobody else makes a chain out of a number.
+    /// The chain's number, for a train, which keeps numbers in place of chains: `from_number` gives the chain
+    /// back. Both stay in this crate, so that nobody else makes a chain out of a number.
     pub(crate) fn into_number(self) -> u32
         ensures { result ≡ self }
     {
@@ -27,7 +27,7 @@ impl Chain {
         first
     }
 
-    // The chain with that number.
+    /// The chain with that number.
     pub(crate) fn from_number(first: u32) -> Chain
         ensures { result ≡ first }
     {

@@ -81,7 +81,7 @@ impl Store {
         Ok(store)
     }
 
-    // A store of which everything is handed out, each cluster to one holder.
+    /// A store of which everything is handed out, each cluster to one holder.
     fn all_out(alloc: Global, sizes: Sizes) -> Result<Store, AllocError>
         requires mbufs { (0 < sizes.mbufs) × (sizes.mbufs ≤ MAX_MBUFS) }
         requires clusters { sizes.clusters ≤ MAX_CLUSTERS }

@@ -78,7 +78,7 @@ impl Stack {
         }
     }
 
-    // A stack by a configuration that was checked.
+    /// A stack by a configuration that was checked.
     fn start(alloc: Global, config: Config) -> Result<Stack, BootFault>
         requires { IsConfig config }
         ensures { MatchResult result (λ s. state_of s ≡ flat_boot config) (λ fault. fault ≡ BootFault.Memory) }

@@ -1,3 +1,4 @@
+//! The control blocks beside the slow programs of the definitions.
 use flat_model::{Addr, LookupKey, Opt};
 use flat_plain::Pcb;
 use pcb_table::{Block, Pcbs};
@@ -27,7 +28,7 @@ fn pcb_of(block: Block) -> Pcb {
     }
 }
 
-// the blocks of these descriptors, which are given in the order of opening, the youngest first
+/// The blocks of these descriptors, which are given in the order of opening, the youngest first.
 fn blocks(alloc: Global, table: &Pcbs, fds: &[u32]) -> Result<Vec<Pcb>, Fail> {
     let mut pcbs = Vec::new(alloc);
     for fd in fds {
@@ -38,7 +39,7 @@ fn blocks(alloc: Global, table: &Pcbs, fds: &[u32]) -> Result<Vec<Pcb>, Fail> {
     Ok(pcbs)
 }
 
-// asks both what a packet finds
+/// Asks both what a packet finds.
 fn same_answers(
     rt: &impl Abort,
     alloc: Global,
@@ -68,7 +69,7 @@ fn same_answers(
     Ok(())
 }
 
-// asks about packets of many kinds
+/// Asks about packets of many kinds.
 fn agrees(rt: &impl Abort, alloc: Global, table: &mut Pcbs, fds: &[u32]) -> Result<(), Fail> {
     let pcbs = blocks(alloc, table, fds)?;
     for destination in [OUR, BROADCAST, LOOPBACK, 0] {

@@ -1,3 +1,4 @@
+//! A control block, and the options of its socket.
 ghost use Rattle.std.specs.Prelude.{◌≡◌, ◌==◌, ◌&&◌, ℕ};
 ghost use Rattle.flat_model.specs.Sockets.Lookup as flat;
 ghost use Rattle.flat_model.specs.Sockets.Lookup.{agree, is_addr, one_sided, wildcards};

@@ -1,3 +1,4 @@
+//! The machine's one interface: which addresses are its own.
 ghost use Rattle.std.specs.Prelude.{◌≡◌, ℕ};
 ghost use Rattle.flat_model.specs.Machine.Calls as flat;
 ghost use Rattle.pcb_table.specs.Inside.Search.{config_of};

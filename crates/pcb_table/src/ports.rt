@@ -1,3 +1,4 @@
+//! How an ephemeral port is chosen.
 ghost use Rattle.std.specs.Prelude.{◌≡◌, ℕ, ◌+◌, ◌<◌, ◌≤◌, length, IsNone, IsSome, find, count_by};
 ghost use Rattle.flat_model.specs.Machine.Calls as flat;
 ghost use Rattle.pcb_table.specs.Inside.Search.{GivesPort, IsFreePort, is_used};

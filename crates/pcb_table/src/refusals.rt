@@ -1,3 +1,4 @@
+//! Why a bind, a connect or a destination is refused.
 ghost use Rattle.std.specs.Prelude.{◌≡◌, ℕ};
 ghost use Rattle.flat_model.specs.Packets.Header.{first_fault};
 ghost use Rattle.flat_model.specs.Machine.Calls as flat;

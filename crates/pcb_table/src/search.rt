@@ -1,3 +1,4 @@
+//! Control blocks in their order: how one is found, put in front, and taken out.
 ghost use Rattle.std.specs.Prelude.{◌≡◌, ℕ, ◌==◌, ◌+◌, ◌<◌, ◌≤◌, ◌∷◌, length, map, find, option_copied, position, IsSome, remove, slice_set};
 ghost use Rattle.arrayvec.specs.ArrayVec.{array_vec_len};
 ghost use Rattle.pcb_table.specs.Inside.Search.{best_block, from_port, hearing_blocks, youngest_block};

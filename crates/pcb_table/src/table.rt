@@ -1,3 +1,4 @@
+//! The control blocks of a machine, and the calls on them.
 ghost use Rattle.std.specs.Prelude.{◌≡◌, ℕ, ◌<◌, ◌≤◌, [], ◌∷◌, All, None, IfOk, IfSome, OnErr, OnOk, OnSome, length, option_map};
 ghost use Rattle.flat_model.specs.Machine.Event.{Bind, Close, Connect, Open, Set_option};
 ghost use Rattle.flat_model.specs.Machine.State.{State};

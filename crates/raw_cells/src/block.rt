@@ -27,7 +27,7 @@ impl Model for Block {
     ghost invariant = { IsBlock };
 }
 
-// Writes 0 to each byte of a new block.
+/// Writes 0 to each byte of a new block.
 fn fill(bytes: &mut Bytes, address: Address, len: usize)
     requires { (address.ptr ≡ bytes.old.at) × (bytes.old.written ≡ [])
         × (bytes.old.blank ≡ len) }

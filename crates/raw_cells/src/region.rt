@@ -169,7 +169,7 @@ impl Region {
         clear_packet(self.block.slice_mut(MBUF_LEN * index as usize + 18, 2));
     }
 
-    // Where the part begins in the block.
+    /// Where the part begins in the block.
     #[inline(always)]
     fn start(&self, part: Part) -> usize
         requires { IsPart self.now part }

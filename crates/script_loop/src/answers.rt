@@ -1,3 +1,4 @@
+//! Who answers the lines.
 ghost use Rattle.std.specs.Prelude.{◌≡◌, ◌≤◌, ◌++◌, ℕ, List, length};
 ghost use Rattle.script_loop.specs.declared.serve.TheConstants.{HELD};
 

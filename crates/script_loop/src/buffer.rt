@@ -1,3 +1,4 @@
+//! A list of bytes with room for a fixed number of them.
 ghost use Rattle.std.specs.Prelude.{◌≡◌, ℕ, ◌+◌, ◌<◌, ◌≤◌, List, [], ◌∷◌, ◌++◌, length, IfOk, IsTrue, ◌↔◌, vec_capacity};
 
 use std::alloc::{AllocError, Global};

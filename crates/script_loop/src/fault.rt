@@ -1,3 +1,4 @@
+//! Why a script ends early.
 use thiserror::Error;
 
 /// Why a script wasn't served to its end.

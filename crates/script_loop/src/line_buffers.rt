@@ -1,3 +1,4 @@
+//! The memory for the work on one line.
 ghost use Rattle.std.specs.Prelude.{◌≡◌, ◌*◌, vec_len, IfOk};
 ghost use Rattle.params.specs.declared.TheConstants.{IP_MAX_PACKET};
 

@@ -9,7 +9,7 @@ use mbuf_pool::{BootFault, Sizes, Store};
 use std::process::Abort;
 use std::test::Fail;
 
-// RFC 1071 section 3, "Numerical Examples".
+/// RFC 1071 section 3, "Numerical Examples".
 const EXAMPLE: [u8; 8] = [0x00, 0x01, 0xf2, 0x03, 0xf4, 0xf5, 0xf6, 0xf7];
 
 const EXAMPLE_SUM: u16 = 0x220d;
@@ -103,7 +103,7 @@ fn the_standards_example_in_three_mbufs(rt: HostRuntime) -> Result<(), Fail> {
     Ok(())
 }
 
-// A part of the bytes was added before, and the chain has other bytes in front of the rest and after it.
+/// A part of the bytes was added before, and the chain has other bytes in front of the rest and after it.
 #[test]
 fn a_range_after_a_sum(rt: HostRuntime) -> Result<(), Fail> {
     let mut pool = booted(&rt)?;
