@@ -2,6 +2,7 @@
 use Rattle.std.proofs.Common.{◌≡◌, ℕ, ◌+◌, ◌*◌, ◌/◌, ◌%◌, Bool, true, false, List, [], ◌∷◌, ◌++◌, length, map, take, drop, refl, sym, ap, ◌∙◌, subst, eq-eqb, arith, Option, Some, None, cond, inl, inr}
 use Rattle.std.specs.Prelude.{◌==◌, ◌||◌, unwrap_or}
 use Rattle.std.specs.List.{AllByRecursion as Each}
+use Rattle.params.specs.declared.TheConstants.{OUTPUT_QUEUE_PACKETS}
 use Rattle.flat_model.specs.Amounts.Weight.{Weight, Item, ◌⊕◌, nothing}
 use Rattle.flat_model.specs.Amounts.Layout.{Entry, Need, sent, wire, laid_on, weight_of}
 use Rattle.flat_model.specs.Fragments.Cuts.{Part}
@@ -206,13 +207,13 @@ module _ (c : Config) (old new : State) (reply : Reply) (k : IsSourced c old) wh
       let link : List Item = to_link named.config to.ip out in
       let gone : State = spent fd port (parts_of named.config x) named in
       let then' : As c old.output named = as_named c old.output mid named me.local me.port port at gets in
-      let queued : As c (take 50 (old.output ++ link)) (enqueued link gone) = (then'.0, ap (λ (o : List Item). take 50 (o ++ link)) then'.1) in
-      let end : As c (take 50 (old.output ++ link)) new = as_all c (take 50 (old.output ++ link)) (to_self named.config to.ip out) (enqueued link gone) new queued leaves.0 in
+      let queued : As c (take OUTPUT_QUEUE_PACKETS (old.output ++ link)) (enqueued link gone) = (then'.0, ap (λ (o : List Item). take OUTPUT_QUEUE_PACKETS (o ++ link)) then'.1) in
+      let end : As c (take OUTPUT_QUEUE_PACKETS (old.output ++ link)) new = as_all c (take OUTPUT_QUEUE_PACKETS (old.output ++ link)) (to_self named.config to.ip out) (enqueued link gone) new queued leaves.0 in
       let own : is_ours c (source_for mid.config me to.ip) ≡ true = subst (λ (cc : Config). is_ours c (source_for cc me to.ip) ≡ true) (sym at.0) (own_source c me to.ip is) in
       let all : Own out = own_items c (laid_on clusters (sent (length bytes))) (packet_for x) (parts_of named.config x)
       (λ p. subst (λ n. is_ours c n ≡ true) (sym (source_read (head_for x p) (take p.size (drop p.offset (datagram x))))) own) in
       let more : Own link = looped_or_out (is_looped named.config to.ip) out all in
-      (end.0, subst Own (sym end.1) (each-take (λ (item : Item). IsOwn c item.bytes) 50 (old.output ++ link) (each-append (λ (item : Item). IsOwn c item.bytes) old.output link k.output more)))
+      (end.0, subst Own (sym end.1) (each-take (λ (item : Item). IsOwn c item.bytes) OUTPUT_QUEUE_PACKETS (old.output ++ link) (each-append (λ (item : Item). IsOwn c item.bytes) old.output link k.output more)))
 
   sends : (fd : ℕ) (to : Option Addr) (bytes : List ℕ) → Step old (Send fd to bytes) reply new → (new.config ≡ c) × Own new.output
   sends fd to bytes step = by_case step
