@@ -2,7 +2,8 @@
 //!
 //! A pointer and the memory behind it are apart here. An `Address` is the pointer: it can be copied
 //! and owns nothing. `Bytes` owns the memory, and a `Deed` is the right to give it back: neither
-//! takes any space, and neither can be dropped, so that a block can't be forgotten.
+//! takes any space, and neither can be dropped, so that a block can't be forgotten. The toolchain's
+//! library `circular_buffer` has the same three parts.
 ghost use Rattle.std.specs.Prelude.{◌≡◌, ℕ, ◌+◌, ◌^◌, ◌<◌, ◌≤◌, List, [], ◌∷◌, ◌++◌, length, take, drop, IfOk};
 ghost use Rattle.std.specs.Borrow.{sem};
 ghost use denote.RawPtr.{Ptr};
