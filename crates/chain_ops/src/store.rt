@@ -20,7 +20,8 @@ use params::{
 fn new_cluster(pool: &mut Pool, header: bool, start: u32, bytes: &[u8]) -> Result<Chain, NoBufs>
     requires { start + length bytes.now ≤ MCLBYTES }
     ensures ok { IfOk result (λ c. (k : ℕ) × (k < pool.old.clusters) × (references pool.old k ≡ 0)
-        × Adds pool.old pool.new c (one_mbuf header (record { bytes = bytes.now; start = start; cluster = Some k }) c)) }
+        × Adds pool.old pool.new c
+        (one_mbuf header (record { bytes = bytes.now; start = start; cluster = Some k }) c)) }
     ensures err { OnErr result ((held_mbufs pool.old ≡ pool.old.mbufs) ⊎
         (free_clusters pool.old ≡ 0)) }
     ensures same { OnErr result (pool.new ≡ pool.old) }

@@ -128,7 +128,8 @@ fn put_answer(
     requires text { length text.old ≤ HELD }
     ensures fits { Fits pool.new chains.new }
     ensures slots { length chains.new ≡ SLOTS }
-    ensures says { (reply : List ℕ) × Says (machine_of pool.old chains.old) line.now reply (machine_of pool.new chains.new)
+    ensures says { (reply : List ℕ)
+        × Says (machine_of pool.old chains.old) line.now reply (machine_of pool.new chains.new)
         × (text.new ≡ text.old ++ reply) }
 {
     match call_of(line, buffers.bytes.as_mut_slice()) {

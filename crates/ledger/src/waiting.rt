@@ -32,5 +32,6 @@ pub trait Waiting: Reclaim {
         SameWeight (weight_owned p (Self.owned p s)) (all_of (λ u. mbuf ⊕ weight_of_pieces u.bytes) (unfinished p s)) };
 
     // a step of somebody else leaves it as it was
-    ghost unfinished_same: { (p q : PoolView) (s : Self) → SameAt p q (Self.owned p s) → unfinished q s ≡ unfinished p s };
+    ghost unfinished_same: { (p q : PoolView) (s : Self) → SameAt p q (Self.owned p s)
+        → unfinished q s ≡ unfinished p s };
 }

@@ -29,7 +29,8 @@ pub trait Machine: Sized {
     /// `BadSizes` where the configuration has sizes that no pool can have; else `BadConfig` where something else of it is
     /// bad; else `Memory` where host memory is lacking.
     fn boot(alloc: Global, config: Config) -> Result<Self, RunFault>
-        ensures { MatchResult result (λ machine. flat.IsConfig config × (state machine ≡ flat.boot config)) (IsUnbooted config) };
+        ensures { MatchResult result
+            (λ machine. flat.IsConfig config × (state machine ≡ flat.boot config)) (IsUnbooted config) };
 
     /// Opens a socket, and answers its descriptor. Refused, and then nothing changes: `TooManyFiles` where 64 are open.
     fn socket(&mut self) -> Result<u32, Errno>

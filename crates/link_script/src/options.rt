@@ -130,7 +130,8 @@ fn command<'a>(alloc: Global) -> Result<Command<'a>, AllocError>
 /// The task that the words ask for, where they are a command, by crate clap's reading of them.
 fn named(alloc: Global, words: &[String]) -> Result<Option<Task>, ClapError>
     ensures { MatchResult result
-        (λ r. MatchOption r ((t : Task) → Gives defaults (map string_bytes words.now) t → ⊥) (Gives defaults (map string_bytes words.now)))
+        (λ r. MatchOption r ((t : Task) → Gives defaults (map string_bytes words.now) t → ⊥)
+        (Gives defaults (map string_bytes words.now)))
         (λ e. (kind_of e ≡ OutOfMemory) ⊎ (fault_of whole_app (map string_bytes words.now) ≢ [])) }
 {
     let matches = command(alloc)?.try_get_matches_from(words)?;
@@ -142,7 +143,8 @@ fn named(alloc: Global, words: &[String]) -> Result<Option<Task>, ClapError>
 
 /// Whether the last word is `--`.
 fn ends_in_dashes(words: &[String]) -> bool
-    ensures { IsTrue result ↔ (slice_get (map string_bytes words.now) (length (map string_bytes words.now) - 1) ≡ Some (codes "--")) }
+    ensures { IsTrue result ↔ (slice_get (map string_bytes words.now)
+        (length (map string_bytes words.now) - 1) ≡ Some (codes "--")) }
 {
     match words.last() {
         Some(last) => last.as_str() == "--",
@@ -157,7 +159,8 @@ fn ends_in_dashes(words: &[String]) -> bool
 /// `Usage` where they aren't a subcommand with its options, each at most once, or a number isn't one or is out of its
 /// range; `--` ends no command. `Memory` where host memory is lacking.
 pub(crate) fn read_words(alloc: Global, words: &[String]) -> Result<Task, Failure>
-    ensures { MatchResult result (IsCommand defaults (map string_bytes words.now)) (IsWordsFault (IsCommand defaults (map string_bytes words.now))) }
+    ensures { MatchResult result (IsCommand defaults (map string_bytes words.now))
+        (IsWordsFault (IsCommand defaults (map string_bytes words.now))) }
 {
     if ends_in_dashes(words) {
         return Err(Failure::Usage);

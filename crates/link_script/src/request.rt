@@ -49,7 +49,8 @@ fn end_of(ip: &[u8], port: &[u8]) -> Option<Addr>
 
 /// The option that a word names.
 fn option_of(word: &[u8]) -> Option<Opt>
-    ensures { MatchOption result ((option : Opt) → word.now ≡ option_name option → ⊥) (λ option. word.now ≡ option_name option) }
+    ensures { MatchOption result ((option : Opt) → word.now ≡ option_name option → ⊥)
+        (λ option. word.now ≡ option_name option) }
 {
     match word {
         b"broadcast" => Some(Opt::Broadcast),

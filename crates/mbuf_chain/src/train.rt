@@ -156,7 +156,8 @@ impl Train {
         requires place { IsQueuedPlace pool.old self.old at }
         requires more { at.index + 1 < self.old.len }
         requires held { IsHeld pool.old self.old }
-        ensures queued_packets { queued_packets pool.new self.new ≡ remove (queued_packets pool.old self.old) (at.index + 1) }
+        ensures queued_packets { queued_packets pool.new self.new
+            ≡ remove (queued_packets pool.old self.old) (at.index + 1) }
         ensures taken { queued_packet_at pool.old self.old (at.index + 1) ≡
             record {
               number = result.0;

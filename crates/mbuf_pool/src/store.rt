@@ -290,7 +290,8 @@ impl Store {
     pub fn set_next_packet(&mut self, index: u32, next_packet: Option<u32>)
         requires out { IsTrue (is_out self.old index) }
         requires link { IsLink next_packet }
-        ensures change { SetsHead self.old self.new index (record (head_of self.old index) { next_packet = next_packet }) }
+        ensures change { SetsHead self.old self.new index
+            (record (head_of self.old index) { next_packet = next_packet }) }
         ensures store { IsStore self.new }
     {
         self.region.set_next_packet(index, next_packet);
@@ -301,7 +302,8 @@ impl Store {
     #[inline(always)]
     pub fn set_data(&mut self, index: u32, start: u32, len: u32)
         requires { IsTrue (is_out self.old index) }
-        ensures change { SetsHead self.old self.new index (record (head_of self.old index) { len = len; start = start }) }
+        ensures change { SetsHead self.old self.new index
+            (record (head_of self.old index) { len = len; start = start }) }
         ensures store { IsStore self.new }
     {
         self.region.set_data(index, start, len);

@@ -109,7 +109,8 @@ impl Region {
     pub fn set_next_packet(&mut self, index: u32, next_packet: Option<u32>)
         requires index { index < length self.old.heads }
         requires link { IsLink next_packet }
-        ensures change { SetsHead self.old self.new index (record (head_of self.old index) { next_packet = next_packet }) }
+        ensures change { SetsHead self.old self.new index
+            (record (head_of self.old index) { next_packet = next_packet }) }
         ensures sized { IsSized self.new }
     {
         put_link(
@@ -123,7 +124,8 @@ impl Region {
     #[inline(always)]
     pub fn set_data(&mut self, index: u32, start: u32, len: u32)
         requires { index < length self.old.heads }
-        ensures change { SetsHead self.old self.new index (record (head_of self.old index) { len = len; start = start }) }
+        ensures change { SetsHead self.old self.new index
+            (record (head_of self.old index) { len = len; start = start }) }
         ensures sized { IsSized self.new }
     {
         put_data(

@@ -100,7 +100,8 @@ fn take_end<const N: usize, A: Answers<N>>(
     requires part { EndsNoLine part.now }
     ensures taken { (begin : A.State) (seen printed : List ℕ)
         → Answered A.may_answer begin (A.state machine.old) seen line.old count printed
-        → TakesPiece A.may_answer begin (A.state machine.new) seen (part.now ++ 10 ∷ []) printed text.old text.new line.new result }
+        → TakesPiece A.may_answer begin (A.state machine.new) seen (part.now ++ 10 ∷ []) printed
+        text.old text.new line.new result }
     ensures within { IfSome result (λ now. (now ≤ MOST_LINES) × (length line.new ≤ LONGEST)) }
     ensures fewer { IfSome result (λ now. budget now line.new + (length part.now + 1) ≤ budget count line.old) }
 {

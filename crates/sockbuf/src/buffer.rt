@@ -146,7 +146,8 @@ impl SockBuf {
         requires len { len ≡ length (string (chain_of pool.old chain)) }
         requires fits { flat.fits (datagrams pool.old self.old) len ≡ true }
         requires free { held_mbufs pool.old < pool.old.mbufs }
-        ensures datagrams { datagrams pool.new self.new ≡ datagrams pool.old self.old ++ datagram_from sender pool.old chain ∷ [] }
+        ensures datagrams { datagrams pool.new self.new
+            ≡ datagrams pool.old self.old ++ datagram_from sender pool.old chain ∷ [] }
         ensures ready { IsSockBuf pool.new self.new }
         ensures moves { Moves pool.old (chain ∷ chains_of pool.old self.old) pool.new (chains_of pool.new self.new) }
     {

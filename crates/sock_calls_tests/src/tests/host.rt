@@ -80,7 +80,8 @@ fn hear(
     requires socks { IsSocks pool.old socks.old }
     requires out { IsQueue pool.old out.now }
     requires held { IsHeld pool.old looped }
-    requires owned { IsOwned pool.old (numbers pool.old looped ++ (numbers pool.old out.now ++ queued_chains pool.old socks.old.queues)) }
+    requires owned { IsOwned pool.old (numbers pool.old looped
+        ++ (numbers pool.old out.now ++ queued_chains pool.old socks.old.queues)) }
     ensures socks { IsSocks pool.new socks.new }
     ensures out { IsQueue pool.new out.now }
     ensures owned { IsOwned pool.new (numbers pool.new out.now ++ queued_chains pool.new socks.new.queues) }
