@@ -61,9 +61,11 @@ static void print(const char *text, unsigned long number)
 }
 
 /* ---- the program */
+enum { MTU = 1500 };
+
 static unsigned char memory[BSDUDP_MEMORY(16, 4)] __attribute__((aligned(BSDUDP_ALIGNMENT)));
 static struct bsdudp stack = BSDUDP_NONE;
-static uint8_t room[BSDUDP_TX_ROOM];
+static uint8_t room[MTU];
 
 /* "hi" from 10.0.0.2 port 5000 to 10.0.0.1 port 7 */
 static const uint8_t packet[30] = {
@@ -73,7 +75,7 @@ static const uint8_t packet[30] = {
 
 static int run(void)
 {
-    struct bsdudp_config config = {0x0a000001, 0x0a0000ff, 16, 4, 1500, 1};
+    struct bsdudp_config config = {0x0a000001, 0x0a0000ff, 16, 4, MTU, 1};
     struct bsdudp_addr any = {0, 7}, from;
     uint8_t bytes[16];
     int fd, n;

@@ -6,10 +6,10 @@
 #include <stdlib.h>
 #include <string.h>
 
-enum { TURNS = 20000, HELD = 64, LONGEST = 3000 };
+enum { TURNS = 20000, HELD = 64, LONGEST = 3000, MTU = 576 };
 
 static unsigned long long seed = 1;
-static uint8_t wire[HELD][BSDUDP_TX_ROOM], bytes[LONGEST], room[LONGEST];
+static uint8_t wire[HELD][MTU], bytes[LONGEST], room[LONGEST];
 static int lens[HELD], held;
 
 static unsigned dice(unsigned n)
@@ -22,7 +22,7 @@ static unsigned dice(unsigned n)
 static void put_on_wire(struct bsdudp *from)
 {
     int len;
-    while (held + 1 < HELD && (len = bsdudp_tx(from, wire[held], BSDUDP_TX_ROOM)) > 0) {
+    while (held + 1 < HELD && (len = bsdudp_tx(from, wire[held], MTU)) > 0) {
         if (dice(20) == 0)
             continue;
         lens[held++] = len;
@@ -48,7 +48,7 @@ static void take_off_wire(struct bsdudp *to, int leave)
 int main(int argc, char **argv)
 {
     struct bsdudp near = BSDUDP_NONE, far = BSDUDP_NONE;
-    struct bsdudp_config config = {0x0a000001, 0x0a0000ff, 256, 32, 576, 1};
+    struct bsdudp_config config = {0x0a000001, 0x0a0000ff, 256, 32, MTU, 1};
     struct bsdudp_addr any = {0, 7}, to = {0x0a000002, 7}, from;
     unsigned sent = 0, came = 0, wrong = 0, turn, which;
     int len, i;

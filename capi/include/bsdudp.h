@@ -128,7 +128,7 @@ enum {
     BSDUDP_FIRST_FD = 3,    /* the least descriptor; bit k of bsdudp_readable stands for BSDUDP_FIRST_FD + k */
     BSDUDP_SOCKETS = 64,    /* how many sockets are open at most */
     BSDUDP_QUEUE = 50,      /* how many packets wait for the link at most */
-    BSDUDP_TX_ROOM = 4352,  /* the room that bsdudp_tx wants */
+    BSDUDP_TX_ROOM = 4352,  /* room enough for bsdudp_tx, whatever the MTU is */
     BSDUDP_DATAGRAM = 9216, /* the longest datagram that is sent */
     BSDUDP_PACKET = 65535,  /* the longest packet that may come */
     BSDUDP_ALIGNMENT = 16,  /* of the memory of a stack */
@@ -162,7 +162,7 @@ int bsdudp_rx(struct bsdudp *, const uint8_t *packet, size_t len);
 
 /* Gives the packet that has waited longest for the link: its bytes stand in front of `room`, and the answer is its
    length, at most the MTU; 0 if none waits. What stands behind it in the room stays.
-   ENXIO. EMSGSIZE: `len` is below BSDUDP_TX_ROOM. */
+   ENXIO. EMSGSIZE: `len` is below the MTU. */
 int bsdudp_tx(struct bsdudp *, uint8_t *room, size_t len);
 
 /* Half a second passed. A datagram of which fragments are missing is dropped after 60 of these. The answer is 0.

@@ -155,7 +155,7 @@ static int traffic(void)
     WANT(bsdudp_send(&near_, 3, bytes, 3000), 3000);
     WANT(bsdudp_output_len(&near_), 3);
     WANT(bsdudp_next_packet(&near_), 1500);
-    WANT(bsdudp_tx(&near_, packet, BSDUDP_TX_ROOM - 1), -BSDUDP_EMSGSIZE);
+    WANT(bsdudp_tx(&near_, packet, 1500 - 1), -BSDUDP_EMSGSIZE);
     while ((len = bsdudp_tx(&near_, packet, sizeof packet)) > 0)
         WANT(bsdudp_rx(&far_, packet, (size_t)len), 0);
     WANT(len, 0);
@@ -187,7 +187,7 @@ static int unfinished(void)
     struct bsdudp_unfinished datagram = {0, 0, 0, 0, 0, 0, 0};
     struct bsdudp_range range = {0, 0, 0};
     struct bsdudp_addr from;
-    static uint8_t cut[3][BSDUDP_TX_ROOM];
+    static uint8_t cut[3][1500];
     int i, k;
     WANT(bsdudp_unfinished_len(&far_), 0);
     WANT(bsdudp_unfinished(&far_, 0, &datagram), -BSDUDP_EINVAL);

@@ -73,6 +73,7 @@ static size_t line_len, reply_len;
 static enum kind kind;
 static bool refused[KINDS][256], counted[BSDUDP_COUNTERS];
 static uint8_t bytes[BSDUDP_PACKET], packet[BSDUDP_PACKET], kept[KEPT][BSDUDP_TX_ROOM];
+static size_t mtu;
 static size_t kept_len[KEPT], kept_count;
 
 static void wrong(const char *what)
@@ -375,7 +376,9 @@ static void call_tx(void)
     static uint8_t room[BSDUDP_TX_ROOM + 8];
     int next = bsdudp_next_packet(&stack), waiting = bsdudp_output_len(&stack), len;
     memset(room, UNTOUCHED, sizeof room);
-    len = bsdudp_tx(&stack, room, BSDUDP_TX_ROOM);
+    if (bsdudp_tx(&stack, room, mtu - 1) != -BSDUDP_EMSGSIZE || bsdudp_output_len(&stack) != waiting)
+        wrong("a room shorter than the MTU is taken, or changes something");
+    len = bsdudp_tx(&stack, room, mtu);
     ask("tx");
     if (len != next || bsdudp_output_len(&stack) != waiting - (waiting > 0))
         wrong("next_packet or output_len tells otherwise");
@@ -503,6 +506,7 @@ static void run(const char *program, const struct bsdudp_config *config)
     pid_t child = start(program, config);
     int turn;
     kept_count = 0;
+    mtu = config->mtu;
     if (bsdudp_boot(&stack, config) < 0)
         wrong("no stack");
     for (turn = 0; turn < CALLS; turn++) {

@@ -8,8 +8,7 @@ from typing import Any, Dict, Iterator, List, Mapping, Optional, Type
 
 from ._addresses import Host, in_range, number_of, text_of
 from ._counters import Counters, MbStat
-from ._library import ALIGNMENT, COUNTERS, FIRST_DESCRIPTOR, LIBRARY, TX_ROOM, Config, Handle, Range, Unfinished
-from ._library import Usage, refused
+from ._library import ALIGNMENT, COUNTERS, FIRST_DESCRIPTOR, LIBRARY, Config, Handle, Range, Unfinished, Usage, refused
 from ._packet import Packet, bytes_of
 from ._socket import Socket
 from ._unfinished import UnfinishedDatagram, told
@@ -75,7 +74,7 @@ class Stack:
         at = ctypes.addressof(self._memory)
         at += -at % ALIGNMENT
         self._handle = Handle()
-        self._room = ctypes.create_string_buffer(TX_ROOM)
+        self._room = ctypes.create_string_buffer(self.mtu)
         with _life:
             answer = LIBRARY.call("boot_in", self._handle, ctypes.byref(self._config), at, size)
         if answer < 0:
@@ -141,7 +140,7 @@ class Stack:
 
     def tx(self) -> Optional[Packet]:
         """Takes the packet that has waited longest for the link, or None if none waits."""
-        length = self._ask("tx", self._room, TX_ROOM)
+        length = self._ask("tx", self._room, self.mtu)
         return Packet(self._room.raw[:length]) if length else None
 
     def packets(self) -> Iterator[Packet]:

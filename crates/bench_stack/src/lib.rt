@@ -59,6 +59,7 @@ fn packets_of(len: usize) -> usize {
 /// Hands so many packets that wait in one stack to another.
 fn carry(from: &mut Stack, to: &mut Stack, packet: &mut Packet, packets: usize) {
     'packets: for _ in 0..packets {
+        from.laws();
         let Some(len) = from.tx(packet) else {
             break;
         };

@@ -39,7 +39,10 @@ pub fn answer(
 ) -> Result<Option<usize>, BootFault> {
     let mut stack = Stack::boot(alloc, HOST)?;
     let sent = match serve(&mut stack, packet) {
-        Ok(_) => stack.tx(link),
+        Ok(_) => {
+            stack.laws();
+            stack.tx(link)
+        }
         Err(_) => None,
     };
     let _ = stack.end();

@@ -1,7 +1,7 @@
 -- What a call on a handle does to the stack in it: which step of the flat machine it is, and how its answer tells the
 -- reply (this project's own).
 use Rattle.std.specs.Prelude.{◌≡◌, ℕ, ℤ, pos, ◌<◌, ◌≤◌, ◌==◌, if◌then◌else◌, List, length, drop, Option, Some, None, option_map, IfSome, IfNone, Result, Ok, Err, IfOk, OnErr}
-use Rattle.params.specs.declared.TheConstants.{IP_MAX_PACKET, MAX_MTU}
+use Rattle.params.specs.declared.TheConstants.{IP_MAX_PACKET}
 use Rattle.flat_model.specs.declared.errno.Errno.{Errno}
 use Rattle.flat_model.specs.declared.address.Addr.{Addr}
 use Rattle.flat_model.specs.Machine.Event.{Event, Reply, Open, Receive, Comes, Transmit, Done}
@@ -82,11 +82,11 @@ pub record Gives (before room : List ℕ) (answer : ℤ) (s n : StackView) : Typ
   pub rest : IfSome told (λ len. drop len room ≡ drop len before)
   pub step : StepsTo Transmit (given_reply told room) s n
 
--- `tx`: the answer is the packet's length, 0 if none waits, or -EMSGSIZE if the room is shorter than 4,352 bytes, and
--- then nothing changes
+-- `tx`: the answer is the packet's length, 0 if none waits, or -EMSGSIZE if the room is shorter than the MTU, and then
+-- nothing changes
 pub record IsGiven (before room : List ℕ) (answer : ℤ) (s n : StackView) : Type 0 where
-  pub short : length before < MAX_MTU → (answer ≡ bad_length) × (n ≡ s) × (room ≡ before)
-  pub gives : MAX_MTU ≤ length before → Gives before room answer s n
+  pub short : length before < s.config.mtu → (answer ≡ bad_length) × (n ≡ s) × (room ≡ before)
+  pub gives : s.config.mtu ≤ length before → Gives before room answer s n
 
 -- a question: the stack is as it was, and the answer says something of it
 pub record IsAsked (Says : StackView → Type 0) (s n : StackView) : Type 0 where

@@ -1,6 +1,6 @@
 //! The calls that change a stack, as C gives their arguments and takes their answers.
 ghost use Rattle.std.specs.Prelude.{◌≤◌, length};
-ghost use Rattle.params.specs.declared.TheConstants.{IP_MAX_PACKET, MAX_MTU};
+ghost use Rattle.params.specs.declared.TheConstants.{IP_MAX_PACKET};
 ghost use Rattle.flat_model.specs.Machine.Event.{Bind, Close, Comes, Connect, Done, Send, Set_option, Tick};
 ghost use Rattle.libbsdudp.specs.Calls.{Gives, HasCome, HasTicked, IsDone, IsGiven, IsOpened, IsReceived, IsSent, StepsTo};
 
@@ -8,7 +8,7 @@ use crate::errors::{BAD_LENGTH, count, done, refused};
 use crate::plain::CAddr;
 use flat_model::{Addr, Opt};
 use net_stack::Stack;
-use params::{IP_MAX_PACKET, MAX_MTU};
+use params::IP_MAX_PACKET;
 
 /// Opens a socket.
 pub(crate) fn socket(stack: &mut Stack) -> i32
@@ -92,7 +92,7 @@ pub(crate) fn rx(stack: &mut Stack, packet: &[u8]) -> i32
 
 /// The packet that has waited longest, into a room that is long enough.
 fn give(stack: &mut Stack, room: &mut [u8]) -> i32
-    requires { MAX_MTU ≤ length room.old }
+    requires { stack.old.config.mtu ≤ length room.old }
     ensures { Gives room.old room.new result stack.old stack.new }
 {
     match stack.tx(room) {
@@ -105,7 +105,7 @@ fn give(stack: &mut Stack, room: &mut [u8]) -> i32
 pub(crate) fn tx(stack: &mut Stack, room: &mut [u8]) -> i32
     ensures { IsGiven room.old room.new result stack.old stack.new }
 {
-    if room.len() < MAX_MTU as usize {
+    if room.len() < stack.mtu() as usize {
         return BAD_LENGTH;
     }
     give(stack, room)

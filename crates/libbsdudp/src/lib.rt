@@ -44,7 +44,7 @@ pub extern "C" fn bsdudp_core_rx(alloc: Global, handle: &mut Handle, packet: &[u
 }
 
 /// The packet that has waited longest for the link: how many bytes it has, or 0 if none waits; -EMSGSIZE for a room of
-/// fewer than 4,352 bytes.
+/// fewer bytes than the MTU.
 ///
 ///     int bsdudp_core_tx(struct bsdudp_core *, uint8_t *room, size_t len)
 #[tactic(auto, using(crate::proofs::Answered::answered))]

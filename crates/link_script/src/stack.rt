@@ -66,6 +66,7 @@ impl Machine for Stack {
     }
 
     fn tx(&mut self, room: &mut [u8]) -> Option<usize> {
+        Stack::laws(self);
         Stack::tx(self, room)
     }
 

@@ -2,7 +2,6 @@
 use Rattle.std.proofs.Common.{◌≡◌, ℕ, ◌≤◌, List, [], ◌∷◌, length, arith}
 use Rattle.std.proofs.Common.{refl, sym, ap, ◌∙◌, subst}
 use Rattle.std.specs.List.{AllByRecursion}
-use Rattle.params.specs.declared.TheConstants.{MAX_MTU}
 use Rattle.flat_model.specs.Amounts.Weight.{Item}
 use Rattle.flat_model.specs.Machine.Count.{counts_more}
 use Rattle.flat_model.specs.Runs.Consistent.{IsOutput}
@@ -73,10 +72,10 @@ within : (config : Config) (most : ℕ) (items : List Item) → config.mtu ≤ m
 within config most [] le each = tt
 within config most (item ∷ items) le each = (omega (arith, each.0.fits), within config most items le each.1)
 
--- each packet that waits fits a room of the greatest MTU
-pub are_within : (s : Inside) (most : ℕ) → IsInside s → MAX_MTU ≤ most → AreWithin s.host.pool s.host.net.out most
+-- each packet that waits fits a room of the link's MTU
+pub are_within : (s : Inside) (most : ℕ) → IsInside s → s.config.mtu ≤ most → AreWithin s.host.pool s.host.net.out most
 are_within s most is le =
-    within (state_of (seen s)).config most (packets s.host.pool s.host.net.out) (omega (arith, is.stack.consistent.config.greatest_mtu)) is.stack.consistent.output
+    within (state_of (seen s)).config most (packets s.host.pool s.host.net.out) le is.stack.consistent.output
 
 pub output_called : (s : Inside) (v : StackView) (q : PoolView) (u : TrainView) (reply : Reply) → IsInside s → seen s ≡ v → IsGiven s.host.pool s.host.net.out reply q u
     → Called v Transmit reply (with_out s q u)

@@ -8,7 +8,6 @@ ghost use Rattle.net_stack.specs.Stack.{state_of};
 use crate::stack::Stack;
 use crate::transmit::take_packet;
 use flat_model::{Addr, Counter, Counters, Errno, Mbstat, Opt};
-use params::MAX_MTU;
 
 impl Stack {
     /// Opens a socket, with the lowest free descriptor of 3 to 66 (volume 2 chapter 15). Refused, and then nothing
@@ -69,9 +68,10 @@ impl Stack {
 
     /// Gives the link the packet that has waited longest: its bytes stand in front of the room, and the answer is how many
     /// they are, or `None` where none waits. Its buffers are freed. What stands after them in the room stays as it was, and
-    /// all of it where none waits. The room has at least 4,352 bytes, the greatest MTU.
+    /// all of it where none waits. The room has at least as many bytes as the link's packets, the MTU: `mtu` tells it, and
+    /// 4,352 suffice for each.
     pub fn tx(&mut self, room: &mut [u8]) -> Option<usize>
-        requires { MAX_MTU ≤ length room.old }
+        requires { self.old.config.mtu ≤ length room.old }
         ensures step { Step (state_of self.old) Transmit (given_reply result room.new) (state_of self.new) }
         ensures fits { IfSome result (λ n. n ≤ length room.new) }
         ensures same { IfNone result (room.new ≡ room.old) }

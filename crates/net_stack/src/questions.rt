@@ -36,6 +36,13 @@ impl Stack {
         self.host.socks.readable()
     }
 
+    /// The bytes of the longest packet that the link takes, 68 to 4,352, as boot was told. It's room enough for each `tx`.
+    pub fn mtu(&self) -> u16
+        ensures { result ≡ self.now.config.mtu }
+    {
+        self.config.mtu
+    }
+
     /// How many packets wait for the link, 0 to 50.
     pub fn output_len(&self) -> u32
         ensures { result ≡ length (state_of self.now).output }

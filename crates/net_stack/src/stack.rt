@@ -1,5 +1,6 @@
 //! The stack: what it consists of, how it starts and how it ends.
-ghost use Rattle.std.specs.Prelude.{◌≡◌, ◌↔◌, Err, MatchResult};
+ghost use Rattle.std.specs.Prelude.{◌≡◌, ◌≤◌, ◌↔◌, Err, MatchResult};
+ghost use Rattle.params.specs.declared.TheConstants.{MAX_MTU};
 ghost use Rattle.flat_model.specs.Amounts.Weight.{nothing};
 ghost use Rattle.flat_model.specs.Machine.State.{HasSizes, IsConfig};
 ghost use Rattle.flat_model.specs.Machine.State.{boot as flat_boot};
@@ -104,8 +105,10 @@ impl Stack {
     }
 
     /// What always holds of a stack: its parts fit together, and its pool holds what the state weighs. So the count of
-    /// each cluster is the number of live mbufs that refer to it. It takes no step.
+    /// each cluster is the number of live mbufs that refer to it. A room of 4,352 bytes is enough for each packet of the
+    /// link. It takes no step.
     pub fn laws(&self)
+        ensures link { self.now.config.mtu ≤ MAX_MTU }
         ensures stack { IsStack self.now }
         ensures accounted { IsAccounted self.now.pool (state_of self.now) nothing }
     {

@@ -68,6 +68,7 @@ fn give(stack: &mut Stack, room: &mut [u8]) -> usize
     ensures fits { result ≤ length room.new }
     ensures len { length room.new ≡ length room.old }
 {
+    stack.laws();
     match stack.tx(room) {
         Some(len) => len,
         None => 0,

@@ -52,6 +52,7 @@ impl Frame {
         ensures sender { self.new.sender ≡ sender }
     {
         self.sender = sender;
+        stack.laws();
         if let Some(len) = stack.tx(&mut self.room) {
             self.len = len;
         }

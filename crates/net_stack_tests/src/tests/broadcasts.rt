@@ -1,6 +1,6 @@
 //! Broadcasts: sent both ways, heard by two sockets that share a port, and lost for want of buffers. Packets and counts were
 //! worked out by hand.
-use crate::tests::{LARGE, NEAR, PLAIN, counted, free};
+use crate::tests::{LARGE, NEAR, PLAIN, counted, free, transmit};
 use flat_model::{Addr, Config, Counter, Counters, Errno, Lack, Opt};
 use net_stack::Stack;
 use std::alloc::Global;
@@ -50,7 +50,7 @@ fn sends_a_broadcast_both_ways(rt: HostRuntime) -> Result<(), Fail> {
     assert_eq!(rt; stack.mbstat(), free(507, 512, 63, 2, 2));
     let mut room = [0; 4352];
     assert_eq!(rt; stack.recvfrom(3, &mut room), Ok((HERE, 300)));
-    assert_eq!(rt; stack.tx(&mut room), Some(328));
+    assert_eq!(rt; transmit(&mut stack, &mut room), Some(328));
     assert_eq!(rt; stack.mbstat(), free(512, 512, 64, 0, 0));
     assert_eq!(rt;
         stack.sendto(3, Some(ALL), &[0x61; 1473]),

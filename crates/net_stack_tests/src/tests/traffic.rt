@@ -1,5 +1,5 @@
 //! Packets from the wire and to it, and a machine that hears itself. The bytes of packets were worked out apart from this code.
-use crate::tests::PLAIN;
+use crate::tests::{PLAIN, transmit};
 use flat_model::{Addr, Config, Counter, Errno, Lack};
 use net_stack::Stack;
 use std::test::Fail;
@@ -67,9 +67,9 @@ fn sends_what_is_to_go(rt: HostRuntime) -> Result<(), Fail> {
     let mut room = [0; 4352];
     assert_eq!(rt; stack.socket(), Ok(3));
     assert_eq!(rt; stack.sendto(3, Some(ECHO), b"hi"), Ok(2));
-    assert_eq!(rt; stack.tx(&mut room), Some(30));
+    assert_eq!(rt; transmit(&mut stack, &mut room), Some(30));
     assert!(rt; room[..30] == TO_ECHO[..]);
-    assert_eq!(rt; stack.tx(&mut room), None);
+    assert_eq!(rt; transmit(&mut stack, &mut room), None);
     let _ = stack.end();
     Ok(())
 }
@@ -81,7 +81,7 @@ fn hears_itself(rt: HostRuntime) -> Result<(), Fail> {
     assert_eq!(rt; stack.socket(), Ok(3));
     assert_eq!(rt; stack.bind(3, ANY), Ok(()));
     assert_eq!(rt; stack.sendto(3, Some(SELF), b"hi"), Ok(2));
-    assert_eq!(rt; stack.tx(&mut room), None);
+    assert_eq!(rt; transmit(&mut stack, &mut room), None);
     assert_eq!(rt; stack.recvfrom(3, &mut room), Ok((SELF, 2)));
     assert_eq!(rt; (room[0], room[1]), (b'h', b'i'));
     assert_eq!(rt; stack.mbstat().free_mbufs, 16);

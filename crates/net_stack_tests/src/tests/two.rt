@@ -1,5 +1,5 @@
 //! Two machines on one wire, which turns the packets' order round and doubles them.
-use crate::tests::{LARGE, NEAR, counted, free};
+use crate::tests::{LARGE, NEAR, counted, free, transmit};
 use flat_model::{Addr, Config, Counter, Counters, Errno};
 use net_stack::Stack;
 use std::process::Abort;
@@ -27,7 +27,7 @@ fn carry_last_first(rt: &impl Abort, from: &mut Stack, to: &mut Stack) {
     let mut packets = [[0; LONGEST]; PACKETS];
     let mut lens = [0; PACKETS];
     for i in 0..PACKETS {
-        let Some(len) = from.tx(&mut packets[i]) else {
+        let Some(len) = transmit(from, &mut packets[i]) else {
             panic!(rt; "too few packets")
         };
         lens[i] = len;
@@ -70,7 +70,7 @@ fn hears_packets_that_come_twice_and_last_first(rt: HostRuntime) -> Result<(), F
     assert_eq!(rt; sender.socket(), Ok(3));
     assert_eq!(rt; sender.sendto(3, Some(to), &pattern()), Ok(BYTES));
     carry_last_first(&rt, &mut sender, &mut hearer);
-    assert_eq!(rt; sender.tx(&mut [0; LONGEST]), None);
+    assert_eq!(rt; transmit(&mut sender, &mut [0; LONGEST]), None);
     let _ = sender.end();
     let mut room = [0; BYTES];
     let from = Addr {

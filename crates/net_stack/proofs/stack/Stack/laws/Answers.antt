@@ -1,4 +1,5 @@
-use Rattle.std.proofs.Common.{subst}
+use Rattle.std.proofs.Common.{◌≤◌, subst}
+use Rattle.params.specs.declared.TheConstants.{MAX_MTU}
 use Rattle.flat_model.specs.Amounts.Weight.{nothing}
 use Rattle.ledger.specs.Accounts.{IsAccounted}
 use Rattle.net_stack.specs.Inside.Fields.{seen}
@@ -11,3 +12,6 @@ returns-clause-stack c = subst IsStack c.self.view_is c.self.invariant.stack
 
 pub returns-clause-accounted : goal.returns-clause-accounted
 returns-clause-accounted c = subst (λ (s : StackView). IsAccounted s.pool (state_of s) nothing) c.self.view_is (accounts (seen c.self.inside) c.self.invariant.stack)
+
+pub returns-clause-link : goal.returns-clause-link
+returns-clause-link c = subst (λ (s : StackView). s.config.mtu ≤ MAX_MTU) c.self.view_is c.self.invariant.stack.consistent.config.greatest_mtu

@@ -1,6 +1,7 @@
 use Rattle.flat_model.specs.Machine.Event.{Transmit}
 use Rattle.flat_model.specs.Machine.Replies.{given_reply}
-use Rattle.std.proofs.Common.{length}
+use Rattle.std.proofs.Common.{◌≤◌, length, subst, sym}
+use Rattle.net_stack.specs.Stack.{StackView}
 use Rattle.net_stack.proofs.Called.{Called, are_within, output_called, with_out}
 use Rattle.net_stack.proofs.stack.Stack.tx.Goals as goal
 
@@ -11,7 +12,8 @@ pub take_packet-requires-clause-queue : goal.take_packet-requires-clause-queue
 take_packet-requires-clause-queue c = c.self.invariant.stack.output
 
 pub take_packet-requires-clause-within : goal.take_packet-requires-clause-within
-take_packet-requires-clause-within c = are_within c.self.inside (length c.args.room.now) c.self.invariant c.requires
+take_packet-requires-clause-within c = are_within c.self.inside (length c.args.room.now) c.self.invariant
+    (subst (λ (s : StackView). s.config.mtu ≤ length c.args.room.now) (sym c.self.view_is) c.requires)
 
 pub invariant_of-self : goal.invariant_of-self
 invariant_of-self c = (all c).inside
