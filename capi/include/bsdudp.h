@@ -7,8 +7,8 @@
  * Answers. A call answers 0 or a count if it went well, and else the negative of one of the BSDUDP_E numbers below. A
  * refused call changes nothing, unless its text says what it leaves.
  *
- * Numbers. Addresses and ports are in the host's order: 10.0.0.1 is 0x0a000001. A packet begins with its IPv4 header.
- * A descriptor is 3 to 66.
+ * Numbers. Addresses and ports are in the host's order: 10.0.0.1 is 0x0a000001, or BSDUDP_IP(10, 0, 0, 1). A packet
+ * begins with its IPv4 header. A descriptor is 3 to 66.
  *
  * What you must uphold, of every call:
  *   - A `struct bsdudp` has all bytes 0 before its first boot (BSDUDP_NONE), and then is as the library left it. Don't
@@ -51,6 +51,9 @@ struct bsdudp_config {
     uint16_t mtu;      /* the longest packet of the link: 68 to 4352 bytes */
     uint16_t first_id; /* the IP identification of the first datagram that it sends */
 };
+
+/* The address a.b.c.d: a constant if its bytes are. */
+#define BSDUDP_IP(a, b, c, d) ((uint32_t)(a) << 24 | (uint32_t)(b) << 16 | (uint32_t)(c) << 8 | (uint32_t)(d))
 
 /* An address with a port. */
 struct bsdudp_addr {
@@ -158,12 +161,12 @@ int bsdudp_end(struct bsdudp *);
 /* A packet came from the link. It's delivered, kept for the other fragments of its datagram, or dropped and counted;
    that is no refusal. Bytes after its total length are ignored. `packet` isn't kept. The answer is 0.
    ENXIO. EMSGSIZE: `len` is above 65535. */
-int bsdudp_rx(struct bsdudp *, const uint8_t *packet, size_t len);
+int bsdudp_rx(struct bsdudp *, const void *packet, size_t len);
 
 /* Gives the packet that has waited longest for the link: its bytes stand in front of `room`, and the answer is its
    length, at most the MTU; 0 if none waits. What stands behind it in the room stays.
    ENXIO. EMSGSIZE: `len` is below the MTU. */
-int bsdudp_tx(struct bsdudp *, uint8_t *room, size_t len);
+int bsdudp_tx(struct bsdudp *, void *room, size_t len);
 
 /* Half a second passed. A datagram of which fragments are missing is dropped after 60 of these. The answer is 0.
    ENXIO. */
@@ -188,15 +191,15 @@ int bsdudp_connect(struct bsdudp *, uint32_t fd, const struct bsdudp_addr *to);
    EMSGSIZE: a broadcast longer than a packet of the link. ENOBUFS: the pool; datagrams that waited for fragments are
    dropped then. EQUEUE: not all packets found room in the output queue; those that did go out, and the identification
    is spent. */
-int bsdudp_sendto(struct bsdudp *, uint32_t fd, const struct bsdudp_addr *to, const uint8_t *bytes, size_t len);
+int bsdudp_sendto(struct bsdudp *, uint32_t fd, const struct bsdudp_addr *to, const void *bytes, size_t len);
 
 /* The same to the peer of a connected socket; EDESTADDRREQ in the place of the refusals of an address. */
-int bsdudp_send(struct bsdudp *, uint32_t fd, const uint8_t *bytes, size_t len);
+int bsdudp_send(struct bsdudp *, uint32_t fd, const void *bytes, size_t len);
 
 /* Takes the oldest datagram that waits in a socket: up to `len` bytes of it stand in `room`, the others are lost, and
    `from` tells the sender. The answer is how many bytes were copied. It doesn't block.
    ENXIO. EBADF. EWOULDBLOCK. Then room and `from` are as they were. */
-int bsdudp_recvfrom(struct bsdudp *, uint32_t fd, uint8_t *room, size_t len, struct bsdudp_addr *from);
+int bsdudp_recvfrom(struct bsdudp *, uint32_t fd, void *room, size_t len, struct bsdudp_addr *from);
 
 /* Closes a socket; what waits in it is lost. The answer is 0. ENXIO. EBADF. */
 int bsdudp_close(struct bsdudp *, uint32_t fd);

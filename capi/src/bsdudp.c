@@ -94,8 +94,8 @@ int bsdudp_end(struct bsdudp *stack)
 
 /* ---- the calls */
 
-int bsdudp_rx(struct bsdudp *s, const uint8_t *packet, size_t len) { return bsdudp_core_rx(&s->core, packet, len); }
-int bsdudp_tx(struct bsdudp *s, uint8_t *room, size_t len) { return bsdudp_core_tx(&s->core, room, len); }
+int bsdudp_rx(struct bsdudp *s, const void *packet, size_t len) { return bsdudp_core_rx(&s->core, packet, len); }
+int bsdudp_tx(struct bsdudp *s, void *room, size_t len) { return bsdudp_core_tx(&s->core, room, len); }
 int bsdudp_tick(struct bsdudp *s) { return bsdudp_core_tick(&s->core); }
 int bsdudp_socket(struct bsdudp *s) { return bsdudp_core_socket(&s->core); }
 int bsdudp_close(struct bsdudp *s, uint32_t fd) { return bsdudp_core_close(&s->core, fd); }
@@ -110,17 +110,17 @@ int bsdudp_connect(struct bsdudp *s, uint32_t fd, const struct bsdudp_addr *to)
     return bsdudp_core_connect(&s->core, fd, to);
 }
 
-int bsdudp_sendto(struct bsdudp *s, uint32_t fd, const struct bsdudp_addr *to, const uint8_t *bytes, size_t len)
+int bsdudp_sendto(struct bsdudp *s, uint32_t fd, const struct bsdudp_addr *to, const void *bytes, size_t len)
 {
     return bsdudp_core_sendto(&s->core, fd, to, bytes, len);
 }
 
-int bsdudp_send(struct bsdudp *s, uint32_t fd, const uint8_t *bytes, size_t len)
+int bsdudp_send(struct bsdudp *s, uint32_t fd, const void *bytes, size_t len)
 {
     return bsdudp_core_send(&s->core, fd, bytes, len);
 }
 
-int bsdudp_recvfrom(struct bsdudp *s, uint32_t fd, uint8_t *room, size_t len, struct bsdudp_addr *from)
+int bsdudp_recvfrom(struct bsdudp *s, uint32_t fd, void *room, size_t len, struct bsdudp_addr *from)
 {
     return bsdudp_core_recvfrom(&s->core, fd, room, len, from);
 }

@@ -23,7 +23,7 @@ static const struct bsdudp_addr any = {0, 7}, to_far = {0x0a000002, 7}, to_all =
 
 static struct bsdudp_config config(void)
 {
-    struct bsdudp_config c = {0x0a000001, 0x0a0000ff, 64, 16, 1500, 1};
+    struct bsdudp_config c = {BSDUDP_IP(10, 0, 0, 1), 0x0a0000ff, 64, 16, 1500, 1};
     return c;
 }
 

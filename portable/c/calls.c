@@ -152,13 +152,13 @@ int bsdudp_end(struct bsdudp *stack)
     return answer;
 }
 
-int bsdudp_rx(struct bsdudp *stack, const uint8_t *packet, size_t len)
+int bsdudp_rx(struct bsdudp *stack, const void *packet, size_t len)
 {
     BEGIN(rx, stack);
     return answer_of(core_rx(&it, handle_of(&it), lend(&it, packet, len), heard(len)));
 }
 
-int bsdudp_tx(struct bsdudp *stack, uint8_t *room, size_t len)
+int bsdudp_tx(struct bsdudp *stack, void *room, size_t len)
 {
     BEGIN(tx, stack);
     return answer_of(core_tx(&it, handle_of(&it), give(&it, room, len), heard(len)));
@@ -190,20 +190,20 @@ int bsdudp_connect(struct bsdudp *stack, uint32_t fd, const struct bsdudp_addr *
     return answer_of(core_connect(&it, handle_of(&it), fd, argument));
 }
 
-int bsdudp_sendto(struct bsdudp *stack, uint32_t fd, const struct bsdudp_addr *to, const uint8_t *bytes, size_t len)
+int bsdudp_sendto(struct bsdudp *stack, uint32_t fd, const struct bsdudp_addr *to, const void *bytes, size_t len)
 {
     BEGIN(sendto, stack);
     put_addr(plain, to);
     return answer_of(core_sendto(&it, handle_of(&it), fd, argument, lend(&it, bytes, len), heard(len)));
 }
 
-int bsdudp_send(struct bsdudp *stack, uint32_t fd, const uint8_t *bytes, size_t len)
+int bsdudp_send(struct bsdudp *stack, uint32_t fd, const void *bytes, size_t len)
 {
     BEGIN(send, stack);
     return answer_of(core_send(&it, handle_of(&it), fd, lend(&it, bytes, len), heard(len)));
 }
 
-int bsdudp_recvfrom(struct bsdudp *stack, uint32_t fd, uint8_t *room, size_t len, struct bsdudp_addr *from)
+int bsdudp_recvfrom(struct bsdudp *stack, uint32_t fd, void *room, size_t len, struct bsdudp_addr *from)
 {
     int answer;
     BEGIN(recvfrom, stack);
