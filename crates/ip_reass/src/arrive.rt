@@ -61,9 +61,11 @@ impl Reass {
         requires small { head.offset + length (string (chain_of pool.old chain)) ≤ IP_MAX_DATA }
         requires fresh { find (has_key (key_in head)) self.old.datagrams ≡ None }
         ensures step { (rest : State) (held : Weight) (new : State) →
-            IsAccounted pool.old (machine pool.old self.old.datagrams counters.old rest) (held ⊕ weight_at pool.old chain) →
+            IsAccounted pool.old (machine pool.old self.old.datagrams counters.old rest)
+            (held ⊕ weight_at pool.old chain) →
             GoesOn held pool.new result (machine pool.new self.new.datagrams counters.new rest) new →
-            BeginsAt pool.old self.old.datagrams counters.old (key_in head) (fragment_of (arrived pool.old chain head.offset head.more))
+            BeginsAt pool.old self.old.datagrams counters.old (key_in head)
+            (fragment_of (arrived pool.old chain head.offset head.more))
             (weight_at pool.old chain) result pool.new self.new.datagrams counters.new rest held new }
         ensures whole { HasWhole pool.new head result }
         ensures layout { HasLayout pool.old self.old.datagrams (key_in head)
@@ -108,7 +110,8 @@ impl Reass {
         requires some { 0 < length (string (chain_of pool.old chain)) }
         requires small { head.offset + length (string (chain_of pool.old chain)) ≤ IP_MAX_DATA }
         ensures step { (rest : State) (held : Weight) (new : State) →
-            IsAccounted pool.old (machine pool.old self.old.datagrams counters.old rest) (held ⊕ weight_at pool.old chain) →
+            IsAccounted pool.old (machine pool.old self.old.datagrams counters.old rest)
+            (held ⊕ weight_at pool.old chain) →
             GoesOn held pool.new result (machine pool.new self.new.datagrams counters.new rest) new →
             Joins exact_ledger held (key_in head) (fragment_of (arrived pool.old chain head.offset head.more))
             (machine pool.old self.old.datagrams counters.old rest) new }
@@ -135,8 +138,8 @@ impl Reass {
         }
     }
 
-    /// Brings the IP header of a fragment into a plain mbuf, where its first mbuf is a cluster; this takes an mbuf. `None`
-    /// comes where none is to be had, and the fragment is freed and counted then.
+    /// Brings the IP header of a fragment into a plain mbuf, where its first mbuf is a cluster; this takes an mbuf.
+    /// `None` comes where none is to be had, and the fragment is freed and counted then.
     fn pull_up(
         &mut self,
         pool: &mut Pool,
@@ -149,13 +152,17 @@ impl Reass {
         requires len { IP_HEADER ≤ length (string (chain_of pool.old chain)) }
         ensures plain { is_some (entry_of (chain_of pool.old chain) 0).cluster ≡ false → (pool.new ≡ pool.old)
             × (self.new ≡ self.old) × (counters.new ≡ counters.old) × (result ≡ Some chain) }
-        ensures tested { is_some (entry_of (chain_of pool.old chain) 0).cluster ≡ true → (rest : State) (held : Weight) →
-            IsAccounted pool.old (machine pool.old self.old.datagrams counters.old rest) (held ⊕ weight_at pool.old chain) →
-            IsPulled pool.old self.old.datagrams counters.old (weight_at pool.old chain) (is_some result) pool.new self.new.datagrams counters.new
+        ensures tested { is_some (entry_of (chain_of pool.old chain) 0).cluster ≡ true →
+            (rest : State) (held : Weight) →
+            IsAccounted pool.old (machine pool.old self.old.datagrams counters.old rest)
+            (held ⊕ weight_at pool.old chain) →
+            IsPulled pool.old self.old.datagrams counters.old (weight_at pool.old chain) (is_some result) pool.new
+            self.new.datagrams counters.new
             rest held }
         ensures waits { WaitOrNone (queues pool.old self.old.datagrams) (queues pool.new self.new.datagrams) }
         ensures none { is_some result ≡ false → queues pool.new self.new.datagrams ≡ [] }
-        ensures entries { IfSome result (λ d. (chain_of pool.new d).entries ≡ pulled_entries (chain_of pool.old chain)) }
+        ensures entries { IfSome result (λ d. (chain_of pool.new d).entries
+            ≡ pulled_entries (chain_of pool.old chain)) }
         ensures headed { IfSome result (λ d. (chain_of pool.new d).front.header ≡ true) }
         ensures ready { IsReady pool.new self.new }
         ensures moves { Moves pool.old (chain ∷ held_all pool.old self.old.datagrams) pool.new
@@ -176,16 +183,18 @@ impl Reass {
         }
     }
 
-    /// A fragment arrives, as a whole packet with its IP header (`ip_reass`, volume 2, chapter 10; RFC 791, section 3.2). Its
-    /// chain is spent; what `Whole` hands out is a chain without IP header.
+    /// A fragment arrives, as a whole packet with its IP header (`ip_reass`, volume 2, chapter 10; RFC 791, section
+    /// 3.2). Its chain is spent; what `Whole` hands out is a chain without IP header.
     ///
-    /// Where its first mbuf is a cluster, the header is pulled up, which takes an mbuf; a key that isn't held yet takes one
-    /// more. Each is asked for by `reserve`: where none is free, all unfinished datagrams are dropped, and it's asked once
-    /// more. `NoBufs` comes exactly where none is free then. `BadFragment` comes first, for a fragment that none can be,
-    /// and `FragmentDropped` where all its bytes are held by fragments that begin no later. Each case is counted.
+    /// Where its first mbuf is a cluster, the header is pulled up, which takes an mbuf; a key that isn't held yet takes
+    /// one more. Each is asked for by `reserve`: where none is free, all unfinished datagrams are dropped, and it's
+    /// asked once more. `NoBufs` comes exactly where none is free then. `BadFragment` comes first, for a fragment that
+    /// none can be, and `FragmentDropped` where all its bytes are held by fragments that begin no later. Each case is
+    /// counted.
     ///
-    /// A fragment that begins no later keeps its bytes, one that begins later loses what the new one holds. The datagram is
-    /// whole where its bytes follow one another from 0 and no more come after the last. Its time is not renewed.
+    /// A fragment that begins no later keeps its bytes, one that begins later loses what the new one holds. The
+    /// datagram is whole where its bytes follow one another from 0 and no more come after the last. Its time is not
+    /// renewed.
     pub fn arrive(
         &mut self,
         pool: &mut Pool,
@@ -200,11 +209,14 @@ impl Reass {
         requires header { IP_HEADER ≤ head.total }
         requires offset { head.offset ≤ IP_MAX_PACKET }
         ensures step { (rest : State) (held : Weight) (new : State) →
-            IsAccounted pool.old (machine pool.old self.old.datagrams counters.old rest) (held ⊕ weight_at pool.old chain) →
+            IsAccounted pool.old (machine pool.old self.old.datagrams counters.old rest)
+            (held ⊕ weight_at pool.old chain) →
             GoesOn held pool.new result (machine pool.new self.new.datagrams counters.new rest) new →
-            ChainArrives held head (chain_of pool.old chain) (machine pool.old self.old.datagrams counters.old rest) new }
+            ChainArrives held head (chain_of pool.old chain)
+            (machine pool.old self.old.datagrams counters.old rest) new }
         ensures accounts { (rest : State) (held : Weight) →
-            IsAccounted pool.old (machine pool.old self.old.datagrams counters.old rest) (held ⊕ weight_at pool.old chain) →
+            IsAccounted pool.old (machine pool.old self.old.datagrams counters.old rest)
+            (held ⊕ weight_at pool.old chain) →
             IsAccounted pool.new (machine pool.new self.new.datagrams counters.new rest)
             (held ⊕ weight_owned pool.new (in_hand result)) }
         ensures whole { HasWhole pool.new head result }

@@ -37,7 +37,8 @@ pub(crate) fn lay_in(
     requires headed { (chain_of pool.old chain).front.header ≡ true }
     requires some { 0 < length (string (chain_of pool.old chain)) }
     requires small { span.offset + length (string (chain_of pool.old chain)) ≤ IP_MAX_DATA }
-    ensures lays { LaysIn pool.old table.old i chain (arrived pool.old chain span.offset span.more) (is_left result) pool.new table.new }
+    ensures lays { LaysIn pool.old table.old i chain (arrived pool.old chain span.offset span.more) (is_left result)
+        pool.new table.new }
     ensures whole { TellsWhole (map_of (fragments pool.new (datagram_at table.new i).fragments)) result }
 {
     let datagram = &mut table[i];
@@ -70,7 +71,8 @@ pub(crate) struct Fragment {
     pub(crate) head: IpHead,
 }
 
-/// Lays a fragment among those of the datagram at a place, and counts. The datagram is taken out where it is whole then.
+/// Lays a fragment among those of the datagram at a place, and counts. The datagram is taken out where it is whole
+/// then.
 pub(crate) fn lay_and_count(
     pool: &mut Pool,
     table: &mut Vec<Datagram>,
@@ -88,10 +90,13 @@ pub(crate) fn lay_and_count(
         is_key (key_in fragment.head) (unfinished_of pool.old (datagram_at table.old.items i)) ≡ true →
         count_by (is_key (key_in fragment.head)) (unfinished pool.old table.old.items) ≤ 1 →
         GoesOn held pool.new result (machine pool.new table.new.items counters.new rest) new →
-        Lays exact_ledger held (key_in fragment.head) (fragment_of (arrived pool.old fragment.chain fragment.head.offset fragment.head.more))
-        (unfinished_of pool.old (datagram_at table.old.items i)) (machine pool.old table.old.items counters.old rest) new }
+        Lays exact_ledger held (key_in fragment.head)
+        (fragment_of (arrived pool.old fragment.chain fragment.head.offset fragment.head.more))
+        (unfinished_of pool.old (datagram_at table.old.items i))
+        (machine pool.old table.old.items counters.old rest) new }
     ensures whole { HasWhole pool.new fragment.head result }
-    ensures layout { LeavesAt i (arrived pool.old fragment.chain fragment.head.offset fragment.head.more) (queues pool.old table.old.items)
+    ensures layout { LeavesAt i (arrived pool.old fragment.chain fragment.head.offset fragment.head.more)
+        (queues pool.old table.old.items)
         pool.new result (queues pool.new table.new.items) }
     ensures cause { HasCause FragmentDropped result }
     ensures table { IsTable pool.new table.new.items }

@@ -1,5 +1,6 @@
-//! Reassembly of IP datagrams, as 4.4BSD does it (`ip_reass` of TCP/IP Illustrated, volume 2, chapter 10; RFC 791, section
-//! 3.2): the table of unfinished datagrams, a fragment that arrives, and the clock that drops those that take too long.
+//! Reassembly of IP datagrams, as 4.4BSD does it (`ip_reass` of TCP/IP Illustrated, volume 2, chapter 10; RFC 791,
+//! section 3.2): the table of unfinished datagrams, a fragment that arrives, and the clock that drops those that take
+//! too long.
 //!
 //! Each contract is a step of the flat machine, for every rest of it. README.md has the words.
 #![tactic(auto)]

@@ -34,7 +34,8 @@ pub(crate) fn take_after(
     requires front { IsFront pool.old train.old front }
     requires more { after front < train.old.len }
     requires held { IsHeld pool.old train.old }
-    ensures queued_packets { queued_packets pool.new train.new ≡ remove (queued_packets pool.old train.old) (after front) }
+    ensures queued_packets { queued_packets pool.new train.new
+        ≡ remove (queued_packets pool.old train.old) (after front) }
     ensures taken { queued_packet_at pool.old train.old (after front) ≡
         record {
           number = result.0;

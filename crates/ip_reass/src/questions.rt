@@ -92,8 +92,9 @@ impl Reass {
         told_at(pool, self.datagrams.as_slice(), i as usize)
     }
 
-    /// The `k`th range of bytes that the unfinished datagram at place `i` holds, in order of offset, from 0: `None` exactly
-    /// if there is no such datagram, or if it has no more than `k` ranges. It takes a step for each range in front.
+    /// The `k`th range of bytes that the unfinished datagram at place `i` holds, in order of offset, from 0: `None`
+    /// exactly if there is no such datagram, or if it has no more than `k` ranges. It takes a step for each range in
+    /// front.
     pub fn range(&self, pool: &Pool, i: u32, k: u32) -> Option<HeldRange>
         requires { IsTable pool.now self.now.datagrams }
         ensures { result ≡ nth_range i k (unfinished pool.now self.now.datagrams) }

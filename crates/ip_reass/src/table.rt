@@ -24,8 +24,8 @@ use std::marker::Model;
 /// Illustrated, volume 2, chapter 10). It must be spent, by `end`.
 ///
 /// A contract sees the list of them, each with its key, the mbuf of its key, the ticks that it has left and its
-/// fragments, and for how many there are places. The chains stay in the pool that each call is given, which is the one that they came from. No call but
-/// `boot` takes host memory.
+/// fragments, and for how many there are places. The chains stay in the pool that each call is given, which is the one
+/// that they came from. No call but `boot` takes host memory.
 pub struct Reass {
     pub(crate) datagrams: Vec<Datagram>,
 }
@@ -79,8 +79,8 @@ impl Reass {
         self.datagrams.is_empty()
     }
 
-    /// A tick of the slow timer, `ip_slowtimo` (volume 2, chapter 10): each datagram has one tick less, and those that have
-    /// none left are freed with all their mbufs. The answer is how many were.
+    /// A tick of the slow timer, `ip_slowtimo` (volume 2, chapter 10): each datagram has one tick less, and those that
+    /// have none left are freed with all their mbufs. The answer is how many were.
     pub fn tick(&mut self, pool: &mut Pool) -> u32
         requires { IsReady pool.old self.old }
         ensures step { (rest : State) (c : Counters) → ticked (machine pool.old self.old.datagrams c rest)
@@ -89,7 +89,8 @@ impl Reass {
         ensures gone { result + length (aged self.old.datagrams) ≡ length self.old.datagrams }
         ensures ready { IsReady pool.new self.new }
         ensures same { SameAt pool.old pool.new (held_all pool.old self.new.datagrams) }
-        ensures moves { Moves pool.old (held_all pool.old self.old.datagrams) pool.new (held_all pool.new self.new.datagrams) }
+        ensures moves { Moves pool.old (held_all pool.old self.old.datagrams) pool.new
+            (held_all pool.new self.new.datagrams) }
     {
         let before = self.datagrams.len();
         let kept = age(self.datagrams.as_mut_slice());
