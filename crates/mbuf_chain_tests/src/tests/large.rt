@@ -6,7 +6,6 @@ use super::steps::booted;
 use mbuf_chain::{Chain, Place, Pool};
 use mbuf_pool::NoBufs;
 use params::{MAX_MBUFS, MBUF_HEADER};
-use std::test::Fail;
 
 /// How many of them stay at the front.
 const KEPT: u32 = 40_000;
@@ -55,20 +54,28 @@ fn cut_and_free(pool: &mut Pool, chain: Chain, keep: u32) -> (u32, u32)
     counts
 }
 
+/// Whether each way to count a chain's mbufs, which have no bytes, gives all that a pool may have.
+fn is_told_alike(pool: &Pool, chain: &Chain) -> bool
+    requires { IsLive pool.now chain.now }
+{
+    let end = walked(pool, chain);
+    let all = MAX_MBUFS as usize;
+    end.index == MAX_MBUFS - 1
+        && pool.last(chain) == end
+        && pool.layout(chain).count() == all
+        && pool.pieces(chain).count() == all
+        && pool.len(chain) == 0
+}
+
 #[test]
 #[tactic(auto, using(mbuf_chain::proofs::Laws::Maps::map_steps))]
-fn all_mbufs_in_one_chain(rt: HostRuntime) -> Result<(), Fail> {
-    let mut pool = booted(rt.alloc(), MAX_MBUFS, 0)?;
+fn all_mbufs_in_one_chain(rt: HostRuntime) {
+    let mut pool = booted(&rt, rt.alloc(), MAX_MBUFS, 0);
     let chain = chain_of_empty(&mut pool, MAX_MBUFS).expect(&rt, "an mbuf is free");
-    assert_eq!(rt; pool.free_mbufs(), 0);
-    assert_eq!(rt; pool.mbufs(&chain), MAX_MBUFS);
-    assert_eq!(rt; walked(&pool, &chain).index, MAX_MBUFS - 1);
-    assert_eq!(rt; pool.last(&chain), walked(&pool, &chain));
-    assert_eq!(rt; pool.layout(&chain).count(), MAX_MBUFS as usize);
-    assert_eq!(rt; pool.pieces(&chain).count(), MAX_MBUFS as usize);
-    assert_eq!(rt; pool.len(&chain), 0);
-    let counts = cut_and_free(&mut pool, chain, KEPT);
-    assert_eq!(rt; counts, (KEPT, MAX_MBUFS - KEPT));
-    assert_eq!(rt; pool.free_mbufs(), MAX_MBUFS);
-    Ok(())
+    assert!(rt; pool.free_mbufs() == 0);
+    assert!(rt; pool.mbufs(&chain) == MAX_MBUFS);
+    assert!(rt; is_told_alike(&pool, &chain));
+    let (front, back) = cut_and_free(&mut pool, chain, KEPT);
+    assert!(rt; front == KEPT && back == MAX_MBUFS - KEPT);
+    assert!(rt; pool.free_mbufs() == MAX_MBUFS);
 }

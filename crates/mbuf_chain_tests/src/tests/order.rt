@@ -9,7 +9,6 @@ use super::steps::booted;
 use mbuf_chain::{Pool, QueuedPlace, Train};
 use mbuf_pool::NoBufs;
 use std::process::Abort;
-use std::test::Fail;
 
 /// Puts a new packet without bytes in at a place.
 pub(crate) fn put_new(pool: &mut Pool, train: &mut Train, i: u32, tag: u32) -> Result<(), NoBufs>
@@ -91,8 +90,7 @@ fn must_walk(rt: &impl Abort, pool: &Pool, train: &Train, tags: [u32; 4])
         let Some(place) = at else {
             panic!(rt; "no chain with tag {want}");
         };
-        let found = (train.tag_at(pool, place), train.len_at(pool, place));
-        assert_eq!(rt; found, (want, 0));
+        assert!(rt; train.tag_at(pool, place) == want && train.len_at(pool, place) == 0);
         assert!(rt; train.pieces_at(pool, place).next().is_some());
         at = train.next(pool, place);
     }
@@ -110,61 +108,61 @@ fn must_drop(rt: &impl Abort, pool: &mut Pool, train: &mut Train)
     let next = train.tag(pool, 1);
     let last = drop_at(pool, train, 2);
     let first = drop_at(pool, train, 0);
-    assert_eq!(rt; (second, next, last, first), (20, 30, 40, 10));
+    assert!(rt; second == 20 && next == 30 && last == 40 && first == 10);
+}
+
+/// The first packet's place.
+pub(crate) fn first_place(rt: &impl Abort, pool: &Pool, train: &Train) -> QueuedPlace
+    requires { IsHeld pool.now train.now }
+    ensures { IsQueuedPlace pool.now train.now result }
+{
+    train.first(pool).expect(rt, "the train has a chain")
 }
 
 #[test]
-fn keeps_its_order(rt: HostRuntime) -> Result<(), Fail> {
-    let mut pool = booted(rt.alloc(), 5, 0)?;
+fn keeps_its_order(rt: HostRuntime) {
+    let mut pool = booted(&rt, rt.alloc(), 5, 0);
     let mut train = Train::new();
-    assert!(rt; train.is_empty());
-    assert!(rt; train.first(&pool).is_none());
+    assert!(rt; train.is_empty() && train.first(&pool).is_none());
     put_four(&rt, &mut pool, &mut train);
-    assert_eq!(rt; train.len(), 4);
+    assert!(rt; train.len() == 4);
     must_walk(&rt, &pool, &train, [10, 20, 30, 40]);
     must_drop(&rt, &mut pool, &mut train);
-    assert_eq!(rt; put_new(&mut pool, &mut train, 1, 50), Ok(()));
-    let after = (train.tag(&pool, 1), train.chain_len(&pool, 1));
-    assert_eq!(rt; after, (50, 0));
+    put_new(&mut pool, &mut train, 1, 50).expect(&rt, "an mbuf is free");
+    assert!(rt; train.tag(&pool, 1) == 50);
+    assert!(rt; train.chain_len(&pool, 1) == 0);
     train.free(&mut pool);
-    assert_eq!(rt; pool.free_mbufs(), 5);
-    Ok(())
+    assert!(rt; pool.free_mbufs() == 5);
 }
 
 #[test]
-fn goes_on_at_a_place(rt: HostRuntime) -> Result<(), Fail> {
-    let mut pool = booted(rt.alloc(), 3, 0)?;
+fn goes_on_at_a_place(rt: HostRuntime) {
+    let mut pool = booted(&rt, rt.alloc(), 3, 0);
     let mut train = Train::new();
-    assert_eq!(rt; put_new(&mut pool, &mut train, 0, 10), Ok(()));
-    let Some(at) = train.first(&pool) else {
-        panic!(rt; "the train has no chain");
-    };
-    let Ok(to) = put_after(&mut pool, &mut train, at, 30) else {
-        panic!(rt; "an mbuf is free");
-    };
-    assert_eq!(rt; train.tag_at(&pool, to), 30);
+    put_new(&mut pool, &mut train, 0, 10).expect(&rt, "an mbuf is free");
+    let at = first_place(&rt, &pool, &train);
+    let to = put_after(&mut pool, &mut train, at, 30).expect(&rt, "an mbuf is free");
+    assert!(rt; train.tag_at(&pool, to) == 30);
     assert!(rt; put_after(&mut pool, &mut train, at, 20).is_ok());
-    assert_eq!(rt; put_after(&mut pool, &mut train, at, 25), Err(NoBufs));
+    assert!(rt; put_after(&mut pool, &mut train, at, 25).is_err());
     assert!(rt; at.index + 1 < train.len());
-    assert_eq!(rt; drop_after(&mut pool, &mut train, at), 20);
+    assert!(rt; drop_after(&mut pool, &mut train, at) == 20);
     assert!(rt; train.len() == 2);
-    assert_eq!(rt; train.tag(&pool, 1), 30);
+    assert!(rt; train.tag(&pool, 1) == 30);
     train.free(&mut pool);
-    assert_eq!(rt; pool.free_mbufs(), 3);
-    Ok(())
+    assert!(rt; pool.free_mbufs() == 3);
 }
 
 #[test]
-fn takes_no_buffer(rt: HostRuntime) -> Result<(), Fail> {
-    let mut pool = booted(rt.alloc(), 2, 0)?;
+fn takes_no_buffer(rt: HostRuntime) {
+    let mut pool = booted(&rt, rt.alloc(), 2, 0);
     let mut train = Train::new();
-    assert_eq!(rt; put_new(&mut pool, &mut train, 0, 1), Ok(()));
-    assert_eq!(rt; put_new(&mut pool, &mut train, 0, 2), Ok(()));
-    assert_eq!(rt; put_new(&mut pool, &mut train, 0, 3), Err(NoBufs));
-    assert_eq!(rt; train.len(), 2);
-    assert_eq!(rt; drop_at(&mut pool, &mut train, 1), 1);
-    assert_eq!(rt; put_new(&mut pool, &mut train, 1, 4), Ok(()));
+    assert!(rt; put_new(&mut pool, &mut train, 0, 1).is_ok());
+    assert!(rt; put_new(&mut pool, &mut train, 0, 2).is_ok());
+    assert!(rt; put_new(&mut pool, &mut train, 0, 3).is_err());
+    assert!(rt; train.len() == 2);
+    assert!(rt; drop_at(&mut pool, &mut train, 1) == 1);
+    assert!(rt; put_new(&mut pool, &mut train, 1, 4).is_ok());
     train.free(&mut pool);
-    assert_eq!(rt; pool.free_mbufs(), 2);
-    Ok(())
+    assert!(rt; pool.free_mbufs() == 2);
 }

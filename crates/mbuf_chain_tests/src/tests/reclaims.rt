@@ -8,7 +8,6 @@ use super::order::put_new;
 use super::steps::booted;
 use mbuf_chain::{Chain, Pool, Reclaim, Train};
 use mbuf_pool::NoBufs;
-use std::test::Fail;
 
 /// A new chain. Where no mbuf is free, `waiting` gives back all that it has, and the chain is asked for once
 /// more. Also answers how many datagrams were given back.
@@ -33,20 +32,16 @@ fn new_chain<R: Reclaim>(pool: &mut Pool, waiting: &mut R) -> (Result<Chain, NoB
 }
 
 #[test]
-fn gives_back_where_a_buffer_is_wanted(rt: HostRuntime) -> Result<(), Fail> {
-    let mut pool = booted(rt.alloc(), 2, 0)?;
+fn gives_back_where_a_buffer_is_wanted(rt: HostRuntime) {
+    let mut pool = booted(&rt, rt.alloc(), 2, 0);
     let mut waiting = Train::new();
-    assert_eq!(rt; put_new(&mut pool, &mut waiting, 0, 1), Ok(()));
-    assert_eq!(rt; put_new(&mut pool, &mut waiting, 1, 2), Ok(()));
+    put_new(&mut pool, &mut waiting, 0, 1).expect(&rt, "an mbuf is free");
+    put_new(&mut pool, &mut waiting, 1, 2).expect(&rt, "an mbuf is free");
     let (made, datagrams) = new_chain(&mut pool, &mut waiting);
-    assert_eq!(rt; datagrams, 2);
-    assert!(rt; waiting.is_empty());
-    assert_eq!(rt; pool.free_mbufs(), 1);
-    match made {
-        Ok(chain) => pool.free_chain(chain),
-        Err(NoBufs) => panic!(rt; "no mbuf is free"),
-    }
+    assert!(rt; datagrams == 2 && waiting.is_empty());
+    assert!(rt; pool.free_mbufs() == 1);
+    let chain = made.expect(&rt, "an mbuf is free");
+    pool.free_chain(chain);
     waiting.free(&mut pool);
-    assert_eq!(rt; pool.free_mbufs(), 2);
-    Ok(())
+    assert!(rt; pool.free_mbufs() == 2);
 }

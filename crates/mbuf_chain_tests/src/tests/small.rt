@@ -2,11 +2,10 @@
 ghost use Rattle.std.specs.Prelude.{ℕ};
 ghost use Rattle.mbuf_chain.specs.Chain.{IsLive};
 
-use super::steps::{booted, put_back, put_front};
-use mbuf_chain::Pool;
+use super::steps::{booted, has_bytes, has_room, is_free, put_back, put_front};
+use mbuf_chain::{Chain, Pool};
 use mbuf_pool::NoBufs;
 use params::MBUF_HEADER;
-use std::test::Fail;
 
 /// Whether no mbuf is to be had.
 #[tactic(auto, using(mbuf_chain::proofs::Laws::Maps::map_steps))]
@@ -36,63 +35,55 @@ fn lacks_cluster(pool: &mut Pool) -> bool
     }
 }
 
+/// Whether a chain is of one mbuf without bytes.
+fn is_empty(pool: &Pool, chain: &Chain) -> bool
+    requires { IsLive pool.now chain.now }
+{
+    pool.len(chain) == 0 && pool.mbufs(chain) == 1
+}
+
 #[test]
 #[tactic(auto, using(mbuf_chain::proofs::Laws::Maps::map_steps))]
-fn one_mbuf(rt: HostRuntime) -> Result<(), Fail> {
-    let mut pool = booted(rt.alloc(), 1, 0)?;
-    assert_eq!(rt; (pool.free_mbufs(), pool.free_clusters()), (1, 0));
+fn one_mbuf(rt: HostRuntime) {
+    let mut pool = booted(&rt, rt.alloc(), 1, 0);
+    assert!(rt; is_free(&pool, 1, 0));
     assert!(rt; lacks_cluster(&mut pool));
     let chain = pool.new_chain().expect(&rt, "the mbuf is free");
-    assert_eq!(rt; pool.free_mbufs(), 0);
-    assert_eq!(rt; (pool.len(&chain), pool.mbufs(&chain)), (0, 1));
+    assert!(rt; is_free(&pool, 0, 0));
+    assert!(rt; is_empty(&pool, &chain));
     assert!(rt; pool.has_header(&chain));
     assert!(rt; lacks_mbuf(&mut pool));
     pool.lose_header(&chain);
     assert!(rt; !pool.has_header(&chain));
     pool.free_chain(chain);
-    assert_eq!(rt; pool.free_mbufs(), 1);
+    assert!(rt; is_free(&pool, 1, 0));
     assert!(rt; !lacks_mbuf(&mut pool));
-    Ok(())
 }
 
 #[test]
 #[tactic(auto, using(mbuf_chain::proofs::Laws::Maps::map_steps))]
-fn room_of_an_mbuf(rt: HostRuntime) -> Result<(), Fail> {
-    let mut pool = booted(rt.alloc(), 1, 0)?;
+fn room_of_an_mbuf(rt: HostRuntime) {
+    let mut pool = booted(&rt, rt.alloc(), 1, 0);
     let chain = pool.new_plain(false, 60).expect(&rt, "the mbuf is free");
     let at = pool.first(&chain);
-    let rooms = (
-        pool.leading_space(&chain, at),
-        pool.trailing_space(&chain, at),
-    );
-    assert_eq!(rt; rooms, (40, 68));
+    assert!(rt; has_room(&pool, &chain, at, 40, 68));
     put_back(&rt, &mut pool, &chain, at, b"gram");
     put_front(&rt, &mut pool, &chain, at, b"data");
-    assert_eq!(rt; pool.bytes(&chain, at), b"datagram".as_slice());
-    let rooms = (
-        pool.leading_space(&chain, at),
-        pool.trailing_space(&chain, at),
-    );
-    assert_eq!(rt; rooms, (36, 64));
+    assert!(rt; has_bytes(&pool, &chain, at, b"datagram"));
+    assert!(rt; has_room(&pool, &chain, at, 36, 64));
     pool.free_chain(chain);
-    Ok(())
 }
 
 #[test]
 #[tactic(auto, using(mbuf_chain::proofs::Laws::Maps::map_steps))]
-fn bytes_of_a_new_mbuf(rt: HostRuntime) -> Result<(), Fail> {
-    let mut pool = booted(rt.alloc(), 1, 0)?;
+fn bytes_of_a_new_mbuf(rt: HostRuntime) {
+    let mut pool = booted(&rt, rt.alloc(), 1, 0);
     let chain = pool
         .new_plain_with(true, 32, b"datagram")
         .expect(&rt, "the mbuf is free");
-    assert_eq!(rt; pool.len(&chain), 8);
+    assert!(rt; pool.len(&chain) == 8);
     let at = pool.first(&chain);
-    assert_eq!(rt; pool.bytes(&chain, at), b"datagram".as_slice());
-    let rooms = (
-        pool.leading_space(&chain, at),
-        pool.trailing_space(&chain, at),
-    );
-    assert_eq!(rt; rooms, (4, 88));
+    assert!(rt; has_bytes(&pool, &chain, at, b"datagram"));
+    assert!(rt; has_room(&pool, &chain, at, 4, 88));
     pool.free_chain(chain);
-    Ok(())
 }

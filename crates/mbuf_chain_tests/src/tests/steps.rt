@@ -1,19 +1,39 @@
 //! Steps that check their own conditions, for the tests.
-ghost use Rattle.std.specs.Prelude.{◌≡◌, ◌≢◌, ℕ, IfOk};
+ghost use Rattle.std.specs.Prelude.{◌≡◌, ◌≢◌, ℕ};
 ghost use Rattle.mbuf_chain.specs.Chain.{IsLive, IsPlace, IsUnshared, chain_of, entry_of};
 
 use mbuf_chain::{Chain, Place, Pool};
-use mbuf_pool::{BootFault, Sizes, Store};
+use mbuf_pool::{Sizes, Store};
 use params::{MCLBYTES, MSIZE};
 use std::alloc::{AllocError, Global};
 use std::process::Abort;
 
 /// A pool of which all is free.
-pub(super) fn booted(alloc: Global, mbufs: u32, clusters: u32) -> Result<Pool, BootFault>
-    ensures { IfOk result (λ p. (p.mbufs ≡ mbufs) × (p.clusters ≡ clusters)) }
+pub(super) fn booted(rt: &impl Abort, alloc: Global, mbufs: u32, clusters: u32) -> Pool
+    ensures { (result.mbufs ≡ mbufs) × (result.clusters ≡ clusters) }
 {
-    let store = Store::boot(alloc, Sizes { mbufs, clusters })?;
-    Ok(Pool::over(store))
+    Pool::over(Store::boot(alloc, Sizes { mbufs, clusters }).expect(rt, "memory for a pool"))
+}
+
+/// Whether so many mbufs and clusters are free.
+pub(super) fn is_free(pool: &Pool, mbufs: u32, clusters: u32) -> bool {
+    pool.free_mbufs() == mbufs && pool.free_clusters() == clusters
+}
+
+/// Whether an mbuf shows these bytes.
+pub(super) fn has_bytes(pool: &Pool, chain: &Chain, at: Place, bytes: &[u8]) -> bool
+    requires live { IsLive pool.now chain.now }
+    requires place { IsPlace (chain_of pool.now chain.now) at }
+{
+    pool.bytes(chain, at) == bytes
+}
+
+/// Whether an mbuf has so much room in front of its bytes, and so much after them.
+pub(super) fn has_room(pool: &Pool, chain: &Chain, at: Place, front: u32, back: u32) -> bool
+    requires live { IsLive pool.now chain.now }
+    requires place { IsPlace (chain_of pool.now chain.now) at }
+{
+    pool.leading_space(chain, at) == front && pool.trailing_space(chain, at) == back
 }
 
 /// The place of a chain's mbuf after so many others.
