@@ -1,15 +1,15 @@
 //! The layouts of new chains at the borders of their rule, in pools that have just enough, and one buffer fewer.
-use super::steps::{booted, shows, user, wire};
+use super::steps::{booted, is_free, shows, user, wire};
 use chain_ops::{from_user, from_wire};
+use mbuf_pool::NoBufs;
 use std::alloc::Global;
 use std::process::Abort;
-use std::test::Fail;
 
 /// What is stored.
-const BYTES: [u8; 4200] = [0x61; 4200];
+static BYTES: [u8; 4200] = [0x61; 4200];
 
 /// Bytes to send: how many, and the mbufs (length, and 1 where it's a cluster).
-const SENT: [(usize, &[(u32, u32)]); 12] = [
+static SENT: [(usize, &[(u32, u32)]); 12] = [
     (0, &[(0, 0)]),
     (40, &[(40, 0)]),
     (100, &[(100, 0)]),
@@ -25,7 +25,7 @@ const SENT: [(usize, &[(u32, u32)]); 12] = [
 ];
 
 /// The same of a packet that arrived.
-const ARRIVED: [(usize, &[(u32, u32)]); 9] = [
+static ARRIVED: [(usize, &[(u32, u32)]); 9] = [
     (0, &[(0, 0)]),
     (100, &[(100, 0)]),
     (107, &[(100, 0), (7, 0)]),
@@ -48,57 +48,77 @@ fn clusters(rows: &[(u32, u32)]) -> u32 {
     count
 }
 
-/// One row of a table: with exactly as many buffers as it says, and with one mbuf fewer.
-fn sent(rt: &impl Abort, alloc: Global, n: usize, rows: &[(u32, u32)]) -> Result<(), Fail> {
+/// Whether so many bytes to send are laid out so where there are exactly as many buffers.
+fn is_sent(rt: &impl Abort, alloc: Global, n: usize, rows: &[(u32, u32)]) -> bool {
     assert!(rt; n <= BYTES.len() && rows.len() <= 8);
-    let count = rows.len() as u32;
-    let mut pool = booted(alloc, count, clusters(rows))?;
+    let mut pool = booted(rt, alloc, rows.len() as u32, clusters(rows));
     let chain = user(rt, &mut pool, &BYTES[..n]);
-    assert!(rt; shows(&pool, &chain, rows), "{n} bytes to send");
-    assert_eq!(rt; (pool.free_mbufs(), pool.free_clusters()), (0, 0));
+    let is_right = shows(&pool, &chain, rows) && is_free(&pool, 0, 0);
     pool.free_chain(chain);
-    if count > 1 {
-        let mut less = booted(alloc, count - 1, clusters(rows))?;
-        if let Ok(chain) = from_user(&mut less, &BYTES[..n]) {
-            less.free_chain(chain);
-            return Err(Fail::from("an mbuf was free"));
-        }
-        assert_eq!(rt; less.free_mbufs(), count - 1);
-    }
-    Ok(())
+    is_right
 }
 
-fn arrived(rt: &impl Abort, alloc: Global, n: usize, rows: &[(u32, u32)]) -> Result<(), Fail> {
+/// Whether they find no room where there is one mbuf fewer, if there still is one.
+fn is_refused(rt: &impl Abort, alloc: Global, n: usize, rows: &[(u32, u32)]) -> bool {
     assert!(rt; n <= BYTES.len() && rows.len() <= 8);
-    let count = rows.len() as u32;
-    let mut pool = booted(alloc, count, clusters(rows))?;
-    let chain = wire(rt, &mut pool, &BYTES[..n]);
-    assert!(rt; shows(&pool, &chain, rows), "{n} bytes that arrived");
-    assert_eq!(rt; (pool.free_mbufs(), pool.free_clusters()), (0, 0));
-    pool.free_chain(chain);
-    if count > 1 {
-        let mut less = booted(alloc, count - 1, clusters(rows))?;
-        if let Ok(chain) = from_wire(&mut less, &BYTES[..n]) {
-            less.free_chain(chain);
-            return Err(Fail::from("an mbuf was free"));
+    if rows.len() <= 1 {
+        return true;
+    }
+    let mbufs = rows.len() as u32 - 1;
+    let mut pool = booted(rt, alloc, mbufs, clusters(rows));
+    match from_user(&mut pool, &BYTES[..n]) {
+        Ok(chain) => {
+            pool.free_chain(chain);
+            false
         }
-        assert_eq!(rt; less.free_mbufs(), count - 1);
+        Err(NoBufs) => pool.free_mbufs() == mbufs,
     }
-    Ok(())
+}
+
+/// The same of a packet that arrived.
+fn is_stored(rt: &impl Abort, alloc: Global, n: usize, rows: &[(u32, u32)]) -> bool {
+    assert!(rt; n <= BYTES.len() && rows.len() <= 8);
+    let mut pool = booted(rt, alloc, rows.len() as u32, clusters(rows));
+    let chain = wire(rt, &mut pool, &BYTES[..n]);
+    let is_right = shows(&pool, &chain, rows) && is_free(&pool, 0, 0);
+    pool.free_chain(chain);
+    is_right
+}
+
+fn is_lost(rt: &impl Abort, alloc: Global, n: usize, rows: &[(u32, u32)]) -> bool {
+    assert!(rt; n <= BYTES.len() && rows.len() <= 8);
+    if rows.len() <= 1 {
+        return true;
+    }
+    let mbufs = rows.len() as u32 - 1;
+    let mut pool = booted(rt, alloc, mbufs, clusters(rows));
+    match from_wire(&mut pool, &BYTES[..n]) {
+        Ok(chain) => {
+            pool.free_chain(chain);
+            false
+        }
+        Err(NoBufs) => pool.free_mbufs() == mbufs,
+    }
 }
 
 #[test]
-fn layouts_to_send(rt: HostRuntime) -> Result<(), Fail> {
-    for (n, rows) in SENT {
-        sent(&rt, rt.alloc(), n, rows)?;
+fn layouts_to_send(rt: HostRuntime) {
+    for (n, rows) in SENT.iter() {
+        assert!(rt; is_sent(&rt, rt.alloc(), *n, rows), "{n} bytes");
+        assert!(rt;
+            is_refused(&rt, rt.alloc(), *n, rows),
+            "{n} bytes, one mbuf fewer"
+        );
     }
-    Ok(())
 }
 
 #[test]
-fn layouts_that_arrived(rt: HostRuntime) -> Result<(), Fail> {
-    for (n, rows) in ARRIVED {
-        arrived(&rt, rt.alloc(), n, rows)?;
+fn layouts_that_arrived(rt: HostRuntime) {
+    for (n, rows) in ARRIVED.iter() {
+        assert!(rt; is_stored(&rt, rt.alloc(), *n, rows), "{n} bytes");
+        assert!(rt;
+            is_lost(&rt, rt.alloc(), *n, rows),
+            "{n} bytes, one mbuf fewer"
+        );
     }
-    Ok(())
 }

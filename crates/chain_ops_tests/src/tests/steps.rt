@@ -7,15 +7,19 @@ use chain_ops::{
     m_copym, m_prepend, m_pullup, m_split,
 };
 use mbuf_chain::{Chain, Pool};
-use mbuf_pool::{BootFault, NoBufs, Sizes, Store};
+use mbuf_pool::{NoBufs, Sizes, Store};
 use params::IP_MAX_PACKET;
 use std::alloc::Global;
 use std::process::Abort;
 
 /// A pool of which all is free.
-pub(super) fn booted(alloc: Global, mbufs: u32, clusters: u32) -> Result<Pool, BootFault> {
-    let store = Store::boot(alloc, Sizes { mbufs, clusters })?;
-    Ok(Pool::over(store))
+pub(super) fn booted(rt: &impl Abort, alloc: Global, mbufs: u32, clusters: u32) -> Pool {
+    Pool::over(Store::boot(alloc, Sizes { mbufs, clusters }).expect(rt, "memory for a pool"))
+}
+
+/// Whether so many mbufs and clusters are free.
+pub(super) fn is_free(pool: &Pool, mbufs: u32, clusters: u32) -> bool {
+    pool.free_mbufs() == mbufs && pool.free_clusters() == clusters
 }
 
 /// Whether a chain has these mbufs: of each its length, and how often its cluster is counted, 0 for none.
