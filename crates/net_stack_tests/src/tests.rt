@@ -2,6 +2,7 @@
 mod broadcasts;
 mod fragments;
 mod questions;
+mod steps;
 mod traffic;
 mod two;
 mod wire;
@@ -10,7 +11,9 @@ use flat_model::{Addr, Config, Counter, Counters, Errno, Mbstat, Opt};
 use net_stack::{BootFault, Stack};
 use params::MAX_MTU;
 use std::alloc::Global;
-use std::test::Fail;
+use steps::Question::Counted;
+use steps::Step::{Asks, Bind, Close, Connect, Receive, Set, Socket, Ticks, Tx};
+use steps::{Step, booted, play};
 
 /// The host 10.0.0.1 of the network 10.0.0.0/24, with a small pool.
 const PLAIN: Config = Config {
@@ -28,18 +31,6 @@ const LARGE: Config = Config {
     clusters: 64,
     ..PLAIN
 };
-
-/// How much of a pool of 64 clusters is free, and how often its clusters are referred to.
-const fn free(free_mbufs: u32, mbufs: u32, free_clusters: u32, refs: u32, most: u32) -> Mbstat {
-    Mbstat {
-        free_mbufs,
-        mbufs,
-        free_clusters,
-        clusters: 64,
-        refs,
-        most,
-    }
-}
 
 /// These counters have counted so much, and the others nothing.
 fn counted(values: &[(Counter, u64)]) -> Counters {
@@ -74,52 +65,53 @@ fn refusal(alloc: Global, config: Config) -> Option<BootFault> {
     }
 }
 
+static BOOTS: [(Config, Option<BootFault>); 6] = [
+    (PLAIN, None),
+    (
+        Config {
+            mbufs: 1,
+            clusters: 0,
+            mtu: 68,
+            ..PLAIN
+        },
+        None,
+    ),
+    (
+        Config {
+            mbufs: 0,
+            mtu: 67,
+            ..PLAIN
+        },
+        Some(BootFault::BadSizes),
+    ),
+    (
+        Config {
+            clusters: 4097,
+            bcast: PLAIN.addr,
+            ..PLAIN
+        },
+        Some(BootFault::BadSizes),
+    ),
+    (Config { mtu: 67, ..PLAIN }, Some(BootFault::BadConfig)),
+    (
+        Config {
+            bcast: PLAIN.addr,
+            ..PLAIN
+        },
+        Some(BootFault::BadConfig),
+    ),
+];
+
 #[test]
 fn is_refused_for_its_sizes_first(rt: HostRuntime) {
-    let rows: [(Config, Option<BootFault>); 6] = [
-        (PLAIN, None),
-        (
-            Config {
-                mbufs: 1,
-                clusters: 0,
-                mtu: 68,
-                ..PLAIN
-            },
-            None,
-        ),
-        (
-            Config {
-                mbufs: 0,
-                mtu: 67,
-                ..PLAIN
-            },
-            Some(BootFault::BadSizes),
-        ),
-        (
-            Config {
-                clusters: 4097,
-                bcast: PLAIN.addr,
-                ..PLAIN
-            },
-            Some(BootFault::BadSizes),
-        ),
-        (Config { mtu: 67, ..PLAIN }, Some(BootFault::BadConfig)),
-        (
-            Config {
-                bcast: PLAIN.addr,
-                ..PLAIN
-            },
-            Some(BootFault::BadConfig),
-        ),
-    ];
-    for (config, outcome) in rows {
-        assert_eq!(rt; refusal(rt.alloc(), config), outcome);
+    for (row, (config, outcome)) in BOOTS.iter().enumerate() {
+        assert!(rt; refusal(rt.alloc(), *config) == *outcome, "row {row}");
     }
 }
 
 #[test]
-fn starts_and_ends_with_all_free(rt: HostRuntime) -> Result<(), Fail> {
-    let stack = Stack::boot(rt.alloc(), PLAIN)?;
+fn starts_and_ends_with_all_free(rt: HostRuntime) {
+    let stack = booted(&rt, rt.alloc(), PLAIN);
     let free = Mbstat {
         free_mbufs: 16,
         mbufs: 16,
@@ -128,45 +120,49 @@ fn starts_and_ends_with_all_free(rt: HostRuntime) -> Result<(), Fail> {
         refs: 0,
         most: 0,
     };
-    assert_eq!(rt; stack.mbstat(), free);
-    assert_eq!(rt; stack.counters(), Counters::none());
+    assert!(rt; stack.mbstat() == free);
+    assert!(rt; stack.counters() == Counters::none());
     let pool = stack.end();
-    assert_eq!(rt; (pool.free_mbufs(), pool.free_clusters()), (16, 4));
-    Ok(())
+    assert!(rt; pool.free_mbufs() == 16 && pool.free_clusters() == 4);
 }
 
-#[test]
-fn opens_binds_connects_and_closes(rt: HostRuntime) -> Result<(), Fail> {
-    let mut stack = Stack::boot(rt.alloc(), PLAIN)?;
-    let echo = Addr { ip: ANY, port: 7 };
-    let near = Addr { ip: NEAR, port: 9 };
-    assert_eq!(rt; stack.bind(3, echo), Err(Errno::BadDescriptor));
-    assert_eq!(rt; (stack.socket(), stack.socket()), (Ok(3), Ok(4)));
-    assert_eq!(rt; stack.bind(3, echo), Ok(()));
-    assert_eq!(rt; stack.bind(4, echo), Err(Errno::AddressInUse));
-    assert_eq!(rt; stack.setsockopt(4, Opt::Broadcast, true), Ok(()));
-    assert_eq!(rt; stack.connect(4, near), Ok(()));
-    assert_eq!(rt;
-        stack.connect(4, Addr { port: 0, ..near }),
-        Err(Errno::AddressNotAvailable)
-    );
-    assert_eq!(rt; stack.close(3), Ok(()));
-    assert_eq!(rt; stack.close(3), Err(Errno::BadDescriptor));
-    assert_eq!(rt; stack.socket(), Ok(3));
-    let _ = stack.end();
-    Ok(())
-}
+const ECHO: Addr = Addr { ip: ANY, port: 7 };
+
+const DISCARD: Addr = Addr { ip: NEAR, port: 9 };
+
+static PLAIN_CALLS: [Step; 11] = [
+    Bind(3, ECHO, Err(Errno::BadDescriptor)),
+    Socket(Ok(3)),
+    Socket(Ok(4)),
+    Bind(3, ECHO, Ok(())),
+    Bind(4, ECHO, Err(Errno::AddressInUse)),
+    Set(4, Opt::Broadcast, true, Ok(())),
+    Connect(4, DISCARD, Ok(())),
+    Connect(
+        4,
+        Addr { port: 0, ..DISCARD },
+        Err(Errno::AddressNotAvailable),
+    ),
+    Close(3, Ok(())),
+    Close(3, Err(Errno::BadDescriptor)),
+    Socket(Ok(3)),
+];
 
 #[test]
-fn has_nothing_to_give_at_first(rt: HostRuntime) -> Result<(), Fail> {
-    let mut stack = Stack::boot(rt.alloc(), PLAIN)?;
-    let mut room = [0; 4352];
-    assert_eq!(rt; stack.recvfrom(3, &mut room), Err(Errno::BadDescriptor));
-    assert_eq!(rt; stack.socket(), Ok(3));
-    assert_eq!(rt; stack.recvfrom(3, &mut room), Err(Errno::WouldBlock));
-    assert_eq!(rt; transmit(&mut stack, &mut room), None);
-    stack.tick();
-    assert_eq!(rt; stack.counters(), Counters::none());
-    let _ = stack.end();
-    Ok(())
+fn opens_binds_connects_and_closes(rt: HostRuntime) {
+    play(&rt, rt.alloc(), PLAIN, &PLAIN_CALLS);
+}
+
+static NOTHING: [Step; 6] = [
+    Receive(3, 4352, Err(Errno::BadDescriptor)),
+    Socket(Ok(3)),
+    Receive(3, 4352, Err(Errno::WouldBlock)),
+    Tx(None),
+    Ticks(1),
+    Asks(Counted(&[])),
+];
+
+#[test]
+fn has_nothing_to_give_at_first(rt: HostRuntime) {
+    play(&rt, rt.alloc(), PLAIN, &NOTHING);
 }

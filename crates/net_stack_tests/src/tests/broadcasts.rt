@@ -1,10 +1,10 @@
 //! Broadcasts: sent both ways, heard by two sockets that share a port, and lost for want of buffers. Packets and counts were
 //! worked out by hand.
-use crate::tests::{LARGE, NEAR, PLAIN, counted, free, transmit};
-use flat_model::{Addr, Config, Counter, Counters, Errno, Lack, Opt};
-use net_stack::Stack;
-use std::alloc::Global;
-use std::test::Fail;
+use super::steps::Question::{Counted, Free};
+use super::steps::Step::{Asks, Bind, Receive, Rx, Send, Set, Socket, Tx};
+use super::steps::{Step, play};
+use super::{LARGE, NEAR, PLAIN};
+use flat_model::{Addr, Config, Counter, Errno, Lack, Opt};
 
 /// Port 7 of any address, of 10.0.0.255, and of 10.0.0.1.
 const ANY: Addr = Addr { ip: 0, port: 7 };
@@ -36,88 +36,81 @@ const TO_ALL: [u8; 30] = [
     0x0a, 0x00, 0x00, 0xff, 0x13, 0x88, 0x00, 0x07, 0x00, 0x0a, 0x00, 0x00, 0x68, 0x69,
 ];
 
-#[test]
-fn sends_a_broadcast_both_ways(rt: HostRuntime) -> Result<(), Fail> {
-    let mut stack = Stack::boot(rt.alloc(), LARGE)?;
-    assert_eq!(rt; stack.socket(), Ok(3));
-    assert_eq!(rt; stack.bind(3, ANY), Ok(()));
-    assert_eq!(rt;
-        stack.sendto(3, Some(ALL), &[0x61; 300]),
-        Err(Errno::Access)
-    );
-    assert_eq!(rt; stack.setsockopt(3, Opt::Broadcast, true), Ok(()));
-    assert_eq!(rt; stack.sendto(3, Some(ALL), &[0x61; 300]), Ok(300));
-    assert_eq!(rt; stack.mbstat(), free(507, 512, 63, 2, 2));
-    let mut room = [0; 4352];
-    assert_eq!(rt; stack.recvfrom(3, &mut room), Ok((HERE, 300)));
-    assert_eq!(rt; transmit(&mut stack, &mut room), Some(328));
-    assert_eq!(rt; stack.mbstat(), free(512, 512, 64, 0, 0));
-    assert_eq!(rt;
-        stack.sendto(3, Some(ALL), &[0x61; 1473]),
-        Err(Errno::MessageSize)
-    );
-    assert_eq!(rt; stack.sendto(3, Some(ALL), &[0x61; 1472]), Ok(1472));
-    let _ = stack.end();
-    Ok(())
-}
+/// What is sent to all.
+const SENT: [u8; 300] = [0x61; 300];
+
+static BOTH_WAYS: [Step; 11] = [
+    Socket(Ok(3)),
+    Bind(3, ANY, Ok(())),
+    Send(3, Some(ALL), &SENT, Err(Errno::Access)),
+    Set(3, Opt::Broadcast, true, Ok(())),
+    Send(3, Some(ALL), &SENT, Ok(300)),
+    Asks(Free(507, 512, 63, 2, 2)),
+    Receive(3, 4352, Ok((HERE, &SENT))),
+    Tx(Some(328)),
+    Asks(Free(512, 512, 64, 0, 0)),
+    Send(3, Some(ALL), &[0x61; 1473], Err(Errno::MessageSize)),
+    Send(3, Some(ALL), &[0x61; 1472], Ok(1472)),
+];
 
 #[test]
-fn gives_a_broadcast_to_all_who_share_the_port(rt: HostRuntime) -> Result<(), Fail> {
-    let mut stack = Stack::boot(rt.alloc(), LARGE)?;
-    let mut room = [0; 9];
-    assert_eq!(rt; (stack.socket(), stack.socket()), (Ok(3), Ok(4)));
-    assert_eq!(rt; stack.setsockopt(3, Opt::ReusePort, true), Ok(()));
-    assert_eq!(rt; stack.bind(3, ANY), Ok(()));
-    assert_eq!(rt; stack.bind(4, ANY), Err(Errno::AddressInUse));
-    assert_eq!(rt; stack.setsockopt(4, Opt::ReusePort, true), Ok(()));
-    assert_eq!(rt; stack.bind(4, ANY), Ok(()));
-    stack.rx(&TO_ALL);
-    assert_eq!(rt; stack.mbstat(), free(508, 512, 64, 0, 0));
-    assert_eq!(rt; stack.recvfrom(3, &mut room), Ok((PEER, 2)));
-    assert_eq!(rt; stack.recvfrom(4, &mut room), Ok((PEER, 2)));
-    stack.rx(&TO_ONE);
-    assert_eq!(rt; stack.recvfrom(3, &mut room), Err(Errno::WouldBlock));
-    assert_eq!(rt; stack.recvfrom(4, &mut room), Ok((PEER, 2)));
-    assert_eq!(rt; stack.setsockopt(4, Opt::ReusePort, false), Ok(()));
-    stack.rx(&TO_ALL);
-    assert_eq!(rt; stack.recvfrom(3, &mut room), Err(Errno::WouldBlock));
-    assert_eq!(rt; stack.recvfrom(4, &mut room), Ok((PEER, 2)));
-    let _ = stack.end();
-    Ok(())
+fn sends_a_broadcast_both_ways(rt: HostRuntime) {
+    play(&rt, rt.alloc(), LARGE, &BOTH_WAYS);
 }
 
-/// A stack of so many mbufs, whose socket 3 may send broadcasts.
-fn with_mbufs(alloc: Global, mbufs: u32) -> Result<Stack, Fail> {
-    let mut stack = Stack::boot(alloc, Config { mbufs, ..PLAIN })?;
-    let _ = stack.socket();
-    let _ = stack.bind(3, ANY);
-    let _ = stack.setsockopt(3, Opt::Broadcast, true);
-    Ok(stack)
-}
+static SHARED: [Step; 18] = [
+    Socket(Ok(3)),
+    Socket(Ok(4)),
+    Set(3, Opt::ReusePort, true, Ok(())),
+    Bind(3, ANY, Ok(())),
+    Bind(4, ANY, Err(Errno::AddressInUse)),
+    Set(4, Opt::ReusePort, true, Ok(())),
+    Bind(4, ANY, Ok(())),
+    Rx(&TO_ALL),
+    Asks(Free(508, 512, 64, 0, 0)),
+    Receive(3, 9, Ok((PEER, b"hi"))),
+    Receive(4, 9, Ok((PEER, b"hi"))),
+    Rx(&TO_ONE),
+    Receive(3, 9, Err(Errno::WouldBlock)),
+    Receive(4, 9, Ok((PEER, b"hi"))),
+    Set(4, Opt::ReusePort, false, Ok(())),
+    Rx(&TO_ALL),
+    Receive(3, 9, Err(Errno::WouldBlock)),
+    Receive(4, 9, Ok((PEER, b"hi"))),
+];
 
 #[test]
-fn lacks_an_mbuf_for_the_copy_of_a_broadcast(rt: HostRuntime) -> Result<(), Fail> {
-    let mut stack = with_mbufs(rt.alloc(), 3)?;
-    assert_eq!(rt;
-        stack.sendto(3, Some(ALL), &[0x61; 300]),
-        Err(Errno::NoBufs(Lack::Pool))
-    );
-    assert_eq!(rt; stack.counters(), Counters::none());
-    let _ = stack.end();
-    Ok(())
+fn gives_a_broadcast_to_all_who_share_the_port(rt: HostRuntime) {
+    play(&rt, rt.alloc(), LARGE, &SHARED);
 }
 
+static NO_COPY: [Step; 5] = [
+    Socket(Ok(3)),
+    Bind(3, ANY, Ok(())),
+    Set(3, Opt::Broadcast, true, Ok(())),
+    Send(3, Some(ALL), &SENT, Err(Errno::NoBufs(Lack::Pool))),
+    Asks(Counted(&[])),
+];
+
 #[test]
-fn loses_the_copy_of_a_broadcast_without_an_address_mbuf(rt: HostRuntime) -> Result<(), Fail> {
-    let mut stack = with_mbufs(rt.alloc(), 4)?;
-    assert_eq!(rt; stack.sendto(3, Some(ALL), &[0x61; 300]), Ok(300));
-    assert_eq!(rt; stack.recvfrom(3, &mut [0; 9]), Err(Errno::WouldBlock));
-    let counters = counted(&[
+fn lacks_an_mbuf_for_the_copy_of_a_broadcast(rt: HostRuntime) {
+    play(&rt, rt.alloc(), Config { mbufs: 3, ..PLAIN }, &NO_COPY);
+}
+
+static NO_ADDRESS: [Step; 6] = [
+    Socket(Ok(3)),
+    Bind(3, ANY, Ok(())),
+    Set(3, Opt::Broadcast, true, Ok(())),
+    Send(3, Some(ALL), &SENT, Ok(300)),
+    Receive(3, 9, Err(Errno::WouldBlock)),
+    Asks(Counted(&[
         (Counter::IpTotal, 1),
         (Counter::IpLocalout, 1),
         (Counter::Nobufs, 1),
-    ]);
-    assert_eq!(rt; stack.counters(), counters);
-    let _ = stack.end();
-    Ok(())
+    ])),
+];
+
+#[test]
+fn loses_the_copy_of_a_broadcast_without_an_address_mbuf(rt: HostRuntime) {
+    play(&rt, rt.alloc(), Config { mbufs: 4, ..PLAIN }, &NO_ADDRESS);
 }

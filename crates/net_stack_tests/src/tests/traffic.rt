@@ -1,8 +1,9 @@
 //! Packets from the wire and to it, and a machine that hears itself. The bytes of packets were worked out apart from this code.
-use crate::tests::{PLAIN, transmit};
+use super::PLAIN;
+use super::steps::Question::{FreeMbufs, Value};
+use super::steps::Step::{Asks, Bind, Packet, Receive, Rx, Send, Socket, Tx};
+use super::steps::{Step, play};
 use flat_model::{Addr, Config, Counter, Errno, Lack};
-use net_stack::Stack;
-use std::test::Fail;
 
 /// 10.0.0.2 port 5000.
 const PEER: Addr = Addr {
@@ -38,74 +39,60 @@ const TO_ECHO: [u8; 30] = [
 /// More bytes than the small pool has room for.
 const LONG: [u8; 9216] = [0; 9216];
 
-#[test]
-fn receives_what_comes(rt: HostRuntime) -> Result<(), Fail> {
-    let mut stack = Stack::boot(rt.alloc(), PLAIN)?;
-    let mut room = [0; 9];
-    assert_eq!(rt; stack.socket(), Ok(3));
-    assert_eq!(rt; stack.bind(3, ANY), Ok(()));
-    stack.rx(&FROM_PEER);
-    assert_eq!(rt; stack.recvfrom(3, &mut room), Ok((PEER, 2)));
-    assert_eq!(rt; (room[0], room[1]), (b'h', b'i'));
-    assert_eq!(rt; stack.recvfrom(3, &mut room), Err(Errno::WouldBlock));
-    let counters = stack.counters();
-    assert_eq!(rt;
-        (
-            counters.value(Counter::IpTotal),
-            counters.value(Counter::IpFragments)
-        ),
-        (1, 0)
-    );
-    let pool = stack.end();
-    assert_eq!(rt; pool.free_mbufs(), 16);
-    Ok(())
-}
+static RECEIVES: [Step; 7] = [
+    Socket(Ok(3)),
+    Bind(3, ANY, Ok(())),
+    Rx(&FROM_PEER),
+    Receive(3, 9, Ok((PEER, b"hi"))),
+    Receive(3, 9, Err(Errno::WouldBlock)),
+    Asks(Value(Counter::IpTotal, 1)),
+    Asks(Value(Counter::IpFragments, 0)),
+];
 
 #[test]
-fn sends_what_is_to_go(rt: HostRuntime) -> Result<(), Fail> {
-    let mut stack = Stack::boot(rt.alloc(), PLAIN)?;
-    let mut room = [0; 4352];
-    assert_eq!(rt; stack.socket(), Ok(3));
-    assert_eq!(rt; stack.sendto(3, Some(ECHO), b"hi"), Ok(2));
-    assert_eq!(rt; transmit(&mut stack, &mut room), Some(30));
-    assert!(rt; room[..30] == TO_ECHO[..]);
-    assert_eq!(rt; transmit(&mut stack, &mut room), None);
-    let _ = stack.end();
-    Ok(())
+fn receives_what_comes(rt: HostRuntime) {
+    play(&rt, rt.alloc(), PLAIN, &RECEIVES);
 }
 
-#[test]
-fn hears_itself(rt: HostRuntime) -> Result<(), Fail> {
-    let mut stack = Stack::boot(rt.alloc(), PLAIN)?;
-    let mut room = [0; 4352];
-    assert_eq!(rt; stack.socket(), Ok(3));
-    assert_eq!(rt; stack.bind(3, ANY), Ok(()));
-    assert_eq!(rt; stack.sendto(3, Some(SELF), b"hi"), Ok(2));
-    assert_eq!(rt; transmit(&mut stack, &mut room), None);
-    assert_eq!(rt; stack.recvfrom(3, &mut room), Ok((SELF, 2)));
-    assert_eq!(rt; (room[0], room[1]), (b'h', b'i'));
-    assert_eq!(rt; stack.mbstat().free_mbufs, 16);
-    let _ = stack.end();
-    Ok(())
-}
+static SENDS: [Step; 4] = [
+    Socket(Ok(3)),
+    Send(3, Some(ECHO), b"hi", Ok(2)),
+    Packet(&TO_ECHO),
+    Tx(None),
+];
 
 #[test]
-fn lacks_buffers_for_a_long_one(rt: HostRuntime) -> Result<(), Fail> {
-    let mut stack = Stack::boot(
-        rt.alloc(),
-        Config {
-            mbufs: 21,
-            clusters: 5,
-            ..PLAIN
-        },
-    )?;
-    assert_eq!(rt; stack.socket(), Ok(3));
-    assert_eq!(rt;
-        stack.sendto(3, Some(ECHO), &LONG),
-        Err(Errno::NoBufs(Lack::Pool))
-    );
-    assert_eq!(rt; (stack.mbstat().free_mbufs, stack.mbstat().refs), (21, 0));
-    assert_eq!(rt; stack.sendto(3, Some(ECHO), b"0123456789"), Ok(10));
-    let _ = stack.end();
-    Ok(())
+fn sends_what_is_to_go(rt: HostRuntime) {
+    play(&rt, rt.alloc(), PLAIN, &SENDS);
+}
+
+static ITSELF: [Step; 6] = [
+    Socket(Ok(3)),
+    Bind(3, ANY, Ok(())),
+    Send(3, Some(SELF), b"hi", Ok(2)),
+    Tx(None),
+    Receive(3, 4352, Ok((SELF, b"hi"))),
+    Asks(FreeMbufs(16, 0)),
+];
+
+#[test]
+fn hears_itself(rt: HostRuntime) {
+    play(&rt, rt.alloc(), PLAIN, &ITSELF);
+}
+
+static TOO_LONG: [Step; 4] = [
+    Socket(Ok(3)),
+    Send(3, Some(ECHO), &LONG, Err(Errno::NoBufs(Lack::Pool))),
+    Asks(FreeMbufs(21, 0)),
+    Send(3, Some(ECHO), b"0123456789", Ok(10)),
+];
+
+#[test]
+fn lacks_buffers_for_a_long_one(rt: HostRuntime) {
+    let config = Config {
+        mbufs: 21,
+        clusters: 5,
+        ..PLAIN
+    };
+    play(&rt, rt.alloc(), config, &TOO_LONG);
 }

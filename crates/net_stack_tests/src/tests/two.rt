@@ -1,9 +1,11 @@
 //! Two machines on one wire, which turns the packets' order round and doubles them.
-use crate::tests::{LARGE, NEAR, counted, free, transmit};
-use flat_model::{Addr, Config, Counter, Counters, Errno};
+use super::steps::Question::{Counted, Free};
+use super::steps::Step::{Asks, Bind, Receive, Socket, Ticks, Tx};
+use super::steps::{Step, booted, make};
+use super::{LARGE, NEAR, transmit};
+use flat_model::{Addr, Config, Counter, Errno};
 use net_stack::Stack;
 use std::process::Abort;
-use std::test::Fail;
 
 /// The datagram's bytes, and how many packets they make.
 const BYTES: usize = 9216;
@@ -41,52 +43,60 @@ fn carry_last_first(rt: &impl Abort, from: &mut Stack, to: &mut Stack) {
     }
 }
 
-/// What the hearer counts, of which so many datagrams timed out.
-fn heard(timeouts: u64) -> Counters {
-    counted(&[
-        (Counter::IpTotal, 14),
-        (Counter::IpFragments, 14),
-        (Counter::IpFragdropped, 6),
-        (Counter::IpFragtimeout, timeouts),
-        (Counter::IpReassembled, 1),
-    ])
+/// Sends the bytes to port 7 of the other machine.
+fn sends(sender: &mut Stack) -> bool {
+    let to = Addr { ip: NEAR, port: 7 };
+    sender.socket() == Ok(3) && sender.sendto(3, Some(to), &pattern()) == Ok(BYTES)
 }
 
-#[test]
-fn hears_packets_that_come_twice_and_last_first(rt: HostRuntime) -> Result<(), Fail> {
-    let mut hearer = Stack::boot(
-        rt.alloc(),
-        Config {
-            addr: NEAR,
-            ..LARGE
-        },
-    )?;
-    assert_eq!(rt; hearer.socket(), Ok(3));
-    assert_eq!(rt; hearer.bind(3, Addr { ip: 0, port: 7 }), Ok(()));
-    let Ok(mut sender) = Stack::boot(rt.alloc(), LARGE) else {
-        panic!(rt; "no memory")
-    };
-    let to = Addr { ip: NEAR, port: 7 };
-    assert_eq!(rt; sender.socket(), Ok(3));
-    assert_eq!(rt; sender.sendto(3, Some(to), &pattern()), Ok(BYTES));
-    carry_last_first(&rt, &mut sender, &mut hearer);
-    assert_eq!(rt; transmit(&mut sender, &mut [0; LONGEST]), None);
-    let _ = sender.end();
+/// Whether the bytes come from port 1024 of the first machine.
+fn receives(hearer: &mut Stack) -> bool {
     let mut room = [0; BYTES];
     let from = Addr {
         ip: LARGE.addr,
         port: 1024,
     };
-    assert_eq!(rt; hearer.recvfrom(3, &mut room), Ok((from, BYTES)));
-    assert!(rt; room == pattern());
-    assert_eq!(rt; hearer.counters(), heard(0));
-    assert_eq!(rt; hearer.recvfrom(3, &mut room), Err(Errno::WouldBlock));
-    // the second copies of the last packet and of those after it are one more datagram, never whole
-    for _ in 0..60 {
-        hearer.tick();
-    }
-    assert_eq!(rt; hearer.counters(), heard(1));
-    assert_eq!(rt; hearer.mbstat(), free(512, 512, 64, 0, 0));
+    hearer.recvfrom(3, &mut room) == Ok((from, BYTES)) && room == pattern()
+}
+
+static OPENS: [Step; 2] = [Socket(Ok(3)), Bind(3, Addr { ip: 0, port: 7 }, Ok(()))];
+
+static NO_MORE: [Step; 1] = [Tx(None)];
+
+/// The second copies of the last packet and of those after it are one more datagram, never whole.
+static TIMES_OUT: [Step; 5] = [
+    Asks(Counted(&[
+        (Counter::IpTotal, 14),
+        (Counter::IpFragments, 14),
+        (Counter::IpFragdropped, 6),
+        (Counter::IpReassembled, 1),
+    ])),
+    Receive(3, 4352, Err(Errno::WouldBlock)),
+    Ticks(60),
+    Asks(Counted(&[
+        (Counter::IpTotal, 14),
+        (Counter::IpFragments, 14),
+        (Counter::IpFragdropped, 6),
+        (Counter::IpFragtimeout, 1),
+        (Counter::IpReassembled, 1),
+    ])),
+    Asks(Free(512, 512, 64, 0, 0)),
+];
+
+#[test]
+fn hears_packets_that_come_twice_and_last_first(rt: HostRuntime) {
+    let config = Config {
+        addr: NEAR,
+        ..LARGE
+    };
+    let mut hearer = booted(&rt, rt.alloc(), config);
+    make(&rt, &mut hearer, &OPENS);
+    let mut sender = booted(&rt, rt.alloc(), LARGE);
+    assert!(rt; sends(&mut sender));
+    carry_last_first(&rt, &mut sender, &mut hearer);
+    make(&rt, &mut sender, &NO_MORE);
+    let _ = sender.end();
+    assert!(rt; receives(&mut hearer));
+    make(&rt, &mut hearer, &TIMES_OUT);
     let _ = hearer.end();
-    Ok(())
 }
