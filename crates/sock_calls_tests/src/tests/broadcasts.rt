@@ -1,8 +1,8 @@
 //! Broadcasts: sent, heard by two sockets that share a port, and lost for want of buffers.
-use super::host::Host;
-use super::{BROADCAST, HERE, THERE, counted};
-use flat_model::{Addr, Counter, Counters, Errno, Lack, Mbstat, Opt};
-use std::test::Fail;
+use super::steps::Step::{Bind, Counted, Free, Receive, Rx, Send, Set, Socket, TxLen};
+use super::steps::{Step, play};
+use super::{BROADCAST, HERE, THERE};
+use flat_model::{Addr, Counter, Errno, Lack, Opt};
 
 const ALL: Addr = Addr {
     ip: BROADCAST,
@@ -26,87 +26,76 @@ const TO_ALL: [u8; 30] = [
     0x0a, 0x00, 0x00, 0xff, 0x13, 0x88, 0x00, 0x07, 0x00, 0x0a, 0x00, 0x00, 0x68, 0x69,
 ];
 
-/// How much of a pool of 512 mbufs and 64 clusters is free, and how often its clusters are referred to.
-const fn free(free_mbufs: u32, free_clusters: u32, refs: u32, most: u32) -> Mbstat {
-    Mbstat {
-        free_mbufs,
-        mbufs: 512,
-        free_clusters,
-        clusters: 64,
-        refs,
-        most,
-    }
-}
+static HEARD: [Step; 18] = [
+    Socket(Ok(3)),
+    Socket(Ok(4)),
+    Set(3, Opt::ReusePort, true, Ok(())),
+    Bind(3, 0, 7, Ok(())),
+    Bind(4, 0, 7, Err(Errno::AddressInUse)),
+    Set(4, Opt::ReusePort, true, Ok(())),
+    Bind(4, 0, 7, Ok(())),
+    Rx(&TO_ALL),
+    Free(508, 64, 0, 0),
+    Receive(3, Ok((PEER, b"hi"))),
+    Receive(4, Ok((PEER, b"hi"))),
+    Rx(&TO_ONE),
+    Receive(3, Err(Errno::WouldBlock)),
+    Receive(4, Ok((PEER, b"hi"))),
+    Set(4, Opt::ReusePort, false, Ok(())),
+    Rx(&TO_ALL),
+    Receive(3, Err(Errno::WouldBlock)),
+    Receive(4, Ok((PEER, b"hi"))),
+];
 
 #[test]
-fn all_who_share_the_port_hear_a_broadcast(rt: HostRuntime) -> Result<(), Fail> {
-    let mut host = Host::boot(rt.alloc(), 512, 64)?;
-    let mut room = [0; 9];
-    assert_eq!(rt; (host.socket(), host.socket()), (Ok(3), Ok(4)));
-    assert_eq!(rt; host.setsockopt(3, Opt::ReusePort, true), Ok(()));
-    assert_eq!(rt; host.bind(3, 0, 7), Ok(()));
-    assert_eq!(rt; host.bind(4, 0, 7), Err(Errno::AddressInUse));
-    assert_eq!(rt; host.setsockopt(4, Opt::ReusePort, true), Ok(()));
-    assert_eq!(rt; host.bind(4, 0, 7), Ok(()));
-    host.rx(&rt, &TO_ALL);
-    assert_eq!(rt; host.mbstat(), free(508, 64, 0, 0));
-    assert_eq!(rt; host.recvfrom(3, &mut room), Ok((PEER, 2)));
-    assert_eq!(rt; (room[0], room[1]), (b'h', b'i'));
-    assert_eq!(rt; host.recvfrom(4, &mut room), Ok((PEER, 2)));
-    host.rx(&rt, &TO_ONE);
-    assert_eq!(rt; host.recvfrom(3, &mut room), Err(Errno::WouldBlock));
-    assert_eq!(rt; host.recvfrom(4, &mut room), Ok((PEER, 2)));
-    assert_eq!(rt; host.setsockopt(4, Opt::ReusePort, false), Ok(()));
-    host.rx(&rt, &TO_ALL);
-    assert_eq!(rt; host.recvfrom(3, &mut room), Err(Errno::WouldBlock));
-    assert_eq!(rt; host.recvfrom(4, &mut room), Ok((PEER, 2)));
-    host.end(&rt);
-    Ok(())
+fn all_who_share_the_port_hear_a_broadcast(rt: HostRuntime) {
+    play(&rt, rt.alloc(), 512, 64, &HEARD);
 }
 
-#[test]
-fn a_broadcast_goes_out_and_a_copy_comes_back(rt: HostRuntime) -> Result<(), Fail> {
-    let mut host = Host::boot(rt.alloc(), 512, 64)?;
-    assert_eq!(rt; host.socket(), Ok(3));
-    assert_eq!(rt; host.bind(3, 0, 7), Ok(()));
-    assert_eq!(rt;
-        host.sendto(&rt, 3, Some(ALL), &[0x61; 300]),
-        Err(Errno::Access)
-    );
-    assert_eq!(rt; host.setsockopt(3, Opt::Broadcast, true), Ok(()));
-    assert_eq!(rt; host.sendto(&rt, 3, Some(ALL), &[0x61; 300]), Ok(300));
-    assert_eq!(rt; host.mbstat(), free(507, 63, 2, 2));
-    let mut room = [0; 300];
-    let sender = Addr { ip: HERE, port: 7 };
-    assert_eq!(rt; host.recvfrom(3, &mut room), Ok((sender, 300)));
-    assert!(rt; room == [0x61; 300]);
-    assert_eq!(rt; host.tx(&rt, &mut [0; 328]), Some(328));
-    assert_eq!(rt; host.mbstat(), free(512, 64, 0, 0));
-    assert_eq!(rt;
-        host.sendto(&rt, 3, Some(ALL), &[0x61; 1473]),
-        Err(Errno::MessageSize)
-    );
-    assert_eq!(rt; host.sendto(&rt, 3, Some(ALL), &[0x61; 1472]), Ok(1472));
-    host.end(&rt);
-    Ok(())
-}
+/// What is sent to all.
+const SENT: [u8; 300] = [0x61; 300];
+
+static COMES_BACK: [Step; 11] = [
+    Socket(Ok(3)),
+    Bind(3, 0, 7, Ok(())),
+    Send(3, Some(ALL), &SENT, Err(Errno::Access)),
+    Set(3, Opt::Broadcast, true, Ok(())),
+    Send(3, Some(ALL), &SENT, Ok(300)),
+    Free(507, 63, 2, 2),
+    Receive(3, Ok((Addr { ip: HERE, port: 7 }, &SENT))),
+    TxLen(328),
+    Free(512, 64, 0, 0),
+    Send(3, Some(ALL), &[0x61; 1473], Err(Errno::MessageSize)),
+    Send(3, Some(ALL), &[0x61; 1472], Ok(1472)),
+];
 
 #[test]
-fn a_broadcast_finds_few_mbufs(rt: HostRuntime) -> Result<(), Fail> {
-    // with three the copy finds none, with four the address of the sender
-    let lost = counted(&[(Counter::IpLocalout, 1), (Counter::Nobufs, 1)]);
-    for (mbufs, sent, counters) in [
-        (3, Err(Errno::NoBufs(Lack::Pool)), Counters::none()),
-        (4, Ok(300), lost),
-    ] {
-        let mut host = Host::boot(rt.alloc(), mbufs, 64)?;
-        assert_eq!(rt; host.socket(), Ok(3));
-        assert_eq!(rt; host.bind(3, 0, 7), Ok(()));
-        assert_eq!(rt; host.setsockopt(3, Opt::Broadcast, true), Ok(()));
-        assert_eq!(rt; host.sendto(&rt, 3, Some(ALL), &[0x61; 300]), sent);
-        assert_eq!(rt; host.recvfrom(3, &mut [0; 9]), Err(Errno::WouldBlock));
-        assert_eq!(rt; host.counters(), counters);
-        host.end(&rt);
-    }
-    Ok(())
+fn a_broadcast_goes_out_and_a_copy_comes_back(rt: HostRuntime) {
+    play(&rt, rt.alloc(), 512, 64, &COMES_BACK);
+}
+
+/// With three mbufs the copy finds none.
+static THREE_MBUFS: [Step; 6] = [
+    Socket(Ok(3)),
+    Bind(3, 0, 7, Ok(())),
+    Set(3, Opt::Broadcast, true, Ok(())),
+    Send(3, Some(ALL), &SENT, Err(Errno::NoBufs(Lack::Pool))),
+    Receive(3, Err(Errno::WouldBlock)),
+    Counted(&[]),
+];
+
+/// With four the address of the sender finds none.
+static FOUR_MBUFS: [Step; 6] = [
+    Socket(Ok(3)),
+    Bind(3, 0, 7, Ok(())),
+    Set(3, Opt::Broadcast, true, Ok(())),
+    Send(3, Some(ALL), &SENT, Ok(300)),
+    Receive(3, Err(Errno::WouldBlock)),
+    Counted(&[(Counter::IpLocalout, 1), (Counter::Nobufs, 1)]),
+];
+
+#[test]
+fn a_broadcast_finds_few_mbufs(rt: HostRuntime) {
+    play(&rt, rt.alloc(), 3, 64, &THREE_MBUFS);
+    play(&rt, rt.alloc(), 4, 64, &FOUR_MBUFS);
 }

@@ -198,6 +198,6 @@ impl Host {
         socks.end(&mut pool);
         net.end(&mut pool);
         let usage = pool.usage();
-        assert_eq!(rt; (usage.free_mbufs, usage.references), (usage.mbufs, 0));
+        assert!(rt; usage.free_mbufs == usage.mbufs && usage.references == 0);
     }
 }
