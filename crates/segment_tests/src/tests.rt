@@ -1,10 +1,12 @@
 //! Hosts of 10.0.0.0/24 on one wire. All have a socket at port 7.
 mod impaired;
+mod steps;
 
-use flat_model::{Addr, Config, Opt};
+use flat_model::Config;
 use net_stack::BootFault;
-use segment::{JoinFault, Segment};
-use std::test::Fail;
+use segment::JoinFault;
+use steps::Step::{Count, Hosts, Join, Open, Receive, Rx, Send, Waiting};
+use steps::{Step, Wire, play};
 
 /// The first descriptor of each host.
 const SOCKET: u32 = 3;
@@ -32,152 +34,98 @@ const fn host(last: u32) -> Config {
     }
 }
 
-/// Opens the socket of the host at a place. `None` if something is refused.
-fn open(segment: &mut Segment, place: usize) -> Option<()> {
-    let stack = segment.stack(place)?;
-    let fd = stack.socket().ok()?;
-    stack.bind(fd, Addr { ip: 0, port: 7 }).ok()?;
-    stack.setsockopt(fd, Opt::Broadcast, true).ok()
-}
+/// The addresses of the first hosts.
+const FIRST: u32 = 0x0a00_0001;
 
-/// Sends from the host at a place to port 7 of an address.
-fn send(segment: &mut Segment, place: usize, ip: u32, bytes: &[u8]) -> Option<usize> {
-    let stack = segment.stack(place)?;
-    stack.sendto(SOCKET, Some(Addr { ip, port: 7 }), bytes).ok()
-}
+const SECOND: u32 = 0x0a00_0002;
 
-/// Whose datagram the host at a place receives, and how many bytes it has; `None` if none waits.
-fn receive(segment: &mut Segment, place: usize) -> Option<(u32, usize)> {
-    let mut room = [0; 2000];
-    let stack = segment.stack(place)?;
-    let (sender, len) = stack.recvfrom(SOCKET, &mut room).ok()?;
-    Some((sender.ip, len))
-}
+const THIRD: u32 = 0x0a00_0003;
 
-/// How many packets wait for the link of the host at a place.
-fn waiting(segment: &mut Segment, place: usize) -> Option<u32> {
-    let stack = segment.stack(place)?;
-    Some(stack.output_len())
-}
+static TO_ONE: [Step; 12] = [
+    Hosts(1, 3),
+    Open(0),
+    Open(1),
+    Open(2),
+    Send(0, SECOND, b"hi"),
+    Waiting(0, Some(1)),
+    Receive(1, None),
+    Step::Wire(Wire::Carry),
+    Waiting(0, Some(0)),
+    Receive(1, Some((FIRST, 2))),
+    Receive(1, None),
+    Receive(2, None),
+];
 
 #[test]
-fn carries_a_datagram_to_whom_it_names(rt: HostRuntime) -> Result<(), Fail> {
-    let mut segment = Segment::new(rt.alloc(), 100)?;
-    for last in 1..4 {
-        assert_eq!(rt; segment.join(rt.alloc(), host(last)), Ok(()));
-    }
-    for place in 0..3 {
-        assert_eq!(rt; open(&mut segment, place), Some(()));
-    }
-    assert_eq!(rt; send(&mut segment, 0, 0x0a00_0002, b"hi"), Some(2));
-    assert_eq!(rt; waiting(&mut segment, 0), Some(1));
-    assert_eq!(rt; receive(&mut segment, 1), None);
-    segment.carry();
-    assert_eq!(rt; waiting(&mut segment, 0), Some(0));
-    assert_eq!(rt; receive(&mut segment, 1), Some((0x0a00_0001, 2)));
-    assert_eq!(rt; receive(&mut segment, 1), None);
-    assert_eq!(rt; receive(&mut segment, 2), None);
-    segment.end();
-    Ok(())
+fn carries_a_datagram_to_whom_it_names(rt: HostRuntime) {
+    play(&rt, rt.alloc(), 100, &TO_ONE);
 }
 
-#[test]
-fn carries_a_broadcast_to_all_others(rt: HostRuntime) -> Result<(), Fail> {
-    let mut segment = Segment::new(rt.alloc(), 100)?;
-    for last in 1..5 {
-        assert_eq!(rt; segment.join(rt.alloc(), host(last)), Ok(()));
-    }
-    for place in 0..4 {
-        assert_eq!(rt; open(&mut segment, place), Some(()));
-    }
-    assert_eq!(rt; send(&mut segment, 2, ALL, b"all"), Some(3));
+static TO_ALL: [Step; 12] = [
+    Hosts(1, 4),
+    Open(0),
+    Open(1),
+    Open(2),
+    Open(3),
+    Send(2, ALL, b"all"),
     // Its sender hears it by loopback, at the send.
-    assert_eq!(rt; receive(&mut segment, 2), Some((0x0a00_0003, 3)));
-    segment.carry();
-    for place in [0, 1, 3] {
-        assert_eq!(rt; receive(&mut segment, place), Some((0x0a00_0003, 3)));
-    }
-    assert_eq!(rt; receive(&mut segment, 2), None);
-    segment.end();
-    Ok(())
-}
+    Receive(2, Some((THIRD, 3))),
+    Step::Wire(Wire::Carry),
+    Receive(0, Some((THIRD, 3))),
+    Receive(1, Some((THIRD, 3))),
+    Receive(3, Some((THIRD, 3))),
+    Receive(2, None),
+];
 
 #[test]
-fn loses_what_finds_no_room(rt: HostRuntime) -> Result<(), Fail> {
-    let mut segment = Segment::new(rt.alloc(), 2)?;
-    for last in 1..3 {
-        assert_eq!(rt; segment.join(rt.alloc(), host(last)), Ok(()));
-    }
-    assert_eq!(rt;
-        (open(&mut segment, 0), open(&mut segment, 1)),
-        (Some(()), Some(()))
-    );
-    for len in [1, 2, 3] {
-        assert_eq!(rt;
-            send(&mut segment, 0, 0x0a00_0002, &[0; 3][..len]),
-            Some(len)
-        );
-    }
-    segment.carry();
-    assert_eq!(rt; receive(&mut segment, 1), Some((0x0a00_0001, 1)));
-    assert_eq!(rt; receive(&mut segment, 1), Some((0x0a00_0001, 2)));
-    assert_eq!(rt; receive(&mut segment, 1), None);
-    segment.end();
-    Ok(())
+fn carries_a_broadcast_to_all_others(rt: HostRuntime) {
+    play(&rt, rt.alloc(), 100, &TO_ALL);
 }
 
-#[test]
-fn hears_a_forged_packet(rt: HostRuntime) -> Result<(), Fail> {
-    let mut segment = Segment::new(rt.alloc(), 2)?;
-    for last in 1..3 {
-        assert_eq!(rt; segment.join(rt.alloc(), host(last)), Ok(()));
-    }
-    assert_eq!(rt; open(&mut segment, 1), Some(()));
-    if let Some(stack) = segment.stack(1) {
-        stack.rx(&FORGED);
-    }
-    // 10.0.0.1 has sent nothing: so the law asks that nobody forges its address.
-    assert_eq!(rt; receive(&mut segment, 1), Some((0x0a00_0001, 2)));
-    segment.end();
-    Ok(())
-}
+static NO_ROOM: [Step; 10] = [
+    Hosts(1, 2),
+    Open(0),
+    Open(1),
+    Send(0, SECOND, &[0; 1]),
+    Send(0, SECOND, &[0; 2]),
+    Send(0, SECOND, &[0; 3]),
+    Step::Wire(Wire::Carry),
+    Receive(1, Some((FIRST, 1))),
+    Receive(1, Some((FIRST, 2))),
+    Receive(1, None),
+];
 
 #[test]
-fn refuses_hosts_in_order(rt: HostRuntime) -> Result<(), Fail> {
-    let mut segment = Segment::new(rt.alloc(), 0)?;
-    for last in 1..65 {
-        assert_eq!(rt; segment.join(rt.alloc(), host(last)), Ok(()));
-        if last == 2 {
-            assert_eq!(rt;
-                segment.join(rt.alloc(), host(2)),
-                Err(JoinFault::AddressTaken)
-            );
-            assert_eq!(rt;
-                segment.join(rt.alloc(), host(255)),
-                Err(JoinFault::AddressTaken)
-            );
-            assert_eq!(rt;
-                segment.join(rt.alloc(), Config { mtu: 67, ..host(3) }),
-                Err(JoinFault::Unbooted(BootFault::BadConfig))
-            );
-            assert_eq!(rt;
-                segment.join(
-                    rt.alloc(),
-                    Config {
-                        mbufs: 0,
-                        ..host(3)
-                    }
-                ),
-                Err(JoinFault::Unbooted(BootFault::BadSizes))
-            );
-        }
-    }
-    assert_eq!(rt; segment.hosts(), 64);
-    assert_eq!(rt;
-        segment.join(rt.alloc(), host(64)),
-        Err(JoinFault::TooManyHosts)
-    );
-    assert_eq!(rt; waiting(&mut segment, 64), None);
-    segment.end();
-    Ok(())
+fn loses_what_finds_no_room(rt: HostRuntime) {
+    play(&rt, rt.alloc(), 2, &NO_ROOM);
+}
+
+/// 10.0.0.1 has sent nothing: so the law asks that nobody forges its address.
+static FORGES: [Step; 4] = [
+    Hosts(1, 2),
+    Open(1),
+    Rx(1, &FORGED),
+    Receive(1, Some((FIRST, 2))),
+];
+
+#[test]
+fn hears_a_forged_packet(rt: HostRuntime) {
+    play(&rt, rt.alloc(), 2, &FORGES);
+}
+
+static IN_ORDER: [Step; 9] = [
+    Hosts(1, 2),
+    Join(2, 1500, 64, Err(JoinFault::AddressTaken)),
+    Join(255, 1500, 64, Err(JoinFault::AddressTaken)),
+    Join(3, 67, 64, Err(JoinFault::Unbooted(BootFault::BadConfig))),
+    Join(3, 1500, 0, Err(JoinFault::Unbooted(BootFault::BadSizes))),
+    Hosts(3, 64),
+    Count(64),
+    Join(64, 1500, 64, Err(JoinFault::TooManyHosts)),
+    Waiting(64, None),
+];
+
+#[test]
+fn refuses_hosts_in_order(rt: HostRuntime) {
+    play(&rt, rt.alloc(), 0, &IN_ORDER);
 }
