@@ -3,7 +3,6 @@ use link_script::{Config, RunFault, Silent, Sink, Source, program, run};
 use std::alloc::Global;
 use std::io::{self, Read, Write};
 use std::process::Abort;
-use std::test::Fail;
 
 mod chains;
 mod streams;
@@ -81,152 +80,156 @@ impl Write for Slow {
     }
 }
 
-#[test]
-fn ends_where_a_stream_fails(rt: HostRuntime) -> Result<(), Fail> {
-    let mut written = Vec::new(rt.alloc());
-    let outcome = run(
-        rt.alloc(),
-        DEFAULTS,
-        &mut Silent(Breaking(b"socket\nsoc")),
-        &mut written,
-    );
-    assert_eq!(rt; outcome, Err(RunFault::Read));
-    assert_eq!(rt; written.as_slice(), b"ok 3\n".as_slice());
+/// How a run ends whose reader breaks within a line, and whether the line before it was answered.
+fn breaks(alloc: Global) -> bool {
+    let mut written = Vec::new(alloc);
+    let mut reader = Silent(Breaking(b"socket\nsoc"));
+    let outcome = run(alloc, DEFAULTS, &mut reader, &mut written);
+    outcome == Err(RunFault::Read) && written.as_slice() == b"ok 3\n".as_slice()
+}
 
-    for errs in [true, false] {
-        let mut slow = Silent(Slow::new(errs));
-        let outcome = run(rt.alloc(), DEFAULTS, &mut b"socket\n".as_slice(), &mut slow);
-        assert_eq!(rt; outcome, Err(RunFault::Write));
-        assert_eq!(rt; slow.0.taken.as_slice(), b"ok".as_slice());
-    }
+/// The same of a writer that takes two bytes.
+fn is_unwritten(alloc: Global, errs: bool) -> bool {
+    let mut slow = Silent(Slow::new(errs));
+    let outcome = run(alloc, DEFAULTS, &mut b"socket\n".as_slice(), &mut slow);
+    outcome == Err(RunFault::Write) && slow.0.taken.as_slice() == b"ok".as_slice()
+}
 
-    let mut written = Vec::new(rt.alloc());
-    let outcome = run(
-        rt.alloc(),
-        DEFAULTS,
-        &mut Silent(Endless(b'a')),
-        &mut written,
-    );
-    assert_eq!(rt; outcome, Err(RunFault::TooManyLines));
-    assert!(rt; written.is_empty());
-    Ok(())
+/// The same of a line without end.
+fn without_end(alloc: Global) -> bool {
+    let mut written = Vec::new(alloc);
+    let mut reader = Silent(Endless(b'a'));
+    let outcome = run(alloc, DEFAULTS, &mut reader, &mut written);
+    outcome == Err(RunFault::TooManyLines) && written.is_empty()
 }
 
 #[test]
-fn refuses_configurations(rt: HostRuntime) -> Result<(), Fail> {
-    for (config, want) in [
-        (
-            Config {
-                mbufs: 0,
-                mtu: 67,
-                ..DEFAULTS
-            },
-            RunFault::BadSizes,
-        ),
-        (
-            Config {
-                mbufs: 65_536,
-                ..DEFAULTS
-            },
-            RunFault::BadSizes,
-        ),
-        (
-            Config {
-                clusters: 4097,
-                ..DEFAULTS
-            },
-            RunFault::BadSizes,
-        ),
-        (
-            Config {
-                mtu: 67,
-                ..DEFAULTS
-            },
-            RunFault::BadConfig,
-        ),
-        (
-            Config {
-                mtu: 4353,
-                ..DEFAULTS
-            },
-            RunFault::BadConfig,
-        ),
-        (
-            Config {
-                addr: 0,
-                ..DEFAULTS
-            },
-            RunFault::BadConfig,
-        ),
-        (
-            Config {
-                addr: 0x7f00_0001,
-                ..DEFAULTS
-            },
-            RunFault::BadConfig,
-        ),
-        (
-            Config {
-                bcast: 0xe000_0000,
-                ..DEFAULTS
-            },
-            RunFault::BadConfig,
-        ),
-        (
-            Config {
-                bcast: DEFAULTS.addr,
-                ..DEFAULTS
-            },
-            RunFault::BadConfig,
-        ),
-    ] {
-        let mut written = Vec::new(rt.alloc());
-        let outcome = run(
-            rt.alloc(),
-            config,
-            &mut b"socket\n".as_slice(),
-            &mut written,
-        );
-        assert_eq!(rt; outcome, Err(want), "at {config:?}");
-        assert!(rt; written.is_empty());
+fn ends_where_a_stream_fails(rt: HostRuntime) {
+    assert!(rt; breaks(rt.alloc()));
+    assert!(rt; is_unwritten(rt.alloc(), true));
+    assert!(rt; is_unwritten(rt.alloc(), false));
+    assert!(rt; without_end(rt.alloc()));
+}
+
+static CONFIGURATIONS: [(Config, RunFault); 9] = [
+    (
+        Config {
+            mbufs: 0,
+            mtu: 67,
+            ..DEFAULTS
+        },
+        RunFault::BadSizes,
+    ),
+    (
+        Config {
+            mbufs: 65_536,
+            ..DEFAULTS
+        },
+        RunFault::BadSizes,
+    ),
+    (
+        Config {
+            clusters: 4097,
+            ..DEFAULTS
+        },
+        RunFault::BadSizes,
+    ),
+    (
+        Config {
+            mtu: 67,
+            ..DEFAULTS
+        },
+        RunFault::BadConfig,
+    ),
+    (
+        Config {
+            mtu: 4353,
+            ..DEFAULTS
+        },
+        RunFault::BadConfig,
+    ),
+    (
+        Config {
+            addr: 0,
+            ..DEFAULTS
+        },
+        RunFault::BadConfig,
+    ),
+    (
+        Config {
+            addr: 0x7f00_0001,
+            ..DEFAULTS
+        },
+        RunFault::BadConfig,
+    ),
+    (
+        Config {
+            bcast: 0xe000_0000,
+            ..DEFAULTS
+        },
+        RunFault::BadConfig,
+    ),
+    (
+        Config {
+            bcast: DEFAULTS.addr,
+            ..DEFAULTS
+        },
+        RunFault::BadConfig,
+    ),
+];
+
+/// Whether a machine is refused so, and nothing is written.
+fn is_refused(alloc: Global, config: Config, want: &RunFault) -> bool {
+    let mut written = Vec::new(alloc);
+    match run(alloc, config, &mut b"socket\n".as_slice(), &mut written) {
+        Ok(()) => false,
+        Err(fault) => fault == *want && written.is_empty(),
     }
-    Ok(())
+}
+
+#[test]
+fn refuses_configurations(rt: HostRuntime) {
+    for (row, (config, want)) in CONFIGURATIONS.iter().enumerate() {
+        assert!(rt; is_refused(rt.alloc(), *config, want), "row {row}");
+    }
 }
 
 /// Where an allocation of `run` is refused, nothing is read or written. `rt try --test --fail-alloc N` refuses the Nth.
 #[test]
-fn takes_memory_first(rt: HostRuntime) -> Result<(), Fail> {
+fn takes_memory_first(rt: HostRuntime) {
     let mut slow = Silent(Slow::new(true));
     let mut script = b"socket\n".as_slice();
-    match run(rt.alloc(), DEFAULTS, &mut script, &mut slow) {
-        Err(RunFault::Memory) => {
-            assert_eq!(rt; slow.0.calls, 0);
-            assert_eq!(rt; script.len(), 7);
-        }
-        outcome => {
-            assert_eq!(rt; outcome, Err(RunFault::Write));
-            assert_eq!(rt; slow.0.taken.as_slice(), b"ok".as_slice());
-        }
+    let outcome = run(rt.alloc(), DEFAULTS, &mut script, &mut slow);
+    if outcome == Err(RunFault::Memory) {
+        assert!(rt; slow.0.calls == 0);
+        assert!(rt; script.len() == 7);
+    } else {
+        assert!(rt; outcome == Err(RunFault::Write));
+        assert!(rt; slow.0.taken.as_slice() == b"ok".as_slice());
     }
-    Ok(())
 }
 
-/// Checks the status of a command line, and what it says and writes.
-fn expect_program<R: Source, W: Sink>(
+/// The words of a line.
+fn words_of(rt: &impl Abort, alloc: Global, line: &str) -> Vec<String> {
+    let mut words = Vec::new(alloc);
+    for word in line.split(' ') {
+        let word = String::from_str(alloc, word).expect(rt, "memory");
+        words.push(word).expect(rt, "memory");
+    }
+    words
+}
+
+/// Whether a command line ends with this status, and says this.
+fn ends_with<R: Source, W: Sink>(
     rt: &impl Abort,
     alloc: Global,
     line: &str,
     reader: &mut R,
     writer: &mut W,
     want: (u8, &str),
-) -> Result<(), Fail> {
-    let mut words = Vec::new(alloc);
-    for word in line.split(' ') {
-        words.push(String::from_str(alloc, word)?)?;
-    }
+) -> bool {
+    let words = words_of(rt, alloc, line);
     let mut errors = Vec::new(alloc);
     let status = program(alloc, Ok(words), reader, writer, &mut errors);
-    assert_eq!(rt; status, want.0, "at {line}");
-    assert_eq!(rt; errors.as_slice(), want.1.as_bytes(), "at {line}");
-    Ok(())
+    status == want.0 && errors.as_slice() == want.1.as_bytes()
 }
