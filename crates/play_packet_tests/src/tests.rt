@@ -2,6 +2,7 @@
 use play_line::{LONGEST, Slip};
 use play_packet::LineReader;
 use script_loop::Buffer;
+use std::alloc::Global;
 use std::process::Abort;
 
 /// What stands in front of the words of each line below.
@@ -238,87 +239,126 @@ static FAULTY: [(&str, &str, u64); 28] = [
     ),
 ];
 
-/// Puts the plain line of a line into a buffer.
-fn put_plain(
-    reader: &mut LineReader,
-    line: &[u8],
-    words: &mut Buffer<LONGEST>,
-) -> Result<(), Slip> {
-    words.clear();
-    match reader.plain_line(line) {
-        Ok(plain) => words.append(plain),
-        Err(slip) => return Err(slip),
-    }
-    reader.put_packet(line, words)
+/// Two texts, one after the other.
+fn joined(rt: &impl Abort, alloc: Global, front: &str, back: &str) -> Vec<u8> {
+    let mut text = front.as_bytes().to_vec(alloc).expect(rt, "memory");
+    text.extend_from_slice(back.as_bytes()).expect(rt, "memory");
+    text
 }
 
-/// Whether a line stands for this plain line.
-fn is_plain(
-    reader: &mut LineReader,
-    line: &[u8],
-    words: &mut Buffer<LONGEST>,
-    wanted: &[u8],
-) -> bool {
-    match put_plain(reader, line, words) {
-        Ok(()) => words.as_slice() == wanted,
-        Err(_) => false,
-    }
+/// A reader of lines, and room for a plain one.
+#[derive(Drop)]
+struct Desk {
+    reader: LineReader,
+    words: Buffer<LONGEST>,
 }
 
-#[test]
-fn names_packets(rt: HostRuntime) {
-    let mut reader = LineReader::new(rt.alloc()).expect(&rt, "memory");
-    let mut words: Buffer<LONGEST> = Buffer::new(rt.alloc()).expect(&rt, "memory");
-    for (more, packet) in PACKETS {
-        let line = format!(in rt.alloc(); "{FRONT}{more}").expect(&rt, "memory");
-        let wanted = format!(in rt.alloc(); "rx {packet}").expect(&rt, "memory");
-        let is_right = is_plain(&mut reader, line.as_bytes(), &mut words, wanted.as_bytes());
-        assert!(rt; is_right, "at {more}");
+impl Desk {
+    fn new(rt: &impl Abort, alloc: Global) -> Desk {
+        Desk {
+            reader: LineReader::new(alloc).expect(rt, "memory"),
+            words: Buffer::new(alloc).expect(rt, "memory"),
+        }
     }
-}
 
-#[test]
-fn leaves_other_lines(rt: HostRuntime) {
-    let mut reader = LineReader::new(rt.alloc()).expect(&rt, "memory");
-    let mut words: Buffer<LONGEST> = Buffer::new(rt.alloc()).expect(&rt, "memory");
-    for (line, wanted) in LINES {
-        let is_right = is_plain(&mut reader, line.as_bytes(), &mut words, wanted.as_bytes());
-        assert!(rt; is_right, "at {line}");
+    /// Puts the plain line of a line into the room.
+    fn put_plain(&mut self, line: &[u8]) -> Result<(), Slip> {
+        self.words.clear();
+        match self.reader.plain_line(line) {
+            Ok(plain) => self.words.append(plain),
+            Err(slip) => return Err(slip),
+        }
+        self.reader.put_packet(line, &mut self.words)
     }
-}
 
-#[test]
-fn tells_what_is_wrong(rt: HostRuntime) {
-    let mut reader = LineReader::new(rt.alloc()).expect(&rt, "memory");
-    let mut words: Buffer<LONGEST> = Buffer::new(rt.alloc()).expect(&rt, "memory");
-    for (line, fault, column) in FAULTY {
-        let is_right = match put_plain(&mut reader, line.as_bytes(), &mut words) {
+    /// Whether a line stands for this plain line.
+    fn is_plain(&mut self, line: &[u8], wanted: &[u8]) -> bool {
+        match self.put_plain(line) {
+            Ok(()) => self.words.as_slice() == wanted,
+            Err(_) => false,
+        }
+    }
+
+    /// Whether a line that names a packet to port 7 stands for this one.
+    fn is_packet(&mut self, rt: &impl Abort, alloc: Global, more: &str, packet: &str) -> bool {
+        let line = joined(rt, alloc, FRONT, more);
+        let wanted = joined(rt, alloc, "rx ", packet);
+        self.is_plain(&line, &wanted)
+    }
+
+    /// Whether this is wrong with a line, in this column.
+    fn is_faulty(&mut self, line: &[u8], fault: &str, column: u64) -> bool {
+        match self.put_plain(line) {
             Ok(()) => false,
             Err(slip) => slip.fault.words() == fault && slip.column == column,
-        };
-        assert!(rt; is_right, "at {line}");
+        }
+    }
+
+    /// Whether a line stands for a packet of so many bytes.
+    fn has_size(&mut self, line: &[u8], size: usize) -> bool {
+        match self.put_plain(line) {
+            Ok(()) => size <= 65_535 && self.words.len() == 3 + 2 * size,
+            Err(_) => false,
+        }
+    }
+
+    fn names_packets(&mut self, rt: &impl Abort, alloc: Global) {
+        for (more, packet) in PACKETS.iter() {
+            assert!(rt; self.is_packet(rt, alloc, more, packet), "at {more}");
+        }
+    }
+
+    fn leaves_other_lines(&mut self, rt: &impl Abort) {
+        for (line, wanted) in LINES.iter() {
+            assert!(rt;
+                self.is_plain(line.as_bytes(), wanted.as_bytes()),
+                "at {line}"
+            );
+        }
+    }
+
+    fn tells_what_is_wrong(&mut self, rt: &impl Abort) {
+        for (line, fault, column) in FAULTY.iter() {
+            assert!(rt;
+                self.is_faulty(line.as_bytes(), fault, *column),
+                "at {line}"
+            );
+        }
+    }
+
+    fn takes_long_packets(&mut self, rt: &impl Abort) {
+        for (line, size) in LONG.iter() {
+            assert!(rt; self.has_size(line.as_bytes(), *size), "at {size}");
+        }
     }
 }
 
 /// A packet has 65,535 bytes at most, and a fragment is of a datagram of 65,535 at most.
+static LONG: [(&str, usize); 2] = [
+    ("rx udp 10.0.0.2:5000 > 10.0.0.1:7 @65507", 65_535),
+    ("rx udp 10.0.0.2:5000 > 10.0.0.1:7 @65527 at 65528 last", 27),
+];
+
+#[test]
+fn names_packets(rt: HostRuntime) {
+    let mut desk = Desk::new(&rt, rt.alloc());
+    desk.names_packets(&rt, rt.alloc());
+}
+
+#[test]
+fn leaves_other_lines(rt: HostRuntime) {
+    let mut desk = Desk::new(&rt, rt.alloc());
+    desk.leaves_other_lines(&rt);
+}
+
+#[test]
+fn tells_what_is_wrong(rt: HostRuntime) {
+    let mut desk = Desk::new(&rt, rt.alloc());
+    desk.tells_what_is_wrong(&rt);
+}
+
 #[test]
 fn takes_long_packets(rt: HostRuntime) {
-    let mut reader = LineReader::new(rt.alloc()).expect(&rt, "memory");
-    let mut words: Buffer<LONGEST> = Buffer::new(rt.alloc()).expect(&rt, "memory");
-    for (line, size) in [
-        (
-            b"rx udp 10.0.0.2:5000 > 10.0.0.1:7 @65507".as_slice(),
-            65_535,
-        ),
-        (
-            b"rx udp 10.0.0.2:5000 > 10.0.0.1:7 @65527 at 65528 last".as_slice(),
-            27,
-        ),
-    ] {
-        let is_right = match put_plain(&mut reader, line, &mut words) {
-            Ok(()) => words.len() == 3 + 2 * size,
-            Err(_) => false,
-        };
-        assert!(rt; is_right, "at {size}");
-    }
+    let mut desk = Desk::new(&rt, rt.alloc());
+    desk.takes_long_packets(&rt);
 }
