@@ -1,6 +1,6 @@
 #!/usr/bin/env bash
-# Feeds scripts of two lines in turn to the built program, and prints lines per second, the best of three runs: packets from
-# the wire that are received, and datagrams of 2, 1,472 and 9,000 bytes that are sent by loopback and received.
+# Feeds scripts of two lines in turn to the built program, and prints lines per second, the best of three runs: packets
+# from the wire that are received, and datagrams of 2, 1,472 and 9,000 bytes that are sent by loopback and received.
 # Build it first: `rt run` in crates/bsdudp leaves the program in out/.
 set -euo pipefail
 

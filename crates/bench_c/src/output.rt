@@ -88,8 +88,8 @@ fn cut_once(pool: &mut Pool, bytes: &[u8], mtu: u16) -> u32
     count
 }
 
-/// Sends a datagram of the bytes `times` times where the longest packet has `mtu` bytes, and frees its packets each time.
-/// At most 65,507 bytes; `mtu` at least 68. Answers how many packets were queued, of a datagram 50 at most:
+/// Sends a datagram of the bytes `times` times where the longest packet has `mtu` bytes, and frees its packets each
+/// time. At most 65,507 bytes; `mtu` at least 68. Answers how many packets were queued, of a datagram 50 at most:
 /// `uint32_t bsdudp_output(const uint8_t *bytes, size_t len, uint16_t mtu, uint32_t times)`.
 #[unsafe(no_mangle)]
 pub extern "C" fn bsdudp_output(alloc: Global, bytes: &[u8], mtu: u16, times: u32) -> u32 {

@@ -1,6 +1,6 @@
-//! The calls of mbuf_pool that `bench/pool` times. Each export boots a store of 512 mbufs and 64 clusters, does the same
-//! work so many times, and answers a digest of the numbers that came out, or `u64::MAX` where memory lacked. The calls that
-//! are timed stand in functions of their own, so that the compiler cannot fold a pair into nothing.
+//! The calls of mbuf_pool that `bench/pool` times. Each export boots a store of 512 mbufs and 64 clusters, does the
+//! same work so many times, and answers a digest of the numbers that came out, or `u64::MAX` where memory lacked. The
+//! calls that are timed stand in functions of their own, so that the compiler cannot fold a pair into nothing.
 
 ghost use Rattle.std.specs.Prelude.{◌≡◌, ◌<◌, IfOk, OnErr, IsTrue, None};
 ghost use Rattle.mbuf_pool.specs.Store.{is_out, count_of, cluster_of, held, released, with_mbuf, with_cluster, TakesMbuf, TakesCluster};

@@ -43,7 +43,8 @@ fn received(pool: &mut Pool, table: &Reass, packet: &[u8]) -> Option<Chain>
     }
 }
 
-/// Stores a packet and reads its header. `None` where no buffer is free, or the header isn't right or tells another length.
+/// Stores a packet and reads its header. `None` where no buffer is free, or the header isn't right or tells another
+/// length.
 fn stored(pool: &mut Pool, table: &Reass, packet: &[u8]) -> Option<(Chain, IpHead)>
     requires ready { IsReady pool.old table.now }
     requires short { length packet.now ≤ IP_MAX_PACKET }

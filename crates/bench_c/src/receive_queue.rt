@@ -59,8 +59,8 @@ fn turn(pool: &mut Pool, queue: &mut SockBuf) -> bool
 }
 
 /// Makes a queue of so many datagrams of these bytes, and `turns` times takes the oldest and appends it as the newest.
-/// Answers how often that went well. At most 65,535 bytes: `uint32_t bsdudp_take_and_append(const uint8_t *bytes, size_t
-/// len, uint32_t waiting, uint32_t turns)`.
+/// Answers how often that went well. At most 65,535 bytes: `uint32_t bsdudp_take_and_append(const uint8_t *bytes,
+/// size_t len, uint32_t waiting, uint32_t turns)`.
 #[unsafe(no_mangle)]
 pub extern "C" fn bsdudp_take_and_append(
     alloc: Global,

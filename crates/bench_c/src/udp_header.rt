@@ -106,8 +106,8 @@ fn check_turns(pool: &Pool, datagram: &Chain, turns: u32) -> u32
     right
 }
 
-/// Checks a datagram `times` times, of at most 65,535 bytes from 10.0.0.1 to 10.0.0.2. Answers how often its checksum was
-/// right: `uint32_t bsdudp_check(const uint8_t *datagram, size_t len, uint32_t times)`.
+/// Checks a datagram `times` times, of at most 65,535 bytes from 10.0.0.1 to 10.0.0.2. Answers how often its checksum
+/// was right: `uint32_t bsdudp_check(const uint8_t *datagram, size_t len, uint32_t times)`.
 #[unsafe(no_mangle)]
 pub extern "C" fn bsdudp_check(alloc: Global, datagram: &[u8], times: u32) -> u32
     ensures { result ≤ times }

@@ -1,6 +1,6 @@
 //! A datagram from one stack to another, and from a stack to itself: what `bench/stack` calls from C. It's a library of
-//! its own, since all that is compiled with it bears on what is inlined: so it has what a program has that uses a `Stack`
-//! alone. No other crate stands on this one.
+//! its own, since all that is compiled with it bears on what is inlined: so it has what a program has that uses a
+//! `Stack` alone. No other crate stands on this one.
 #![tactic(auto)]
 
 ghost use Rattle.std.specs.Prelude.{◌≤◌};

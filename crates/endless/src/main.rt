@@ -1,5 +1,5 @@
-//! Both commands of the program, fed with line feeds without end: they answer 10,000,000 lines, and end with a status and a text.
-//! Then scripts of as many lines, and a few bytes more or fewer.
+//! Both commands of the program, fed with line feeds without end: they answer 10,000,000 lines, and end with a status
+//! and a text. Then scripts of as many lines, and a few bytes more or fewer.
 #![tactic(auto)]
 
 mod last_lines;

@@ -60,9 +60,9 @@ fn deliver_all(due: &[Frame], configs: &[Config], stacks: &mut Vec<Stack>)
 }
 
 impl Segment {
-    /// Each host gives all that waits for its link, from place 0 on. What becomes of a packet is drawn then, by the chances
-    /// of the host that sends it: whether it's lost; if it isn't, whether it goes twice; and in how many carries each copy
-    /// isn't due yet. A copy that finds no room is lost too.
+    /// Each host gives all that waits for its link, from place 0 on. What becomes of a packet is drawn then, by the
+    /// chances of the host that sends it: whether it's lost; if it isn't, whether it goes twice; and in how many
+    /// carries each copy isn't due yet. A copy that finds no room is lost too.
     pub fn collect(&mut self)
         ensures { IsCollected (view self.old) (view self.new) }
     {
@@ -70,8 +70,8 @@ impl Segment {
     }
 
     /// What is due comes: each packet to whom its destination names, a broadcast to all others, and none to its sender.
-    /// Before that it's drawn for each but the last, from the first on, whether it changes places with the one after it.
-    /// What isn't due yet is a carry nearer then.
+    /// Before that it's drawn for each but the last, from the first on, whether it changes places with the one after
+    /// it. What isn't due yet is a carry nearer then.
     pub fn deliver(&mut self)
         ensures { IsDelivered (view self.old) (view self.new) }
     {
@@ -105,7 +105,8 @@ impl Segment {
         self.flight.frames.is_empty() && nothing_waits(self.stacks.as_slice())
     }
 
-    /// Carries until nothing is under way and nothing waits for a link, but at most so many times. Whether nothing is left.
+    /// Carries until nothing is under way and nothing waits for a link, but at most so many times. Whether nothing is
+    /// left.
     pub fn carry_all(&mut self, most: u32) -> bool
         ensures carried { AreCarried most (view self.old) (view self.new) }
         ensures quiet { result ≡ is_quiet (view self.new) }

@@ -4,8 +4,8 @@ ghost use Rattle.std.specs.Prelude.{◌≡◌, [], vec_capacity, IfOk};
 use crate::frame::Frame;
 use std::alloc::{AllocError, Global};
 
-/// The packets that are under way, at most as many as fit, and those that are due in a carry. `hand` has the packet that a
-/// host has given last, and `passed` is for use within a call.
+/// The packets that are under way, at most as many as fit, and those that are due in a carry. `hand` has the packet
+/// that a host has given last, and `passed` is for use within a call.
 #[derive(Drop)]
 pub(crate) struct Flight {
     pub(crate) frames: Vec<Frame>,

@@ -12,11 +12,11 @@ ghost use Rattle.segment.specs.Law.{Act, AreOnSegment, turns_of};
 
 use net_stack::stacks_on_a_wire;
 
-/// Two hosts of a segment, whatever was done since it had none: hosts joined, calls were made on any of them, and carries
-/// in between. If nobody forged the first one's address, and it sent fewer than 65,536 times, then what `recvfrom` of the
-/// second answers with that address as the sender's, the first was told that it has sent: these bytes, or, where the
-/// buffer was shorter, a datagram of which they are the front, from that port, and to the second and the port that the
-/// socket had then. That anything arrives, or once only, isn't said.
+/// Two hosts of a segment, whatever was done since it had none: hosts joined, calls were made on any of them, and
+/// carries in between. If nobody forged the first one's address, and it sent fewer than 65,536 times, then what
+/// `recvfrom` of the second answers with that address as the sender's, the first was told that it has sent: these
+/// bytes, or, where the buffer was shorter, a datagram of which they are the front, from that port, and to the second
+/// and the port that the socket had then. That anything arrives, or once only, isn't said.
 pub fn hosts_on_a_segment()
     ensures { (room i j : ℕ) (first second : Config) (s t : StackView) (acts : List Act) (last : SegmentView)
         (before after : List Turn) (fd most : ℕ) (sender : Addr) (bytes : List ℕ)

@@ -63,7 +63,8 @@ fn is_apart(config: &Config, others: &[Config]) -> bool
 }
 
 impl Segment {
-    /// A segment without hosts, with room for so many packets under way, and the seed 1. All memory for these is taken here.
+    /// A segment without hosts, with room for so many packets under way, and the seed 1. All memory for these is taken
+    /// here.
     ///
     /// # Errors
     ///
@@ -89,9 +90,9 @@ impl Segment {
     ///
     /// # Errors
     ///
-    /// In this order, and then the segment is as it was: `TooManyHosts` if it has 64 hosts; `AddressTaken` if a host has
-    /// the same address, or one of the two has the other's address as its broadcast address; `Unbooted` if there is no
-    /// stack by this configuration, or host memory was refused.
+    /// In this order, and then the segment is as it was: `TooManyHosts` if it has 64 hosts; `AddressTaken` if a host
+    /// has the same address, or one of the two has the other's address as its broadcast address; `Unbooted` if there is
+    /// no stack by this configuration, or host memory was refused.
     pub fn join(&mut self, alloc: Global, config: Config) -> Result<(), JoinFault>
         ensures { MatchResult result (λ _. IsJoined config (view self.old) (view self.new)) (λ fault.
             IsRefused (view self.old) config fault × (view self.new ≡ view self.old)) }

@@ -1,5 +1,5 @@
-//! Datagrams among 16 hosts on a wire that loses, repeats and reorders. Each that comes has to be one that was sent, whole,
-//! and every pool has to be full again at the end.
+//! Datagrams among 16 hosts on a wire that loses, repeats and reorders. Each that comes has to be one that was sent,
+//! whole, and every pool has to be full again at the end.
 #![tactic(auto)]
 
 mod hosts;

@@ -14,9 +14,9 @@ use std::process::ExitCode;
 /// How many lines a random script has.
 const LINES: u32 = 300;
 
-/// With the words `random` and a number: so many random scripts, each over a pool of its own size. Else a script from the
-/// standard input, over every pool of 1 to 30 mbufs and 0 to 6 clusters; the words are options of `bsdudp run` for the rest of
-/// the machine.
+/// With the words `random` and a number: so many random scripts, each over a pool of its own size. Else a script from
+/// the standard input, over every pool of 1 to 30 mbufs and 0 to 6 clusters; the words are options of `bsdudp run` for
+/// the rest of the machine.
 fn swept(rt: &HostRuntime) -> io::Result<Swept> {
     let words: Vec<String> = env::args(rt)?.collect(rt.alloc())?;
     let options = words.get(1..).unwrap_or_default();

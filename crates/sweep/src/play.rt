@@ -28,8 +28,8 @@ pub(crate) struct Sizes {
 pub(crate) enum Swept {
     /// So many were played, and nothing was left.
     Clean(u64),
-    /// Something was left in a pool of these sizes, after the random script with this seed, or after the script that was
-    /// given.
+    /// Something was left in a pool of these sizes, after the random script with this seed, or after the script that
+    /// was given.
     Left { sizes: Sizes, seed: Option<u64> },
 }
 
@@ -40,8 +40,8 @@ impl Swept {
     }
 }
 
-/// The lines that close every descriptor, take the packets that wait, let unfinished datagrams time out, and ask what is
-/// left.
+/// The lines that close every descriptor, take the packets that wait, let unfinished datagrams time out, and ask what
+/// is left.
 fn tail(alloc: Global) -> Result<String, AllocError> {
     let mut lines = String::new(alloc);
     for fd in 3..67u32 {
