@@ -15,6 +15,7 @@ pub mod hearing;
 pub mod line_echo;
 pub mod link_packets;
 pub mod named_packet;
+pub mod other_machine;
 pub mod packet_sum;
 pub mod receive_queue;
 pub mod send;

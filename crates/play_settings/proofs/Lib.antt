@@ -1,0 +1,2 @@
+mod AddressLemmas
+pub mod Laws
