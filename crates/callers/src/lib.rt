@@ -17,6 +17,7 @@ pub mod link_packets;
 pub mod named_packet;
 pub mod other_machine;
 pub mod packet_sum;
+pub mod packet_words;
 pub mod receive_queue;
 pub mod send;
 pub mod shared_cluster;
