@@ -2,4 +2,5 @@ mod TextLemmas
 mod FitLemmas
 mod RunLemmas
 mod AnswerLemmas
+mod SettingLemmas
 mod TurnLemmas

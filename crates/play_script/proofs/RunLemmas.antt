@@ -10,9 +10,10 @@ use Rattle.script_loop.proofs.Laws.{Moves-none}
 use Rattle.link_script.specs.Boots.{IsUnbooted}
 use Rattle.play_script.specs.Tells.{Play, Tells, started}
 
-pub started-is : (machine : State) (number : ℕ) (quiet quiet' : Bool) (name name' : List ℕ) → quiet ≡ quiet' → number ≡ 0 → name ≡ name'
-    → record (started machine quiet name) { number = number } ≡ started machine quiet' name'
-started-is machine number quiet quiet' name name' e f h = rw (e, f, h) refl
+pub started-is : (machine : State) (config : Config) (number : ℕ) (quiet quiet' : Bool) (name name' : List ℕ) → config ≡ machine.config
+    → quiet ≡ quiet' → number ≡ 0 → name ≡ name'
+    → record (started machine quiet name) { config = config; number = number } ≡ started machine quiet' name'
+started-is machine config number quiet quiet' name name' c e f h = rw (c, e, f, h) refl
 
 -- nothing is served without a machine
 pub Serves-unbooted : (step : State → Event → Reply → State → Type 0) (c : Config) (fault : RunFault) (quiet : Bool) (name : List ℕ)
@@ -26,10 +27,10 @@ Serves-unbooted step c Write quiet name a w h = absurd h
 Serves-unbooted step c TooManyLines quiet name a w h = absurd h
 
 -- what a new player serves
-pub Serves-started : (step : State → Event → Reply → State → Type 0) (machine : State) (number : ℕ) (quiet quiet' : Bool)
+pub Serves-started : (step : State → Event → Reply → State → Type 0) (machine : State) (config : Config) (number : ℕ) (quiet quiet' : Bool)
     (name name' : List ℕ) (new : Play) (a b w v : Option (List ℕ)) (r : Result Unit RunFault)
-    → quiet ≡ quiet' → number ≡ 0 → name ≡ name'
-    → Serves (Tells step) (record (started machine quiet name) { number = number }) new a b w v r
+    → config ≡ machine.config → quiet ≡ quiet' → number ≡ 0 → name ≡ name'
+    → Serves (Tells step) (record (started machine quiet name) { config = config; number = number }) new a b w v r
     → (x : Play) × Serves (Tells step) (started machine quiet' name') x a b w v r × (new.sound ≡ x.sound)
-Serves-started step machine number quiet quiet' name name' new a b w v r e f h served =
-    (new, subst (λ (s : Play). Serves (Tells step) s new a b w v r) (started-is machine number quiet quiet' name name' e f h) served, refl)
+Serves-started step machine config number quiet quiet' name name' new a b w v r c e f h served =
+    (new, subst (λ (s : Play). Serves (Tells step) s new a b w v r) (started-is machine config number quiet quiet' name name' c e f h) served, refl)

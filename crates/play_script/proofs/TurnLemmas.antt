@@ -1,22 +1,29 @@
 -- The turns that lines make.
-use Rattle.std.proofs.Common.{◌≡◌, ℕ, zero, suc, List, [], ◌∷◌, ◌++◌, get_or, replicate, codes, Option, Some, None, inl, inr, refl, sym, ap, ◌∙◌, arith, subst}
+use Rattle.std.proofs.Common.{◌≡◌, ◌⊎◌, ℕ, zero, suc, ◌&&◌, Bool, true, false, List, [], ◌∷◌, ◌++◌, get_or, replicate, codes, Option, Some, None, Result, Ok, Err, inl, inr, refl, sym, ap, ◌∙◌, arith, subst}
+use Rattle.std.proofs.lemmas.Bool.{false≢true}
 use Rattle.std.proofs.lemmas.Fmt.{decimal_injective}
 use Rattle.flat_model.specs.Machine.Event.{Event, Reply, Open, Bind, Connect, Send, Receive, Close, Set_option, Comes, Transmit, Tick, Ask_counters, Ask_usage, Done}
 use Rattle.flat_model.specs.Machine.Ledger.{exact_ledger}
-use Rattle.flat_model.specs.Machine.State.{State}
+use Rattle.flat_model.specs.Machine.State.{State, boot}
 use Rattle.flat_model.specs.Machine.Step.{Step}
 use Rattle.flat_model.specs.Runs.Run.{Turn, Leads}
-use Rattle.flat_model.specs.Scripts.Grammar.{keyword}
+use Rattle.flat_model.specs.Scripts.Grammar.{keyword, words}
+use Rattle.flat_model.specs.declared.config.Config.{Config}
 use Rattle.flat_model.specs.Scripts.Script as script
 use Rattle.flat_model.specs.Scripts.Script.{all_events}
 use Rattle.flat_model.proofs.Laws.{in_range, one_more_turn}
 use Rattle.script_loop.specs.Printed.{Prints}
+use Rattle.play_settings.specs.Settings.{has_dashes, IsSet}
+use Rattle.play_settings.specs.declared.fault.SettingFault.{SettingFault}
+use Rattle.play_settings.specs.declared.fault.SettingFault.TheVariants.{Late}
+use Rattle.play_settings.proofs.Laws.{first_dash}
 use Rattle.play_show.specs.Topics.{topic_asked}
 use Rattle.play_show.specs.declared.topic.Topic.{Topic}
 use Rattle.play_show.proofs.Laws.{begins_with_show}
 use Rattle.play_script.specs.Lines.{Reading, Nothing, TooLong, Faulty, Asks, IsTicks, reading}
-use Rattle.play_script.specs.Runs.{AreTurns, IsRunOf, turn_of}
-use Rattle.play_script.specs.Tells.{Play, Tells, TellsReading, Ticks, Does, IsAnswered, next_line}
+use Rattle.play_script.specs.Outcomes.{outcome}
+use Rattle.play_script.specs.Runs.{AreTurns, IsRunOf, MaySet, MaySetAll, turn_of}
+use Rattle.play_script.specs.Tells.{Play, Tells, TellsReading, TellsAsked, TellsSettled, Ticks, Does, IsAnswered, IsSettled, next_line, stays_head}
 
 -- a line asks for one number of ticks at most
 pub one_count : (plain : List ℕ) (m n : ℕ) → IsTicks plain m → IsTicks plain n → m ≡ n
@@ -85,35 +92,197 @@ Shown-no_ticks plain topic is n ticks =
     let same : get_or (codes "tick") 1 0 ≡ 104 = sym (ap second_of ticks.1) ∙ ap second_of shows.1 in
     omega (arith, same)
 
+-- a line of settings asks for no event, and for no ticks
+dash_first : (event : Event) → get_or (keyword event) 0 0 ≡ 45 → ⊥
+dash_first Open h = omega (arith, h)
+dash_first (Bind fd address) h = omega (arith, h)
+dash_first (Connect fd address) h = omega (arith, h)
+dash_first (Send fd (Some to) bytes) h = omega (arith, h)
+dash_first (Send fd None bytes) h = omega (arith, h)
+dash_first (Receive fd most) h = omega (arith, h)
+dash_first (Close fd) h = omega (arith, h)
+dash_first (Set_option fd option on) h = omega (arith, h)
+dash_first (Comes packet) h = omega (arith, h)
+dash_first Transmit h = omega (arith, h)
+dash_first Tick h = omega (arith, h)
+dash_first Ask_counters h = omega (arith, h)
+dash_first Ask_usage h = omega (arith, h)
+
+Settings-no_event : (plain : List ℕ) → has_dashes plain ≡ true → (event : Event) → ¬ script.Asks all_events plain event
+Settings-no_event plain is event asks =
+    dash_first event (first_dash plain (keyword event) asks.form.args is asks.form.words_are)
+
+Settings-no_ticks : (plain : List ℕ) → has_dashes plain ≡ true → (n : ℕ) → ¬ IsTicks plain n
+Settings-no_ticks plain is n ticks =
+    let same : get_or (codes "tick") 0 0 ≡ 45 = first_dash plain (codes "tick") (ticks.0 ∷ []) is ticks.1 in
+    omega (arith, same)
+
+-- ---- a line
+
+-- A line that isn't of settings: its turns, none of them if settings may still come.
+record Asked (now : Play) (line : Reading) (new : Play) : Type 0 where
+  turns : List Turn
+  are : AreTurns line turns
+  leads : Leads exact_ledger now.machine turns new.machine
+  config : new.config ≡ now.config
+  head : new.head ≡ true → (now.head ≡ true) × (turns ≡ [])
+
+-- a line whose settings made a new machine
+record Settled (now : Play) (line : Reading) (new : Play) : Type 0 where
+  are : AreTurns line []
+  was : now.head ≡ true
+  machine : new.machine ≡ boot new.config
+  set : MaySet line now.config new.config
+
+not_none : (text : List ℕ) → None ≡ Some text → ⊥
+not_none text e = cc
+
+not_late : (c : Config) → Ok c ≡ Err Late → ⊥
+not_late c e = cc
+
 -- what is told of a plain line, by its turns
 Answered-turns : (old new : State) (shown plain : List ℕ) (wanted : Option (List ℕ)) (topic : Option Topic) → topic_asked plain ≡ topic
     → (told : Option (List ℕ)) (below : List ℕ) → IsAnswered Step old topic plain told below new
     → (turns : List Turn) × AreTurns (Asks shown plain wanted) turns × Leads exact_ledger old turns new
+    × (stays_head topic told ≡ true → turns ≡ [])
 Answered-turns old new shown plain wanted (Some topic) is None below answered = absurd answered
 Answered-turns old new shown plain wanted (Some topic) is (Some told) below (shows, same) =
-    ([], inr (inr (Shown-no_event plain topic is, Shown-no_ticks plain topic is, refl)), same)
-Answered-turns old new shown plain wanted None is told below (reply, before, after, does, was, now, tells, none) =
-    Does-turns old new shown plain wanted reply does
+    ([], inr (inr (Shown-no_event plain topic is, Shown-no_ticks plain topic is, refl)), same, λ stays. refl)
+Answered-turns old new shown plain wanted None is (Some told) below (reply, before, after, does, was, now, tells, none) =
+    let made = Does-turns old new shown plain wanted reply does in (made.0, made.1, made.2, λ stays. absurd (false≢true stays))
+Answered-turns old new shown plain wanted None is None below (Some reply, before, after, does, was, now, tells, none) =
+    absurd (not_none _ tells)
+Answered-turns old new shown plain wanted None is None below (None, before, after, ((none, same), no_ticks), was, now, tells, no_lines) =
+    ([], inr (inr (none, no_ticks, refl)), same, λ stays. refl)
 
-Tells-turns : (now new : Play) (line : Reading) (text : List ℕ) → TellsReading Step now line text new
-    → (turns : List Turn) × AreTurns line turns × Leads exact_ledger now.machine turns new.machine
-Tells-turns now new Nothing text (is, same) = ([], refl, ap (λ (p : Play). p.machine) same)
-Tells-turns now new TooLong text (is, same) = ([], refl, ap (λ (p : Play). p.machine) same)
-Tells-turns now new (Faulty slip) text (is, same) = ([], refl, ap (λ (p : Play). p.machine) same)
-Tells-turns now new (Asks shown plain wanted) text (machine, told, below, answered, is, same) =
-    let made = Answered-turns now.machine machine shown plain wanted (topic_asked plain) refl told below answered in (
-      made.0,
-      made.1,
-      subst (λ s. Leads exact_ledger now.machine made.0 s) (sym (ap (λ (p : Play). p.machine) same)) made.2,
-    )
+and_first : (a b : Bool) → (a && b) ≡ true → a ≡ true
+and_first true b h = refl
+and_first false b h = h
+
+and_second : (a b : Bool) → (a && b) ≡ true → b ≡ true
+and_second true b h = h
+and_second false b h = absurd (false≢true h)
+
+Idle : (now new : Play) (line : Reading) → AreTurns line [] → new.machine ≡ now.machine → new.config ≡ now.config → new.head ≡ now.head
+    → Asked now line new
+Idle now new line are machine config head =
+    record { turns = []; are = are; leads = machine; config = config; head = λ h. (sym head ∙ h, refl) }
+
+Settings-line : (now new : Play) (shown plain text : List ℕ) (wanted : Option (List ℕ)) (head : Bool) → now.head ≡ head → has_dashes plain ≡ true
+    → (outcome : Result Config SettingFault) → IsSettled head now.config plain outcome → TellsSettled now shown wanted outcome text new
+    → Asked now (Asks shown plain wanted) new ⊎ Settled now (Asks shown plain wanted) new
+Settings-line now new shown plain text wanted head was is (Err fault) settled (told, same) =
+    inl (Idle now new (Asks shown plain wanted) (inr (inr (Settings-no_event plain is, Settings-no_ticks plain is, refl)))
+    (ap (λ (p : Play). p.machine) same) (ap (λ (p : Play). p.config) same) (ap (λ (p : Play). p.head) same))
+Settings-line now new shown plain text wanted true was is (Ok c) (set, right) (told, same) =
+    inr (record {
+      are = inr (inr (Settings-no_event plain is, Settings-no_ticks plain is, refl));
+      was = was;
+      machine = ap (λ (p : Play). p.machine) same ∙ ap boot (sym (ap (λ (p : Play). p.config) same));
+      set = inr (is, subst (λ (d : Config). IsSet now.config (words plain) (Ok d)) (sym (ap (λ (p : Play). p.config) same)) set);
+    })
+Settings-line now new shown plain text wanted false was is (Ok c) settled told =
+    absurd (not_late c settled)
+
+Asked-line : (now new : Play) (shown plain text : List ℕ) (wanted : Option (List ℕ)) (dashes : Bool) → has_dashes plain ≡ dashes
+    → TellsAsked Step dashes now shown plain wanted text new
+    → Asked now (Asks shown plain wanted) new ⊎ Settled now (Asks shown plain wanted) new
+Asked-line now new shown plain text wanted true is (outcome, settled, told) =
+    Settings-line now new shown plain text wanted now.head refl is outcome settled told
+Asked-line now new shown plain text wanted false is (machine, told, below, answered, tells, same) =
+    let made = Answered-turns now.machine machine shown plain wanted (topic_asked plain) refl told below answered in
+    let stayed : new.head ≡ (now.head && stays_head (topic_asked plain) told) = ap (λ (p : Play). p.head) same in
+    inl (record {
+      turns = made.0;
+      are = made.1;
+      leads = subst (λ s. Leads exact_ledger now.machine made.0 s) (sym (ap (λ (p : Play). p.machine) same)) made.2;
+      config = ap (λ (p : Play). p.config) same;
+      head = λ h. (
+        and_first now.head (stays_head (topic_asked plain) told) (sym stayed ∙ h),
+        made.3 (and_second now.head (stays_head (topic_asked plain) told) (sym stayed ∙ h)),
+      );
+    })
+
+Tells-line : (now new : Play) (line : Reading) (text : List ℕ) → TellsReading Step now line text new → Asked now line new ⊎ Settled now line new
+Tells-line now new Nothing text (is, same) =
+    inl (Idle now new Nothing refl (ap (λ (p : Play). p.machine) same) (ap (λ (p : Play). p.config) same) (ap (λ (p : Play). p.head) same))
+Tells-line now new TooLong text (is, same) =
+    inl (Idle now new TooLong refl (ap (λ (p : Play). p.machine) same) (ap (λ (p : Play). p.config) same) (ap (λ (p : Play). p.head) same))
+Tells-line now new (Faulty slip) text (is, same) =
+    inl (Idle now new (Faulty slip) refl (ap (λ (p : Play). p.machine) same) (ap (λ (p : Play). p.config) same) (ap (λ (p : Play). p.head) same))
+Tells-line now new (Asks shown plain wanted) text told = Asked-line now new shown plain text wanted (has_dashes plain) refl told
+
+-- ---- all lines
+
+MaySet-same : (line : Reading) (c : Config) → MaySet line c c
+MaySet-same Nothing c = refl
+MaySet-same TooLong c = refl
+MaySet-same (Faulty slip) c = refl
+MaySet-same (Asks shown plain wanted) c = inl refl
+
+MaySetAll-same : (lines : List (List ℕ)) (c : Config) → MaySetAll lines c c
+MaySetAll-same [] c = refl
+MaySetAll-same (line ∷ lines) c = (c, MaySet-same (reading line) c, MaySetAll-same lines c)
+
+-- a line in front of a run
+Asked-before : (now old mid new : Play) (line : List ℕ) (lines : List (List ℕ)) → now.machine ≡ old.machine → now.config ≡ old.config → now.head ≡ old.head
+    → Asked now (reading line) mid → IsRunOf mid lines new → IsRunOf old (line ∷ lines) new
+Asked-before now old mid new line lines m c h first rest =
+    elim rest.begins [
+      | inl same ↦ record {
+        first = old.machine;
+        begins = inl refl;
+        turns = first.turns ++ rest.turns;
+        are = (first.turns, rest.turns, first.are, rest.are, refl);
+        leads = Leads-append old.machine mid.machine new.machine first.turns rest.turns
+            (subst (λ s. Leads exact_ledger s first.turns mid.machine) m first.leads)
+            (subst (λ s. Leads exact_ledger s rest.turns new.machine) same rest.leads);
+      }
+      | inr (stays, (d, set, is)) ↦ record {
+        first = rest.first;
+        begins = inr (
+          sym h ∙ (first.head stays).0,
+          (d, (old.config, MaySet-same (reading line) old.config, subst (λ (e : Config). MaySetAll lines e d) (first.config ∙ c) set), is),
+        );
+        turns = rest.turns;
+        are = (
+          [],
+          rest.turns,
+          subst (λ (ts : List Turn). AreTurns (reading line) ts) (first.head stays).1 first.are,
+          rest.are,
+          refl,
+        );
+        leads = rest.leads;
+      }
+    ]
+
+Settled-before : (now old mid new : Play) (line : List ℕ) (lines : List (List ℕ)) → now.config ≡ old.config → now.head ≡ old.head
+    → Settled now (reading line) mid → IsRunOf mid lines new → IsRunOf old (line ∷ lines) new
+Settled-before now old mid new line lines c h first rest =
+    let set : MaySet (reading line) old.config mid.config = subst (λ (e : Config). MaySet (reading line) e mid.config) c first.set in
+    elim rest.begins [
+      | inl same ↦ record {
+        first = rest.first;
+        begins = inr (sym h ∙ first.was, (mid.config, (mid.config, set, MaySetAll-same lines mid.config), same ∙ first.machine));
+        turns = rest.turns;
+        are = ([], rest.turns, first.are, rest.are, refl);
+        leads = rest.leads;
+      }
+      | inr (stays, (d, later, is)) ↦ record {
+        first = rest.first;
+        begins = inr (sym h ∙ first.was, (d, (mid.config, set, later), is));
+        turns = rest.turns;
+        are = ([], rest.turns, first.are, rest.are, refl);
+        leads = rest.leads;
+      }
+    ]
 
 pub Prints-run : (old new : Play) (lines : List (List ℕ)) (printed : List ℕ) → Prints (Tells Step) old lines printed new → IsRunOf old lines new
-Prints-run old new [] printed (same, none) = record { turns = []; are = refl; leads = ap (λ (p : Play). p.machine) same }
+Prints-run old new [] printed (same, none) =
+    record { first = old.machine; begins = inl refl; turns = []; are = refl; leads = ap (λ (p : Play). p.machine) same }
 Prints-run old new (line ∷ lines) printed (mid, text, rest, tells, later, joined) =
-    let first = Tells-turns (next_line old) mid (reading line) text tells in
     let after = Prints-run mid new lines rest later in
-    record {
-      turns = first.0 ++ after.turns;
-      are = (first.0, after.turns, first.1, after.are, refl);
-      leads = Leads-append old.machine mid.machine new.machine first.0 after.turns first.2 after.leads;
-    }
+    elim (Tells-line (next_line old) mid (reading line) text tells) [
+      | inl asked ↦ Asked-before (next_line old) old mid new line lines refl refl refl asked after
+      | inr settled ↦ Settled-before (next_line old) old mid new line lines refl refl settled after
+    ]

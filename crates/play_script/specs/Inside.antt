@@ -3,7 +3,11 @@ use Rattle.std.specs.Prelude.{ℕ, Bool, true, false, List, Option, Some, None}
 use Rattle.play_script.specs.Lines.{Reading, Nothing, TooLong, Faulty, Asks}
 use Rattle.play_script.specs.declared.line.Kind.{Kind}
 use Rattle.play_script.specs.declared.line.Kind.TheVariants as kind
+use Rattle.flat_model.specs.Machine.State.{State}
+use Rattle.flat_model.specs.declared.config.Config.{Config}
+use Rattle.play_script.specs.Tells.{Play}
 use Rattle.play_script.specs.declared.player.Desk.{Desk}
+use Rattle.play_script.specs.declared.player.Sheet.{Sheet}
 
 -- a text, if there is one
 abbrev pub if_there : Bool → List ℕ → Option (List ℕ)
@@ -20,3 +24,15 @@ is_reading (kind.Asks expects) shown words wanted = Asks shown words (if_there e
 -- what is expected of the line on a desk
 abbrev pub expected_on : Desk → Option (List ℕ)
 expected_on desk = if_there desk.expects desk.wanted
+
+-- what a player has in hand, by its parts
+abbrev pub play_of : State → Config → Bool → Sheet → Bool → Play
+play_of machine config head sheet sound = record {
+  machine = machine;
+  config = config;
+  head = head;
+  number = sheet.number;
+  sound = sound;
+  quiet = sheet.quiet;
+  name = sheet.name;
+}

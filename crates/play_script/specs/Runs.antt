@@ -1,10 +1,14 @@
 -- The run that a script makes (this project's own).
-use Rattle.std.specs.Prelude.{◌≡◌, ◌⊎◌, ℕ, List, [], ◌∷◌, ◌++◌, replicate}
+use Rattle.std.specs.Prelude.{◌≡◌, ◌⊎◌, ℕ, true, List, [], ◌∷◌, ◌++◌, replicate, Ok}
 use Rattle.flat_model.specs.Machine.Event.{Event, Reply, Tick, Done}
 use Rattle.flat_model.specs.Machine.Ledger.{exact_ledger}
+use Rattle.flat_model.specs.Machine.State.{State, boot}
 use Rattle.flat_model.specs.Runs.Run.{Turn, Leads}
+use Rattle.flat_model.specs.Scripts.Grammar.{words}
 use Rattle.flat_model.specs.Scripts.Script.{all_events}
 use Rattle.flat_model.specs.Scripts.Script as script
+use Rattle.flat_model.specs.declared.config.Config.{Config}
+use Rattle.play_settings.specs.Settings.{has_dashes, IsSet}
 use Rattle.play_script.specs.Lines.{Reading, Nothing, TooLong, Faulty, Asks, IsTicks, reading}
 use Rattle.play_script.specs.Tells.{Play}
 
@@ -27,8 +31,29 @@ AreAllTurns [] turns = turns ≡ []
 AreAllTurns (line ∷ lines) turns =
     (first rest : List Turn) × AreTurns (reading line) first × AreAllTurns lines rest × (turns ≡ first ++ rest)
 
+-- ---- settings
+
+-- the configuration after a line in the head: as it was, or what the line's settings make of it
+abbrev pub MaySet : Reading → Config → Config → Type 0
+MaySet Nothing old new = new ≡ old
+MaySet TooLong old new = new ≡ old
+MaySet (Faulty slip) old new = new ≡ old
+MaySet (Asks shown plain wanted) old new = (new ≡ old) ⊎ ((has_dashes plain ≡ true) × IsSet old (words plain) (Ok new))
+
+-- after several lines
+abbrev pub MaySetAll : List (List ℕ) → Config → Config → Type 0
+MaySetAll [] old new = new ≡ old
+MaySetAll (line ∷ lines) old new = (mid : Config) × MaySet (reading line) old mid × MaySetAll lines mid new
+
+-- The machine that the turns begin with: the one in hand, or in the head one that settings have made.
+abbrev pub Begins : Play → List (List ℕ) → State → Type 0
+Begins old lines first =
+    (first ≡ old.machine) ⊎ ((old.head ≡ true) × ((c : Config) × MaySetAll lines old.config c × (first ≡ boot c)))
+
 -- the turns of these lines are a run of the machine that keeps exact accounts
 pub record IsRunOf (old : Play) (lines : List (List ℕ)) (new : Play) : Type 0 where
+  pub first : State
+  pub begins : Begins old lines first
   pub turns : List Turn
   pub are : AreAllTurns lines turns
-  pub leads : Leads exact_ledger old.machine turns new.machine
+  pub leads : Leads exact_ledger first turns new.machine

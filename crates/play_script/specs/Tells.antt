@@ -2,7 +2,9 @@
 use Rattle.std.specs.Prelude.{◌≡◌, ◌⊎◌, ℕ, zero, suc, ◌&&◌, Bool, true, false, List, [], ◌++◌, if◌then◌else◌, codes, decimal, Option, Some, None, Result, Ok, Err}
 use Rattle.flat_model.specs.Machine.Count.{more_by}
 use Rattle.flat_model.specs.Machine.Event.{Event, Reply, Tick, Ask_counters, Done, Counted}
-use Rattle.flat_model.specs.Machine.State.{State}
+use Rattle.flat_model.specs.Machine.State.{State, IsConfig, HasSizes, boot}
+use Rattle.flat_model.specs.Scripts.Grammar.{words}
+use Rattle.flat_model.specs.declared.config.Config.{Config}
 use Rattle.flat_model.specs.Scripts.Script as script
 use Rattle.flat_model.specs.Scripts.Script.{all_events}
 use Rattle.flat_model.specs.declared.counters.Counters.{Counters}
@@ -10,16 +12,22 @@ use Rattle.script_loop.specs.declared.fault.RunFault.{RunFault}
 use Rattle.script_loop.specs.declared.fault.RunFault.TheVariants.{Read, Write, Memory, TooManyLines, BadSizes, BadConfig}
 use Rattle.play_line.specs.Scans.{words_of}
 use Rattle.play_line.specs.declared.fault.Slip.{Slip}
+use Rattle.play_settings.specs.Settings.{has_dashes, IsSet, fault_words}
+use Rattle.play_settings.specs.declared.fault.SettingFault.{SettingFault}
+use Rattle.play_settings.specs.declared.fault.SettingFault.TheVariants as settings
 use Rattle.play_show.specs.Tells.{Shows}
 use Rattle.play_show.specs.Topics.{topic_asked}
 use Rattle.play_show.specs.declared.topic.Topic.{Topic}
 use Rattle.play_script.specs.Lines.{Reading, Nothing, TooLong, Faulty, Asks, IsTicks, reading}
 use Rattle.play_script.specs.Outcomes.{outcome, meets}
 
--- What a player has in hand: its machine; how many lines it has seen; whether all of them could be read and all expectations
--- held; and how it prints: replies and differences alone if it's quiet, and differences under the script's name.
+-- What a player has in hand: its machine, and the configuration that this was booted with; whether settings may still make
+-- another one; how many lines it has seen; whether all of them could be read and all expectations held; and how it prints:
+-- replies and differences alone if it's quiet, and differences under the script's name.
 pub record Play : Type 0 where
   pub machine : State
+  pub config : Config
+  pub head : Bool
   pub number : ℕ
   pub sound : Bool
   pub quiet : Bool
@@ -27,7 +35,15 @@ pub record Play : Type 0 where
 
 -- before the first line
 abbrev pub started : State → Bool → List ℕ → Play
-started machine quiet name = record { machine = machine; number = 0; sound = true; quiet = quiet; name = name }
+started machine quiet name = record {
+  machine = machine;
+  config = machine.config;
+  head = true;
+  number = 0;
+  sound = true;
+  quiet = quiet;
+  name = name;
+}
 
 -- ---- texts
 
@@ -72,6 +88,46 @@ is_sound wanted None = false
 is_sound None (Some told) = true
 is_sound (Some wanted) (Some told) = meets wanted told
 
+-- ---- settings
+
+-- whether settings may still come after a line that tells this: one that asks for a call ends them
+abbrev pub stays_head : Option Topic → Option (List ℕ) → Bool
+stays_head (Some topic) told = true
+stays_head None None = true
+stays_head None (Some told) = false
+
+-- why there is no machine of a configuration
+abbrev pub IsRefused : Config → SettingFault → Type 0
+IsRefused c settings.BadSizes = ¬ HasSizes c
+IsRefused c settings.BadConfig = HasSizes c × ¬ IsConfig c
+IsRefused c settings.Memory = IsConfig c
+IsRefused c settings.Late = ⊥
+IsRefused c settings.Unknown = ⊥
+IsRefused c settings.NoValue = ⊥
+IsRefused c settings.NotAddress = ⊥
+IsRefused c settings.NotNumber = ⊥
+IsRefused c settings.OtherNetwork = ⊥
+
+-- What settings make of a configuration: in the script's head what their words say, if there can be such a machine.
+abbrev pub IsSettled : Bool → Config → List ℕ → Result Config SettingFault → Type 0
+IsSettled false old plain outcome = outcome ≡ Err settings.Late
+IsSettled true old plain (Ok new) = IsSet old (words plain) (Ok new) × IsConfig new
+IsSettled true old plain (Err fault) =
+    IsSet old (words plain) (Err fault) ⊎ ((new : Config) × IsSet old (words plain) (Ok new) × IsRefused new fault)
+
+-- a line of settings is told as `ok`, and the machine is a new one; or it's told what is wrong
+abbrev pub TellsSettled : Play → List ℕ → Option (List ℕ) → Result Config SettingFault → List ℕ → Play → Type 0
+TellsSettled now shown wanted (Ok c) text new =
+    (text ≡ told_text now.quiet now.name now.number shown wanted (codes "ok") [])
+    × (new ≡ record now { machine = boot c; config = c; sound = now.sound && is_sound wanted (Some (codes "ok")) })
+TellsSettled now shown wanted (Err fault) text new =
+    (text ≡ fault_text now.name now.number (fault_words fault)) × (new ≡ record now { sound = false })
+
+abbrev pub TellsSettings : Play → List ℕ → List ℕ → Option (List ℕ) → List ℕ → Play → Type 0
+TellsSettings now shown plain wanted text new =
+    (outcome : Result Config SettingFault) × IsSettled now.head now.config plain outcome
+    × TellsSettled now shown wanted outcome text new
+
 -- ---- steps
 
 -- the next line
@@ -106,6 +162,19 @@ module _ (step : State → Event → Reply → State → Type 0) where
       × Does old plain reply new × Counts old before × Counts new after
       × (told ≡ outcome reply before after) × (below ≡ [])
 
+  -- what a line may have as its text that doesn't begin with two dashes, and one that does
+  abbrev pub TellsAsked : Bool → Play → List ℕ → List ℕ → Option (List ℕ) → List ℕ → Play → Type 0
+  TellsAsked true now shown plain wanted text new = TellsSettings now shown plain wanted text new
+  TellsAsked false now shown plain wanted text new =
+      (machine : State) × (told : Option (List ℕ)) × (below : List ℕ)
+      × IsAnswered now.machine (topic_asked plain) plain told below machine
+      × (text ≡ printed now.quiet now.name now.number shown wanted told below)
+      × (new ≡ record now {
+        machine = machine;
+        head = now.head && stays_head (topic_asked plain) told;
+        sound = now.sound && is_sound wanted told;
+      })
+
   -- what a line of some kind may have as its text, where `now` has its number
   abbrev pub TellsReading : Play → Reading → List ℕ → Play → Type 0
   TellsReading now Nothing text new = (text ≡ []) × (new ≡ now)
@@ -113,11 +182,7 @@ module _ (step : State → Event → Reply → State → Type 0) where
       (text ≡ fault_text now.name now.number (codes "the line is too long")) × (new ≡ record now { sound = false })
   TellsReading now (Faulty slip) text new =
       (text ≡ slip_text now.name now.number slip) × (new ≡ record now { sound = false })
-  TellsReading now (Asks shown plain wanted) text new =
-      (machine : State) × (told : Option (List ℕ)) × (below : List ℕ)
-      × IsAnswered now.machine (topic_asked plain) plain told below machine
-      × (text ≡ printed now.quiet now.name now.number shown wanted told below)
-      × (new ≡ record now { machine = machine; sound = now.sound && is_sound wanted told })
+  TellsReading now (Asks shown plain wanted) text new = TellsAsked (has_dashes plain) now shown plain wanted text new
 
   abbrev pub Tells : Play → List ℕ → List ℕ → Play → Type 0
   Tells old line text new = TellsReading (next_line old) (reading line) text new

@@ -1,23 +1,30 @@
 //! What plays a script line by line.
-ghost use Rattle.std.specs.Prelude.{◌≡◌, ◌<◌, ◌≤◌, ◌++◌, ◌+◌, ℕ, [], length, List, Option, Some, MatchOption};
+ghost use Rattle.std.specs.Prelude.{◌≡◌, ◌<◌, ◌≤◌, ◌++◌, ◌+◌, ℕ, false, [], length, List, Option, Some, Ok, Err, MatchOption, MatchResult};
 ghost use Rattle.flat_model.specs.Machine.Event.{Reply};
+ghost use Rattle.flat_model.specs.Machine.State.{boot};
+ghost use Rattle.flat_model.specs.declared.config.Config.{Config};
 ghost use Rattle.flat_model.specs.declared.counters.Counters.{Counters};
 ghost use Rattle.flat_model.specs.Scripts.Texts.{answer_text};
 ghost use Rattle.play_script.specs.Lines.{IsTicks};
 ghost use Rattle.play_script.specs.Outcomes.{outcome, drops_text};
 ghost use Rattle.play_show.specs.Topics.{topic_asked};
-ghost use Rattle.play_script.specs.Tells.{Play, Ticks, Does, Counts, IsAnswered, Tells, told_text, printed, is_sound};
-ghost use Rattle.play_script.specs.Inside.{if_there, expected_on};
+ghost use Rattle.link_script.specs.Boots.{IsUnbooted};
+ghost use Rattle.play_script.specs.Tells.{Play, Ticks, Does, Counts, IsAnswered, IsRefused, IsSettled, Tells, TellsAsked, TellsSettings, told_text, printed, is_sound, stays_head};
+ghost use Rattle.play_script.specs.Inside.{if_there, expected_on, play_of};
 
 use crate::fits::meets;
 use crate::line::{Kind, read_line};
 use crate::outcome::{DROPS, TOLD, put_drops, put_told};
 use crate::print::{NAME, ROOM, put_difference, put_fault, put_line, put_slip};
+use flat_model::Config;
 use link_script::{Caller, Machine, TEXT};
 use play_line::LONGEST;
 use play_packet::LineReader;
+use play_settings::{SettingFault, is_settings, settings_of};
 use play_show::{Questions, SHOWN, tell_topic, topic_of};
-use script_loop::{Answers, Buffer, HELD, first_word, number, one};
+use script_loop::{Answers, Buffer, HELD, RunFault, first_word, number, one};
+use std::alloc::Global;
+use std::mem;
 
 /// The most ticks that a line asks for.
 const MOST_TICKS: u32 = 65_535;
@@ -158,7 +165,12 @@ pub(crate) struct Sheet {
 
 /// What plays a script.
 pub(crate) struct Player<M> {
+    pub(crate) alloc: Global,
     pub(crate) caller: Caller<M>,
+    /// What the machine was booted with.
+    pub(crate) config: Config,
+    /// Whether settings may still make another machine.
+    pub(crate) head: bool,
     pub(crate) reader: LineReader,
     pub(crate) desk: Desk,
     pub(crate) notes: Notes,
@@ -195,24 +207,53 @@ fn print_told(sheet: &Sheet, desk: &Desk, notes: &Notes, text: &mut Buffer<ROOM>
     false
 }
 
-/// Does the line whose words stand on the desk, prints what is told of it, and answers whether it asks for something,
-/// and what is told of it is what was expected.
-fn play_line<M: Questions>(
-    caller: &mut Caller<M>,
-    desk: &Desk,
-    notes: &mut Notes,
+/// Why settings are refused that no machine has.
+fn refusal_of(fault: RunFault) -> SettingFault
+    ensures { (c : Config) → IsUnbooted c fault → IsRefused c result }
+{
+    match fault {
+        RunFault::BadSizes => SettingFault::BadSizes,
+        RunFault::BadConfig => SettingFault::BadConfig,
+        RunFault::Memory | RunFault::Read | RunFault::Write | RunFault::TooManyLines =>
+            SettingFault::Memory,
+    }
+}
+
+/// A new machine as the settings of a line say, if these stand in the script's head, and its configuration.
+fn settled<M: Machine>(
+    alloc: Global,
+    head: bool,
+    config: Config,
+    words: &[u8],
+) -> Result<(M, Config), SettingFault>
+    ensures { MatchResult result
+        (λ r. IsSettled head config words.now (Ok r.1) × (M.state r.0 ≡ boot r.1))
+        (λ fault. IsSettled head config words.now (Err fault)) }
+{
+    if !head {
+        return Err(SettingFault::Late);
+    }
+    let config = settings_of(words, config)?;
+    match M::boot(alloc, config) {
+        Ok(machine) => Ok((machine, config)),
+        Err(fault) => Err(refusal_of(fault)),
+    }
+}
+
+/// Prints what is told of a line, if it asks for something, and answers whether it does and that's what was expected.
+fn tell_outcome(
+    asks: bool,
     sheet: &Sheet,
+    desk: &Desk,
+    notes: &Notes,
     text: &mut Buffer<ROOM>,
 ) -> bool
     requires { length text.old ≤ HELD }
-    ensures { (told : Option (List ℕ)) × (below : List ℕ)
-        × IsAnswered M.may_step (M.state caller.old.machine) (topic_asked desk.now.words) desk.now.words told below
-        (M.state caller.new.machine)
-        × (text.new ≡ text.old ++ printed sheet.now.quiet sheet.now.name sheet.now.number
-        desk.now.shown (expected_on desk.now) told below)
-        × (result ≡ is_sound (expected_on desk.now) told) }
+    ensures text { text.new ≡ text.old ++ printed sheet.now.quiet sheet.now.name sheet.now.number
+        desk.now.shown (expected_on desk.now) (if_there asks notes.now.told) notes.now.below }
+    ensures sound { result ≡ is_sound (expected_on desk.now) (if_there asks notes.now.told) }
 {
-    if answer_line(caller, bytes_of(&desk.words), notes) {
+    if asks {
         print_told(sheet, desk, notes, text)
     } else {
         put_fault(
@@ -225,11 +266,24 @@ fn play_line<M: Questions>(
     }
 }
 
+/// Whether settings may still come after this line.
+fn stays(words: &[u8], asks: bool) -> bool
+    ensures { (told : List ℕ) → result ≡ stays_head (topic_asked words.now) (if_there asks told) }
+{
+    match topic_of(words) {
+        Some(_) => true,
+        None => !asks,
+    }
+}
+
 impl<M: Machine> Player<M> {
     /// Spends the player and its machine.
     pub(crate) fn end(self) {
         let Player {
+            alloc: _alloc,
             caller,
+            config: _config,
+            head: _head,
             reader: _reader,
             desk: _desk,
             notes: _notes,
@@ -244,16 +298,71 @@ impl<M: Machine> Player<M> {
     }
 }
 
+impl<M: Questions> Player<M> {
+    /// Makes a new machine as the settings on the desk say, and prints `ok` or what is wrong with them.
+    fn set_up(&mut self, text: &mut Buffer<ROOM>)
+        requires { length text.old ≤ HELD }
+        ensures { (added : List ℕ)
+            × TellsSettings
+            (play_of (M.state self.old.caller.machine) self.old.config self.old.head self.old.sheet self.old.sound)
+            self.old.desk.shown self.old.desk.words (expected_on self.old.desk) added
+            (play_of (M.state self.new.caller.machine) self.new.config self.new.head self.new.sheet self.new.sound)
+            × (text.new ≡ text.old ++ added) }
+    {
+        let outcome = settled::<M>(
+            self.alloc,
+            self.head,
+            self.config,
+            bytes_of(&self.desk.words),
+        );
+        match outcome {
+            Ok((machine, config)) => {
+                mem::replace(&mut self.caller.machine, machine).end();
+                self.config = config;
+                self.notes.told.clear();
+                self.notes.told.append(b"ok");
+                self.notes.below.clear();
+                let meets = print_told(&self.sheet, &self.desk, &self.notes, text);
+                self.sound = self.sound && meets;
+            }
+            Err(fault) => {
+                put_fault(
+                    text,
+                    bytes_of(&self.sheet.name),
+                    self.sheet.number,
+                    fault.words().as_bytes(),
+                );
+                self.sound = false;
+            }
+        }
+    }
+
+    /// Does the line whose words stand on the desk, and prints what is told of it.
+    fn ask(&mut self, text: &mut Buffer<ROOM>)
+        requires { length text.old ≤ HELD }
+        ensures { (added : List ℕ)
+            × TellsAsked M.may_step false
+            (play_of (M.state self.old.caller.machine) self.old.config self.old.head self.old.sheet self.old.sound)
+            self.old.desk.shown self.old.desk.words (expected_on self.old.desk) added
+            (play_of (M.state self.new.caller.machine) self.new.config self.new.head self.new.sheet self.new.sound)
+            × (text.new ≡ text.old ++ added) }
+    {
+        let asks = answer_line(
+            &mut self.caller,
+            bytes_of(&self.desk.words),
+            &mut self.notes,
+        );
+        let sound = tell_outcome(asks, &self.sheet, &self.desk, &self.notes, text);
+        let stays = stays(bytes_of(&self.desk.words), asks);
+        self.sound = self.sound && sound;
+        self.head = self.head && stays;
+    }
+}
+
 impl<M: Questions> Answers<ROOM> for Player<M> {
     ghost State = { Play };
 
-    ghost state = { λ p. record {
-      machine = M.state p.caller.machine;
-      number = p.sheet.number;
-      sound = p.sound;
-      quiet = p.sheet.quiet;
-      name = p.sheet.name;
-    } };
+    ghost state = { λ p. play_of (M.state p.caller.machine) p.config p.head p.sheet p.sound };
 
     ghost may_answer = { Tells M.may_step };
 
@@ -282,14 +391,11 @@ impl<M: Questions> Answers<ROOM> for Player<M> {
             }
             Kind::Asks(expects) => {
                 self.desk.expects = expects;
-                let sound = play_line(
-                    &mut self.caller,
-                    &self.desk,
-                    &mut self.notes,
-                    &self.sheet,
-                    text,
-                );
-                self.sound = self.sound && sound;
+                if is_settings(bytes_of(&self.desk.words)) {
+                    self.set_up(text);
+                } else {
+                    self.ask(text);
+                }
             }
         }
     }

@@ -112,24 +112,26 @@ fn parts_for(alloc: Global, style: Style<'_>) -> Result<Parts, AllocError>
     })
 }
 
-/// Plays a script on a machine, and spends it.
+/// Plays a script on a machine of this configuration, and spends it.
 fn play_machine<M: Questions, R: Source, W: Sink>(
     alloc: Global,
-    machine: M,
+    booted: (M, Config),
     style: Style<'_>,
     reader: &mut R,
     writer: &mut W,
 ) -> Played
+    requires { (M.state booted.0).config ≡ booted.1 }
     ensures read { MoreBy (reader_failures result.outcome) (R.failures reader.old) (R.failures reader.new) }
     ensures wrote { MoreBy (writer_failures result.outcome) (W.failures writer.old) (W.failures writer.new) }
     ensures served { (new : Play)
         × Serves (Tells M.may_step)
-        (started (M.state machine) style.entry.quiet (take NAME style.entry.name.now)) new
+        (started (M.state booted.0) style.entry.quiet (take NAME style.entry.name.now)) new
         (R.remaining reader.old) (R.remaining reader.new)
         (W.contents writer.old) (W.contents writer.new) result.outcome
         × (result.sound ≡ new.sound) }
     ensures started { IsServed result.outcome }
 {
+    let (machine, config) = booted;
     let Ok(parts) = parts_for(alloc, style) else {
         machine.end();
         return Played {
@@ -145,7 +147,10 @@ fn play_machine<M: Questions, R: Source, W: Sink>(
         sheet,
     } = parts;
     let mut player = Player {
+        alloc,
         caller: Caller { machine, buffers },
+        config,
+        head: true,
         reader: lines,
         desk,
         notes,
@@ -176,7 +181,7 @@ fn play_on<M: Questions, R: Source, W: Sink>(
         × (result.sound ≡ new.sound) }
 {
     match M::boot(alloc, config) {
-        Ok(machine) => play_machine(alloc, machine, style, reader, writer),
+        Ok(machine) => play_machine(alloc, (machine, config), style, reader, writer),
         Err(fault) => Played {
             outcome: Err(fault),
             sound: true,
