@@ -23,12 +23,15 @@ begins_with_show plain topic e =
     elim (chosen _ _ topic _ e) [
       | inl same ↦ by_text plain (codes "show sockets") (codes "sockets" ∷ []) refl same
       | inr more ↦ elim (chosen _ _ topic _ more) [
-        | inl same ↦ by_text plain (codes "show queue") (codes "queue" ∷ []) refl same
+        | inl same ↦ by_text plain (codes "show unfinished") (codes "unfinished" ∷ []) refl same
         | inr more ↦ elim (chosen _ _ topic _ more) [
-          | inl same ↦ by_text plain (codes "show counters") (codes "counters" ∷ []) refl same
+          | inl same ↦ by_text plain (codes "show queue") (codes "queue" ∷ []) refl same
           | inr more ↦ elim (chosen _ _ topic _ more) [
-            | inl same ↦ by_text plain (codes "show pool") (codes "pool" ∷ []) refl same
-            | inr none ↦ absurd (never topic none)
+            | inl same ↦ by_text plain (codes "show counters") (codes "counters" ∷ []) refl same
+            | inr more ↦ elim (chosen _ _ topic _ more) [
+              | inl same ↦ by_text plain (codes "show pool") (codes "pool" ∷ []) refl same
+              | inr none ↦ absurd (never topic none)
+            ]
           ]
         ]
       ]

@@ -2,3 +2,5 @@ mod SocketLemmas
 mod ShownLemmas
 mod JoinLemmas
 pub mod Laws
+mod UnfinishedLemmas
+mod ChangeLemmas

@@ -1,12 +1,15 @@
 -- What is told of a stack.
 use Rattle.std.proofs.Common.{◌≡◌, ℕ, List, ap, ◌∙◌}
-use Rattle.flat_model.specs.Machine.Event.{Counted, Shown}
+use Rattle.flat_model.specs.Machine.Event.{Ask_usage, Counted, Shown}
 use Rattle.flat_model.specs.Machine.State.{State}
 use Rattle.flat_model.specs.Machine.Step.{Step}
 use Rattle.flat_model.specs.declared.counters.Counters.{Counters}
 use Rattle.flat_model.specs.declared.usage.Mbstat.{Mbstat}
+use Rattle.flat_model.specs.Machine.Ledger.{usage_of}
+use Rattle.play_show.specs.Changes.{IsSnapshot}
 use Rattle.play_show.specs.Counts.{counters_text, pool_text}
 use Rattle.play_show.specs.Tells.{Shows, told_of, below_of}
+use Rattle.play_show.specs.declared.snapshot.Snapshot.{Snapshot}
 use Rattle.play_show.specs.declared.topic.Topic.{Topic}
 use Rattle.play_show.specs.declared.topic.Topic.TheVariants as topic
 
@@ -19,7 +22,14 @@ same_usage u v e = cc
 pub Shows-stack : (s : State) (about : Topic) (told below : List ℕ) → Shows Step s about told below
     → (told ≡ told_of s about) × (below ≡ below_of s about)
 Shows-stack s topic.Sockets told below h = h
+Shows-stack s topic.Unfinished told below h = h
 Shows-stack s topic.Queue told below h = h
 Shows-stack s topic.Counters told below (counters, step, t, b) = (t, b ∙ ap counters_text (same_counters counters s.counters step.0))
 Shows-stack s topic.Pool told below (usage, (shown, is, reply, same), t, b) =
     (t ∙ ap pool_text (same_usage usage shown reply ∙ is), b)
+
+looked : (s : State) (x : Snapshot) → Step s Ask_usage (Shown x.usage) s → x.usage ≡ usage_of s
+looked s x (shown, is, reply, same) = same_usage x.usage shown reply ∙ is
+
+pub Snapshot-stack : (s : State) (x : Snapshot) → IsSnapshot Step s x → (x.counters ≡ s.counters) × (x.usage ≡ usage_of s)
+Snapshot-stack s x h = (same_counters x.counters s.counters (h.counters).0, looked s x h.usage)

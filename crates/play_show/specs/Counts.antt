@@ -5,7 +5,8 @@ use Rattle.flat_model.specs.declared.counter.Counter.{Counter}
 use Rattle.flat_model.specs.declared.counter.Counter.TheVariants.{IpTotal, IpToosmall, IpBadvers, IpBadhlen, IpOptions, IpBadsum, IpBadlen, IpTooshort, IpCantforward, IpBadfrag, IpFragments, IpFragdropped, IpFragtimeout, IpReclaimed, IpReassembled, IpNoproto, UdpHdrops, UdpBadlen, UdpBadsum, UdpNoport, UdpNoportbcast, UdpFullsock, IpLocalout, IpFragmented, OutDropped, Nobufs}
 use Rattle.flat_model.specs.declared.counters.Counters.{Counters}
 use Rattle.flat_model.specs.declared.usage.Mbstat.{Mbstat}
-use Rattle.play_show.specs.Texts.{amount, free_text}
+use Rattle.play_decode.specs.Texts.{amount}
+use Rattle.play_show.specs.Texts.{free_text}
 
 -- what a counter counts
 abbrev pub meaning : Counter → List ℕ

@@ -9,7 +9,9 @@ use Rattle.flat_model.specs.declared.usage.Mbstat.{Mbstat}
 use Rattle.ip_out.specs.Questions.{oldest_length}
 use Rattle.play_show.specs.Counts.{counters_text, pool_text}
 use Rattle.play_show.specs.Sockets.{open_below, sockets_below}
-use Rattle.play_show.specs.Texts.{amount, queue_text}
+use Rattle.play_decode.specs.Texts.{amount}
+use Rattle.play_show.specs.Texts.{queue_text}
+use Rattle.play_show.specs.Unfinished.{unfinished_lines}
 use Rattle.play_show.specs.declared.topic.Topic.{Topic}
 use Rattle.play_show.specs.declared.topic.Topic.TheVariants as topic
 
@@ -18,6 +20,8 @@ module _ (step : State → Event → Reply → State → Type 0) where
   abbrev pub Shows : State → Topic → List ℕ → List ℕ → Type 0
   Shows s topic.Sockets told below =
       (told ≡ amount (open_below MAX_SOCKETS s) (codes "socket")) × (below ≡ sockets_below MAX_SOCKETS s)
+  Shows s topic.Unfinished told below =
+      (told ≡ amount (length s.unfinished) (codes "unfinished datagram")) × (below ≡ unfinished_lines s)
   Shows s topic.Queue told below = (told ≡ queue_text (length s.output) (oldest_length s.output)) × (below ≡ [])
   Shows s topic.Counters told below =
       (counters : Counters) × step s Ask_counters (Counted counters) s
@@ -29,12 +33,14 @@ module _ (step : State → Event → Reply → State → Type 0) where
 
 abbrev pub told_of : State → Topic → List ℕ
 told_of s topic.Sockets = amount (open_below MAX_SOCKETS s) (codes "socket")
+told_of s topic.Unfinished = amount (length s.unfinished) (codes "unfinished datagram")
 told_of s topic.Queue = queue_text (length s.output) (oldest_length s.output)
 told_of s topic.Counters = codes "26 counters"
 told_of s topic.Pool = pool_text (usage_of s)
 
 abbrev pub below_of : State → Topic → List ℕ
 below_of s topic.Sockets = sockets_below MAX_SOCKETS s
+below_of s topic.Unfinished = unfinished_lines s
 below_of s topic.Queue = []
 below_of s topic.Counters = counters_text s.counters
 below_of s topic.Pool = []

@@ -5,10 +5,7 @@ use Rattle.flat_model.specs.declared.address.Addr.{Addr}
 use Rattle.flat_model.specs.declared.errno.Errno.{Errno}
 use Rattle.sock_calls.specs.declared.questions.SocketName.{SocketName}
 use Rattle.sock_calls.specs.declared.questions.NextDatagram.{NextDatagram}
-
--- `1 packet`, `2 packets`
-abbrev pub amount : ℕ → List ℕ → List ℕ
-amount n what = decimal n ++ codes " " ++ what ++ (if n == 1 then [] else codes "s")
+use Rattle.play_decode.specs.Texts.{amount, end_text}
 
 -- so many are free of so many
 abbrev pub free_text : ℕ → ℕ → List ℕ → List ℕ
@@ -23,9 +20,6 @@ ip_text None = codes "*"
 abbrev pub port_text : Option ℕ → List ℕ
 port_text (Some port) = decimal port
 port_text None = codes "*"
-
-abbrev pub end_text : Addr → List ℕ
-end_text a = address_text a.ip ++ codes ":" ++ decimal a.port
 
 -- ---- a socket
 

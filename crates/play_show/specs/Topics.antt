@@ -7,6 +7,7 @@ use Rattle.play_show.specs.declared.topic.Topic.TheVariants as topic
 abbrev pub topic_asked : List ℕ → Option Topic
 topic_asked plain =
     if bytes_eq plain (codes "show sockets") then Some topic.Sockets else
+    if bytes_eq plain (codes "show unfinished") then Some topic.Unfinished else
     if bytes_eq plain (codes "show queue") then Some topic.Queue else
     if bytes_eq plain (codes "show counters") then Some topic.Counters else
     if bytes_eq plain (codes "show pool") then Some topic.Pool else None

@@ -1,9 +1,10 @@
 //! Counters and the pool in words.
-ghost use Rattle.std.specs.Prelude.{◌≡◌, ◌+◌, ◌*◌, ◌≤◌, ◌++◌, length, decimal};
+ghost use Rattle.std.specs.Prelude.{◌≡◌, ◌+◌, ◌*◌, ◌≤◌, ◌++◌, length};
 ghost use Rattle.play_show.specs.Counts.{meaning, counter_line, counters_text, pool_text};
 
-use crate::amounts::{SHOWN, put_amount, put_free};
+use crate::amounts::{SHOWN, put_free, put_long};
 use flat_model::{Counter, Counters, Mbstat};
+use play_decode::put_amount;
 use script_loop::{Buffer, put_number};
 
 /// What a counter counts.
@@ -39,16 +40,6 @@ fn meaning_of(counter: Counter) -> &'static str
         Counter::OutDropped => "those of them whose packets the output queue didn't all take",
         Counter::Nobufs => "packets that ended for want of buffers",
     }
-}
-
-/// Puts the digits of a number after the text, twenty of them at most.
-fn put_long(text: &mut Buffer<SHOWN>, n: u64)
-    requires { length text.old + 20 ≤ SHOWN }
-    ensures items { text.new ≡ text.old ++ decimal n }
-    ensures len { length text.new ≤ length text.old + 20 }
-{
-    let mut digits = itoa::Buffer::new();
-    text.append(digits.format(n).as_bytes());
 }
 
 /// Puts the line of a counter after the text.

@@ -1,17 +1,22 @@
-//! What a line that begins with `show` asks for: a machine's sockets, its output queue, its counters and its pool, in
-//! words.
+//! What a line that begins with `show` asks for: a machine's sockets, its unfinished datagrams, its output queue, its
+//! counters and its pool, in words.
 #![tactic(auto)]
 
 mod amounts;
+mod changes;
 mod counters;
 mod questions;
 mod shown_law;
+mod snapshot;
 mod sockets;
 mod tell;
 mod topic;
+mod unfinished;
 
 pub use amounts::SHOWN;
+pub use changes::put_changes;
 pub use questions::Questions;
-pub use shown_law::shows_law;
+pub use shown_law::{looks_law, shows_law};
+pub use snapshot::{Snapshot, snapshot_of};
 pub use tell::tell_topic;
 pub use topic::{Topic, topic_of};

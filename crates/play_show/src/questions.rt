@@ -1,13 +1,14 @@
 //! What may be asked of a machine beside its calls.
 ghost use Rattle.std.specs.Prelude.{◌≡◌, length};
 ghost use Rattle.ip_out.specs.Questions.{oldest_length};
+ghost use Rattle.ip_reass.specs.Questions.{nth_range, nth_unfinished};
 ghost use Rattle.sock_calls.specs.Questions.{next_datagram, socket_name};
 
 use flat_model::Errno;
 use link_script::Machine;
-use net_stack::{NextDatagram, SocketName, Stack};
+use net_stack::{HeldRange, NextDatagram, SocketName, Stack, UnfinishedDatagram};
 
-/// A machine of which its sockets and its output queue may be asked. A question changes nothing, and its answer is a
+/// A machine of which its sockets, its unfinished datagrams and its output queue may be asked. A question changes nothing, and its answer is a
 /// function of the machine's state.
 pub trait Questions: Machine {
     /// What a socket is bound and connected to, and its options. Refused: `BadDescriptor`.
@@ -26,6 +27,19 @@ pub trait Questions: Machine {
     /// How many bytes the packet has that has waited longest. `None` if none waits.
     fn next_packet(&self) -> Option<u32>
         ensures { result ≡ oldest_length (Self.state self.now).output };
+
+    /// How many datagrams are unfinished.
+    fn unfinished_len(&self) -> u32
+        ensures { result ≡ length (Self.state self.now).unfinished };
+
+    /// The unfinished datagram at a place, in the order of their beginning, from 0. `None` exactly if there is none.
+    fn unfinished(&self, i: u32) -> Option<UnfinishedDatagram>
+        ensures { result ≡ nth_unfinished i (Self.state self.now).unfinished };
+
+    /// The `k`th range of bytes of the unfinished datagram at place `i`, in order of offset, from 0. `None` exactly if
+    /// there is none.
+    fn unfinished_range(&self, i: u32, k: u32) -> Option<HeldRange>
+        ensures { result ≡ nth_range i k (Self.state self.now).unfinished };
 }
 
 impl Questions for Stack {
@@ -43,5 +57,17 @@ impl Questions for Stack {
 
     fn next_packet(&self) -> Option<u32> {
         Stack::next_packet(self)
+    }
+
+    fn unfinished_len(&self) -> u32 {
+        Stack::unfinished_len(self)
+    }
+
+    fn unfinished(&self, i: u32) -> Option<UnfinishedDatagram> {
+        Stack::unfinished(self, i)
+    }
+
+    fn unfinished_range(&self, i: u32, k: u32) -> Option<HeldRange> {
+        Stack::unfinished_range(self, i, k)
     }
 }

@@ -2,6 +2,9 @@
 ghost use Rattle.std.specs.Prelude.{◌≡◌, ℕ, List};
 ghost use Rattle.flat_model.specs.Machine.State.{State};
 ghost use Rattle.flat_model.specs.Machine.Step.{Step};
+ghost use Rattle.flat_model.specs.Machine.Ledger.{usage_of};
+ghost use Rattle.play_show.specs.Changes.{IsSnapshot};
+ghost use Rattle.play_show.specs.declared.snapshot.Snapshot.{Snapshot};
 ghost use Rattle.play_show.specs.declared.topic.Topic.{Topic};
 ghost use Rattle.play_show.specs.Tells.{Shows, told_of, below_of};
 
@@ -9,4 +12,9 @@ ghost use Rattle.play_show.specs.Tells.{Shows, told_of, below_of};
 pub fn shows_law()
     ensures { (s : State) (topic : Topic) (told below : List ℕ) → Shows Step s topic told below
         → (told ≡ told_of s topic) × (below ≡ below_of s topic) }
+{}
+
+/// What is looked at of a stack is a function of its state: its counters, and how much of its pool is in use.
+pub fn looks_law()
+    ensures { (s : State) (x : Snapshot) → IsSnapshot Step s x → (x.counters ≡ s.counters) × (x.usage ≡ usage_of s) }
 {}

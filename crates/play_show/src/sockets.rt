@@ -5,11 +5,12 @@ ghost use Rattle.params.specs.declared.TheConstants.{MAX_SOCKETS};
 ghost use Rattle.play_show.specs.Texts.{peer_text, switch_text, ends_text, options_text, waiting_text, socket_line, queue_text};
 ghost use Rattle.play_show.specs.Sockets.{descriptor_line, is_open, sockets_below, open_below, one_if};
 
-use crate::amounts::{SHOWN, put_amount, put_end, put_ip, put_port};
+use crate::amounts::{SHOWN, put_ip, put_port};
 use crate::questions::Questions;
 use flat_model::{Addr, Errno};
 use net_stack::{NextDatagram, SocketName};
 use params::{FIRST_DESCRIPTOR, MAX_SOCKETS};
+use play_decode::{put_amount, put_end};
 use script_loop::{Buffer, put_number};
 
 /// Puts the peer of a socket after the text, if it has one.

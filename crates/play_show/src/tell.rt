@@ -1,15 +1,18 @@
 //! What is told of a machine.
 ghost use Rattle.play_show.specs.Tells.{Shows};
 
-use crate::amounts::{SHOWN, put_amount};
+use crate::amounts::SHOWN;
 use crate::counters::{put_counters, put_pool};
 use crate::questions::Questions;
 use crate::sockets::{put_queue, put_sockets};
 use crate::topic::Topic;
+use crate::unfinished::put_unfinished;
+use play_decode::put_amount;
 use script_loop::Buffer;
 
 /// Tells of a machine what is asked. What is told in a word or two stands in `told` then, and in `below` the lines under
-/// it, each with its line feed: one for each open socket, by their descriptors, and one for each counter, in the order
+/// it, each with its line feed: one for each open socket, by their descriptors; one for each of the first 32 unfinished
+/// datagrams, in the order of their beginning, with the first 16 ranges of its bytes; one for each counter, in the order
 /// of [`Counter::all`](flat_model::Counter::all); no line for the output queue and the pool. What the buffers held
 /// before is lost. The machine isn't changed. It takes a step for each of the 64 descriptors, and for the pool one for
 /// each cluster.
@@ -27,6 +30,10 @@ pub fn tell_topic<M: Questions>(
         Topic::Sockets => {
             let count = put_sockets(machine, below);
             put_amount(told, count, b"socket");
+        }
+        Topic::Unfinished => {
+            put_unfinished(machine, below);
+            put_amount(told, machine.unfinished_len(), b"unfinished datagram");
         }
         Topic::Queue => put_queue(told, machine.output_len(), machine.next_packet()),
         Topic::Counters => {

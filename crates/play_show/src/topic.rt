@@ -7,6 +7,8 @@ ghost use Rattle.play_show.specs.Topics.{topic_asked};
 pub enum Topic {
     /// Its sockets: what each is bound and connected to, its options, and what waits in it.
     Sockets,
+    /// Its unfinished datagrams: their keys, the ticks that each has left, and which bytes of it are held.
+    Unfinished,
     /// The packets that wait for the link.
     Queue,
     /// Each counter, with what it counts.
@@ -21,6 +23,9 @@ pub fn topic_of(plain: &[u8]) -> Option<Topic>
 {
     if plain == b"show sockets".as_slice() {
         return Some(Topic::Sockets);
+    }
+    if plain == b"show unfinished".as_slice() {
+        return Some(Topic::Unfinished);
     }
     if plain == b"show queue".as_slice() {
         return Some(Topic::Queue);

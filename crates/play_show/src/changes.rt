@@ -1,0 +1,222 @@
+//! What has changed between two looks at a machine, in words.
+ghost use Rattle.std.specs.Prelude.{◌≡◌, ◌+◌, ◌*◌, ◌<◌, ◌≤◌, ◌++◌, length, IfSome, option_map};
+ghost use Rattle.params.specs.declared.TheConstants.{IP_MAX_PACKET, MAX_SOCKETS};
+ghost use Rattle.play_decode.specs.Packets as packets;
+ghost use Rattle.play_show.specs.Changes as texts;
+
+use crate::amounts::{SHOWN, put_long};
+use crate::snapshot::{SOCKETS, Snapshot};
+use flat_model::Counter;
+use params::FIRST_DESCRIPTOR;
+use play_decode::{put_amount, put_kept, put_packet, put_whole};
+use script_loop::{Buffer, put_number};
+
+/// Whether a counter went up.
+fn rose(counter: Counter, before: &Snapshot, after: &Snapshot) -> bool
+    ensures { result ≡ texts.rose counter before.now after.now }
+{
+    before.counters.value(counter) < after.counters.value(counter)
+}
+
+/// Whether a fragment is kept.
+fn is_kept(before: &Snapshot, after: &Snapshot) -> bool
+    ensures { result ≡ texts.is_kept before.now after.now }
+{
+    rose(Counter::IpFragments, before, after)
+        && (!rose(Counter::IpReassembled, before, after)
+            && (!rose(Counter::IpFragdropped, before, after)
+                && !rose(Counter::Nobufs, before, after)))
+}
+
+/// Puts a line after the text with what a packet's headers say.
+fn put_packet_line(text: &mut Buffer<SHOWN>, packet: &[u8])
+    requires packet { length packet.now ≤ IP_MAX_PACKET }
+    requires room { length text.old + 180 ≤ SHOWN }
+    ensures items { text.new ≡ text.old ++ texts.line_of (packets.packet_text packet.now) }
+    ensures len { length text.new ≤ length text.old + 180 }
+{
+    text.append(b"    ");
+    put_packet(text, packet);
+    text.append(b"\n");
+}
+
+/// Puts a line after the text: that a fragment is kept.
+fn put_kept_line(text: &mut Buffer<SHOWN>, packet: &[u8])
+    requires { length text.old + 100 ≤ SHOWN }
+    ensures items { text.new ≡ text.old ++ texts.line_of (packets.kept_text packet.now) }
+    ensures len { length text.new ≤ length text.old + 100 }
+{
+    text.append(b"    ");
+    put_kept(text, packet);
+    text.append(b"\n");
+}
+
+/// Puts a line after the text: that the datagram of a fragment is whole.
+fn put_whole_line(text: &mut Buffer<SHOWN>, packet: &[u8])
+    requires { length text.old + 100 ≤ SHOWN }
+    ensures items { text.new ≡ text.old ++ texts.line_of (packets.whole_text packet.now) }
+    ensures len { length text.new ≤ length text.old + 100 }
+{
+    text.append(b"    ");
+    put_whole(text, packet);
+    text.append(b"\n");
+}
+
+/// Puts a line after the text for what came of a packet's fragment.
+fn put_fate(text: &mut Buffer<SHOWN>, packet: &[u8], before: &Snapshot, after: &Snapshot)
+    requires { length text.old + 100 ≤ SHOWN }
+    ensures items { text.new ≡ text.old ++ texts.fate_text packet.now before.now after.now }
+    ensures len { length text.new ≤ length text.old + 100 }
+{
+    if rose(Counter::IpReassembled, before, after) {
+        put_whole_line(text, packet);
+    } else if is_kept(before, after) {
+        put_kept_line(text, packet);
+    }
+}
+
+/// Puts lines into a buffer for the packet that came or went.
+fn put_moved(text: &mut Buffer<SHOWN>, packet: Option<&[u8]>, before: &Snapshot, after: &Snapshot)
+    requires { IfSome packet (λ p. length p.now ≤ IP_MAX_PACKET) }
+    ensures items { text.new ≡ texts.moved_text (option_map (λ p. p.now) packet.entry) before.now after.now }
+    ensures len { length text.new ≤ 280 }
+{
+    text.clear();
+    if let Some(packet) = packet {
+        put_packet_line(text, packet);
+        put_fate(text, packet, before, after);
+    }
+}
+
+/// Puts a line after the text if more datagrams wait in a socket than before.
+fn put_delivered(text: &mut Buffer<SHOWN>, place: usize, before: u32, after: u32)
+    requires place { place < MAX_SOCKETS }
+    requires room { length text.old + 40 ≤ SHOWN }
+    ensures items { text.new ≡ text.old ++ texts.delivered_line place before after }
+    ensures len { length text.new ≤ length text.old + 40 }
+{
+    if before < after {
+        text.append(b"    delivered to socket ");
+        put_number(text, FIRST_DESCRIPTOR + place as u32);
+        text.append(b"\n");
+    }
+}
+
+/// Puts a line after the text for each socket in which more datagrams wait than before.
+fn put_all_delivered(text: &mut Buffer<SHOWN>, before: &[u32; SOCKETS], after: &[u32; SOCKETS])
+    requires { length text.old + 2560 ≤ SHOWN }
+    ensures items { text.new ≡ text.old ++ texts.delivered_below MAX_SOCKETS before.now after.now }
+    ensures len { length text.new ≤ length text.old + 2560 }
+{
+    'places: for place in 0..SOCKETS {
+        put_delivered(text, place, before[place], after[place]);
+    }
+}
+
+/// Puts a line after the text if more packets wait for the link than before.
+fn put_sent(text: &mut Buffer<SHOWN>, before: u32, after: u32)
+    requires { length text.old + 40 ≤ SHOWN }
+    ensures items { text.new ≡ text.old ++ texts.sent_text before after }
+    ensures len { length text.new ≤ length text.old + 40 }
+{
+    if before < after {
+        text.append(b"    sent as ");
+        put_amount(text, after - before, b"packet");
+        text.append(b"\n");
+    }
+}
+
+/// Puts a line after the text if a counter of unfinished datagrams went up.
+fn put_lost(text: &mut Buffer<SHOWN>, before: u64, after: u64, what: &[u8])
+    requires { length text.old + length what.now + 50 ≤ SHOWN }
+    ensures items { text.new ≡ text.old ++ texts.lost_text before after what.now }
+    ensures len { length text.new ≤ length text.old + (length what.now + 50) }
+{
+    if before < after {
+        text.append(b"    unfinished datagrams ");
+        text.append(what);
+        text.append(b": ");
+        put_long(text, after - before);
+        text.append(b"\n");
+    }
+}
+
+/// Puts lines after the text for the unfinished datagrams that were dropped after their time or for their buffers.
+fn put_all_lost(text: &mut Buffer<SHOWN>, before: &Snapshot, after: &Snapshot)
+    requires { length text.old + 160 ≤ SHOWN }
+    ensures items { text.new ≡ text.old ++ texts.all_lost_text before.now after.now }
+    ensures len { length text.new ≤ length text.old + 160 }
+{
+    let timed = Counter::IpFragtimeout;
+    put_lost(
+        text,
+        before.counters.value(timed),
+        after.counters.value(timed),
+        b"timed out",
+    );
+    let reclaimed = Counter::IpReclaimed;
+    put_lost(
+        text,
+        before.counters.value(reclaimed),
+        after.counters.value(reclaimed),
+        b"dropped for their buffers",
+    );
+}
+
+/// Puts a line after the text if fewer are free than before, or more.
+fn put_pool_change(text: &mut Buffer<SHOWN>, before: u32, after: u32, what: &[u8])
+    requires { length text.old + length what.now + 40 ≤ SHOWN }
+    ensures items { text.new ≡ text.old ++ texts.pool_change before after what.now }
+    ensures len { length text.new ≤ length text.old + (length what.now + 40) }
+{
+    if after < before {
+        text.append(b"    ");
+        put_amount(text, before - after, what);
+        text.append(b" taken\n");
+    } else if before < after {
+        text.append(b"    ");
+        put_amount(text, after - before, what);
+        text.append(b" given back\n");
+    }
+}
+
+/// Puts lines after the text for mbufs and clusters that were taken or given back.
+fn put_pool_changes(text: &mut Buffer<SHOWN>, before: &Snapshot, after: &Snapshot)
+    requires { length text.old + 100 ≤ SHOWN }
+    ensures items { text.new ≡ text.old ++ texts.pool_changes before.now after.now }
+    ensures len { length text.new ≤ length text.old + 100 }
+{
+    put_pool_change(
+        text,
+        before.usage.free_mbufs,
+        after.usage.free_mbufs,
+        b"mbuf",
+    );
+    put_pool_change(
+        text,
+        before.usage.free_clusters,
+        after.usage.free_clusters,
+        b"cluster",
+    );
+}
+
+/// Puts into a buffer what came of an event, by looks at the machine before and after it. `packet` is the one that came
+/// from the link or went to it, of 65,535 bytes at most. Told are, each in a line with its line feed: what the packet's
+/// headers say; that it's a fragment and kept, or that its datagram is whole; the sockets to which a datagram was
+/// delivered; as how many packets something was sent; how many unfinished datagrams were dropped; and how many mbufs and
+/// clusters were taken or given back. What doesn't change isn't told, and what the buffer held before is lost.
+pub fn put_changes(
+    text: &mut Buffer<SHOWN>,
+    packet: Option<&[u8]>,
+    before: &Snapshot,
+    after: &Snapshot,
+)
+    requires { IfSome packet (λ p. length p.now ≤ IP_MAX_PACKET) }
+    ensures { text.new ≡ texts.changes_text (option_map (λ p. p.now) packet.entry) before.now after.now }
+{
+    put_moved(text, packet, before, after);
+    put_all_delivered(text, &before.waiting, &after.waiting);
+    put_sent(text, before.output, after.output);
+    put_all_lost(text, before, after);
+    put_pool_changes(text, before, after);
+}

@@ -1,0 +1,50 @@
+//! A look at a machine, to tell later what has changed.
+ghost use Rattle.std.specs.Prelude.{◌≡◌};
+ghost use Rattle.sock_calls.specs.Questions.{next_datagram};
+ghost use Rattle.play_show.specs.Changes.{IsSnapshot, waiting_of};
+
+use crate::questions::Questions;
+use flat_model::{Counters, Mbstat};
+use params::{FIRST_DESCRIPTOR, MAX_SOCKETS};
+
+/// How many sockets there can be.
+pub(crate) const SOCKETS: usize = MAX_SOCKETS as usize;
+
+/// What was looked at of a machine.
+#[derive(Clone, Copy)]
+pub struct Snapshot {
+    /// What was counted since boot.
+    pub counters: Counters,
+    /// How much of the pool is in use.
+    pub usage: Mbstat,
+    /// How many packets wait for the link.
+    pub output: u32,
+    /// How many datagrams wait in each socket, that of descriptor 3 first; 0 for a descriptor that isn't open.
+    pub waiting: [u32; SOCKETS],
+}
+
+/// How many datagrams wait in a descriptor's socket.
+fn waiting_in<M: Questions>(machine: &M, fd: u32) -> u32
+    ensures { result ≡ waiting_of (next_datagram fd (M.state machine.now)) }
+{
+    match machine.next_datagram(fd) {
+        Ok(next) => next.waiting,
+        Err(_) => 0,
+    }
+}
+
+/// Looks at a machine, which isn't changed. It takes a step for each of the 64 descriptors, and one for each cluster.
+pub fn snapshot_of<M: Questions>(machine: &M) -> Snapshot
+    ensures { IsSnapshot M.may_step (M.state machine.now) result }
+{
+    let mut waiting = [0; SOCKETS];
+    'places: for place in 0..SOCKETS {
+        waiting[place] = waiting_in(machine, FIRST_DESCRIPTOR + place as u32);
+    }
+    Snapshot {
+        counters: machine.counters(),
+        usage: machine.mbstat(),
+        output: machine.output_len(),
+        waiting,
+    }
+}
