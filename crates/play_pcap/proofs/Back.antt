@@ -1,0 +1,58 @@
+-- What was written, read and played in again.
+use Rattle.std.proofs.Common.{◌≡◌, ℕ, zero, suc, ◌+◌, ◌^◌, ◌<◌, ◌≤◌, ◌||◌, Bool, true, false, cond, List, [], ◌∷◌, ◌++◌, length, take, drop, map, ltb, Ok, Some, None, refl, sym, ap, ◌∙◌, arith, lit<}
+use Rattle.std.specs.List.{AllByRecursion}
+use Rattle.std.specs.Int.{w16}
+use Rattle.std.proofs.lemmas.Bool.{le-ltb}
+use Rattle.flat_model.specs.Machine.Event.{Event, Comes}
+use Rattle.pcap.specs.File.{IsHeader, header_bytes, our_header, number_of}
+use Rattle.pcap.specs.Frames.{unpadded}
+use Rattle.pcap.specs.Records.{Captured, Fits, Reads, Whole, records_bytes}
+use Rattle.pcap.specs.declared.header.Order.TheVariants.{Little, Big}
+use Rattle.play_pcap.specs.Events.{events_of, played, taken}
+use Rattle.play_pcap.specs.Traces.{IsPass, Pass, file_of, passes_bytes, record_of}
+use Rattle.play_pcap.specs.declared.moves.Course.{Course}
+
+our_header_is : IsHeader our_header
+our_header_is = record { time_zone = lit< tt; accuracy = lit< tt; snap_len = lit< tt; link_field = lit< tt; link = refl }
+
+all_fit : (ps : List Pass) → AllByRecursion IsPass ps → AllByRecursion Fits (map record_of ps)
+all_fit [] h = tt
+all_fit (p ∷ ps) h =
+    let ticks = h.0.ticks in
+    let short = h.0.short in
+    (record { seconds = omega arith; fraction = omega arith; captured = omega arith; original = omega arith }, all_fit ps h.1)
+
+pub read_back : ((w : Whole) → IsHeader w.header → AllByRecursion Fits w.records
+    → Reads (header_bytes w.header ++ records_bytes w.header.order w.records) (Ok w))
+    → (ps : List Pass) → AllByRecursion IsPass ps → Reads (header_bytes our_header ++ passes_bytes ps) (Ok (file_of ps))
+read_back law ps h = law (file_of ps) our_header_is (all_fit ps h)
+
+take_shorter : (n : ℕ) (bytes : List ℕ) → length (take n bytes) ≤ length bytes
+take_shorter zero bytes = omega arith
+take_shorter (suc n) [] = omega arith
+take_shorter (suc n) (b ∷ bs) = let e = take_shorter n bs in omega (arith, e)
+
+shorter : (b : Bool) (n : ℕ) (bytes : List ℕ) → length (cond b bytes (take n bytes)) ≤ length bytes
+shorter true n bytes = omega arith
+shorter false n bytes = take_shorter n bytes
+
+not_longer : (bytes : List ℕ) → length (unpadded bytes) ≤ length bytes
+not_longer bytes =
+    let total : ℕ = number_of Big w16 (drop 2 bytes) in shorter (ltb total 20 || ltb (length bytes) total) total bytes
+
+-- the packet of a record
+whole_packet : (bytes : List ℕ) → length bytes ≤ 65_535 → taken (Ok (unpadded bytes)) ≡ Some (unpadded bytes)
+whole_packet bytes short =
+    let small : length (unpadded bytes) ≤ 65_535 = omega (arith, not_longer bytes) in
+    let no : ltb 65_535 (length (unpadded bytes)) ≡ false = le-ltb _ _ small in rw no refl
+
+plays : (begin : ℕ) (ps : List Pass) → AllByRecursion IsPass ps
+    → events_of (record { header = our_header; ticks = false; begin = begin }) 0 (map record_of ps) ≡ map (λ (p : Pass). Comes (unpadded p.packet)) ps
+unfolding events_of
+plays begin [] h = refl
+plays begin (p ∷ ps) h =
+    rw (whole_packet p.packet h.0.short) (ap (λ (es : List Event). Comes (unpadded p.packet) ∷ es) (plays begin ps h.1))
+
+pub played_back : (ps : List Pass) → AllByRecursion IsPass ps
+    → played false our_header (file_of ps).records ≡ map (λ (p : Pass). Comes (unpadded p.packet)) ps
+played_back ps h = plays _ ps h

@@ -1,0 +1,6 @@
+mod Goes
+mod Kept
+mod Back
+mod Moving
+mod Asking
+mod Playing

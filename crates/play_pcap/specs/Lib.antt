@@ -1,0 +1,4 @@
+pub mod Asks
+pub mod Events
+pub mod Told
+pub mod Traces

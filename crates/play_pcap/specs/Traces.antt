@@ -1,0 +1,78 @@
+-- The capture of a run: the packets that came and went (this project's own).
+use Rattle.std.specs.Prelude.{◌≡◌, ℕ, ◌+◌, ◌-◌, ◌*◌, ◌/◌, ◌%◌, ◌^◌, ◌<◌, ◌≤◌, Bool, true, false, List, [], ◌∷◌, ◌++◌, length, map, min, codes, Option}
+use Rattle.std.specs.Io.KnownBytes.{Appends}
+use Rattle.flat_model.specs.Machine.Event.{Event, Comes, Tick}
+use Rattle.flat_model.specs.Scripts.Texts.{hex_text}
+use Rattle.pcap.specs.File.{our_header}
+use Rattle.pcap.specs.Records.{Captured, Whole, record_bytes, records_bytes}
+use Rattle.pcap.specs.declared.header.Order.TheVariants.{Little}
+
+-- how many ticks have passed, whether each record so far was written whole, and what the writer holds, where it tells
+pub record Traced : Type 0 where
+  pub ticks : ℕ
+  pub whole : Bool
+  pub wrote : Option (List ℕ)
+
+-- A packet that passed: after so many ticks, by the line of this number.
+pub record Pass : Type 0 where
+  pub ticks : ℕ
+  pub line : ℕ
+  pub packet : List ℕ
+
+-- Its record. Its time is half a second for each tick, and a microsecond for each line, 499,999 at most.
+abbrev pub record_of : Pass → Captured
+record_of p = record {
+  seconds = p.ticks / 2;
+  fraction = p.ticks % 2 * 500_000 + min p.line 499_999;
+  original = length p.packet;
+  bytes = p.packet;
+}
+
+abbrev pub pass_bytes : Pass → List ℕ
+pass_bytes p = record_bytes Little (record_of p)
+
+abbrev pub passes_bytes : List Pass → List ℕ
+passes_bytes ps = records_bytes Little (map record_of ps)
+
+abbrev pub pass_at : ℕ → ℕ → List ℕ → Pass
+pass_at ticks line packet = record { ticks = ticks; line = line; packet = packet }
+
+-- the numbers of a pass fit the fields of a record
+pub record IsPass (p : Pass) : Type 0 where
+  pub ticks : p.ticks < 2 ^ 32
+  pub short : length p.packet ≤ 65_535
+
+-- what is read in a file of these packets
+abbrev pub file_of : List Pass → Whole
+file_of ps = record { header = our_header; records = map record_of ps }
+
+-- so many ticks, and one more
+abbrev pub later : ℕ → ℕ
+later n = min (n + 1) (2 ^ 32 - 1)
+
+-- ---- what is written
+
+-- the bytes were written, or a front of them
+abbrev pub Sent : Bool → Option (List ℕ) → Option (List ℕ) → List ℕ → Type 0
+Sent true before after bytes = Appends before after bytes
+Sent false before after bytes = (front rest : List ℕ) × (bytes ≡ front ++ rest) × Appends before after front
+
+abbrev pub SentAfter : Bool → Bool → Option (List ℕ) → Option (List ℕ) → List ℕ → Type 0
+SentAfter true whole before after bytes = Sent whole before after bytes
+SentAfter false whole before after bytes = (whole ≡ false) × (after ≡ before)
+
+-- The bytes were written, if all before them were. Once a write has failed, nothing more is written.
+abbrev pub Keeps : Traced → Traced → List ℕ → Type 0
+Keeps old new bytes = SentAfter old.whole new.whole old.wrote new.wrote bytes
+
+-- before the header of the file
+abbrev pub unwritten : Option (List ℕ) → Traced
+unwritten wrote = record { ticks = 0; whole = true; wrote = wrote }
+
+-- ---- a capture as a script
+
+-- the line of a script that asks for this
+abbrev pub event_line : Event → List ℕ
+event_line (Comes packet) = codes "rx " ++ hex_text packet ++ codes "\n"
+event_line Tick = codes "tick\n"
+event_line _ = []

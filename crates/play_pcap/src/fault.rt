@@ -1,0 +1,54 @@
+//! Why a capture wasn't played.
+ghost use Rattle.std.specs.Prelude.{◌≡◌, ◌≤◌, length};
+ghost use Rattle.play_pcap.specs.Told.{words_of, why_words};
+
+use pcap::{Fault, Why};
+
+/// Why a capture wasn't played in. Nothing has happened then.
+#[derive(Clone, Copy, Debug, PartialEq, Eq)]
+pub enum CaptureFault {
+    /// The file can't be opened.
+    NotOpened,
+    /// Reading it failed.
+    NotRead,
+    /// It has more than [`crate::LONGEST_FILE`] bytes.
+    TooLong,
+    /// Host memory was lacking.
+    Memory,
+    /// It has fewer records than were asked for.
+    TooFew,
+    /// It's no capture file, or it's cut short.
+    Bad(Fault),
+}
+
+/// What is wrong with a file, in words.
+pub(crate) fn words_for(why: Why) -> &'static str
+    ensures is { result.now ≡ why_words why }
+    ensures short { length result.now ≤ 24 }
+{
+    match why {
+        Why::HeaderCut => "file header cut short",
+        Why::BadMagic => "bad magic number",
+        Why::BadVersion => "unknown version",
+        Why::BadLinkType => "unknown link type",
+        Why::RecordCut => "record header cut short",
+        Why::BytesCut => "record cut short",
+    }
+}
+
+impl CaptureFault {
+    /// Why, in words; of a bad file without the offset.
+    pub(crate) fn words(self) -> &'static str
+        ensures is { result.now ≡ words_of self }
+        ensures short { length result.now ≤ 32 }
+    {
+        match self {
+            CaptureFault::NotOpened => "it can't be opened",
+            CaptureFault::NotRead => "reading failed",
+            CaptureFault::TooLong => "longer than 16777216 bytes",
+            CaptureFault::Memory => "no memory",
+            CaptureFault::TooFew => "it has fewer records",
+            CaptureFault::Bad(fault) => words_for(fault.why),
+        }
+    }
+}

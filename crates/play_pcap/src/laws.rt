@@ -1,0 +1,32 @@
+//! Laws of the definitions, for callers to cite: each is the contract of a function that does nothing.
+ghost use Rattle.std.specs.Prelude.{◌≡◌, ◌++◌, ◌+◌, ◌-◌, List, ℕ, Ok, None, false, map};
+ghost use Rattle.std.specs.List.{AllByRecursion};
+ghost use Rattle.flat_model.specs.Machine.Event.{Comes};
+ghost use Rattle.pcap.specs.File.{header_bytes, our_header};
+ghost use Rattle.pcap.specs.Frames.{unpadded};
+ghost use Rattle.pcap.specs.Records.{Reads};
+ghost use Rattle.play_pcap.specs.Events.{played};
+ghost use Rattle.play_pcap.specs.Traces.{IsPass, Keeps, Pass, Traced, file_of, passes_bytes};
+
+use pcap::written_is_read;
+
+/// What is written for one part of a run and then for the next one is what is written for both.
+#[tactic(auto, using(crate::proofs::Kept::both_kept))]
+pub fn trace_law()
+    ensures { (old mid new : Traced) (a b : List ℕ) → Keeps old mid a → Keeps mid new b → Keeps old new (a ++ b) }
+{}
+
+/// The file of these packets reads as these, each whole, in their order.
+pub fn read_back_law()
+    ensures { (ps : List Pass) → AllByRecursion IsPass ps
+        → Reads (header_bytes our_header ++ passes_bytes ps) (Ok (file_of ps)) }
+{
+    written_is_read();
+}
+
+/// Played in again, it does nothing else than let these packets come, each without what stands behind its total length.
+#[tactic(auto, using(crate::proofs::Back::played_back))]
+pub fn played_back_law()
+    ensures { (ps : List Pass) → AllByRecursion IsPass ps
+        → played false our_header (file_of ps).records ≡ map (λ (p : Pass). Comes (unpadded p.packet)) ps }
+{}

@@ -1,0 +1,25 @@
+//! Captures of the player of scripts: the packets that come and go are written to one, and one is played in. What
+//! a capture file is says crate `pcap`.
+#![tactic(auto)]
+
+mod ask;
+mod fault;
+mod files;
+mod laws;
+mod lines;
+mod moves;
+mod play;
+mod told;
+mod trace;
+mod wire;
+
+pub use ask::{Ask, Details, Range, ask_of, range_of};
+pub use fault::CaptureFault;
+pub use files::{LONGEST_FILE, read_whole};
+pub use laws::{played_back_law, read_back_law, trace_law};
+pub use lines::{LineRoom, Lines};
+pub use moves::Tally;
+pub use play::play_file;
+pub use told::{OUTCOME, put_outcome};
+pub use trace::{Nowhere, RECORD, Trace};
+pub use wire::Wire;

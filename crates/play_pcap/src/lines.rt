@@ -1,0 +1,100 @@
+//! A capture as a script.
+ghost use Rattle.std.specs.Prelude.{◌≡◌, Bool, true, List, ℕ, Option};
+ghost use Rattle.play_pcap.specs.Traces.{SentAfter, event_line};
+
+use crate::trace::send;
+use crate::wire::Wire;
+use script_loop::{Buffer, LineBuffers, Sink, put_hex};
+use std::alloc::{AllocError, Global};
+use std::marker::Model;
+
+/// Room for the longest line.
+const LINE: usize = 131_200;
+
+/// Writes what happens as lines of a script: a packet that comes as `rx` with its bytes, and a tick as `tick`. It must be
+/// ended by `end`.
+pub struct Lines<W: Sink> {
+    sink: W,
+    text: Buffer<LINE>,
+    buffers: LineBuffers,
+    whole: bool,
+}
+
+impl<W: Sink> Model for Lines<W> {
+    ghost use Rattle.std.specs.Prelude.{Bool, List, ℕ, Option};
+
+    ghost Value = { Bool × Option (List ℕ) };
+
+    ghost view = { λ l. (l.whole, W.contents l.sink) };
+}
+
+/// Memory for the lines of a script.
+#[derive(Drop)]
+pub struct LineRoom {
+    text: Buffer<LINE>,
+    buffers: LineBuffers,
+}
+
+impl LineRoom {
+    /// All the memory. `AllocError` comes only where the host refuses a part of it.
+    pub fn new(alloc: Global) -> Result<LineRoom, AllocError> {
+        Ok(LineRoom {
+            text: Buffer::new(alloc)?,
+            buffers: LineBuffers::new(alloc)?,
+        })
+    }
+}
+
+impl<W: Sink> Lines<W> {
+    /// Begins a script, of no line so far.
+    pub fn begin(sink: W, room: LineRoom) -> Lines<W>
+        ensures { result ≡ (true, W.contents sink) }
+    {
+        let LineRoom { text, buffers } = room;
+        Lines {
+            sink,
+            text,
+            buffers,
+            whole: true,
+        }
+    }
+
+    /// Ends the script, and answers whether all its lines were written.
+    pub fn end(self) -> (W, bool)
+        ensures { (result.1 ≡ self.0) × (W.contents result.0 ≡ self.1) }
+    {
+        let Lines {
+            sink,
+            text: _text,
+            buffers: _buffers,
+            whole,
+        } = self;
+        (sink, whole)
+    }
+}
+
+impl<W: Sink> Wire for Lines<W> {
+    ghost State = { Bool × Option (List ℕ) };
+
+    ghost state = { λ l. l };
+
+    ghost may_go = { λ old event new. SentAfter old.0 new.0 old.1 new.1 (event_line event) };
+
+    fn rx(&mut self, packet: &[u8]) {
+        if !self.whole {
+            return;
+        }
+        self.text.clear();
+        self.text.append(b"rx ");
+        put_hex(&mut self.text, self.buffers.digits.as_mut_slice(), packet);
+        self.text.append(b"\n");
+        self.whole = send(&mut self.sink, self.text.as_slice());
+    }
+
+    fn tick(&mut self) {
+        if !self.whole {
+            return;
+        }
+        self.whole = send(&mut self.sink, b"tick\n");
+    }
+}

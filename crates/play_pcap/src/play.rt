@@ -1,0 +1,110 @@
+//! Captures that are played in.
+ghost use Rattle.std.specs.Prelude.{◌≡◌, ◌≤◌, ◌+◌, length, map, replicate};
+ghost use Rattle.flat_model.specs.Machine.Event.{Tick};
+ghost use Rattle.pcap.specs.Seen.{captured};
+ghost use Rattle.play_pcap.specs.Events.{Goes, IsOrdered, PlaysFile, Selects, came, going, left_of, played, tally_of, ticked};
+
+use crate::ask::{Details, Range};
+use crate::fault::CaptureFault;
+use crate::moves::{Course, Moves, Tally};
+use crate::wire::Wire;
+use pcap::{Header, ReadError, Record, read};
+use std::alloc::Global;
+
+/// Lets so many ticks pass.
+fn tick_all<X: Wire>(wire: &mut X, count: u32)
+    ensures { Goes X.may_go (replicate count Tick) (X.state wire.old) (X.state wire.new) }
+{
+    let mut left = count;
+    while left > 0 {
+        wire.tick();
+        left -= 1;
+    }
+}
+
+/// Lets all packets come that are left, with their ticks, and answers how many they were.
+fn go_all<X: Wire>(wire: &mut X, moves: &mut Moves<'_>) -> u64
+    requires { moves.old.passed ≤ 65535 }
+    ensures goes { Goes X.may_go (left_of (going moves.old)) (X.state wire.old) (X.state wire.new) }
+    ensures packets { result ≡ came (left_of (going moves.old)) }
+    ensures most { result ≤ length moves.old.rest.now }
+    ensures ticks { moves.new.passed ≡ moves.old.passed + ticked (left_of (going moves.old)) }
+{
+    let mut packets: u64 = 0;
+    while let Some(next) = moves.next_move() {
+        tick_all(wire, next.ticks);
+        wire.rx(next.packet);
+        packets += 1;
+    }
+    packets
+}
+
+/// The records that are asked for, or `None` if there are fewer.
+fn select<'a>(range: Option<Range>, records: &'a [Record<'a>]) -> Option<&'a [Record<'a>]>
+    requires { IsOrdered range }
+    ensures { Selects range records.now result }
+{
+    let Some(Range { first, last }) = range else {
+        return Some(records);
+    };
+    let (front, end) = (first as usize - 1, last as usize);
+    if end > records.len() {
+        return None;
+    }
+    Some(&records[front..end])
+}
+
+/// Plays records of a capture.
+fn play_records<X: Wire>(wire: &mut X, header: Header, records: &[Record<'_>], ticks: bool) -> Tally
+    ensures goes { Goes X.may_go (played ticks header (map captured records.now)) (X.state wire.old) (X.state wire.new) }
+    ensures tally { result ≡ tally_of (length records.now) (played ticks header (map captured records.now)) }
+{
+    let begin = match records {
+        [] => 0,
+        [first, ..] => header.nanoseconds(first),
+    };
+    let mut moves = Moves {
+        course: Course {
+            header,
+            ticks,
+            begin,
+        },
+        passed: 0,
+        rest: records,
+    };
+    let packets = go_all(wire, &mut moves);
+    Tally {
+        packets,
+        others: records.len() as u64 - packets,
+        ticks: moves.passed,
+    }
+}
+
+/// Plays a capture in, of which all bytes are given: each IPv4 packet of its records comes, in their order, and others
+/// are counted. If ticks are asked for, so many have passed before a packet comes as there are half seconds between the
+/// times of the first record that is played and of the packet's, 65,535 at most.
+///
+/// # Errors
+///
+/// `Bad` with the first fault of a file that is no capture, is cut short, or claims a length that it lacks; `TooFew` if
+/// it has fewer records than are asked for; `Memory` if host memory is lacking for the list of its records, of 16 bytes
+/// of the file at least each. Nothing has happened then.
+pub fn play_file<X: Wire>(
+    alloc: Global,
+    wire: &mut X,
+    file: &[u8],
+    details: Details,
+) -> Result<Tally, CaptureFault>
+    requires { IsOrdered details.range }
+    ensures { PlaysFile X.may_go details file.now result (X.state wire.old) (X.state wire.new) }
+{
+    let capture = match read(alloc, file) {
+        Ok(capture) => capture,
+        Err(ReadError::Memory) => return Err(CaptureFault::Memory),
+        Err(ReadError::Fault(fault)) => return Err(CaptureFault::Bad(fault)),
+    };
+    let Some(records) = select(details.range, capture.records.as_slice()) else {
+        return Err(CaptureFault::TooFew);
+    };
+    Ok(play_records(wire, capture.header, records, details.ticks))
+}

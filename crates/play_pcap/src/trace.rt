@@ -1,0 +1,157 @@
+//! The capture of a run, which is written as packets come and go.
+ghost use Rattle.std.specs.Prelude.{◌≡◌, ◌≤◌, ◌+◌, length};
+ghost use Rattle.params.specs.declared.TheConstants.{IP_MAX_PACKET};
+ghost use Rattle.pcap.specs.File.{header_bytes, our_header};
+ghost use Rattle.pcap.specs.Records.{record_header as header_of};
+ghost use Rattle.pcap.specs.declared.header.Order.TheVariants.{Little};
+ghost use Rattle.play_pcap.specs.Traces.{Keeps, Sent, later, pass_at, pass_bytes, unwritten};
+
+use script_loop::{Buffer, Sink};
+use std::io::{self, Write};
+use std::marker::Model;
+
+/// Room for the record of a packet.
+pub const RECORD: usize = 65_551;
+
+/// The header of the file: little endian, version 2.4, microseconds, snapshot length 65,535, link type IPV4 (228).
+const FILE_HEADER: [u8; 24] = [
+    0xd4, 0xc3, 0xb2, 0xa1, 2, 0, 4, 0, 0, 0, 0, 0, 0, 0, 0, 0, 0xff, 0xff, 0, 0, 228, 0, 0, 0,
+];
+
+/// The most microseconds that a line counts.
+const MOST_LINES: u64 = 499_999;
+
+/// A capture file that is written as packets pass, in classic format with link type IPV4. The time of a packet is half a
+/// second for each tick before it, and a microsecond for each line of the script up to its own, 499,999 at most. It must
+/// be ended by `end`.
+pub struct Trace<W: Sink> {
+    sink: W,
+    room: Buffer<RECORD>,
+    ticks: u32,
+    whole: bool,
+}
+
+impl<W: Sink> Model for Trace<W> {
+    ghost use Rattle.play_pcap.specs.Traces.{Traced};
+
+    ghost Value = { Traced };
+
+    ghost view = { λ t. record { ticks = t.ticks; whole = t.whole; wrote = W.contents t.sink } };
+}
+
+/// Writes all the bytes, and answers whether it did. An error, and a write of no bytes, end it.
+pub(crate) fn send<W: Sink>(writer: &mut W, bytes: &[u8]) -> bool
+    ensures { Sent result (W.contents writer.old) (W.contents writer.new) bytes.now }
+{
+    let mut rest = bytes;
+    while !rest.is_empty() {
+        match writer.write_some(rest) {
+            Ok(0) | Err(_) => return false,
+            Ok(n) => rest = &rest[n..],
+        }
+    }
+    true
+}
+
+/// The 16 bytes in front of a packet of `len` bytes.
+fn record_header(seconds: u32, microseconds: u32, len: u32) -> [u8; 16]
+    ensures { result ≡ header_of Little seconds microseconds len len }
+{
+    let s = seconds.to_le_bytes();
+    let m = microseconds.to_le_bytes();
+    let n = len.to_le_bytes();
+    [
+        s[0], s[1], s[2], s[3], m[0], m[1], m[2], m[3], n[0], n[1], n[2], n[3], n[0], n[1], n[2],
+        n[3],
+    ]
+}
+
+/// Puts the record of a packet into a buffer.
+fn put_record(out: &mut Buffer<RECORD>, ticks: u32, line: u64, packet: &[u8])
+    requires { length packet.now ≤ IP_MAX_PACKET }
+    ensures { out.new ≡ pass_bytes (pass_at ticks line packet.now) }
+{
+    let microseconds = ticks % 2 * 500_000 + line.min(MOST_LINES) as u32;
+    let header = record_header(ticks / 2, microseconds, packet.len() as u32);
+    out.clear();
+    out.append(&header);
+    out.append(packet);
+}
+
+impl<W: Sink> Trace<W> {
+    /// Begins a capture: writes the header of its file.
+    pub fn begin(mut sink: W, room: Buffer<RECORD>) -> Trace<W>
+        ensures ticks { result.ticks ≡ 0 }
+        ensures kept { Keeps (unwritten (W.contents sink)) result (header_bytes our_header) }
+    {
+        let whole = send(&mut sink, &FILE_HEADER);
+        Trace {
+            sink,
+            room,
+            ticks: 0,
+            whole,
+        }
+    }
+
+    /// A packet passes, by the line of this number: its record is written. If that fails, nothing more is written.
+    pub fn keep(&mut self, line: u64, packet: &[u8])
+        requires { length packet.now ≤ IP_MAX_PACKET }
+        ensures ticks { self.new.ticks ≡ self.old.ticks }
+        ensures kept { Keeps self.old self.new (pass_bytes (pass_at self.old.ticks line packet.now)) }
+    {
+        if !self.whole {
+            return;
+        }
+        put_record(&mut self.room, self.ticks, line, packet);
+        self.whole = send(&mut self.sink, self.room.as_slice());
+    }
+
+    /// A tick passes. More than 4,294,967,295 of them aren't counted.
+    pub fn tick(&mut self)
+        ensures ticks { self.new.ticks ≡ later self.old.ticks }
+        ensures whole { self.new.whole ≡ self.old.whole }
+        ensures wrote { self.new.wrote ≡ self.old.wrote }
+    {
+        self.ticks = self.ticks.saturating_add(1);
+    }
+
+    /// Whether all records so far were written whole.
+    pub fn is_whole(&self) -> bool
+        ensures { result ≡ self.now.whole }
+    {
+        self.whole
+    }
+
+    /// Ends the capture, and gives the writer back.
+    pub fn end(self) -> W
+        ensures { W.contents result ≡ self.wrote }
+    {
+        let Trace {
+            sink,
+            room: _room,
+            ticks: _ticks,
+            whole: _whole,
+        } = self;
+        sink
+    }
+}
+
+/// A writer that takes all bytes, and keeps none.
+#[derive(Drop)]
+pub struct Nowhere;
+
+impl Write for Nowhere {
+    fn write(&mut self, buf: &[u8]) -> io::Result<usize> {
+        Ok(buf.len())
+    }
+
+    fn flush(&mut self) -> io::Result<()> {
+        Ok(())
+    }
+}
+
+impl Sink for Nowhere {
+    fn write_some(&mut self, buf: &[u8]) -> io::Result<usize> {
+        Ok(buf.len())
+    }
+}
