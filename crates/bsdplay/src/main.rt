@@ -2,6 +2,9 @@
 //! each on a machine of its own.
 #![tactic(auto)]
 
+mod capture;
+
+use capture::print_capture;
 use clap::{Arg, ArgAction, ArgMatches, Command};
 use play_script::{Config, Played, Silent, Style, play};
 use std::alloc::{AllocError, Global};
@@ -34,10 +37,25 @@ fn command<'a>(alloc: Global) -> Result<Command<'a>, AllocError> {
     let files = Arg::new(alloc, "FILE")
         .help("Scripts, each played on a new machine; '-' or none: standard input")
         .action(ArgAction::Append);
+    let capture = Arg::new(alloc, "CAPTURE")
+        .long("from-pcap")
+        .help("Print the IPv4 packets of this capture as a script, and play nothing")
+        .action(ArgAction::Set);
+    let records = Arg::new(alloc, "N-M")
+        .long("records")
+        .help("With --from-pcap: the records from number N to M alone")
+        .action(ArgAction::Set);
+    let ticks = Arg::new(alloc, "ticks")
+        .long("ticks")
+        .help("With --from-pcap: a tick for each half second between packets")
+        .action(ArgAction::SetTrue);
     Command::new(alloc, "bsdplay")
         .version("0.2.0")
         .about("Plays scripts of socket calls, packets and ticks, and says what came of each line")
         .arg(quiet)?
+        .arg(capture)?
+        .arg(records)?
+        .arg(ticks)?
         .arg(files)
 }
 
@@ -105,7 +123,10 @@ fn serve(rt: &HostRuntime) -> io::Result<u8> {
         return Ok(USAGE);
     };
     match command(rt.alloc())?.try_get_matches_from(words.as_slice()) {
-        Ok(found) => play_all(rt, &found),
+        Ok(found) => match found.get_str("CAPTURE") {
+            Some(name) => print_capture(rt, name, &found),
+            None => play_all(rt, &found),
+        },
         Err(error) => {
             error.print(rt)?;
             Ok(error.exit_code() as u8)

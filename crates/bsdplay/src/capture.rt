@@ -1,0 +1,68 @@
+//! Captures that are printed as scripts.
+ghost use Rattle.play_pcap.specs.Events.{IsOrdered};
+
+use crate::{UNREAD, USAGE};
+use clap::ArgMatches;
+use play_pcap::{
+    CaptureFault, Details, LineRoom, Lines, OUTCOME, Tally, play_file, put_outcome, range_of,
+    read_whole,
+};
+use play_script::Silent;
+use script_loop::Buffer;
+use std::{fs, io, str};
+
+/// The status if a capture isn't one, or has fewer records than are asked for.
+const BAD: u8 = 1;
+
+/// Says what came of a capture, and answers the status.
+fn report(rt: &HostRuntime, name: &str, outcome: Result<Tally, CaptureFault>) -> io::Result<u8> {
+    let mut text: Buffer<OUTCOME> = Buffer::new(rt.alloc())?;
+    put_outcome(&mut text, outcome);
+    if let Ok(words) = str::from_utf8(text.as_slice()) {
+        eprintln!(rt; "bsdplay: {name}: {words}")?;
+    }
+    match outcome {
+        Ok(_) => Ok(0),
+        Err(CaptureFault::Bad(_) | CaptureFault::TooFew) => Ok(BAD),
+        Err(_) => Ok(UNREAD),
+    }
+}
+
+/// Prints a capture as a script, on standard output.
+fn print_file(rt: &HostRuntime, name: &str, details: Details) -> io::Result<u8>
+    requires { IsOrdered details.range }
+{
+    let Ok(file) = fs::open(rt, name) else {
+        return report(rt, name, Err(CaptureFault::NotOpened));
+    };
+    let file = match read_whole(rt.alloc(), &mut Silent(file)) {
+        Ok(file) => file,
+        Err(fault) => return report(rt, name, Err(fault)),
+    };
+    let mut lines = Lines::begin(Silent(rt.stdout()), LineRoom::new(rt.alloc())?);
+    let outcome = play_file(rt.alloc(), &mut lines, file.as_slice(), details);
+    let (_writer, whole) = lines.end();
+    let status = report(rt, name, outcome)?;
+    Ok(if whole { status } else { UNREAD })
+}
+
+/// Prints the capture that the command line names, with the records and the ticks that it asks for.
+pub(crate) fn print_capture(
+    rt: &HostRuntime,
+    name: &str,
+    found: &ArgMatches<'_>,
+) -> io::Result<u8> {
+    let ticks = found.get_flag("ticks");
+    let Some(word) = found.get_str("N-M") else {
+        return print_file(rt, name, Details { range: None, ticks });
+    };
+    let Some(range) = range_of(word.as_bytes()) else {
+        eprintln!(rt; "bsdplay: --records {word}: two numbers are wanted, as 3-17")?;
+        return Ok(USAGE);
+    };
+    let details = Details {
+        range: Some(range),
+        ticks,
+    };
+    print_file(rt, name, details)
+}
