@@ -142,17 +142,17 @@ not_late c e = cc
 
 -- what is told of a plain line, by its turns
 Answered-turns : (old new : State) (shown plain : List ℕ) (wanted : Option (List ℕ)) (topic : Option Topic) → topic_asked plain ≡ topic
-    → (told : Option (List ℕ)) (below : List ℕ) → IsAnswered Step old topic plain told below new
+    → (told : Option (List ℕ)) (below : List ℕ) (quiet : Bool) → IsAnswered Step quiet old topic plain told below new
     → (turns : List Turn) × AreTurns (Asks shown plain wanted) turns × Leads exact_ledger old turns new
     × (stays_head topic told ≡ true → turns ≡ [])
-Answered-turns old new shown plain wanted (Some topic) is None below answered = absurd answered
-Answered-turns old new shown plain wanted (Some topic) is (Some told) below (shows, same) =
+Answered-turns old new shown plain wanted (Some topic) is None below quiet answered = absurd answered
+Answered-turns old new shown plain wanted (Some topic) is (Some told) below quiet (shows, same) =
     ([], inr (inr (Shown-no_event plain topic is, Shown-no_ticks plain topic is, refl)), same, λ stays. refl)
-Answered-turns old new shown plain wanted None is (Some told) below (reply, before, after, does, was, now, tells, none) =
+Answered-turns old new shown plain wanted None is (Some told) below quiet (reply, before, after, does, was, now, tells, none) =
     let made = Does-turns old new shown plain wanted reply does in (made.0, made.1, made.2, λ stays. absurd (false≢true stays))
-Answered-turns old new shown plain wanted None is None below (Some reply, before, after, does, was, now, tells, none) =
+Answered-turns old new shown plain wanted None is None below quiet (Some reply, before, after, does, was, now, tells, none) =
     absurd (not_none _ tells)
-Answered-turns old new shown plain wanted None is None below (None, before, after, ((none, same), no_ticks), was, now, tells, no_lines) =
+Answered-turns old new shown plain wanted None is None below quiet (None, before, after, ((none, same), no_ticks), was, now, tells, no_lines) =
     ([], inr (inr (none, no_ticks, refl)), same, λ stays. refl)
 
 and_first : (a b : Bool) → (a && b) ≡ true → a ≡ true
@@ -190,7 +190,7 @@ Asked-line : (now new : Play) (shown plain text : List ℕ) (wanted : Option (Li
 Asked-line now new shown plain text wanted true is (outcome, settled, told) =
     Settings-line now new shown plain text wanted now.head refl is outcome settled told
 Asked-line now new shown plain text wanted false is (machine, told, below, answered, tells, same) =
-    let made = Answered-turns now.machine machine shown plain wanted (topic_asked plain) refl told below answered in
+    let made = Answered-turns now.machine machine shown plain wanted (topic_asked plain) refl told below now.quiet answered in
     let stayed : new.head ≡ (now.head && stays_head (topic_asked plain) told) = ap (λ (p : Play). p.head) same in
     inl (record {
       turns = made.0;

@@ -1,5 +1,6 @@
 pub mod Lines
 pub mod Outcomes
+pub mod Moved
 pub mod Tells
 pub mod Runs
 pub mod Inside

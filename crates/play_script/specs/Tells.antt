@@ -1,13 +1,12 @@
 -- What a player of commented scripts may tell for a line, by a machine's steps (this project's own).
 use Rattle.std.specs.Prelude.{◌≡◌, ◌⊎◌, ℕ, zero, suc, ◌&&◌, Bool, true, false, List, [], ◌++◌, if◌then◌else◌, codes, decimal, Option, Some, None, Result, Ok, Err}
 use Rattle.flat_model.specs.Machine.Count.{more_by}
-use Rattle.flat_model.specs.Machine.Event.{Event, Reply, Tick, Ask_counters, Done, Counted}
+use Rattle.flat_model.specs.Machine.Event.{Event, Reply, Tick, Done}
 use Rattle.flat_model.specs.Machine.State.{State, IsConfig, HasSizes, boot}
 use Rattle.flat_model.specs.Scripts.Grammar.{words}
 use Rattle.flat_model.specs.declared.config.Config.{Config}
 use Rattle.flat_model.specs.Scripts.Script as script
 use Rattle.flat_model.specs.Scripts.Script.{all_events}
-use Rattle.flat_model.specs.declared.counters.Counters.{Counters}
 use Rattle.script_loop.specs.declared.fault.RunFault.{RunFault}
 use Rattle.script_loop.specs.declared.fault.RunFault.TheVariants.{Read, Write, Memory, TooManyLines, BadSizes, BadConfig}
 use Rattle.play_line.specs.Scans.{words_of}
@@ -15,10 +14,13 @@ use Rattle.play_line.specs.declared.fault.Slip.{Slip}
 use Rattle.play_settings.specs.Settings.{has_dashes, IsSet, fault_words}
 use Rattle.play_settings.specs.declared.fault.SettingFault.{SettingFault}
 use Rattle.play_settings.specs.declared.fault.SettingFault.TheVariants as settings
+use Rattle.play_show.specs.Changes.{IsSnapshot}
 use Rattle.play_show.specs.Tells.{Shows}
+use Rattle.play_show.specs.declared.snapshot.Snapshot.{Snapshot}
 use Rattle.play_show.specs.Topics.{topic_asked}
 use Rattle.play_show.specs.declared.topic.Topic.{Topic}
 use Rattle.play_script.specs.Lines.{Reading, Nothing, TooLong, Faulty, Asks, IsTicks, reading}
+use Rattle.play_script.specs.Moved.{IsBelow}
 use Rattle.play_script.specs.Outcomes.{outcome, meets}
 
 -- What a player has in hand: its machine, and the configuration that this was booted with; whether settings may still make
@@ -148,26 +150,22 @@ module _ (step : State → Event → Reply → State → Type 0) where
       ⊎ ((n : ℕ) × IsTicks plain n × (reply ≡ Done) × Ticks n old new)
   Does old plain None new = script.Answers all_events step old plain None new × ((n : ℕ) → ¬ IsTicks plain n)
 
-  -- what the counters of a machine are
-  abbrev pub Counts : State → Counters → Type 0
-  Counts s counters = step s Ask_counters (Counted counters) s
-
   -- What may be told of a plain line, with the lines below it: what it asks to be shown, and then nothing changes; else its
-  -- reply and what was dropped.
-  abbrev pub IsAnswered : State → Option Topic → List ℕ → Option (List ℕ) → List ℕ → State → Type 0
-  IsAnswered old (Some topic) plain None below new = ⊥
-  IsAnswered old (Some topic) plain (Some told) below new = Shows step old topic told below × (new ≡ old)
-  IsAnswered old None plain told below new =
-      (reply : Option Reply) × (before after : Counters)
-      × Does old plain reply new × Counts old before × Counts new after
-      × (told ≡ outcome reply before after) × (below ≡ [])
+  -- reply and what was dropped, and below it what came of it.
+  abbrev pub IsAnswered : Bool → State → Option Topic → List ℕ → Option (List ℕ) → List ℕ → State → Type 0
+  IsAnswered quiet old (Some topic) plain None below new = ⊥
+  IsAnswered quiet old (Some topic) plain (Some told) below new = Shows step old topic told below × (new ≡ old)
+  IsAnswered quiet old None plain told below new =
+      (reply : Option Reply) × (before after : Snapshot)
+      × Does old plain reply new × IsSnapshot step old before × IsSnapshot step new after
+      × (told ≡ outcome reply before.counters after.counters) × IsBelow quiet plain reply before after below
 
   -- what a line may have as its text that doesn't begin with two dashes, and one that does
   abbrev pub TellsAsked : Bool → Play → List ℕ → List ℕ → Option (List ℕ) → List ℕ → Play → Type 0
   TellsAsked true now shown plain wanted text new = TellsSettings now shown plain wanted text new
   TellsAsked false now shown plain wanted text new =
       (machine : State) × (told : Option (List ℕ)) × (below : List ℕ)
-      × IsAnswered now.machine (topic_asked plain) plain told below machine
+      × IsAnswered now.quiet now.machine (topic_asked plain) plain told below machine
       × (text ≡ printed now.quiet now.name now.number shown wanted told below)
       × (new ≡ record now {
         machine = machine;

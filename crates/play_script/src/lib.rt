@@ -5,6 +5,7 @@
 mod fits;
 mod laws;
 mod line;
+mod moved;
 mod outcome;
 mod player;
 mod print;

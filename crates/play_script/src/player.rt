@@ -1,5 +1,5 @@
 //! What plays a script line by line.
-ghost use Rattle.std.specs.Prelude.{◌≡◌, ◌<◌, ◌≤◌, ◌++◌, ◌+◌, ℕ, false, [], length, List, Option, Some, Ok, Err, MatchOption, MatchResult};
+ghost use Rattle.std.specs.Prelude.{◌≡◌, ◌<◌, ◌≤◌, ◌++◌, ◌+◌, ℕ, true, false, [], length, List, Option, Some, Ok, Err, MatchOption, MatchResult};
 ghost use Rattle.flat_model.specs.Machine.Event.{Reply};
 ghost use Rattle.flat_model.specs.Machine.State.{boot};
 ghost use Rattle.flat_model.specs.declared.config.Config.{Config};
@@ -7,13 +7,16 @@ ghost use Rattle.flat_model.specs.declared.counters.Counters.{Counters};
 ghost use Rattle.flat_model.specs.Scripts.Texts.{answer_text};
 ghost use Rattle.play_script.specs.Lines.{IsTicks};
 ghost use Rattle.play_script.specs.Outcomes.{outcome, drops_text};
+ghost use Rattle.play_show.specs.Changes.{IsSnapshot};
 ghost use Rattle.play_show.specs.Topics.{topic_asked};
+ghost use Rattle.play_script.specs.Moved.{IsBelow};
 ghost use Rattle.link_script.specs.Boots.{IsUnbooted};
-ghost use Rattle.play_script.specs.Tells.{Play, Ticks, Does, Counts, IsAnswered, IsRefused, IsSettled, Tells, TellsAsked, TellsSettings, told_text, printed, is_sound, stays_head};
+ghost use Rattle.play_script.specs.Tells.{Play, Ticks, Does, IsAnswered, IsRefused, IsSettled, Tells, TellsAsked, TellsSettings, told_text, printed, is_sound, stays_head};
 ghost use Rattle.play_script.specs.Inside.{if_there, expected_on, play_of};
 
 use crate::fits::meets;
 use crate::line::{Kind, read_line};
+use crate::moved::put_below;
 use crate::outcome::{DROPS, TOLD, put_drops, put_told};
 use crate::print::{NAME, ROOM, put_difference, put_fault, put_line, put_slip};
 use flat_model::Config;
@@ -21,7 +24,7 @@ use link_script::{Caller, Machine, TEXT};
 use play_line::LONGEST;
 use play_packet::LineReader;
 use play_settings::{SettingFault, is_settings, settings_of};
-use play_show::{Questions, SHOWN, tell_topic, topic_of};
+use play_show::{Questions, SHOWN, Snapshot, snapshot_of, tell_topic, topic_of};
 use script_loop::{Answers, Buffer, HELD, RunFault, first_word, number, one};
 use std::alloc::Global;
 use std::mem;
@@ -84,8 +87,9 @@ fn do_line<M: Machine>(caller: &mut Caller<M>, words: &[u8], reply: &mut Buffer<
 fn tell_answer(answer: &[u8], drops: &[u8], told: &mut Buffer<TOLD>) -> bool
     requires answer { length answer.now ≤ TEXT }
     requires drops { length drops.now ≤ DROPS }
-    ensures { (reply : Option Reply) (before after : Counters) → answer.now ≡ answer_text reply
+    ensures is { (reply : Option Reply) (before after : Counters) → answer.now ≡ answer_text reply
         → drops.now ≡ drops_text before after → if_there result told.new ≡ outcome reply before after }
+    ensures some { result ≡ true → 0 < length answer.now }
 {
     if answer == b"? line\n".as_slice() || answer.is_empty() {
         return false;
@@ -106,28 +110,51 @@ pub(crate) struct Notes {
 }
 
 /// Does a line, puts what is told of it into the notes, and answers whether it asks for something.
-fn tell_line<M: Machine>(caller: &mut Caller<M>, words: &[u8], notes: &mut Notes) -> bool
-    ensures { (reply : Option Reply) × (before after : Counters)
+fn tell_line<M: Questions>(
+    caller: &mut Caller<M>,
+    words: &[u8],
+    quiet: bool,
+    notes: &mut Notes,
+) -> bool
+    ensures { (reply : Option Reply) × (before after : Snapshot)
         × Does M.may_step (M.state caller.old.machine) words.now reply (M.state caller.new.machine)
-        × Counts M.may_step (M.state caller.old.machine) before
-        × Counts M.may_step (M.state caller.new.machine) after
-        × (if_there result notes.new.told ≡ outcome reply before after) }
+        × IsSnapshot M.may_step (M.state caller.old.machine) before
+        × IsSnapshot M.may_step (M.state caller.new.machine) after
+        × (if_there result notes.new.told ≡ outcome reply before.counters after.counters)
+        × IsBelow quiet words.now reply before after notes.new.below }
 {
-    let before = caller.machine.counters();
+    let before = snapshot_of(&caller.machine);
     do_line(caller, words, &mut notes.reply);
-    let after = caller.machine.counters();
-    put_drops(&mut notes.drops, &before, &after);
-    tell_answer(
+    let after = snapshot_of(&caller.machine);
+    put_drops(&mut notes.drops, &before.counters, &after.counters);
+    let asks = tell_answer(
         bytes_of(&notes.reply),
         bytes_of(&notes.drops),
         &mut notes.told,
-    )
+    );
+    if quiet || !asks {
+        notes.below.clear();
+        return asks;
+    }
+    put_below(
+        words,
+        bytes_of(&notes.reply),
+        caller.buffers.bytes.as_mut_slice(),
+        (&before, &after),
+        &mut notes.below,
+    );
+    true
 }
 
 /// Does what a line asks for or tells what it asks to be shown, puts what is told of it into the notes, and answers
 /// whether it asks for something.
-fn answer_line<M: Questions>(caller: &mut Caller<M>, words: &[u8], notes: &mut Notes) -> bool
-    ensures { IsAnswered M.may_step (M.state caller.old.machine) (topic_asked words.now) words.now
+fn answer_line<M: Questions>(
+    caller: &mut Caller<M>,
+    words: &[u8],
+    quiet: bool,
+    notes: &mut Notes,
+) -> bool
+    ensures { IsAnswered M.may_step quiet (M.state caller.old.machine) (topic_asked words.now) words.now
         (if_there result notes.new.told) notes.new.below (M.state caller.new.machine) }
 {
     match topic_of(words) {
@@ -137,11 +164,7 @@ fn answer_line<M: Questions>(caller: &mut Caller<M>, words: &[u8], notes: &mut N
             notes.told.append(bytes_of(&notes.shown));
             true
         }
-        None => {
-            let asks = tell_line(caller, words, notes);
-            notes.below.clear();
-            asks
-        }
+        None => tell_line(caller, words, quiet, notes),
     }
 }
 
@@ -350,6 +373,7 @@ impl<M: Questions> Player<M> {
         let asks = answer_line(
             &mut self.caller,
             bytes_of(&self.desk.words),
+            self.sheet.quiet,
             &mut self.notes,
         );
         let sound = tell_outcome(asks, &self.sheet, &self.desk, &self.notes, text);
