@@ -1,5 +1,6 @@
 mod Goes
 mod Kept
+mod ScriptLines
 mod Back
 mod Moving
 mod Asking

@@ -1,7 +1,10 @@
 //! Laws of the definitions, for callers to cite: each is the contract of a function that does nothing.
-ghost use Rattle.std.specs.Prelude.{◌≡◌, ◌++◌, ◌+◌, ◌-◌, List, ℕ, Ok, None, false, map};
+ghost use Rattle.std.specs.Prelude.{◌≡◌, ◌++◌, ◌+◌, ◌-◌, ◌≤◌, length, codes, List, ℕ, Ok, None, false, map};
 ghost use Rattle.std.specs.List.{AllByRecursion};
 ghost use Rattle.flat_model.specs.Machine.Event.{Comes};
+ghost use Rattle.flat_model.specs.Scripts.Grammar.{IsLine};
+ghost use Rattle.flat_model.specs.Scripts.Texts.{hex_text};
+ghost use Rattle.hex.specs.Hex.{IsBytes};
 ghost use Rattle.pcap.specs.File.{header_bytes, our_header};
 ghost use Rattle.pcap.specs.Frames.{unpadded};
 ghost use Rattle.pcap.specs.Records.{Reads};
@@ -29,4 +32,10 @@ pub fn read_back_law()
 pub fn played_back_law()
     ensures { (ps : List Pass) → AllByRecursion IsPass ps
         → played false our_header (file_of ps).records ≡ map (λ (p : Pass). Comes (unpadded p.packet)) ps }
+{}
+
+/// The line that [`crate::Lines`] writes of a packet asks for this packet.
+pub fn lines_law()
+    ensures { (packet : List ℕ) → IsBytes packet → length packet ≤ 65535
+        → IsLine (codes "rx " ++ hex_text packet) (Comes packet) }
 {}
