@@ -11,8 +11,8 @@ use std::marker::Model;
 /// Room for the longest line.
 const LINE: usize = 131_200;
 
-/// Writes what happens as lines of a script: a packet that comes as `rx` with its bytes, and a tick as `tick`. It must be
-/// ended by `end`.
+/// Writes what happens as lines of a script: a packet that comes as `rx` with its bytes, and a tick as `tick`. It must
+/// be ended by `end`.
 pub struct Lines<W: Sink> {
     sink: W,
     text: Buffer<LINE>,

@@ -56,7 +56,8 @@ fn select<'a>(range: Option<Range>, records: &'a [Record<'a>]) -> Option<&'a [Re
 
 /// Plays records of a capture.
 fn play_records<X: Wire>(wire: &mut X, header: Header, records: &[Record<'_>], ticks: bool) -> Tally
-    ensures goes { Goes X.may_go (played ticks header (map captured records.now)) (X.state wire.old) (X.state wire.new) }
+    ensures goes { Goes X.may_go (played ticks header (map captured records.now)) (X.state wire.old)
+        (X.state wire.new) }
     ensures tally { result ≡ tally_of (length records.now) (played ticks header (map captured records.now)) }
 {
     let begin = match records {

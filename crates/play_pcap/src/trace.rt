@@ -21,9 +21,9 @@ const FILE_HEADER: [u8; 24] = [
 /// The most microseconds that a line counts.
 const MOST_LINES: u64 = 499_999;
 
-/// A capture file that is written as packets pass, in classic format with link type IPV4. The time of a packet is half a
-/// second for each tick before it, and a microsecond for each line of the script up to its own, 499,999 at most. It must
-/// be ended by `end`.
+/// A capture file that is written as packets pass, in classic format with link type IPV4. The time of a packet is half
+/// a second for each tick before it, and a microsecond for each line of the script up to its own, 499,999 at most. It
+/// must be ended by `end`.
 pub struct Trace<W: Sink> {
     sink: W,
     room: Buffer<RECORD>,

@@ -1,5 +1,5 @@
-//! Captures that are played in, and captures that are written, by the public calls alone. tshark 4.0 reads `WRITTEN` and
-//! `MIXED` without a fault; their bytes are those of pcap-savefile(5), put together by hand.
+//! Captures that are played in, and captures that are written, by the public calls alone. tshark 4.0 reads `WRITTEN`
+//! without a fault, and both packets of `MIXED`; their bytes are those of pcap-savefile(5), put together by hand.
 use pcap::{Fault, Why};
 use play_pcap::{
     CaptureFault, Details, LineRoom, Lines, OUTCOME, Range, Tally, Trace, Wire, ask_of, play_file,
@@ -24,8 +24,8 @@ const WRITTEN: [u8; 116] = [
     136, 0, 7, 0, 10, 111, 223, 104, 105,
 ];
 
-/// Big endian, nanoseconds, Ethernet: an ARP frame without its body at 100.9 seconds, the packet at 101.0, and the packet
-/// with padding at 102.75.
+/// Big endian, nanoseconds, Ethernet: an ARP frame without its body at 100.9 seconds, the packet at 101.0, and the
+/// packet with padding at 102.75.
 const MIXED: [u8; 190] = [
     161, 178, 60, 77, 0, 2, 0, 4, 0, 0, 0, 0, 0, 0, 0, 0, 0, 0, 255, 255, 0, 0, 0, 1, 0, 0, 0, 100,
     53, 164, 233, 0, 0, 0, 0, 14, 0, 0, 0, 14, 2, 0, 0, 0, 0, 1, 2, 0, 0, 0, 0, 2, 8, 6, 0, 0, 0,
