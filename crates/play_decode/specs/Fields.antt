@@ -1,4 +1,5 @@
--- What the headers of a packet say (RFC 791, section 3.1; RFC 768): those of its header of 20 bytes, and the ports behind it.
+-- What the headers of a packet say (RFC 791, section 3.1; RFC 768): those of its header of 20 bytes, and the ports
+-- behind it.
 use Rattle.std.specs.Prelude.{ℕ, ◌-◌, ◌==◌, ◌&&◌, Bool, nat_le, List, length, slice_index}
 use Rattle.params.specs.declared.TheConstants.{IP_HEADER, IP_UDP_HEADERS, PROTOCOL_UDP}
 use Rattle.flat_model.specs.Packets.Header.{u16_at, u32_at, head_of, total_of}

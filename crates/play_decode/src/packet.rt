@@ -42,8 +42,8 @@ fn put_protocol<const N: usize>(text: &mut Buffer<N>, protocol: u8)
     }
 }
 
-/// Puts after the text the protocol of a datagram, the address that it comes from and the one that it goes to. There must
-/// be room for 109 bytes.
+/// Puts after the text the protocol of a datagram, the address that it comes from and the one that it goes to. There
+/// must be room for 109 bytes.
 pub fn put_way<const N: usize>(text: &mut Buffer<N>, protocol: u8, source: u32, destination: u32)
     requires { length text.old + 109 ≤ N }
     ensures items { text.new ≡ text.old ++ texts.way_text protocol source destination }
@@ -161,10 +161,10 @@ fn put_headed<const N: usize>(text: &mut Buffer<N>, fields: Fields, packet: &[u8
     }
 }
 
-/// Puts after the text what the headers of a packet say: of a UDP datagram the two ends and how many bytes were sent; of
-/// a fragment the addresses, which bytes of its datagram it has, and whether more come; of another protocol its number.
-/// How many bytes it carries is what its total length says. Of a packet that doesn't begin with a header of version 4
-/// without options (RFC 791, section 3.1), how many bytes it has is told. There must be room for 174 bytes.
+/// Puts after the text what the headers of a packet say: of a UDP datagram the two ends and how many bytes were sent;
+/// of a fragment the addresses, which bytes of its datagram it has, and whether more come; of another protocol its
+/// number. How many bytes it carries is what its total length says. Of a packet that doesn't begin with a header of
+/// version 4 without options (RFC 791, section 3.1), how many bytes it has is told. There must be room for 174 bytes.
 pub fn put_packet<const N: usize>(text: &mut Buffer<N>, packet: &[u8])
     requires packet { length packet.now ≤ IP_MAX_PACKET }
     requires room { length text.old + 174 ≤ N }
@@ -194,8 +194,8 @@ fn put_held<const N: usize>(text: &mut Buffer<N>, fields: Fields)
     text.append(b", more to come");
 }
 
-/// Puts after the text that a fragment is kept: which bytes of which datagram it has. Nothing is put of a packet without
-/// a header. There must be room for 88 bytes.
+/// Puts after the text that a fragment is kept: which bytes of which datagram it has. Nothing is put of a packet
+/// without a header. There must be room for 88 bytes.
 pub fn put_kept<const N: usize>(text: &mut Buffer<N>, packet: &[u8])
     requires { length text.old + 88 ≤ N }
     ensures items { text.new ≡ text.old ++ texts.kept_text packet.now }
@@ -206,8 +206,8 @@ pub fn put_kept<const N: usize>(text: &mut Buffer<N>, packet: &[u8])
     }
 }
 
-/// Puts after the text that the datagram of a fragment is whole. Nothing is put of a packet without a header. There must
-/// be room for 28 bytes.
+/// Puts after the text that the datagram of a fragment is whole. Nothing is put of a packet without a header. There
+/// must be room for 28 bytes.
 pub fn put_whole<const N: usize>(text: &mut Buffer<N>, packet: &[u8])
     requires { length text.old + 28 ≤ N }
     ensures items { text.new ≡ text.old ++ texts.whole_text packet.now }

@@ -6,8 +6,8 @@ ghost use Rattle.play_decode.specs.Texts.{amount, end_text};
 use flat_model::Addr;
 use script_loop::{Buffer, put_number};
 
-/// Puts an amount after the text: a number, and what it's a number of, with an `s` unless it's 1. There must be room for
-/// 12 bytes more than the word has.
+/// Puts an amount after the text: a number, and what it's a number of, with an `s` unless it's 1. There must be room
+/// for 12 bytes more than the word has.
 pub fn put_amount<const N: usize>(text: &mut Buffer<N>, n: u32, what: &[u8])
     requires { length text.old + length what.now + 12 ≤ N }
     ensures items { text.new ≡ text.old ++ amount n what.now }

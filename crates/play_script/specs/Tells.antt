@@ -23,9 +23,9 @@ use Rattle.play_script.specs.Lines.{Reading, Nothing, TooLong, Faulty, Asks, IsT
 use Rattle.play_script.specs.Moved.{IsBelow}
 use Rattle.play_script.specs.Outcomes.{outcome, meets}
 
--- What a player has in hand: its machine, and the configuration that this was booted with; whether settings may still make
--- another one; how many lines it has seen; whether all of them could be read and all expectations held; and how it prints:
--- replies and differences alone if it's quiet, and differences under the script's name.
+-- What a player has in hand: its machine, and the configuration that this was booted with; whether settings may still
+-- make another one; how many lines it has seen; whether all of them could be read and all expectations held; and how it
+-- prints: replies and differences alone if it's quiet, and differences under the script's name.
 pub record Play : Type 0 where
   pub machine : State
   pub config : Config
@@ -142,16 +142,16 @@ module _ (step : State → Event → Reply → State → Type 0) where
   Ticks zero old new = new ≡ old
   Ticks (suc n) old new = (mid : State) × Ticks n old mid × step mid Tick Done new
 
-  -- From old, a line may have this reply and lead to new: that of the event that it asks for, or of so many ticks. A line that
-  -- asks for neither changes nothing.
+  -- From old, a line may have this reply and lead to new: that of the event that it asks for, or of so many ticks. A
+  -- line that asks for neither changes nothing.
   abbrev pub Does : State → List ℕ → Option Reply → State → Type 0
   Does old plain (Some reply) new =
       script.Answers all_events step old plain (Some reply) new
       ⊎ ((n : ℕ) × IsTicks plain n × (reply ≡ Done) × Ticks n old new)
   Does old plain None new = script.Answers all_events step old plain None new × ((n : ℕ) → ¬ IsTicks plain n)
 
-  -- What may be told of a plain line, with the lines below it: what it asks to be shown, and then nothing changes; else its
-  -- reply and what was dropped, and below it what came of it.
+  -- What may be told of a plain line, with the lines below it: what it asks to be shown, and then nothing changes; else
+  -- its reply and what was dropped, and below it what came of it.
   abbrev pub IsAnswered : Bool → State → Option Topic → List ℕ → Option (List ℕ) → List ℕ → State → Type 0
   IsAnswered quiet old (Some topic) plain None below new = ⊥
   IsAnswered quiet old (Some topic) plain (Some told) below new = Shows step old topic told below × (new ≡ old)

@@ -20,8 +20,8 @@ abbrev pub waiting_of : Result NextDatagram Errno → ℕ
 waiting_of (Ok next) = next.waiting
 waiting_of (Err errno) = 0
 
--- What is looked at of a state: its counters and its pool, the packets that wait for the link, and the datagrams that wait in
--- each socket.
+-- What is looked at of a state: its counters and its pool, the packets that wait for the link, and the datagrams that
+-- wait in each socket.
 pub record IsSnapshot (step : State → Event → Reply → State → Type 0) (s : State) (x : Snapshot) : Type 0 where
   pub counters : step s Ask_counters (Counted x.counters) s
   pub usage : step s Ask_usage (Shown x.usage) s

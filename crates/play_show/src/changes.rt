@@ -203,8 +203,8 @@ fn put_pool_changes(text: &mut Buffer<SHOWN>, before: &Snapshot, after: &Snapsho
 /// Puts into a buffer what came of an event, by looks at the machine before and after it. `packet` is the one that came
 /// from the link or went to it, of 65,535 bytes at most. Told are, each in a line with its line feed: what the packet's
 /// headers say; that it's a fragment and kept, or that its datagram is whole; the sockets to which a datagram was
-/// delivered; as how many packets something was sent; how many unfinished datagrams were dropped; and how many mbufs and
-/// clusters were taken or given back. What doesn't change isn't told, and what the buffer held before is lost.
+/// delivered; as how many packets something was sent; how many unfinished datagrams were dropped; and how many mbufs
+/// and clusters were taken or given back. What doesn't change isn't told, and what the buffer held before is lost.
 pub fn put_changes(
     text: &mut Buffer<SHOWN>,
     packet: Option<&[u8]>,

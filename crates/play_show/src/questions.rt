@@ -8,8 +8,8 @@ use flat_model::Errno;
 use link_script::Machine;
 use net_stack::{HeldRange, NextDatagram, SocketName, Stack, UnfinishedDatagram};
 
-/// A machine of which its sockets, its unfinished datagrams and its output queue may be asked. A question changes nothing, and its answer is a
-/// function of the machine's state.
+/// A machine of which its sockets, its unfinished datagrams and its output queue may be asked. A question changes
+/// nothing, and its answer is a function of the machine's state.
 pub trait Questions: Machine {
     /// What a socket is bound and connected to, and its options. Refused: `BadDescriptor`.
     fn socket_name(&self, fd: u32) -> Result<SocketName, Errno>

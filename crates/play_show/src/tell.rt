@@ -10,12 +10,12 @@ use crate::unfinished::put_unfinished;
 use play_decode::put_amount;
 use script_loop::Buffer;
 
-/// Tells of a machine what is asked. What is told in a word or two stands in `told` then, and in `below` the lines under
-/// it, each with its line feed: one for each open socket, by their descriptors; one for each of the first 32 unfinished
-/// datagrams, in the order of their beginning, with the first 16 ranges of its bytes; one for each counter, in the order
-/// of [`Counter::all`](flat_model::Counter::all); no line for the output queue and the pool. What the buffers held
-/// before is lost. The machine isn't changed. It takes a step for each of the 64 descriptors, and for the pool one for
-/// each cluster.
+/// Tells of a machine what is asked. What is told in a word or two stands in `told` then, and in `below` the lines
+/// under it, each with its line feed: one for each open socket, by their descriptors; one for each of the first 32
+/// unfinished datagrams, in the order of their beginning, with the first 16 ranges of its bytes; one for each counter,
+/// in the order of [`Counter::all`](flat_model::Counter::all); no line for the output queue and the pool. What the
+/// buffers held before is lost. The machine isn't changed. It takes a step for each of the 64 descriptors, and for the
+/// pool one for each cluster.
 pub fn tell_topic<M: Questions>(
     machine: &M,
     topic: Topic,
