@@ -14,7 +14,7 @@ enum { END = 0300, ESC = 0333, ESC_END = 0334, ESC_ESC = 0335, MTU = 1500, END_O
 
 static unsigned char memory[BSDUDP_MEMORY(MBUFS, CLUSTERS)] __attribute__((aligned(BSDUDP_ALIGNMENT)));
 static struct bsdudp stack;
-static uint8_t packet[MTU], room[MTU];
+static uint8_t packet[MTU], room[BSDUDP_TX_ROOM]; /* a datagram of 4,096 bytes has room too */
 static uint32_t length; /* of what has come of a packet; more than the MTU of one that is too long */
 
 /* A packet as SLIP writes it: an end before it, too, so that noise on the line is a packet of its own. */
