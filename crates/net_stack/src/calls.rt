@@ -66,10 +66,10 @@ impl Stack {
         self.host.socks.close(&mut self.host.pool, fd)
     }
 
-    /// Gives the link the packet that has waited longest: its bytes stand in front of the room, and the answer is how many
-    /// they are, or `None` where none waits. Its buffers are freed. What stands after them in the room stays as it was, and
-    /// all of it where none waits. The room has at least as many bytes as the link's packets, the MTU: `mtu` tells it, and
-    /// 4,352 suffice for each.
+    /// Gives the link the packet that has waited longest: its bytes stand in front of the room, and the answer is how
+    /// many they are, or `None` where none waits. Its buffers are freed. What stands after them in the room stays as it
+    /// was, and all of it where none waits. The room has at least as many bytes as the link's packets, the MTU: `mtu`
+    /// tells it, and 4,352 suffice for each.
     pub fn tx(&mut self, room: &mut [u8]) -> Option<usize>
         requires { self.old.config.mtu ≤ length room.old }
         ensures step { Step (state_of self.old) Transmit (given_reply result room.new) (state_of self.new) }

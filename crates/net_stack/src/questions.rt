@@ -36,7 +36,8 @@ impl Stack {
         self.host.socks.readable()
     }
 
-    /// The bytes of the longest packet that the link takes, 68 to 4,352, as boot was told. It's room enough for each `tx`.
+    /// The bytes of the longest packet that the link takes, 68 to 4,352, as boot was told. It's room enough for each
+    /// `tx`.
     pub fn mtu(&self) -> u16
         ensures { result ≡ self.now.config.mtu }
     {

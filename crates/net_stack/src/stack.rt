@@ -105,8 +105,8 @@ impl Stack {
     }
 
     /// What always holds of a stack: its parts fit together, and its pool holds what the state weighs. So the count of
-    /// each cluster is the number of live mbufs that refer to it. A room of 4,352 bytes is enough for each packet of the
-    /// link. It takes no step.
+    /// each cluster is the number of live mbufs that refer to it. A room of 4,352 bytes is enough for each packet of
+    /// the link. It takes no step.
     pub fn laws(&self)
         ensures link { self.now.config.mtu ≤ MAX_MTU }
         ensures stack { IsStack self.now }

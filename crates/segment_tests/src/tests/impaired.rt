@@ -20,7 +20,8 @@ const CHANCES: Chances = Chances {
     jitter: 2,
 };
 
-/// Ten datagrams, and what `bsdudp.Wire([a, b], loss=0.3, repeat=0.3, reorder=0.5, delay=(0, 2), seed=7)` delivers of these.
+/// Ten datagrams, and what `bsdudp.Wire([a, b], loss=0.3, repeat=0.3, reorder=0.5, delay=(0, 2), seed=7)` delivers of
+/// these.
 static CHOSEN: [Step; 29] = [
     Hosts(1, 2),
     Open(0),
