@@ -1,5 +1,5 @@
 //! A broadcast segment: its hosts, and what is under way.
-ghost use Rattle.std.specs.Prelude.{◌≡◌, ◌∷◌, [], ◌++◌, ◌+◌, length, nat_lt, slice_get, slice_set, IfOk, MatchResult};
+ghost use Rattle.std.specs.Prelude.{◌≡◌, ◌∷◌, [], ◌++◌, ◌+◌, length, nat_lt, option_map, slice_get, slice_set, IfOk, MatchResult};
 ghost use Rattle.std.specs.List.{list_all};
 ghost use Rattle.segment.specs.Chances.{seeded};
 ghost use Rattle.segment.specs.Segment.{IsJoined, IsRefused, are_apart, no_hosts};
@@ -125,7 +125,8 @@ impl Segment {
     /// The stack of the host at a place, for any call on it: a packet that is handed to its `rx` comes from outside.
     /// `None` if there is no such host.
     pub fn stack(&mut self, place: usize) -> Option<&mut Stack>
-        ensures* { sem 𝓛 (lends_stack self.entry place result) }
+        ensures* writes_back { sem 𝓛 (lends_stack self.entry place result) }
+        ensures value { option_map (λ stack. stack.now) result ≡ slice_get (view self.entry.now).stacks place }
     {
         self.stacks.get_mut(place)
     }
@@ -150,6 +151,13 @@ impl Segment {
             }
             None => false,
         }
+    }
+
+    /// The chances of what the host at a place sends. `None` if there is no such host.
+    pub fn chances(&self, place: usize) -> Option<Chances>
+        ensures { result ≡ slice_get (view self.now).chances place }
+    {
+        self.impairment.chances.get(place).copied()
     }
 
     /// What was counted of the packets of the host at a place. `None` if there is no such host.
