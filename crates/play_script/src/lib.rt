@@ -11,7 +11,11 @@ mod player;
 mod print;
 mod runs;
 
+pub use fits::meets;
 pub use flat_model::Config;
 pub use laws::runs_law;
+pub use line::{Kind, read_line};
+pub use outcome::{DROPS, TOLD, put_drops};
+pub use player::{tell_answer, ticks_of};
 pub use runs::{Played, Style, play};
 pub use script_loop::{RunFault, Silent, Sink, Source};

@@ -9,7 +9,7 @@ use script_loop::Buffer;
 
 /// What a line is. Its words stand in a buffer beside it, and so does what is expected.
 #[derive(Clone, Copy)]
-pub(crate) enum Kind {
+pub enum Kind {
     /// A blank line, or a comment alone.
     Nothing,
     /// It has more bytes than a line may have.
@@ -75,7 +75,7 @@ fn cut(text: &[u8]) -> (&[u8], Option<&[u8]>)
 
 /// Reads a line. It stands in `shown` then as it's written, the plain line that it stands for in `words`, and the words
 /// that are expected in `wanted`.
-pub(crate) fn read_line(
+pub fn read_line(
     line: &[u8],
     reader: &mut LineReader,
     shown: &mut Buffer<LONGEST>,

@@ -41,8 +41,8 @@ fn bytes_of<const N: usize>(buffer: &Buffer<N>) -> &[u8]
     &buffer.as_slice()[..len]
 }
 
-/// How many ticks a line asks for.
-fn ticks_of(words: &[u8]) -> Option<u32>
+/// How many ticks a line asks for: those of `tick N`, 1 to 65,535.
+pub fn ticks_of(words: &[u8]) -> Option<u32>
     ensures { MatchOption result ((n : ℕ) → IsTicks words.now n → ⊥) (IsTicks words.now) }
 {
     let (word, rest) = first_word(words);
@@ -84,7 +84,7 @@ fn do_line<M: Machine>(caller: &mut Caller<M>, words: &[u8], reply: &mut Buffer<
 }
 
 /// Puts what is told of the text of an answer into a buffer, and answers whether it's a reply.
-fn tell_answer(answer: &[u8], drops: &[u8], told: &mut Buffer<TOLD>) -> bool
+pub fn tell_answer(answer: &[u8], drops: &[u8], told: &mut Buffer<TOLD>) -> bool
     requires answer { length answer.now ≤ TEXT }
     requires drops { length drops.now ≤ DROPS }
     ensures is { (reply : Option Reply) (before after : Counters) → answer.now ≡ answer_text reply
