@@ -3,13 +3,19 @@
 #![tactic(auto)]
 
 mod capture;
+mod choice;
+mod sweep;
 
 use capture::print_capture;
+use choice::Ahead;
 use clap::{Arg, ArgAction, ArgMatches, Command};
 use play_script::{Config, Played, Silent, Style, play};
+use play_wire::play_hosts;
 use std::alloc::{AllocError, Global};
+use std::io::Read;
 use std::process::ExitCode;
 use std::{env, fs, io};
+use sweep::{Seeds, seed_in, seeds_in, sweep};
 
 /// The machine that a script is played on.
 const MACHINE: Config = Config {
@@ -27,16 +33,27 @@ const USAGE: u8 = 2;
 /// The status if a script can't be opened, or something can't be printed.
 const UNREAD: u8 = 4;
 
-/// The command line.
-fn command<'a>(alloc: Global) -> Result<Command<'a>, AllocError> {
-    let quiet = Arg::new(alloc, "quiet")
-        .short('q')
-        .long("quiet")
-        .help("Print replies and differences alone, without the lines")
+/// The options for scripts of many machines.
+fn with_wire<'a>(alloc: Global, command: Command<'a>) -> Result<Command<'a>, AllocError> {
+    let seed = Arg::new(alloc, "seed").long("seed").help(
+        "The seed of the wire, if the script doesn't say one: 1 if it's left out",
+    );
+    let seeds = Arg::new(alloc, "seeds").long("seeds").help(
+        "A-B: play the script for each of these seeds, and list those that fail",
+    );
+    let summary = Arg::new(alloc, "summary")
+        .long("summary")
+        .help("Tell at the end what was counted of each host")
         .action(ArgAction::SetTrue);
-    let files = Arg::new(alloc, "FILE")
-        .help("Scripts, each played on a new machine; '-' or none: standard input")
-        .action(ArgAction::Append);
+    let progress = Arg::new(alloc, "progress")
+        .long("progress")
+        .help("Tell each hundredth seed on standard error")
+        .action(ArgAction::SetTrue);
+    command.arg(seed)?.arg(seeds)?.arg(summary)?.arg(progress)
+}
+
+/// The options for captures.
+fn with_captures<'a>(alloc: Global, command: Command<'a>) -> Result<Command<'a>, AllocError> {
     let capture = Arg::new(alloc, "CAPTURE")
         .long("from-pcap")
         .help("Print the IPv4 packets of this capture as a script, and play nothing")
@@ -49,14 +66,24 @@ fn command<'a>(alloc: Global) -> Result<Command<'a>, AllocError> {
         .long("ticks")
         .help("With --from-pcap: a tick for each half second between packets")
         .action(ArgAction::SetTrue);
-    Command::new(alloc, "bsdplay")
+    command.arg(capture)?.arg(records)?.arg(ticks)
+}
+
+/// The command line.
+fn command<'a>(alloc: Global) -> Result<Command<'a>, AllocError> {
+    let quiet = Arg::new(alloc, "quiet")
+        .short('q')
+        .long("quiet")
+        .help("Print replies and differences alone, without the lines")
+        .action(ArgAction::SetTrue);
+    let files = Arg::new(alloc, "FILE")
+        .help("Scripts, each played on a new machine; '-' or none: standard input")
+        .action(ArgAction::Append);
+    let command = Command::new(alloc, "bsdplay")
         .version("0.2.0")
         .about("Plays scripts of socket calls, packets and ticks, and says what came of each line")
-        .arg(quiet)?
-        .arg(capture)?
-        .arg(records)?
-        .arg(ticks)?
-        .arg(files)
+        .arg(quiet)?;
+    with_captures(alloc, with_wire(alloc, command)?)?.arg(files)
 }
 
 /// Says why a script ended early.
@@ -67,43 +94,106 @@ fn report(rt: &HostRuntime, name: &str, played: &Played) -> io::Result<()> {
     Ok(())
 }
 
-/// Plays standard input.
-fn play_input(rt: &HostRuntime, quiet: bool) -> io::Result<u8> {
-    let (mut reader, mut writer) = (Silent(rt.stdin()), Silent(rt.stdout()));
-    let style = Style { quiet, name: b"-" };
-    let played = play(rt.alloc(), MACHINE, style, &mut reader, &mut writer);
-    report(rt, "-", &played)?;
+/// How scripts are played.
+#[derive(Clone, Copy)]
+struct Manner {
+    quiet: bool,
+    seed: u64,
+    /// Each of these seeds in the place of one.
+    seeds: Option<Seeds>,
+    summary: bool,
+    progress: bool,
+}
+
+/// How the options say that scripts are played. `None` if a seed isn't one.
+fn manner_of(found: &ArgMatches<'_>) -> Option<Manner> {
+    let seed = match found.get_str("seed") {
+        Some(word) => seed_in(word)?,
+        None => 1,
+    };
+    let seeds = match found.get_str("seeds") {
+        Some(word) => Some(seeds_in(word)?),
+        None => None,
+    };
+    Some(Manner {
+        quiet: found.get_flag("quiet"),
+        seed,
+        seeds,
+        summary: found.get_flag("summary"),
+        progress: found.get_flag("progress"),
+    })
+}
+
+/// Plays a script for each of some seeds. It has to have many machines.
+fn play_seeds<R: Read + Drop>(
+    rt: &HostRuntime,
+    source: R,
+    name: &str,
+    manner: Manner,
+    seeds: Seeds,
+) -> io::Result<u8> {
+    let mut reader = Ahead::over(source);
+    if !reader.has_hosts() {
+        eprintln!(rt; "bsdplay: {name}: it has no hosts, so it has no seeds")?;
+        return Ok(USAGE);
+    }
+    let mut script = Vec::new(rt.alloc());
+    reader.read_to_end(&mut script)?;
+    sweep(rt, script.as_slice(), name, seeds, manner.progress)
+}
+
+/// Plays a script: on many machines if it begins with a host, and else on one.
+fn play_source<R: Read + Drop>(
+    rt: &HostRuntime,
+    source: R,
+    name: &str,
+    manner: Manner,
+) -> io::Result<u8> {
+    if let Some(seeds) = manner.seeds {
+        return play_seeds(rt, source, name, manner, seeds);
+    }
+    let mut reader = Ahead::over(source);
+    let mut writer = Silent(rt.stdout());
+    let style = Style {
+        quiet: manner.quiet,
+        name: name.as_bytes(),
+    };
+    let played = if reader.has_hosts() {
+        if manner.summary {
+            reader.ask_for_summary();
+        }
+        play_hosts(rt.alloc(), style, manner.seed, &mut reader, &mut writer)
+    } else {
+        play(rt.alloc(), MACHINE, style, &mut reader, &mut writer)
+    };
+    report(rt, name, &played)?;
     Ok(played.status())
 }
 
 /// Plays a script that stands in a file, or standard input if its name is `-`.
-fn play_file(rt: &HostRuntime, name: &str, quiet: bool) -> io::Result<u8> {
+fn play_file(rt: &HostRuntime, name: &str, manner: Manner) -> io::Result<u8> {
     if name == "-" {
-        return play_input(rt, quiet);
+        return play_source(rt, rt.stdin(), "-", manner);
     }
     let Ok(file) = fs::open(rt, name) else {
         eprintln!(rt; "bsdplay: {name}: it can't be opened")?;
         return Ok(UNREAD);
     };
-    let (mut reader, mut writer) = (Silent(file), Silent(rt.stdout()));
-    let style = Style {
-        quiet,
-        name: name.as_bytes(),
-    };
-    let played = play(rt.alloc(), MACHINE, style, &mut reader, &mut writer);
-    report(rt, name, &played)?;
-    Ok(played.status())
+    play_source(rt, file, name, manner)
 }
 
 /// Plays all scripts, and answers the greatest of their statuses.
 fn play_all(rt: &HostRuntime, found: &ArgMatches<'_>) -> io::Result<u8> {
-    let quiet = found.get_flag("quiet");
+    let Some(manner) = manner_of(found) else {
+        eprintln!(rt; "bsdplay: a seed is a number, and seeds are two, as 1-1000")?;
+        return Ok(USAGE);
+    };
     let Some(names) = found.get_strs("FILE") else {
-        return play_input(rt, quiet);
+        return play_source(rt, rt.stdin(), "-", manner);
     };
     let mut worst = 0;
     for name in names {
-        let status = play_file(rt, name, quiet)?;
+        let status = play_file(rt, name, manner)?;
         if status > worst {
             worst = status;
         }

@@ -13,6 +13,7 @@ pub mod echo_host;
 pub mod fragment;
 pub mod hearing;
 pub mod line_echo;
+pub mod lines_of_hosts;
 pub mod link_packets;
 pub mod named_packet;
 pub mod other_machine;

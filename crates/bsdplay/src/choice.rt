@@ -1,0 +1,134 @@
+//! Which of its two players plays a script: what its first line says that asks for something.
+ghost use Rattle.std.specs.Io.{ReadsAtMost};
+
+use play_script::Source;
+use std::io::{self, Read};
+
+/// How many bytes are read ahead at most.
+const AHEAD: usize = 4096;
+
+/// The word that a script of many machines begins with.
+const HOST: &[u8] = b"host";
+
+/// Where in a script the next byte stands.
+#[derive(Clone, Copy)]
+enum Place {
+    /// In front of a line's first word.
+    Front,
+    Comment,
+    /// After so many bytes of the word `host`.
+    Word(usize),
+}
+
+/// Whether the first line that asks for something begins with the word `host`. `None` if these bytes don't tell yet.
+fn begins_with_host(script: &[u8]) -> Option<bool> {
+    let mut place = Place::Front;
+    for byte in script {
+        let is_blank = byte.is_ascii_whitespace();
+        place = match place {
+            Place::Comment if *byte != b'\n' => Place::Comment,
+            Place::Comment => Place::Front,
+            Place::Front if is_blank => Place::Front,
+            Place::Front if *byte == b'#' => Place::Comment,
+            Place::Front if *byte == b'h' => Place::Word(1),
+            Place::Front => return Some(false),
+            Place::Word(matched) => match HOST.get(matched) {
+                Some(sought) if *sought == *byte => Place::Word(matched.saturating_add(1)),
+                Some(_) => return Some(false),
+                None => return Some(is_blank),
+            },
+        };
+    }
+    None
+}
+
+/// What is put after a script if a summary is wanted.
+const SUMMARY: &[u8] = b"\nsummary\n";
+
+/// A script whose first bytes were read ahead.
+#[derive(Drop)]
+pub(crate) struct Ahead<R> {
+    inner: R,
+    /// Whether the line `summary` comes after it.
+    summary: bool,
+    front: [u8; AHEAD],
+    /// How many bytes were read ahead, and how many of them were given.
+    len: usize,
+    given: usize,
+}
+
+impl<R: Read> Ahead<R> {
+    /// A script of which nothing was read yet.
+    pub(crate) fn over(inner: R) -> Ahead<R> {
+        Ahead {
+            inner,
+            summary: false,
+            front: [0; AHEAD],
+            len: 0,
+            given: 0,
+        }
+    }
+
+    /// Has the line `summary` come after the script.
+    pub(crate) fn ask_for_summary(&mut self) {
+        self.summary = true;
+    }
+
+    /// Whether it's a script of many machines: its first line that asks for something begins with `host`. It reads as far
+    /// as it has to, and 4,096 bytes at most; a script that doesn't tell by then has one machine.
+    pub(crate) fn has_hosts(&mut self) -> bool {
+        for _ in 0..AHEAD {
+            let len = self.len;
+            if len >= AHEAD {
+                return false;
+            }
+            if let Some(told) = begins_with_host(&self.front[..len]) {
+                return told;
+            }
+            match self.inner.read(&mut self.front[len..]) {
+                Ok(0) | Err(_) => return false,
+                Ok(more) => self.len = len + more,
+            }
+        }
+        false
+    }
+}
+
+impl<R: Read> Ahead<R> {
+    /// Reads what wasn't read ahead, and then the line `summary` if it's wanted.
+    fn read_on(&mut self, buf: &mut [u8]) -> io::Result<usize>
+        ensures { ReadsAtMost result buf.new }
+    {
+        let count = self.inner.read(buf)?;
+        if count != 0 || !self.summary || buf.len() < SUMMARY.len() {
+            return Ok(count);
+        }
+        self.summary = false;
+        buf[..SUMMARY.len()].copy_from_slice(SUMMARY);
+        Ok(SUMMARY.len())
+    }
+}
+
+impl<R: Read> Read for Ahead<R> {
+    fn read(&mut self, buf: &mut [u8]) -> io::Result<usize> {
+        let (given, len) = (self.given, self.len);
+        if given >= len || len > AHEAD {
+            return self.read_on(buf);
+        }
+        let rest = &self.front[given..len];
+        let count = if rest.len() < buf.len() {
+            rest.len()
+        } else {
+            buf.len()
+        };
+        buf[..count].copy_from_slice(&rest[..count]);
+        self.given = given + count;
+        Ok(count)
+    }
+}
+
+impl<R: Read> Source for Ahead<R> {
+    fn read_some(&mut self, buf: &mut [u8]) -> io::Result<usize> {
+        self.read(buf)
+    }
+}

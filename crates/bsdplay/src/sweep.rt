@@ -1,0 +1,100 @@
+//! One script of many machines, played for each seed of a range.
+use play_script::{Played, Style};
+use play_wire::play_hosts;
+use std::io::{self, Write};
+
+/// After how many seeds progress is told.
+const STRIDE: u64 = 100;
+
+/// Some seeds, from the first to the last one.
+#[derive(Clone, Copy)]
+pub(crate) struct Seeds {
+    pub(crate) first: u64,
+    pub(crate) last: u64,
+}
+
+/// The seed that a word writes.
+pub(crate) fn seed_in(word: &str) -> Option<u64> {
+    word.parse::<u64>().ok()
+}
+
+/// The seeds that a word writes: `1-1000`.
+pub(crate) fn seeds_in(word: &str) -> Option<Seeds> {
+    let (first, last) = word.split_once('-')?;
+    let (first, last) = (seed_in(first)?, seed_in(last)?);
+    if first <= last {
+        Some(Seeds { first, last })
+    } else {
+        None
+    }
+}
+
+/// The first of these lines that begins with a script's name and a colon: what was wrong with one of its lines.
+fn first_fault<'a>(written: &'a [u8], name: &[u8]) -> &'a [u8] {
+    let mut rest = written;
+    for _ in 0..written.len() {
+        let Some(at) = rest.iter().position(|byte| *byte == b'\n') else {
+            break;
+        };
+        let line = rest.get(..at).unwrap_or_default();
+        if line.starts_with(name) && line.get(name.len()) == Some(&b':') {
+            return line;
+        }
+        rest = rest.get(at.saturating_add(1)..).unwrap_or_default();
+    }
+    b""
+}
+
+/// Says of a seed what went wrong first.
+fn tell(
+    out: &mut impl Write,
+    seed: u64,
+    played: &Played,
+    written: &[u8],
+    name: &str,
+) -> io::Result<()> {
+    match played.outcome {
+        Ok(()) => {
+            write!(out, "seed {seed}: ")?;
+            out.write_all(first_fault(written, name.as_bytes()))?;
+            writeln!(out)
+        }
+        Err(fault) => writeln!(out, "seed {seed}: {fault}"),
+    }
+}
+
+/// Plays the script for each seed. A seed for which all comes that is expected is told nothing of; of each other one it
+/// says what went wrong first. The answer is the greatest of the statuses. Progress goes to standard error.
+pub(crate) fn sweep(
+    rt: &HostRuntime,
+    script: &[u8],
+    name: &str,
+    seeds: Seeds,
+    progress: bool,
+) -> io::Result<u8> {
+    let style = Style {
+        quiet: true,
+        name: name.as_bytes(),
+    };
+    let mut worst = 0;
+    let mut seed = seeds.first;
+    for _ in 0..u64::MAX {
+        let (mut reader, mut written) = (script, Vec::new(rt.alloc()));
+        let played = play_hosts(rt.alloc(), style, seed, &mut reader, &mut written);
+        let status = played.status();
+        if status != 0 {
+            tell(&mut rt.stdout(), seed, &played, written.as_slice(), name)?;
+        }
+        if status > worst {
+            worst = status;
+        }
+        if progress && seed % STRIDE == 0 {
+            eprintln!(rt; "bsdplay: {name}: seed {seed} of {}", seeds.last)?;
+        }
+        if seed >= seeds.last {
+            break;
+        }
+        seed = seed.saturating_add(1);
+    }
+    Ok(worst)
+}

@@ -1,0 +1,28 @@
+//! A script of two hosts and a wire between them.
+use play_script::Style;
+use play_wire::play_hosts;
+use std::alloc::Global;
+
+/// A datagram from a to b, and what is expected of it.
+const SCRIPT: &[u8] = b"host a --addr 10.0.0.1
+host b --addr 10.0.0.2
+wire a b
+b: socket
+b: bind 3 0.0.0.0 7
+a: socket
+a: sendto 3 10.0.0.2 7 \"hi\"
+carry
+b: recvfrom 3 100 => from 10.0.0.1 _ \"hi\"
+";
+
+/// Whether all that the script expects comes.
+pub fn arrives(alloc: Global) -> bool {
+    let style = Style {
+        quiet: true,
+        name: b"script",
+    };
+    let mut reader = SCRIPT;
+    let mut written = Vec::new(alloc);
+    let played = play_hosts(alloc, style, 1, &mut reader, &mut written);
+    played.status() == 0
+}

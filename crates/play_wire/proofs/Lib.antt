@@ -1,0 +1,4 @@
+mod ActLemmas
+mod HostLemmas
+mod PlayLemmas
+mod RunLemmas

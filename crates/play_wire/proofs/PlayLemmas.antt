@@ -1,0 +1,66 @@
+-- A line, and what it does.
+use Rattle.std.proofs.Common.{◌≡◌, ◌⊎◌, inl, inr, ℕ, ◌-◌, Bool, true, false, List, [], ◌∷◌, ◌++◌, length, Option, Some, refl, sym, ap, ◌∙◌, subst}
+use Rattle.std.specs.Prelude.{slice_get}
+use Rattle.play_script.specs.Inside.{if_there}
+use Rattle.play_script.specs.Lines.{Reading, reading}
+use Rattle.segment.specs.Law.{Act, AreActs}
+use Rattle.segment.specs.Segment.{SegmentView}
+use Rattle.play_wire.specs.Acts.{Outcome, Refused, Moves, IsHostLine, IsMissing}
+use Rattle.play_wire.specs.Tells.{Play, IsDone, IsParted, Tells, TellsPart, next_line}
+use Rattle.play_wire.specs.declared.fault.Fault.TheVariants as fault
+
+pub done_by_wire : (play : Play) (named : Bool) (host plain : List ℕ) (came : Outcome) (v w : SegmentView) (old new : List (List ℕ))
+    → play.segment ≡ v → play.names ≡ old → named ≡ false → Moves v w → (more : List (List ℕ)) × (new ≡ old ++ more)
+    → (acts : List Act) × IsDone play (if_there named host) plain acts came w new
+done_by_wire play named host plain came v w old new e f is (acts, are) (more, joined) = (
+  acts,
+  subst (λ b. IsDone play (if_there b host) plain acts came w new) (sym is)
+      (subst (λ (x : SegmentView). AreActs x acts w) (sym e) are, more, joined ∙ ap (λ (xs : List (List ℕ)). xs ++ more) (sym f)),
+)
+
+pub done_by_host : (play : Play) (named : Bool) (host words plain : List ℕ) (came : Outcome) (v w : SegmentView) (old : List (List ℕ)) (place : ℕ)
+    → play.segment ≡ v → play.names ≡ old → named ≡ true → slice_get old place ≡ Some host → words ≡ plain
+    → (acts : List Act) × (IsHostLine place words v acts came w ⊎ IsMissing place v acts came w)
+    → (acts : List Act) × IsDone play (if_there named host) plain acts came w old
+done_by_host play named host words plain came v w old place e f is there same (acts, did) =
+    let read : IsHostLine place plain v acts came w ⊎ IsMissing place v acts came w =
+    subst (λ (ws : List ℕ). IsHostLine place ws v acts came w ⊎ IsMissing place v acts came w) same did in
+    let mine : IsHostLine place plain play.segment acts came w ⊎ IsMissing place play.segment acts came w =
+    subst (λ (x : SegmentView). IsHostLine place plain x acts came w ⊎ IsMissing place x acts came w) (sym e) read in
+    let named_so : slice_get play.names place ≡ Some host = subst (λ (xs : List (List ℕ)). slice_get xs place ≡ Some host) (sym f) there in
+    (acts, subst (λ b. IsDone play (if_there b host) plain acts came w old) (sym is) (sym f, inl (place, named_so, mine)))
+
+pub done_by_none : (play : Play) (named : Bool) (host plain : List ℕ) (v : SegmentView) (old : List (List ℕ))
+    → play.segment ≡ v → play.names ≡ old → named ≡ true
+    → (acts : List Act) × IsDone play (if_there named host) plain acts (Refused fault.NoHost) v old
+done_by_none play named host plain v old e f is =
+    ([], subst (λ b. IsDone play (if_there b host) plain [] (Refused fault.NoHost) v old) (sym is) (sym f, inr (refl, sym e, refl)))
+
+-- a line that is read so
+pub told_part : (old new : Play) (line part : List ℕ) (host : Option (List ℕ)) (read : Reading) (acts : List Act) (text : List ℕ)
+    → IsParted line host part → reading part ≡ read → TellsPart (next_line old) host (length line - length part) read acts text new
+    → Tells old line text new
+told_part old new line part host read acts text parted is tells =
+    (acts, (host, part, parted, subst (λ r. TellsPart (next_line old) host (length line - length part) r acts text new) (sym is) tells))
+
+-- the text of a line, in front of which another stands
+pub with_number : (old : List ℕ) (text : ℕ → List ℕ) (m n : ℕ) (all : List ℕ) → m ≡ n → all ≡ old ++ text m → all ≡ old ++ text n
+with_number old text m n all e is = is ∙ ap (λ k. old ++ text k) e
+
+pub nothing_more : (old : List ℕ) → old ≡ old ++ []
+nothing_more [] = refl
+nothing_more (x ∷ xs) = ap (λ ys. x ∷ ys) (nothing_more xs)
+
+-- a player with another number of its line, and with what came of the line
+pub numbered_sound : (v : SegmentView) (names : List (List ℕ)) (m n : ℕ) (a b quiet : Bool) (name : List ℕ) → m ≡ n → a ≡ b
+    → ◌≡◌ {A = Play} (record { segment = v; names = names; number = m; sound = a; quiet = quiet; name = name })
+    (record { segment = v; names = names; number = n; sound = b; quiet = quiet; name = name })
+numbered_sound v names m n a b quiet name e f =
+    let first : ℕ → Play = λ k. record { segment = v; names = names; number = k; sound = a; quiet = quiet; name = name } in
+    let second : Bool → Play = λ t. record { segment = v; names = names; number = n; sound = t; quiet = quiet; name = name } in
+    ap first e ∙ ap second f
+
+pub numbered : (v : SegmentView) (names : List (List ℕ)) (m n : ℕ) (sound quiet : Bool) (name : List ℕ) → m ≡ n
+    → ◌≡◌ {A = Play} (record { segment = v; names = names; number = m; sound = sound; quiet = quiet; name = name })
+    (record { segment = v; names = names; number = n; sound = sound; quiet = quiet; name = name })
+numbered v names m n sound quiet name e = numbered_sound v names m n sound sound quiet name e refl

@@ -1,0 +1,60 @@
+-- Whole scripts.
+use Rattle.std.proofs.Common.{◌≡◌, inl, inr, ℕ, Bool, true, List, [], ◌∷◌, ◌++◌, map, Option, Some, None, refl, sym, ap, subst}
+use Rattle.play_script.specs.Lines.{Reading, Nothing, TooLong, Faulty, Asks, reading}
+use Rattle.script_loop.specs.Printed.{Prints}
+use Rattle.segment.specs.Law.{Act, Calls, Seeds, AreActs}
+use Rattle.segment.specs.Chances.{seeded}
+use Rattle.segment.specs.Segment.{SegmentView, no_hosts}
+use Rattle.play_wire.specs.Acts.{Outcome, IsHostLine}
+use Rattle.play_wire.specs.Runs.{AreToldBy, IsLawful, IsPlayed}
+use Rattle.play_wire.specs.Tells.{Play, Tells, TellsPart, IsDone, next_line, started}
+use Rattle.play_wire.specs.declared.hosts.TheConstants.{PACKETS}
+use Rattle.play_wire.proofs.ActLemmas.{acts_append, calls_are_acts}
+
+none_are : (v w : SegmentView) (acts : List Act) → acts ≡ [] → w ≡ v → AreActs v acts w
+none_are v w acts none same = subst (λ (xs : List Act). AreActs v xs w) (sym none) same
+
+host_acts : (place : ℕ) (plain : List ℕ) (v w : SegmentView) (acts : List Act) (came : Outcome) → IsHostLine place plain v acts came w → AreActs v acts w
+host_acts place plain v w acts came is =
+    subst (λ (xs : List Act). AreActs v xs w) (sym is.acts_are)
+    (subst (λ (x : SegmentView). AreActs v (map (Calls place) is.turns) x) (sym is.leads) (calls_are_acts place v is.turns is.before is.after is.here is.answered.1))
+
+done_acts : (now : Play) (host : Option (List ℕ)) (plain : List ℕ) (acts : List Act) (came : Outcome) (segment : SegmentView) (names : List (List ℕ))
+    → IsDone now host plain acts came segment names → AreActs now.segment acts segment
+done_acts now None plain acts came segment names done = done.0
+done_acts now (Some host) plain acts came segment names (same, inl (place, named, inl is)) = host_acts place plain now.segment segment acts came is
+done_acts now (Some host) plain acts came segment names (same, inl (place, named, inr missing)) = none_are now.segment segment acts missing.1 missing.3
+done_acts now (Some host) plain acts came segment names (same, inr (none, kept, refused)) = none_are now.segment segment acts none kept
+
+part_acts : (now new : Play) (host : Option (List ℕ)) (before : ℕ) (line : Reading) (acts : List Act) (text : List ℕ)
+    → TellsPart now host before line acts text new → AreActs now.segment acts new.segment
+part_acts now new host before Nothing acts text (none, is, same) = none_are now.segment new.segment acts none (ap (λ (p : Play). p.segment) same)
+part_acts now new host before TooLong acts text (none, is, same) = none_are now.segment new.segment acts none (ap (λ (p : Play). p.segment) same)
+part_acts now new host before (Faulty slip) acts text (none, is, same) = none_are now.segment new.segment acts none (ap (λ (p : Play). p.segment) same)
+part_acts now new host before (Asks shown plain wanted) acts text (came, segment, names, done, is, same) =
+    subst (λ (v : SegmentView). AreActs now.segment acts v) (sym (ap (λ (p : Play). p.segment) same)) (done_acts now host plain acts came segment names done)
+
+-- what is printed for lines, with the acts that made it
+pub told_by_acts : (old new : Play) (lines : List (List ℕ)) (printed : List ℕ) → Prints Tells old lines printed new
+    → (acts : List Act) × AreToldBy old lines acts printed new × AreActs old.segment acts new.segment
+told_by_acts old new [] printed (same, none) = ([], (refl, none, same), ap (λ (p : Play). p.segment) same)
+told_by_acts old new (line ∷ lines) printed (mid, text, more, (first, tells), later, joined) =
+    let rest = told_by_acts mid new lines more later in (
+      first ++ rest.0,
+      (mid, first, rest.0, text, more, tells, rest.1, refl, joined),
+      acts_append old.segment mid.segment new.segment first rest.0
+          (part_acts (next_line old) mid tells.0 _ (reading tells.1) first text tells.3) rest.2,
+    )
+
+pub played : (seed : ℕ) (quiet : Bool) (name : List ℕ) (new : Play) (lines : List (List ℕ)) (printed : List ℕ)
+    → ((acts : List Act) → IsLawful acts new.segment) → Prints Tells (started seed quiet name) lines printed new
+    → IsPlayed seed quiet name lines printed new
+played seed quiet name new lines printed law prints =
+    let made = told_by_acts (started seed quiet name) new lines printed prints in
+    record { acts = made.0; told = made.1; done = ((started seed quiet name).segment, refl, made.2); lawful = law (Seeds seed ∷ made.0) }
+
+-- a player before its first line
+pub player_starts : (seed number : ℕ) (v : SegmentView) (names : List (List ℕ)) (quiet quiet' : Bool) (name name' : List ℕ)
+    → v ≡ record (no_hosts PACKETS) { random = seeded seed } → names ≡ [] → number ≡ 0 → quiet ≡ quiet' → name ≡ name'
+    → record { segment = v; names = names; number = number; sound = true; quiet = quiet; name = name } ≡ started seed quiet' name'
+player_starts seed number v names quiet quiet' name name' e f g h i = rw (e, f, g, h, i) refl

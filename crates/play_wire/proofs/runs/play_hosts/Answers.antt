@@ -1,0 +1,30 @@
+use Rattle.std.proofs.Common.{refl, subst}
+use Rattle.script_loop.specs.Serves.{Serves}
+use Rattle.play_wire.specs.Inside.{play_of}
+use Rattle.play_wire.specs.Tells.{Play, Tells}
+use Rattle.play_wire.specs.declared.hosts.TheConstants.{PACKETS}
+use Rattle.play_wire.proofs.RunLemmas.{played}
+use Rattle.play_wire.proofs.runs.play_hosts.Goals as goal
+
+pub returns-in_default-clause-lawful : goal.returns-in_default-clause-lawful
+returns-in_default-clause-lawful g c new lines printed prints =
+    played _ _ _ new lines printed
+    (λ acts i j first second s t before after fd most sender bytes on is from.
+    c.hosts_on_a_segment.ensures PACKETS i j first second s t acts new.segment before after fd most sender bytes on is from)
+    prints
+
+pub returns-clause-served : goal.returns-clause-served
+returns-clause-served g c = (
+  play_of c.serve_script-outcome.new.machine,
+  subst (λ (p : Play). Serves Tells p (play_of c.serve_script-outcome.new.machine) (g.R.Read.remaining c.args.reader.now) (g.R.Read.remaining c.serve_script-outcome.new.reader)
+      (g.W.Write.contents c.args.writer.now) (g.W.Write.contents c.serve_script-outcome.new.writer) c.serve_script-outcome.result)
+      c.in-Some.ensures c.serve_script-outcome.ensures.served,
+  refl,
+)
+
+pub returns-clause-lawful : goal.returns-clause-lawful
+returns-clause-lawful g c new lines printed prints =
+    played _ _ _ new lines printed
+    (λ acts i j first second s t before after fd most sender bytes on is from.
+    c.hosts_on_a_segment.ensures PACKETS i j first second s t acts new.segment before after fd most sender bytes on is from)
+    prints

@@ -1,0 +1,91 @@
+-- What may be told of a line, and what it leads to (this project's own).
+use Rattle.std.specs.Prelude.{◌≡◌, ◌⊎◌, ℕ, ◌-◌, ◌&&◌, Bool, true, false, List, [], ◌∷◌, ◌++◌, length, codes, slice_get, Option, Some, None}
+use Rattle.flat_model.specs.Machine.Count.{more_by}
+use Rattle.play_line.specs.declared.fault.Slip.{Slip}
+use Rattle.play_script.specs.Lines.{Reading, Nothing, TooLong, Faulty, Asks, reading}
+use Rattle.play_script.specs.Tells.{fault_text, is_sound, slip_text, told_text}
+use Rattle.segment.specs.Law.{Act, AreActs}
+use Rattle.segment.specs.Chances.{seeded}
+use Rattle.segment.specs.Segment.{SegmentView, no_hosts}
+use Rattle.play_wire.specs.Acts.{IsHostLine, IsMissing, Outcome, Told, Refused}
+use Rattle.play_wire.specs.Faults.{words_of}
+use Rattle.play_wire.specs.declared.fault.Fault.TheVariants as fault
+use Rattle.play_wire.specs.declared.hosts.TheConstants.{PACKETS}
+
+-- What a player has in hand: its hosts and their wire, with the names of the hosts by their places; how many lines it has
+-- seen; whether all of them could be read, and all expectations held; and how it prints.
+pub record Play : Type 0 where
+  pub segment : SegmentView
+  pub names : List (List ℕ)
+  pub number : ℕ
+  pub sound : Bool
+  pub quiet : Bool
+  pub name : List ℕ
+
+-- before the first line: no hosts, and this seed for all choices
+abbrev pub started : ℕ → Bool → List ℕ → Play
+started seed quiet name = record { segment = record (no_hosts PACKETS) { random = seeded seed }; names = []; number = 0; sound = true; quiet = quiet; name = name }
+
+-- the next line
+abbrev pub next_line : Play → Play
+next_line old = record old { number = more_by 1 old.number }
+
+-- the line names this host in front of a colon, and then stands this part; or the part is all of it
+abbrev pub IsParted : List ℕ → Option (List ℕ) → List ℕ → Type 0
+IsParted line (Some host) part = line ≡ host ++ 58 ∷ part
+IsParted line None part = part ≡ line
+
+-- ---- texts
+
+-- a line with its host
+abbrev pub labelled : Option (List ℕ) → List ℕ → List ℕ
+labelled (Some host) shown = host ++ codes ": " ++ shown
+labelled None shown = shown
+
+-- what is told of a line
+abbrev pub text_of : Play → Option (List ℕ) → List ℕ → Option (List ℕ) → Outcome → List ℕ
+text_of now host shown wanted (Told told below) = told_text now.quiet now.name now.number (labelled host shown) wanted told below
+text_of now host shown wanted (Refused reason) = fault_text now.name now.number (words_of reason)
+
+-- it did something, and what is told is what was expected
+abbrev pub sound_of : Option (List ℕ) → Outcome → Bool
+sound_of wanted (Told told below) = is_sound wanted (Some told)
+sound_of wanted (Refused reason) = false
+
+-- what is wrong with a part of a line, in front of which so many bytes stand
+abbrev pub shifted : ℕ → Slip → Slip
+shifted before slip = record slip { column = more_by before slip.column }
+
+-- ---- steps
+
+-- A line of a host is that of the host with this name. A line of the wire may add hosts.
+abbrev pub IsDone : Play → Option (List ℕ) → List ℕ → List Act → Outcome → SegmentView → List (List ℕ) → Type 0
+IsDone now (Some host) plain acts outcome segment names =
+    (names ≡ now.names)
+    × (((place : ℕ) × (slice_get now.names place ≡ Some host)
+    × (IsHostLine place plain now.segment acts outcome segment ⊎ IsMissing place now.segment acts outcome segment))
+    ⊎ ((acts ≡ []) × (segment ≡ now.segment) × (outcome ≡ Refused fault.NoHost)))
+IsDone now None plain acts outcome segment names =
+    AreActs now.segment acts segment × (more : List (List ℕ)) × (names ≡ now.names ++ more)
+
+-- what the part of a line that is read so does, where `now` has its number
+abbrev pub TellsPart : Play → Option (List ℕ) → ℕ → Reading → List Act → List ℕ → Play → Type 0
+TellsPart now host before Nothing acts text new = (acts ≡ []) × (text ≡ []) × (new ≡ now)
+TellsPart now host before TooLong acts text new =
+    (acts ≡ []) × (text ≡ fault_text now.name now.number (codes "the line is too long")) × (new ≡ record now { sound = false })
+TellsPart now host before (Faulty slip) acts text new =
+    (acts ≡ []) × (text ≡ slip_text now.name now.number (shifted before slip)) × (new ≡ record now { sound = false })
+TellsPart now host before (Asks shown plain wanted) acts text new =
+    (outcome : Outcome) × (segment : SegmentView) × (names : List (List ℕ))
+    × IsDone now host plain acts outcome segment names
+    × (text ≡ text_of now host shown wanted outcome)
+    × (new ≡ record now { segment = segment; names = names; sound = now.sound && sound_of wanted outcome })
+
+-- a line may have this text, by these acts
+abbrev pub TellsBy : Play → List ℕ → List Act → List ℕ → Play → Type 0
+TellsBy old line acts text new =
+    (host : Option (List ℕ)) × (part : List ℕ) × IsParted line host part
+    × TellsPart (next_line old) host (length line - length part) (reading part) acts text new
+
+abbrev pub Tells : Play → List ℕ → List ℕ → Play → Type 0
+Tells old line text new = (acts : List Act) × TellsBy old line acts text new

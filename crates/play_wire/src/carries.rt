@@ -1,0 +1,58 @@
+//! What waits for the links passes.
+ghost use Rattle.segment.specs.Inside.{view};
+ghost use Rattle.play_wire.specs.Acts.{Moves};
+
+use script_loop::{first_word, number, one};
+use segment::Segment;
+
+/// The most carries that a line asks for.
+const MOST: u32 = 1_000_000;
+
+/// The most carries of `carry all` if it doesn't say another number.
+const ALL: u32 = 1000;
+
+/// How many carries a line asks for.
+#[derive(Clone, Copy)]
+pub(crate) enum Bound {
+    /// So many.
+    Times(u32),
+    /// Until nothing is left, and at most so many.
+    Quiet(u32),
+}
+
+/// How many carries the words after `carry` ask for.
+pub(crate) fn bound_of(rest: Option<&[u8]>) -> Option<Bound> {
+    let Some(words) = rest else {
+        return Some(Bound::Times(1));
+    };
+    let (word, after) = first_word(words);
+    if word != b"all".as_slice() {
+        return Some(Bound::Times(number(one(rest)?, MOST)?));
+    }
+    match after {
+        Some(_) => Some(Bound::Quiet(number(one(after)?, MOST)?)),
+        None => Some(Bound::Quiet(ALL)),
+    }
+}
+
+/// Carries so often. Whether nothing is left then.
+pub(crate) fn carry(segment: &mut Segment, bound: Bound) -> bool
+    ensures { Moves (view segment.old) (view segment.new) }
+{
+    match bound {
+        Bound::Times(count) => {
+            carry_times(segment, count);
+            segment.is_quiet()
+        }
+        Bound::Quiet(most) => segment.carry_all(most),
+    }
+}
+
+/// Carries so often.
+fn carry_times(segment: &mut Segment, count: u32)
+    ensures { Moves (view segment.old) (view segment.new) }
+{
+    for _ in 0..count {
+        segment.carry();
+    }
+}

@@ -1,0 +1,132 @@
+//! The chances that a line sets.
+use script_loop::number;
+use segment::Chances;
+
+/// The most digits after the point of a chance.
+const PLACES: usize = 6;
+
+/// The greatest number in a chance, and the longest delay.
+const MOST: u32 = 1_000_000;
+
+/// What of the chances a line sets.
+#[derive(Clone, Copy)]
+pub(crate) enum Part {
+    Loss(u64),
+    Repeat(u64),
+    Reorder(u64),
+    /// The least delay, and by how many carries the longest one is longer.
+    Delay(u32, u32),
+}
+
+impl Part {
+    /// The chances with this part.
+    pub(crate) fn put(self, chances: Chances) -> Chances {
+        match self {
+            Part::Loss(loss) => Chances { loss, ..chances },
+            Part::Repeat(repeat) => Chances { repeat, ..chances },
+            Part::Reorder(reorder) => Chances { reorder, ..chances },
+            Part::Delay(delay, jitter) => Chances {
+                delay,
+                jitter,
+                ..chances
+            },
+        }
+    }
+}
+
+/// A chance of `part` in `whole`, in parts of 2 to the 32nd, rounded down. `None` if it's none of 0 to 1.
+fn limit_of(part: u32, whole: u32) -> Option<u64> {
+    if whole == 0 || part > whole {
+        return None;
+    }
+    Some((u64::from(part) << 32) / u64::from(whole))
+}
+
+/// What stands before the first such byte, and after it.
+fn cut(word: &[u8], byte: u8) -> Option<(&[u8], &[u8])> {
+    let at = word.iter().position(|it| *it == byte)?;
+    if at < word.len() {
+        Some((&word[..at], &word[at + 1..]))
+    } else {
+        None
+    }
+}
+
+/// The number that decimal digits write, at most six of them, with zeros in front or not.
+fn digits_in(word: &[u8]) -> Option<u32> {
+    if word.is_empty() || word.len() > PLACES {
+        return None;
+    }
+    let mut value = 0u32;
+    for byte in word {
+        if !byte.is_ascii_digit() {
+            return None;
+        }
+        value = value
+            .saturating_mul(10)
+            .saturating_add(u32::from(*byte - b'0'));
+    }
+    Some(value)
+}
+
+/// 10 to the power of so many, at most six.
+fn power_of_ten(places: usize) -> u32 {
+    match places {
+        0 => 1,
+        1 => 10,
+        2 => 100,
+        3 => 1000,
+        4 => 10_000,
+        5 => 100_000,
+        _ => 1_000_000,
+    }
+}
+
+/// A chance that is written as a number, `0.05`, of which `of` are the whole.
+fn decimal(word: &[u8], of: u32) -> Option<u64> {
+    match cut(word, b'.') {
+        Some((front, back)) => {
+            let scale = power_of_ten(back.len());
+            let part = number(front, of)?.saturating_mul(scale);
+            limit_of(
+                part.saturating_add(digits_in(back)?),
+                of.saturating_mul(scale),
+            )
+        }
+        None => limit_of(number(word, of)?, of),
+    }
+}
+
+/// A chance as it's written: `10%`, `0.05` or `1/20`.
+fn chance_in(word: &[u8]) -> Option<u64> {
+    if let Some((front, back)) = cut(word, b'%') {
+        return if back.is_empty() {
+            decimal(front, 100)
+        } else {
+            None
+        };
+    }
+    match cut(word, b'/') {
+        Some((part, whole)) => limit_of(number(part, MOST)?, number(whole, MOST)?),
+        None => decimal(word, 1),
+    }
+}
+
+/// A delay as it's written, `0-3`: the least and the most carries.
+fn delay_in(word: &[u8]) -> Option<Part> {
+    let (front, back) = cut(word, b'-')?;
+    let least = number(front, MOST)?;
+    let most = number(back, MOST)?;
+    Some(Part::Delay(least, most.checked_sub(least)?))
+}
+
+/// What a line that begins with this word sets to this value.
+pub(crate) fn part_in(word: &[u8], value: &[u8]) -> Option<Part> {
+    match word {
+        b"loss" => Some(Part::Loss(chance_in(value)?)),
+        b"repeat" => Some(Part::Repeat(chance_in(value)?)),
+        b"reorder" => Some(Part::Reorder(chance_in(value)?)),
+        b"delay" => delay_in(value),
+        _ => None,
+    }
+}

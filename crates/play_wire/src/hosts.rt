@@ -1,0 +1,202 @@
+//! The hosts of a script, and the wire that joins them.
+ghost use Rattle.std.specs.Prelude.{◌≡◌, ◌≤◌, ◌++◌, ℕ, List, [], IfOk, IfSome, length};
+ghost use Rattle.segment.specs.Inside.{view};
+ghost use Rattle.segment.specs.Chances.{seeded};
+ghost use Rattle.segment.specs.Segment.{no_hosts};
+ghost use Rattle.play_wire.specs.Acts.{Moves};
+
+use crate::fault::Fault;
+use crate::names::{NAME, is_name, place_of};
+use flat_model::Config;
+use link_script::Caller;
+use net_stack::Stack;
+use play_settings::{SettingFault, settings_of};
+use script_loop::{Buffer, LineBuffers, first_word};
+use segment::Segment;
+use std::alloc::{AllocError, Global};
+
+/// The most packets that are under way at once.
+pub(crate) const PACKETS: u16 = 4096;
+
+/// The spare machine.
+const SPARE: Config = Config {
+    addr: 0x0a00_0001,
+    bcast: 0x0a00_00ff,
+    mtu: 1500,
+    mbufs: 1,
+    clusters: 0,
+    first_id: 1,
+};
+
+/// The settings of a host that its line doesn't tell: those of a script's one machine.
+const DEFAULTS: Config = Config {
+    addr: 0x0a00_0001,
+    bcast: 0x0a00_00ff,
+    mtu: 1500,
+    mbufs: 512,
+    clusters: 64,
+    first_id: 1,
+};
+
+/// The hosts, by their places, and the wire.
+pub(crate) struct Hosts {
+    pub(crate) alloc: Global,
+    pub(crate) segment: Segment,
+    pub(crate) names: Vec<Buffer<NAME>>,
+    /// Whether the line `wire` was there.
+    pub(crate) wired: bool,
+    /// Its machine is a spare one. It stands in the place of a host while a line of that host is played.
+    pub(crate) caller: Caller<Stack>,
+}
+
+/// The configuration that the words after a host's name tell.
+fn config_of(settings: Option<&[u8]>) -> Result<Config, Fault> {
+    let Some(words) = settings else {
+        return Ok(DEFAULTS);
+    };
+    match settings_of(words, DEFAULTS) {
+        Ok(config) => Ok(config),
+        Err(fault) => Err(Fault::Setting(fault)),
+    }
+}
+
+/// Whether a word stands among these.
+fn has_word(words: &[u8], wanted: &[u8]) -> bool {
+    let mut rest = Some(words);
+    'words: while let Some(text) = rest {
+        let (word, after) = first_word(text);
+        if word == wanted {
+            return true;
+        }
+        rest = after;
+    }
+    false
+}
+
+/// How many words there are.
+fn count_words(words: &[u8]) -> u64 {
+    let mut count = 0u64;
+    let mut rest = Some(words);
+    'words: while let Some(text) = rest {
+        let (_, after) = first_word(text);
+        count = count.saturating_add(1);
+        rest = after;
+    }
+    count
+}
+
+/// Whether the words are all of these names, each once.
+fn are_all(words: &[u8], names: &[Buffer<NAME>]) -> bool {
+    if count_words(words) != names.len() as u64 {
+        return false;
+    }
+    for place in 0..names.len() {
+        if !has_word(words, names[place].as_slice()) {
+            return false;
+        }
+    }
+    true
+}
+
+impl Hosts {
+    /// No hosts, no wire, and this seed for all choices. `None` if host memory was refused.
+    pub(crate) fn new(alloc: Global, buffers: LineBuffers, seed: u64) -> Option<Hosts>
+        ensures { IfSome result (λ h. (view h.segment ≡ record (no_hosts PACKETS) { random = seeded seed })
+            × (h.names.items ≡ [])) }
+    {
+        let mut segment = Segment::new(alloc, PACKETS).ok()?;
+        segment.seed(seed);
+        match Stack::boot(alloc, SPARE) {
+            Ok(machine) => Some(Hosts {
+                alloc,
+                segment,
+                names: Vec::new(alloc),
+                wired: false,
+                caller: Caller { machine, buffers },
+            }),
+            Err(_) => {
+                segment.end();
+                None
+            }
+        }
+    }
+
+    /// The host that a line `host NAME ..` tells: its name and its settings. Refused in this order: it has no name, or the
+    /// word isn't one; there is a wire already; a host has the name; and what `config_of` refuses.
+    fn host_of<'a>(&self, rest: Option<&'a [u8]>) -> Result<(&'a [u8], Config), Fault>
+        ensures { IfOk result (λ r. length r.0.now ≤ NAME) }
+    {
+        let Some(words) = rest else {
+            return Err(Fault::NoName);
+        };
+        let (name, settings) = first_word(words);
+        if !is_name(name) {
+            return Err(Fault::NoName);
+        }
+        if self.wired {
+            return Err(Fault::Wired);
+        }
+        if place_of(self.names.as_slice(), name).is_some() {
+            return Err(Fault::NameTaken);
+        }
+        let config = config_of(settings)?;
+        Ok((name, config))
+    }
+
+    /// `host NAME ..`: a host with these settings has the next place.
+    pub(crate) fn add(&mut self, rest: Option<&[u8]>) -> Result<(), Fault>
+        ensures moves { Moves (view self.old.segment) (view self.new.segment) }
+        ensures names { (more : List (List ℕ)) × (self.new.names.items ≡ self.old.names.items ++ more) }
+    {
+        let (name, config) = self.host_of(rest)?;
+        let Ok(mut buffer) = Buffer::new(self.alloc) else {
+            return Err(Fault::Setting(SettingFault::Memory));
+        };
+        buffer.append(name);
+        if self.names.reserve(1).is_err() {
+            return Err(Fault::Setting(SettingFault::Memory));
+        }
+        match self.segment.join(self.alloc, config) {
+            Ok(()) => {
+                self.names.push_reserved(buffer);
+                Ok(())
+            }
+            Err(fault) => Err(Fault::of_join(fault)),
+        }
+    }
+
+    /// `wire NAME ..`: all hosts are joined.
+    pub(crate) fn wire(&mut self, rest: Option<&[u8]>) -> Result<(), Fault>
+        ensures segment { self.new.segment ≡ self.old.segment }
+        ensures names { self.new.names ≡ self.old.names }
+    {
+        if self.wired {
+            return Err(Fault::Wired);
+        }
+        let Some(words) = rest else {
+            return Err(Fault::NotAll);
+        };
+        if !are_all(words, self.names.as_slice()) {
+            return Err(Fault::NotAll);
+        }
+        self.wired = true;
+        Ok(())
+    }
+
+    /// Frees all.
+    pub(crate) fn end(self) {
+        let Hosts {
+            alloc: _,
+            segment,
+            names: _names,
+            wired: _,
+            caller,
+        } = self;
+        let Caller {
+            machine,
+            buffers: _buffers,
+        } = caller;
+        let _ = machine.end();
+        segment.end();
+    }
+}

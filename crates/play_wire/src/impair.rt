@@ -1,0 +1,87 @@
+//! The lines that set what becomes of packets.
+ghost use Rattle.std.specs.Prelude.{◌≡◌};
+ghost use Rattle.segment.specs.Inside.{view};
+ghost use Rattle.play_wire.specs.Acts.{Moves};
+
+use crate::chance::{Part, part_in};
+use crate::fault::Fault;
+use crate::hosts::Hosts;
+use crate::names::place_of;
+use script_loop::{first_word, one};
+use segment::Segment;
+use std::str;
+
+/// Sets this of what the host at a place sends.
+fn set(segment: &mut Segment, place: usize, part: Part)
+    ensures { Moves (view segment.old) (view segment.new) }
+{
+    if let Some(chances) = segment.chances(place) {
+        segment.impair(place, part.put(chances));
+    }
+}
+
+/// Sets this of what each host sends.
+fn set_all(segment: &mut Segment, part: Part)
+    ensures { Moves (view segment.old) (view segment.new) }
+{
+    for place in 0..segment.hosts() {
+        set(segment, place, part);
+    }
+}
+
+/// The seed that a word writes.
+fn seed_in(word: &[u8]) -> Option<u64> {
+    let Ok(text) = str::from_utf8(word) else {
+        return None;
+    };
+    text.parse::<u64>().ok()
+}
+
+impl Hosts {
+    /// `loss C`, `repeat C`, `reorder C`, `delay A-B`: of what all hosts send, or, with `from NAME`, of what one sends.
+    pub(crate) fn impair(&mut self, word: &[u8], rest: Option<&[u8]>) -> Result<(), Fault>
+        ensures moves { Moves (view self.old.segment) (view self.new.segment) }
+        ensures names { self.new.names ≡ self.old.names }
+    {
+        let Some(words) = rest else {
+            return Err(Fault::NoChance);
+        };
+        let (value, after) = first_word(words);
+        let Some(part) = part_in(word, value) else {
+            return Err(Fault::NoChance);
+        };
+        let Some(words) = after else {
+            set_all(&mut self.segment, part);
+            return Ok(());
+        };
+        let (from, after) = first_word(words);
+        if from != b"from".as_slice() {
+            return Err(Fault::Nothing);
+        }
+        let Some(name) = one(after) else {
+            return Err(Fault::Nothing);
+        };
+        match place_of(self.names.as_slice(), name) {
+            Some(place) => {
+                set(&mut self.segment, place, part);
+                Ok(())
+            }
+            None => Err(Fault::NoHost),
+        }
+    }
+
+    /// `seed N`.
+    pub(crate) fn seed(&mut self, rest: Option<&[u8]>) -> Result<(), Fault>
+        ensures moves { Moves (view self.old.segment) (view self.new.segment) }
+        ensures names { self.new.names ≡ self.old.names }
+    {
+        let Some(word) = one(rest) else {
+            return Err(Fault::Nothing);
+        };
+        let Some(seed) = seed_in(word) else {
+            return Err(Fault::Nothing);
+        };
+        self.segment.seed(seed);
+        Ok(())
+    }
+}

@@ -1,0 +1,22 @@
+//! Scripts of many machines: hosts with names, each of them asked by the lines of `play_script`, and one wire that joins
+//! them. What waits in their output queues passes by lines of its own.
+#![tactic(auto)]
+
+mod add;
+mod by_hand;
+mod carries;
+mod chance;
+mod fault;
+mod host_line;
+mod hosts;
+mod impair;
+mod names;
+mod player;
+mod print;
+mod runs;
+mod show;
+mod summary;
+mod ticks;
+mod wire_line;
+
+pub use runs::play_hosts;

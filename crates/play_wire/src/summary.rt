@@ -1,0 +1,114 @@
+//! What was counted of each host.
+ghost use Rattle.std.specs.Prelude.{◌≡◌};
+ghost use Rattle.segment.specs.Inside.{view};
+ghost use Rattle.play_wire.specs.Acts.{Moves};
+
+use crate::add::{add, add_number};
+use crate::names::NAME;
+use crate::show::name_at;
+use crate::ticks::exchange;
+use flat_model::{Counter, Counters, Why};
+use net_stack::Stack;
+use play_show::SHOWN;
+use script_loop::Buffer;
+use segment::{Segment, Tally};
+
+/// Why packets are dropped.
+const CAUSES: [Why; 18] = [
+    Why::TooSmall,
+    Why::BadVersion,
+    Why::BadHeaderLength,
+    Why::Options,
+    Why::BadSum,
+    Why::BadLength,
+    Why::TooShort,
+    Why::CantForward,
+    Why::BadFragment,
+    Why::FragmentDropped,
+    Why::NoProtocol,
+    Why::UdpHeaderDrops,
+    Why::UdpBadLength,
+    Why::UdpBadSum,
+    Why::UdpNoPort,
+    Why::UdpNoPortBroadcast,
+    Why::UdpFullSocket,
+    Why::NoBufs,
+];
+
+/// Puts a count after a text.
+fn add_count(text: &mut Buffer<SHOWN>, what: &[u8], count: u64) {
+    add(text, what);
+    add_number(text, count);
+}
+
+/// Puts after a text how many packets were dropped, by the counters that count them.
+fn add_drops(text: &mut Buffer<SHOWN>, counters: &Counters) {
+    for why in CAUSES {
+        let count = counters.value(why.counter());
+        if count != 0 {
+            add(text, b", ");
+            add(text, why.counter().name().as_bytes());
+            add_count(text, b" ", count);
+        }
+    }
+}
+
+/// Puts what was counted of a host after a text, as a line.
+fn add_host(text: &mut Buffer<SHOWN>, name: &[u8], tally: Tally, counters: &Counters) {
+    add(text, b"    ");
+    add(text, name);
+    add_count(text, b": sent ", tally.sent);
+    add_count(text, b", lost ", tally.lost);
+    add_count(text, b", repeated ", tally.repeated);
+    add_count(text, b", received ", tally.received);
+    add_count(
+        text,
+        b", reassembled ",
+        counters.value(Counter::IpReassembled),
+    );
+    add_drops(text, counters);
+    add(text, b"\n");
+}
+
+/// What the host at a place has counted. Nothing changes.
+fn counters_at(segment: &mut Segment, spare: &mut Stack, place: usize) -> Option<Counters>
+    ensures { Moves (view segment.old) (view segment.new) }
+{
+    if exchange(segment, place, spare) {
+        let counters = spare.counters();
+        exchange(segment, place, spare);
+        Some(counters)
+    } else {
+        None
+    }
+}
+
+/// Tells what was counted of the host at a place, if there is one.
+fn tell_host(
+    segment: &mut Segment,
+    spare: &mut Stack,
+    names: &[Buffer<NAME>],
+    place: usize,
+    below: &mut Buffer<SHOWN>,
+)
+    ensures { Moves (view segment.old) (view segment.new) }
+{
+    let counters = counters_at(segment, spare, place);
+    if let (Some(tally), Some(counters)) = (segment.tally(place), counters) {
+        add_host(below, name_at(names, place), tally, &counters);
+    }
+}
+
+/// Tells what was counted of each host, a line for each.
+pub(crate) fn tell_summary(
+    segment: &mut Segment,
+    spare: &mut Stack,
+    names: &[Buffer<NAME>],
+    below: &mut Buffer<SHOWN>,
+)
+    ensures { Moves (view segment.old) (view segment.new) }
+{
+    for place in 0..segment.hosts() {
+        tell_host(segment, spare, names, place, below);
+    }
+}

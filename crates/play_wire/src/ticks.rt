@@ -1,0 +1,57 @@
+//! Ticks of hosts.
+ghost use Rattle.std.specs.Prelude.{◌≡◌, map, replicate};
+ghost use Rattle.flat_model.specs.Amounts.Choice.{Choice};
+ghost use Rattle.flat_model.specs.Machine.Event.{Tick, Done};
+ghost use Rattle.net_stack.specs.Runs.{AreCalls};
+ghost use Rattle.segment.specs.Inside.{view};
+ghost use Rattle.segment.specs.Law.{Calls, AreActs};
+ghost use Rattle.play_wire.specs.Acts.{Moves, turn_of};
+ghost use Rattle.play_wire.specs.Inside.{IsExchanged, IsKept};
+
+use net_stack::Stack;
+use segment::Segment;
+use std::mem;
+
+/// Puts a stack in the place of that of a host, which is handed over. Whether there is such a host.
+pub(crate) fn exchange(segment: &mut Segment, place: usize, stack: &mut Stack) -> bool
+    ensures { Choice result (IsExchanged place (view segment.old) stack.old (view segment.new) stack.new)
+        (IsKept place (view segment.old) (view segment.new)) }
+{
+    match segment.stack(place) {
+        Some(here) => {
+            mem::swap(here, stack);
+            true
+        }
+        None => false,
+    }
+}
+
+/// Lets so many ticks pass at a stack.
+pub(crate) fn tick_stack(stack: &mut Stack, count: u32)
+    ensures { AreCalls stack.old (replicate count (turn_of Tick Done)) stack.new }
+{
+    let mut passed = 0;
+    while passed < count {
+        stack.tick();
+        passed += 1;
+    }
+}
+
+/// Lets so many ticks pass at the host at a place, if there is such a host. The spare stack stands in its place meanwhile.
+fn tick_host(segment: &mut Segment, spare: &mut Stack, place: usize, count: u32)
+    ensures { Moves (view segment.old) (view segment.new) }
+{
+    if exchange(segment, place, spare) {
+        tick_stack(spare, count);
+        exchange(segment, place, spare);
+    }
+}
+
+/// Lets so many ticks pass at each host.
+pub(crate) fn tick_all(segment: &mut Segment, spare: &mut Stack, count: u32)
+    ensures { Moves (view segment.old) (view segment.new) }
+{
+    for place in 0..segment.hosts() {
+        tick_host(segment, spare, place, count);
+    }
+}

@@ -1,0 +1,161 @@
+//! The lines of the wire.
+ghost use Rattle.std.specs.Prelude.{◌≡◌, ◌++◌, ℕ, List};
+ghost use Rattle.segment.specs.Inside.{view};
+ghost use Rattle.play_wire.specs.Acts.{Moves};
+
+use crate::add::{add, add_number};
+use crate::by_hand::{by_hand_in, do_by_hand};
+use crate::carries::{bound_of, carry};
+use crate::fault::Fault;
+use crate::host_line::Notes;
+use crate::hosts::Hosts;
+use crate::show::tell_wire;
+use crate::summary::tell_summary;
+use crate::ticks::tick_all;
+use play_script::{TOLD, ticks_of};
+use script_loop::{Buffer, first_word, is_end};
+
+/// Puts after a text what is left on the wire.
+fn tell_left(told: &mut Buffer<TOLD>, quiet: bool, under_way: usize) {
+    if quiet {
+        add(told, b"quiet");
+    } else {
+        add(told, b"left ");
+        add_number(told, under_way as u64);
+        add(told, b" under way");
+    }
+}
+
+impl Hosts {
+    /// `carry ..`.
+    fn carry(&mut self, rest: Option<&[u8]>, told: &mut Buffer<TOLD>) -> Result<(), Fault>
+        ensures moves { Moves (view self.old.segment) (view self.new.segment) }
+        ensures names { self.new.names ≡ self.old.names }
+    {
+        let Some(bound) = bound_of(rest) else {
+            return Err(Fault::Nothing);
+        };
+        if !self.wired {
+            return Err(Fault::NoWire);
+        }
+        let quiet = carry(&mut self.segment, bound);
+        tell_left(told, quiet, self.segment.flight_len());
+        Ok(())
+    }
+
+    /// `tick` or `tick N`: all hosts.
+    fn tick(&mut self, words: &[u8]) -> Result<(), Fault>
+        ensures moves { Moves (view self.old.segment) (view self.new.segment) }
+        ensures names { self.new.names ≡ self.old.names }
+    {
+        let count = if words == b"tick".as_slice() {
+            1
+        } else {
+            match ticks_of(words) {
+                Some(count) => count,
+                None => return Err(Fault::Nothing),
+            }
+        };
+        tick_all(&mut self.segment, &mut self.caller.machine, count);
+        Ok(())
+    }
+
+    /// `collect` or `deliver`: the halves of a carry.
+    fn half(&mut self, word: &[u8], rest: Option<&[u8]>) -> Result<(), Fault>
+        ensures moves { Moves (view self.old.segment) (view self.new.segment) }
+        ensures names { self.new.names ≡ self.old.names }
+    {
+        if !is_end(rest) {
+            return Err(Fault::Nothing);
+        }
+        if !self.wired {
+            return Err(Fault::NoWire);
+        }
+        if word == b"collect".as_slice() {
+            self.segment.collect();
+        } else {
+            self.segment.deliver();
+        }
+        Ok(())
+    }
+
+    /// `drop I`, `repeat I` or `swap I J`.
+    fn by_hand(&mut self, word: &[u8], rest: Option<&[u8]>) -> Result<(), Fault>
+        ensures moves { Moves (view self.old.segment) (view self.new.segment) }
+        ensures names { self.new.names ≡ self.old.names }
+    {
+        match by_hand_in(word, rest) {
+            Some(what) => do_by_hand(&mut self.segment, what),
+            None => Err(Fault::Nothing),
+        }
+    }
+
+    /// `repeat I` by hand, or `repeat C`, which is a chance.
+    fn repeat(&mut self, rest: Option<&[u8]>) -> Result<(), Fault>
+        ensures moves { Moves (view self.old.segment) (view self.new.segment) }
+        ensures names { self.new.names ≡ self.old.names }
+    {
+        match by_hand_in(b"repeat", rest) {
+            Some(what) => do_by_hand(&mut self.segment, what),
+            None => self.impair(b"repeat", rest),
+        }
+    }
+
+    /// Does what a line asks that names no host. What is told of it goes into an empty text, but for `ok`.
+    fn do_line(&mut self, words: &[u8], told: &mut Buffer<TOLD>) -> Result<(), Fault>
+        ensures moves { Moves (view self.old.segment) (view self.new.segment) }
+        ensures names { (more : List (List ℕ)) × (self.new.names.items ≡ self.old.names.items ++ more) }
+    {
+        let (word, rest) = first_word(words);
+        match word {
+            b"host" => self.add(rest),
+            b"wire" => self.wire(rest),
+            b"carry" => self.carry(rest, told),
+            b"collect" | b"deliver" => self.half(word, rest),
+            b"tick" => self.tick(words),
+            b"seed" => self.seed(rest),
+            b"drop" | b"swap" => self.by_hand(word, rest),
+            b"repeat" => self.repeat(rest),
+            b"loss" | b"reorder" | b"delay" => self.impair(word, rest),
+            _ => Err(Fault::Nothing),
+        }
+    }
+
+    /// `show wire` and `summary`: puts what is told into the notes. Whether a line asks for one of them.
+    fn tell(&mut self, words: &[u8], notes: &mut Notes) -> bool
+        ensures moves { Moves (view self.old.segment) (view self.new.segment) }
+        ensures names { self.new.names ≡ self.old.names }
+    {
+        let names = self.names.as_slice();
+        if words == b"show wire".as_slice() {
+            tell_wire(&self.segment, names, &mut notes.told, &mut notes.below);
+            return true;
+        }
+        if words == b"summary".as_slice() {
+            tell_summary(
+                &mut self.segment,
+                &mut self.caller.machine,
+                names,
+                &mut notes.below,
+            );
+            return true;
+        }
+        false
+    }
+
+    /// Does what a line asks that names no host, and puts what is told of it into the notes.
+    pub(crate) fn answer_wire(&mut self, words: &[u8], notes: &mut Notes) -> Result<(), Fault>
+        ensures moves { Moves (view self.old.segment) (view self.new.segment) }
+        ensures names { (more : List (List ℕ)) × (self.new.names.items ≡ self.old.names.items ++ more) }
+    {
+        notes.told.clear();
+        notes.below.clear();
+        if !self.tell(words, notes) {
+            self.do_line(words, &mut notes.told)?;
+        }
+        if notes.told.is_empty() {
+            notes.told.append(b"ok");
+        }
+        Ok(())
+    }
+}
