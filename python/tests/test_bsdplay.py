@@ -1,7 +1,8 @@
-"""The wire of `bsdplay` makes the same choices as this package's, by the same seed. Left out without the program, whose
-path BSDPLAY tells."""
+"""The wire of `bsdplay` makes the same choices as this package's, by the same seed, and its capture has what went. Left
+out without the program, whose path BSDPLAY tells."""
 import os
 import re
+import struct
 import subprocess
 
 import bsdudp
@@ -36,7 +37,8 @@ def flights_of_program(tmp_path):
     """What is under way after each round, and what was counted of each host, as the program tells it."""
     path = tmp_path / "choices.txt"
     path.write_text(script())
-    told = subprocess.run([PROGRAM, "--quiet", path], capture_output=True, text=True, check=True).stdout
+    command = [PROGRAM, "--quiet", "--pcap", tmp_path / "wire.pcap", path]
+    told = subprocess.run(command, capture_output=True, text=True, check=True).stdout
     flights, counts = [], []
     for line in told.splitlines():
         found = UNDER_WAY.fullmatch(line)
@@ -49,6 +51,19 @@ def flights_of_program(tmp_path):
     return flights, counts
 
 
+def packets_of(path):
+    """The packets of a capture, which is of little-endian order, in microseconds, of link type IPV4."""
+    data = path.read_bytes()
+    assert struct.unpack_from("<IHHiIII", data) == (0xA1B2C3D4, 2, 4, 0, 0, 65_535, 228)
+    packets, at = [], 24
+    while at < len(data):
+        _, _, kept, length = struct.unpack_from("<IIII", data, at)
+        assert kept == length and at + 16 + kept <= len(data)
+        packets.append(data[at + 16 : at + 16 + kept])
+        at += 16 + kept
+    return packets
+
+
 @pytest.mark.skipif(not PROGRAM, reason="BSDPLAY doesn't name the program")
 def test_the_same_choices(tmp_path):
     flights, counts = flights_of_program(tmp_path)
@@ -58,6 +73,7 @@ def test_the_same_choices(tmp_path):
         sockets.append(stack.socket())
         sockets[-1].bind(("", 7))
     wire = bsdudp.Wire(stacks, "0.2", "0.1", "0.2", (0, 3), 7)
+    wire.record()
     assert len(flights) == ROUNDS
     for (source, to, length), seen in zip(sends(), flights):
         sockets[source].sendto(bytes(at % 256 for at in range(length)), (HOSTS[to][1], 7))
@@ -71,3 +87,6 @@ def test_the_same_choices(tmp_path):
     totals = [sum(column) for column in zip(*counts)]
     carried = wire.carried
     assert totals == [carried.sent, carried.lost, carried.repeated, carried.delivered]
+    # each packet that went came once, since none was for all hosts
+    came = [bytes(packet) for _, packet in wire._record]
+    assert sorted(packets_of(tmp_path / "wire.pcap")) == sorted(came)

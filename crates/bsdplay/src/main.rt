@@ -4,13 +4,14 @@
 
 mod capture;
 mod choice;
+mod hosts;
 mod sweep;
 
 use capture::print_capture;
 use choice::Ahead;
 use clap::{Arg, ArgAction, ArgMatches, Command};
+use hosts::{play_captured, play_uncaptured, status_of};
 use play_script::{Config, Played, Silent, Style, play};
-use play_wire::play_hosts;
 use std::alloc::{AllocError, Global};
 use std::io::Read;
 use std::process::ExitCode;
@@ -49,7 +50,12 @@ fn with_wire<'a>(alloc: Global, command: Command<'a>) -> Result<Command<'a>, All
         .long("progress")
         .help("Tell each hundredth seed on standard error")
         .action(ArgAction::SetTrue);
-    command.arg(seed)?.arg(seeds)?.arg(summary)?.arg(progress)
+    let capture = Arg::new(alloc, "PCAP")
+        .long("pcap")
+        .help("Write what goes on the wire of many machines to this file")
+        .action(ArgAction::Set);
+    let command = command.arg(seed)?.arg(seeds)?.arg(summary)?;
+    command.arg(progress)?.arg(capture)
 }
 
 /// The options for captures.
@@ -96,17 +102,19 @@ fn report(rt: &HostRuntime, name: &str, played: &Played) -> io::Result<()> {
 
 /// How scripts are played.
 #[derive(Clone, Copy)]
-struct Manner {
+struct Manner<'a> {
     quiet: bool,
     seed: u64,
     /// Each of these seeds in the place of one.
     seeds: Option<Seeds>,
     summary: bool,
     progress: bool,
+    /// Where the capture of a wire is written.
+    capture: Option<&'a str>,
 }
 
 /// How the options say that scripts are played. `None` if a seed isn't one.
-fn manner_of(found: &ArgMatches<'_>) -> Option<Manner> {
+fn manner_of<'a>(found: &'a ArgMatches<'_>) -> Option<Manner<'a>> {
     let seed = match found.get_str("seed") {
         Some(word) => seed_in(word)?,
         None => 1,
@@ -121,6 +129,7 @@ fn manner_of(found: &ArgMatches<'_>) -> Option<Manner> {
         seeds,
         summary: found.get_flag("summary"),
         progress: found.get_flag("progress"),
+        capture: found.get_str("PCAP"),
     })
 }
 
@@ -129,7 +138,7 @@ fn play_seeds<R: Read + Drop>(
     rt: &HostRuntime,
     source: R,
     name: &str,
-    manner: Manner,
+    manner: Manner<'_>,
     seeds: Seeds,
 ) -> io::Result<u8> {
     let mut reader = Ahead::over(source);
@@ -137,9 +146,42 @@ fn play_seeds<R: Read + Drop>(
         eprintln!(rt; "bsdplay: {name}: it has no hosts, so it has no seeds")?;
         return Ok(USAGE);
     }
+    if manner.capture.is_some() {
+        eprintln!(rt; "bsdplay: a capture is of one seed: --pcap goes with --seed")?;
+        return Ok(USAGE);
+    }
     let mut script = Vec::new(rt.alloc());
     reader.read_to_end(&mut script)?;
     sweep(rt, script.as_slice(), name, seeds, manner.progress)
+}
+
+/// Plays a script of many machines.
+fn play_wired<R: Read + Drop>(
+    rt: &HostRuntime,
+    reader: &mut Ahead<R>,
+    name: &str,
+    manner: Manner<'_>,
+) -> io::Result<u8> {
+    if manner.summary {
+        reader.ask_for_summary();
+    }
+    let mut writer = Silent(rt.stdout());
+    let style = Style {
+        quiet: manner.quiet,
+        name: name.as_bytes(),
+    };
+    let done = match manner.capture {
+        None => play_uncaptured(rt, style, manner.seed, reader, &mut writer),
+        Some(path) => match play_captured(rt, style, (manner.seed, path), reader, &mut writer) {
+            Some(done) => done,
+            None => {
+                eprintln!(rt; "bsdplay: {path}: it can't be written")?;
+                return Ok(UNREAD);
+            }
+        },
+    };
+    report(rt, name, &done.played)?;
+    status_of(rt, &done)
 }
 
 /// Plays a script: on many machines if it begins with a host, and else on one.
@@ -147,31 +189,31 @@ fn play_source<R: Read + Drop>(
     rt: &HostRuntime,
     source: R,
     name: &str,
-    manner: Manner,
+    manner: Manner<'_>,
 ) -> io::Result<u8> {
     if let Some(seeds) = manner.seeds {
         return play_seeds(rt, source, name, manner, seeds);
     }
     let mut reader = Ahead::over(source);
+    if reader.has_hosts() {
+        return play_wired(rt, &mut reader, name, manner);
+    }
+    if manner.capture.is_some() {
+        eprintln!(rt; "bsdplay: {name}: it has no hosts, so it has no wire to capture")?;
+        return Ok(USAGE);
+    }
     let mut writer = Silent(rt.stdout());
     let style = Style {
         quiet: manner.quiet,
         name: name.as_bytes(),
     };
-    let played = if reader.has_hosts() {
-        if manner.summary {
-            reader.ask_for_summary();
-        }
-        play_hosts(rt.alloc(), style, manner.seed, &mut reader, &mut writer)
-    } else {
-        play(rt.alloc(), MACHINE, style, &mut reader, &mut writer)
-    };
+    let played = play(rt.alloc(), MACHINE, style, &mut reader, &mut writer);
     report(rt, name, &played)?;
     Ok(played.status())
 }
 
 /// Plays a script that stands in a file, or standard input if its name is `-`.
-fn play_file(rt: &HostRuntime, name: &str, manner: Manner) -> io::Result<u8> {
+fn play_file(rt: &HostRuntime, name: &str, manner: Manner<'_>) -> io::Result<u8> {
     if name == "-" {
         return play_source(rt, rt.stdin(), "-", manner);
     }
@@ -191,8 +233,14 @@ fn play_all(rt: &HostRuntime, found: &ArgMatches<'_>) -> io::Result<u8> {
     let Some(names) = found.get_strs("FILE") else {
         return play_source(rt, rt.stdin(), "-", manner);
     };
+    let mut captured = false;
     let mut worst = 0;
     for name in names {
+        if captured {
+            eprintln!(rt; "bsdplay: {name}: it isn't played, since a capture is of one script")?;
+            return Ok(USAGE);
+        }
+        captured = manner.capture.is_some();
         let status = play_file(rt, name, manner)?;
         if status > worst {
             worst = status;

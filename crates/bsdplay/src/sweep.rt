@@ -1,6 +1,6 @@
 //! One script of many machines, played for each seed of a range.
+use crate::hosts::play_uncaptured;
 use play_script::{Played, Style};
-use play_wire::play_hosts;
 use std::io::{self, Write};
 
 /// After how many seeds progress is told.
@@ -80,7 +80,7 @@ pub(crate) fn sweep(
     let mut seed = seeds.first;
     for _ in 0..u64::MAX {
         let (mut reader, mut written) = (script, Vec::new(rt.alloc()));
-        let played = play_hosts(rt.alloc(), style, seed, &mut reader, &mut written);
+        let played = play_uncaptured(rt, style, seed, &mut reader, &mut written).played;
         let status = played.status();
         if status != 0 {
             tell(&mut rt.stdout(), seed, &played, written.as_slice(), name)?;

@@ -2,14 +2,11 @@
 use Rattle.std.specs.Prelude.{◌≡◌, ℕ, Bool, List, slice_get, Option, Some, None, Result, Ok, Err}
 use Rattle.net_stack.specs.Stack.{StackView}
 use Rattle.segment.specs.Segment.{SegmentView}
-use Rattle.segment.specs.Inside.{view}
 use Rattle.play_script.specs.Inside.{if_there}
 use Rattle.play_wire.specs.Acts.{Outcome, Told, Refused, with_stack}
 use Rattle.play_wire.specs.Tells.{Play}
 use Rattle.play_wire.specs.declared.fault.Fault.{Fault}
 use Rattle.play_wire.specs.declared.player.Desk.{Desk}
-use Rattle.play_wire.specs.declared.hosts.Hosts.{Hosts}
-use Rattle.play_wire.specs.declared.player.Player.{Player}
 use Rattle.play_wire.specs.declared.player.Sheet.{Sheet}
 
 -- the stack of the host at a place is handed over, and this one stands there
@@ -34,15 +31,12 @@ abbrev pub host_on : Desk → Option (List ℕ)
 host_on desk = if_there desk.named desk.host
 
 -- what callers see of a player with these hosts and this sheet, whose lines were sound so far or not
-abbrev pub play_with : Hosts → Sheet → Bool → Play
-play_with hosts sheet sound = record {
-  segment = view hosts.segment;
-  names = hosts.names.items;
+abbrev pub play_with : SegmentView → List (List ℕ) → Sheet → Bool → Play
+play_with segment names sheet sound = record {
+  segment = segment;
+  names = names;
   number = sheet.number;
   sound = sound;
   quiet = sheet.quiet;
   name = sheet.name;
 }
-
-abbrev pub play_of : Player → Play
-play_of p = play_with p.hosts p.sheet p.sound

@@ -1,8 +1,11 @@
 //! What waits for the links passes.
+ghost use Rattle.std.specs.Prelude.{◌≡◌};
 ghost use Rattle.segment.specs.Inside.{view};
+ghost use Rattle.segment.specs.Segment.{is_quiet};
 ghost use Rattle.play_wire.specs.Acts.{Moves};
 
-use script_loop::{first_word, number, one};
+use crate::tape::Tape;
+use script_loop::{Sink, first_word, number, one};
 use segment::Segment;
 
 /// The most carries that a line asks for.
@@ -36,23 +39,45 @@ pub(crate) fn bound_of(rest: Option<&[u8]>) -> Option<Bound> {
 }
 
 /// Carries so often. Whether nothing is left then.
-pub(crate) fn carry(segment: &mut Segment, bound: Bound) -> bool
+pub(crate) fn carry<T: Sink + Drop>(segment: &mut Segment, bound: Bound, tape: &mut Tape<T>) -> bool
     ensures { Moves (view segment.old) (view segment.new) }
 {
     match bound {
         Bound::Times(count) => {
-            carry_times(segment, count);
+            carry_times(segment, count, tape);
             segment.is_quiet()
         }
-        Bound::Quiet(most) => segment.carry_all(most),
+        Bound::Quiet(most) => carry_all(segment, most, tape),
     }
 }
 
+/// Carries once.
+fn carry_once<T: Sink + Drop>(segment: &mut Segment, tape: &mut Tape<T>)
+    ensures { Moves (view segment.old) (view segment.new) }
+{
+    tape.collect(segment);
+    segment.deliver();
+}
+
 /// Carries so often.
-fn carry_times(segment: &mut Segment, count: u32)
+fn carry_times<T: Sink + Drop>(segment: &mut Segment, count: u32, tape: &mut Tape<T>)
     ensures { Moves (view segment.old) (view segment.new) }
 {
     for _ in 0..count {
-        segment.carry();
+        carry_once(segment, tape);
     }
+}
+
+/// Carries until nothing is left, but at most so many times. Whether nothing is left then.
+fn carry_all<T: Sink + Drop>(segment: &mut Segment, most: u32, tape: &mut Tape<T>) -> bool
+    ensures moves { Moves (view segment.old) (view segment.new) }
+    ensures quiet { result ≡ is_quiet (view segment.new) }
+{
+    for _ in 0..most {
+        if segment.is_quiet() {
+            return true;
+        }
+        carry_once(segment, tape);
+    }
+    segment.is_quiet()
 }

@@ -7,11 +7,12 @@ ghost use Rattle.play_wire.specs.Acts.{Moves};
 
 use crate::fault::Fault;
 use crate::names::{NAME, is_name, place_of};
+use crate::tape::Tape;
 use flat_model::Config;
 use link_script::Caller;
 use net_stack::Stack;
 use play_settings::{SettingFault, settings_of};
-use script_loop::{Buffer, LineBuffers, first_word};
+use script_loop::{Buffer, LineBuffers, Sink, first_word};
 use segment::Segment;
 use std::alloc::{AllocError, Global};
 
@@ -39,12 +40,14 @@ const DEFAULTS: Config = Config {
 };
 
 /// The hosts, by their places, and the wire.
-pub(crate) struct Hosts {
+pub(crate) struct Hosts<T: Sink + Drop> {
     pub(crate) alloc: Global,
     pub(crate) segment: Segment,
     pub(crate) names: Vec<Buffer<NAME>>,
     /// Whether the line `wire` was there.
     pub(crate) wired: bool,
+    /// What goes on the wire is kept here.
+    pub(crate) tape: Tape<T>,
     /// Its machine is a spare one. It stands in the place of a host while a line of that host is played.
     pub(crate) caller: Caller<Stack>,
 }
@@ -98,13 +101,21 @@ fn are_all(words: &[u8], names: &[Buffer<NAME>]) -> bool {
     true
 }
 
-impl Hosts {
+impl<T: Sink + Drop> Hosts<T> {
     /// No hosts, no wire, and this seed for all choices. `None` if host memory was refused.
-    pub(crate) fn new(alloc: Global, buffers: LineBuffers, seed: u64) -> Option<Hosts>
+    pub(crate) fn new(
+        alloc: Global,
+        buffers: LineBuffers,
+        seed: u64,
+        tape: Tape<T>,
+    ) -> Option<Hosts<T>>
         ensures { IfSome result (λ h. (view h.segment ≡ record (no_hosts PACKETS) { random = seeded seed })
             × (h.names.items ≡ [])) }
     {
-        let mut segment = Segment::new(alloc, PACKETS).ok()?;
+        let Ok(mut segment) = Segment::new(alloc, PACKETS) else {
+            tape.end();
+            return None;
+        };
         segment.seed(seed);
         match Stack::boot(alloc, SPARE) {
             Ok(machine) => Some(Hosts {
@@ -112,10 +123,12 @@ impl Hosts {
                 segment,
                 names: Vec::new(alloc),
                 wired: false,
+                tape,
                 caller: Caller { machine, buffers },
             }),
             Err(_) => {
                 segment.end();
+                tape.end();
                 None
             }
         }
@@ -183,13 +196,14 @@ impl Hosts {
         Ok(())
     }
 
-    /// Frees all.
-    pub(crate) fn end(self) {
+    /// Frees all. Whether the whole capture was written.
+    pub(crate) fn end(self) -> bool {
         let Hosts {
             alloc: _,
             segment,
             names: _names,
             wired: _,
+            tape,
             caller,
         } = self;
         let Caller {
@@ -198,5 +212,6 @@ impl Hosts {
         } = caller;
         let _ = machine.end();
         segment.end();
+        tape.end()
     }
 }

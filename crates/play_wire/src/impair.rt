@@ -7,7 +7,7 @@ use crate::chance::{Part, part_in};
 use crate::fault::Fault;
 use crate::hosts::Hosts;
 use crate::names::place_of;
-use script_loop::{first_word, one};
+use script_loop::{Sink, first_word, one};
 use segment::Segment;
 use std::str;
 
@@ -37,7 +37,7 @@ fn seed_in(word: &[u8]) -> Option<u64> {
     text.parse::<u64>().ok()
 }
 
-impl Hosts {
+impl<T: Sink + Drop> Hosts<T> {
     /// `loss C`, `repeat C`, `reorder C`, `delay A-B`: of what all hosts send, or, with `from NAME`, of what one sends.
     pub(crate) fn impair(&mut self, word: &[u8], rest: Option<&[u8]>) -> Result<(), Fault>
         ensures moves { Moves (view self.old.segment) (view self.new.segment) }

@@ -16,7 +16,8 @@ mod print;
 mod runs;
 mod show;
 mod summary;
+mod tape;
 mod ticks;
 mod wire_line;
 
-pub use runs::play_hosts;
+pub use runs::{PlayedHosts, Start, play_hosts};

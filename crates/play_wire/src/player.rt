@@ -8,7 +8,7 @@ ghost use Rattle.play_script.specs.Inside.{if_there};
 ghost use Rattle.play_wire.specs.Acts.{Outcome};
 ghost use Rattle.play_wire.specs.Faults.{words_of};
 ghost use Rattle.play_wire.specs.Tells.{Play, IsDone, IsParted, Tells, labelled, shifted, sound_of, text_of};
-ghost use Rattle.play_wire.specs.Inside.{came_of, expected_on, host_on, play_of, play_with};
+ghost use Rattle.play_wire.specs.Inside.{came_of, expected_on, host_on, play_with};
 
 use crate::fault::Fault;
 use crate::host_line::{Notes, answer_host, bytes_of};
@@ -18,7 +18,7 @@ use crate::print::{ROOM, SCRIPT, put_difference, put_fault, put_line, put_slip};
 use play_line::{LONGEST, Slip};
 use play_packet::LineReader;
 use play_script::{Kind, meets, read_line};
-use script_loop::{Answers, Buffer, HELD};
+use script_loop::{Answers, Buffer, HELD, Sink};
 
 /// A line: the host that it names, the rest as it's written, the plain line that the rest stands for, and the words that
 /// are expected.
@@ -43,8 +43,8 @@ pub(crate) struct Sheet {
 }
 
 /// What plays a script.
-pub(crate) struct Player {
-    pub(crate) hosts: Hosts,
+pub(crate) struct Player<T: Sink + Drop> {
+    pub(crate) hosts: Hosts<T>,
     pub(crate) reader: LineReader,
     pub(crate) desk: Desk,
     pub(crate) notes: Notes,
@@ -110,14 +110,18 @@ fn print_told(sheet: &Sheet, desk: &Desk, notes: &Notes, text: &mut Buffer<ROOM>
 }
 
 /// The place of the host whose line is on a desk.
-fn place_on(hosts: &Hosts, desk: &Desk) -> Option<usize>
+fn place_on<T: Sink + Drop>(hosts: &Hosts<T>, desk: &Desk) -> Option<usize>
     ensures { IfSome result (λ place. slice_get hosts.now.names.items place ≡ Some desk.now.host) }
 {
     place_of(hosts.names.as_slice(), desk.host.as_slice())
 }
 
 /// Does what the words on a desk ask, and puts what is told of it into the notes.
-fn answer_words(hosts: &mut Hosts, desk: &Desk, notes: &mut Notes) -> Result<(), Fault>
+fn answer_words<T: Sink + Drop>(
+    hosts: &mut Hosts<T>,
+    desk: &Desk,
+    notes: &mut Notes,
+) -> Result<(), Fault>
     ensures { (play : Play) → play.segment ≡ view hosts.old.segment → play.names ≡ hosts.old.names.items
         → (acts : List Act) × IsDone play (host_on desk.now) desk.now.words acts
         (came_of result notes.new.told notes.new.below) (view hosts.new.segment) hosts.new.names.items }
@@ -168,8 +172,8 @@ fn put_misread(text: &mut Buffer<ROOM>, sheet: &Sheet, before: u64, slip: Slip)
 }
 
 /// Does what the words on a desk ask, prints what is told of it, and answers whether all is as it was expected.
-fn play_words(
-    hosts: &mut Hosts,
+fn play_words<T: Sink + Drop>(
+    hosts: &mut Hosts<T>,
     desk: &Desk,
     notes: &mut Notes,
     sheet: &Sheet,
@@ -177,9 +181,9 @@ fn play_words(
 ) -> bool
     requires { length text.old ≤ HELD }
     ensures { (was : Bool) → (acts : List Act) × (outcome : Outcome)
-        × IsDone (play_with hosts.old sheet.now was) (host_on desk.now) desk.now.words acts outcome
+        × IsDone (play_with (view hosts.old.segment) hosts.old.names.items sheet.now was) (host_on desk.now) desk.now.words acts outcome
         (view hosts.new.segment) hosts.new.names.items
-        × (text.new ≡ text.old ++ text_of (play_with hosts.old sheet.now was) (host_on desk.now) desk.now.shown
+        × (text.new ≡ text.old ++ text_of (play_with (view hosts.old.segment) hosts.old.names.items sheet.now was) (host_on desk.now) desk.now.shown
         (expected_on desk.now) outcome)
         × (result ≡ sound_of (expected_on desk.now) outcome) }
 {
@@ -192,9 +196,9 @@ fn play_words(
     }
 }
 
-impl Player {
-    /// Spends the player with its hosts.
-    pub(crate) fn end(self) {
+impl<T: Sink + Drop> Player<T> {
+    /// Spends the player with its hosts. Whether the whole capture was written.
+    pub(crate) fn end(self) -> bool {
         let Player {
             hosts,
             reader: _reader,
@@ -203,19 +207,20 @@ impl Player {
             sheet: _sheet,
             sound: _sound,
         } = self;
-        hosts.end();
+        hosts.end()
     }
 }
 
-impl Answers<ROOM> for Player {
+impl<T: Sink + Drop> Answers<ROOM> for Player<T> {
     ghost State = { Play };
 
-    ghost state = { play_of };
+    ghost state = { λ p. play_with (view p.hosts.segment) p.hosts.names.items p.sheet p.sound };
 
     ghost may_answer = { Tells };
 
     fn answer(&mut self, line: &[u8], text: &mut Buffer<ROOM>) {
         self.sheet.number = next_number(self.sheet.number);
+        self.hosts.tape.line = self.sheet.number;
         let part = part_of(line, &mut self.desk.named, &mut self.desk.host);
         match read_line(
             part,

@@ -4,7 +4,8 @@ ghost use Rattle.script_loop.specs.Printed.{Prints};
 ghost use Rattle.script_loop.specs.Streams.{MoreBy, reader_failures, writer_failures};
 ghost use Rattle.script_loop.specs.Serves.{Serves, IsServed};
 ghost use Rattle.play_wire.specs.declared.print.TheConstants.{SCRIPT};
-ghost use Rattle.play_wire.specs.Inside.{play_of};
+ghost use Rattle.segment.specs.Inside.{view};
+ghost use Rattle.play_wire.specs.Inside.{play_with};
 ghost use Rattle.play_wire.specs.Runs.{IsPlayed};
 ghost use Rattle.play_wire.specs.Tells.{Play, Tells, started};
 
@@ -12,7 +13,9 @@ use crate::host_line::Notes;
 use crate::hosts::Hosts;
 use crate::player::{Desk, Player, Sheet};
 use crate::print::SCRIPT;
+use crate::tape::Tape;
 use play_packet::LineReader;
+use play_pcap::Trace;
 use play_script::{Played, Style};
 use script_loop::{Buffer, LineBuffers, RunFault, Sink, Source, serve_script};
 use segment::hosts_on_a_segment;
@@ -81,13 +84,47 @@ fn parts_for(alloc: Global, style: Style<'_>) -> Result<Parts, AllocError>
     })
 }
 
+/// How a script begins.
+pub struct Start<T: Sink + Drop> {
+    /// The seed of the wire, until a line `seed` says another one.
+    pub seed: u64,
+    /// Where the capture of the wire is written; `play_pcap::Nowhere` if none is wanted.
+    pub capture: T,
+}
+
+/// What came of a script.
+#[derive(Drop)]
+pub struct PlayedHosts {
+    pub played: Played,
+    /// Whether the whole capture was written.
+    pub kept: bool,
+}
+
+/// A capture that is written to this sink. `None` if host memory was refused.
+fn tape_for<T: Sink + Drop>(alloc: Global, capture: T) -> Option<Tape<T>> {
+    let Ok(room) = Buffer::new(alloc) else {
+        return None;
+    };
+    Some(Tape {
+        trace: Trace::begin(capture, room),
+        line: 0,
+    })
+}
+
 /// A player whose script has this style, before its first line. `None` if host memory was refused.
-fn player_for(alloc: Global, style: Style<'_>, seed: u64) -> Option<Player>
-    ensures { IfSome result (λ p. play_of p ≡ started seed style.entry.quiet (take SCRIPT style.entry.name.now)) }
+fn player_for<T: Sink + Drop>(
+    alloc: Global,
+    style: Style<'_>,
+    seed: u64,
+    capture: T,
+) -> Option<Player<T>>
+    ensures { IfSome result (λ p. play_with (view p.hosts.segment) p.hosts.names.items p.sheet p.sound
+        ≡ started seed style.entry.quiet (take SCRIPT style.entry.name.now)) }
 {
     let Ok(parts) = parts_for(alloc, style) else {
         return None;
     };
+    let tape = tape_for(alloc, capture)?;
     let Parts {
         buffers,
         reader,
@@ -95,7 +132,7 @@ fn player_for(alloc: Global, style: Style<'_>, seed: u64) -> Option<Player>
         notes,
         sheet,
     } = parts;
-    match Hosts::new(alloc, buffers, seed) {
+    match Hosts::new(alloc, buffers, seed, tape) {
         Some(hosts) => Some(Player {
             hosts,
             reader,
@@ -110,7 +147,11 @@ fn player_for(alloc: Global, style: Style<'_>, seed: u64) -> Option<Player>
 
 /// Plays a script of many machines. It begins without hosts; each line `host` adds one. A line that names a host is played
 /// on it as `play_script` plays it on its one machine. The other lines carry what waits for the links, and let time pass.
-/// `seed` starts the choices of the wire, until a line `seed` starts them anew. All hosts are spent then.
+/// `start.seed` starts the choices of the wire, until a line `seed` starts them anew. All hosts are spent then.
+///
+/// Each packet is written to `start.capture` as it goes on the wire, at a time that `play_pcap::Trace` tells by the ticks
+/// and the line's number. One that is lost by chance isn't, and one that goes twice is there twice. No clause speaks of
+/// the capture.
 ///
 /// `sound` tells whether all lines that were read did something, and all that was expected came.
 ///
@@ -118,37 +159,44 @@ fn player_for(alloc: Global, style: Style<'_>, seed: u64) -> Option<Player>
 ///
 /// `Memory` if host memory is lacking: nothing was read or written then. `Read`, `Write` and `TooManyLines` as
 /// `play_script::play` answers them.
-pub fn play_hosts<R: Source, W: Sink>(
+pub fn play_hosts<R: Source, W: Sink, T: Sink + Drop>(
     alloc: Global,
     style: Style<'_>,
-    seed: u64,
+    start: Start<T>,
     reader: &mut R,
     writer: &mut W,
-) -> Played
+) -> PlayedHosts
     // The reader failed once if the fault is `Read`, and the writer if it is `Write`; else they didn't.
-    ensures read { MoreBy (reader_failures result.outcome) (R.failures reader.old) (R.failures reader.new) }
-    ensures wrote { MoreBy (writer_failures result.outcome) (W.failures writer.old) (W.failures writer.new) }
+    ensures read { MoreBy (reader_failures result.played.outcome) (R.failures reader.old) (R.failures reader.new) }
+    ensures wrote { MoreBy (writer_failures result.played.outcome) (W.failures writer.old) (W.failures writer.new) }
     // What is written is told of the lines of what is read, one after another.
     ensures served { (new : Play)
-        × Serves Tells (started seed style.entry.quiet (take SCRIPT style.entry.name.now)) new
+        × Serves Tells (started start.seed style.entry.quiet (take SCRIPT style.entry.name.now)) new
         (R.remaining reader.old) (R.remaining reader.new)
-        (W.contents writer.old) (W.contents writer.new) result.outcome
-        × (result.sound ≡ new.sound) }
+        (W.contents writer.old) (W.contents writer.new) result.played.outcome
+        × (result.played.sound ≡ new.sound) }
     // Whatever is told of lines so is told by acts of which the law of a wire holds.
     ensures lawful { (new : Play) (lines : List (List ℕ)) (printed : List ℕ)
-        → Prints Tells (started seed style.entry.quiet (take SCRIPT style.entry.name.now)) lines printed new
-        → IsPlayed seed style.entry.quiet (take SCRIPT style.entry.name.now) lines printed new }
-    ensures begun { IsServed result.outcome }
+        → Prints Tells (started start.seed style.entry.quiet (take SCRIPT style.entry.name.now)) lines printed new
+        → IsPlayed start.seed style.entry.quiet (take SCRIPT style.entry.name.now) lines printed new }
+    ensures begun { IsServed result.played.outcome }
 {
     hosts_on_a_segment();
-    let Some(mut player) = player_for(alloc, style, seed) else {
-        return Played {
-            outcome: Err(RunFault::Memory),
-            sound: true,
+    let Start { seed, capture } = start;
+    let Some(mut player) = player_for(alloc, style, seed, capture) else {
+        return PlayedHosts {
+            played: Played {
+                outcome: Err(RunFault::Memory),
+                sound: true,
+            },
+            kept: true,
         };
     };
     let outcome = serve_script(alloc, &mut player, reader, writer);
     let sound = player.sound;
-    player.end();
-    Played { outcome, sound }
+    let kept = player.end();
+    PlayedHosts {
+        played: Played { outcome, sound },
+        kept,
+    }
 }

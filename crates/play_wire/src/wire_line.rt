@@ -13,7 +13,7 @@ use crate::show::tell_wire;
 use crate::summary::tell_summary;
 use crate::ticks::tick_all;
 use play_script::{TOLD, ticks_of};
-use script_loop::{Buffer, first_word, is_end};
+use script_loop::{Buffer, Sink, first_word, is_end};
 
 /// Puts after a text what is left on the wire.
 fn tell_left(told: &mut Buffer<TOLD>, quiet: bool, under_way: usize) {
@@ -26,7 +26,7 @@ fn tell_left(told: &mut Buffer<TOLD>, quiet: bool, under_way: usize) {
     }
 }
 
-impl Hosts {
+impl<T: Sink + Drop> Hosts<T> {
     /// `carry ..`.
     fn carry(&mut self, rest: Option<&[u8]>, told: &mut Buffer<TOLD>) -> Result<(), Fault>
         ensures moves { Moves (view self.old.segment) (view self.new.segment) }
@@ -38,7 +38,7 @@ impl Hosts {
         if !self.wired {
             return Err(Fault::NoWire);
         }
-        let quiet = carry(&mut self.segment, bound);
+        let quiet = carry(&mut self.segment, bound, &mut self.tape);
         tell_left(told, quiet, self.segment.flight_len());
         Ok(())
     }
@@ -57,6 +57,7 @@ impl Hosts {
             }
         };
         tick_all(&mut self.segment, &mut self.caller.machine, count);
+        self.tape.tick(count);
         Ok(())
     }
 
@@ -72,7 +73,7 @@ impl Hosts {
             return Err(Fault::NoWire);
         }
         if word == b"collect".as_slice() {
-            self.segment.collect();
+            self.tape.collect(&mut self.segment);
         } else {
             self.segment.deliver();
         }

@@ -1,15 +1,10 @@
 use Rattle.std.proofs.Common.{refl}
 use Rattle.segment.specs.Inside.{view}
-use Rattle.segment.specs.Law.{Collects, Delivers}
+use Rattle.segment.specs.Law.{Delivers}
 use Rattle.play_wire.proofs.ActLemmas.{one_act}
 use Rattle.play_wire.proofs.hosts.Hosts.half.Goals as goal
 
-pub returns-then-eq-clause-moves : goal.returns-then-eq-clause-moves
-returns-then-eq-clause-moves c =
-    let v = view c.args.self.now.segment in
-    one_act v (view c.collect.new.self) (Collects v) (refl, c.collect.ensures)
-
 pub returns-else-eq-clause-moves : goal.returns-else-eq-clause-moves
-returns-else-eq-clause-moves c =
+returns-else-eq-clause-moves g c =
     let v = view c.args.self.now.segment in
     one_act v (view c.deliver.new.self) (Delivers v) (refl, c.deliver.ensures)

@@ -3,14 +3,14 @@ use Rattle.play_script.specs.Inside.{if_there}
 use Rattle.play_script.specs.Lines.{Nothing, TooLong, Faulty, Asks}
 use Rattle.play_script.specs.Tells.{fault_text, slip_text}
 use Rattle.segment.specs.Inside.{view}
-use Rattle.play_wire.specs.Inside.{play_of}
+use Rattle.play_wire.specs.Inside.{play_with}
 use Rattle.play_wire.specs.Tells.{IsDone, next_line, shifted, sound_of, text_of}
 use Rattle.play_wire.proofs.PlayLemmas.{nothing_more, numbered, numbered_sound, told_part, with_number}
 use Rattle.play_wire.proofs.player.PlayerAnswersROOM.answer.Goals as goal
 
 pub returns-in-Nothing : goal.returns-in-Nothing
-returns-in-Nothing c =
-    let p = play_of c.args.self.now in (
+returns-in-Nothing g c =
+    let p = play_with (view c.args.self.now.hosts.segment) c.args.self.now.hosts.names.items c.args.self.now.sheet c.args.self.now.sound in (
       [],
       told_part p _ c.args.line.now c.part_of-part.result.now (if_there c.part_of-part.new.is_named c.part_of-part.new.host)
           Nothing [] [] c.part_of-part.ensures.parted c.in-Nothing.ensures
@@ -19,8 +19,8 @@ returns-in-Nothing c =
     )
 
 pub returns-in-TooLong : goal.returns-in-TooLong
-returns-in-TooLong c =
-    let p = play_of c.args.self.now in
+returns-in-TooLong g c =
+    let p = play_with (view c.args.self.now.hosts.segment) c.args.self.now.hosts.names.items c.args.self.now.sheet c.args.self.now.sound in
     let text : ℕ → List ℕ = λ n. fault_text p.name n (codes "the line is too long") in (
       text (next_line p).number,
       told_part p _ c.args.line.now c.part_of-part.result.now (if_there c.part_of-part.new.is_named c.part_of-part.new.host)
@@ -30,8 +30,8 @@ returns-in-TooLong c =
     )
 
 pub returns-in-Faulty : goal.returns-in-Faulty
-returns-in-Faulty c =
-    let p = play_of c.args.self.now in
+returns-in-Faulty g c =
+    let p = play_with (view c.args.self.now.hosts.segment) c.args.self.now.hosts.names.items c.args.self.now.sheet c.args.self.now.sound in
     let text : ℕ → List ℕ = λ n. slip_text p.name n (shifted (length c.args.line.now - length c.part_of-part.result.now) c.in-Faulty.slip) in (
       text (next_line p).number,
       told_part p _ c.args.line.now c.part_of-part.result.now (if_there c.part_of-part.new.is_named c.part_of-part.new.host)
@@ -41,8 +41,8 @@ returns-in-Faulty c =
     )
 
 pub returns-in-Asks : goal.returns-in-Asks
-returns-in-Asks c =
-    let p = play_of c.args.self.now in
+returns-in-Asks g c =
+    let p = play_with (view c.args.self.now.hosts.segment) c.args.self.now.hosts.names.items c.args.self.now.sheet c.args.self.now.sound in
     let did = c.play_words-sound.ensures p.sound in
     let host = if_there c.part_of-part.new.is_named c.part_of-part.new.host in
     let wanted = if_there c.in-Asks.expects c.read_line.new.wanted in

@@ -1,0 +1,50 @@
+//! Scripts of many machines, with a capture of their wire or without one.
+use play_pcap::Nowhere;
+use play_script::{Silent, Sink, Source, Style};
+use play_wire::{PlayedHosts, Start, play_hosts};
+use std::{fs, io};
+
+/// The status if a capture can't be written.
+const UNWRITTEN: u8 = 4;
+
+/// Plays a script of many machines without a capture.
+pub(crate) fn play_uncaptured<R: Source, W: Sink>(
+    rt: &HostRuntime,
+    style: Style<'_>,
+    seed: u64,
+    reader: &mut R,
+    writer: &mut W,
+) -> PlayedHosts {
+    let start = Start {
+        seed,
+        capture: Nowhere,
+    };
+    play_hosts(rt.alloc(), style, start, reader, writer)
+}
+
+/// Plays a script of many machines, and writes what goes on its wire to a new file. `None` if there can't be such a file.
+pub(crate) fn play_captured<R: Source, W: Sink>(
+    rt: &HostRuntime,
+    style: Style<'_>,
+    (seed, path): (u64, &str),
+    reader: &mut R,
+    writer: &mut W,
+) -> Option<PlayedHosts> {
+    let Ok(file) = fs::create(rt, path) else {
+        return None;
+    };
+    let start = Start {
+        seed,
+        capture: Silent(file),
+    };
+    Some(play_hosts(rt.alloc(), style, start, reader, writer))
+}
+
+/// The status of a script, after a line for a capture that isn't whole.
+pub(crate) fn status_of(rt: &HostRuntime, done: &PlayedHosts) -> io::Result<u8> {
+    if done.kept {
+        return Ok(done.played.status());
+    }
+    eprintln!(rt; "bsdplay: the capture isn't whole, since a write failed")?;
+    Ok(UNWRITTEN)
+}
