@@ -1,7 +1,6 @@
 //! Scripts of many machines, with a capture of their wire or without one.
-use play_pcap::Nowhere;
 use play_script::{Silent, Sink, Source, Style};
-use play_wire::{PlayedHosts, Start, play_hosts};
+use play_wire::{Nowhere, PlayedHosts, Start, play_hosts};
 use std::{fs, io};
 
 /// The status if a capture can't be written.

@@ -1,6 +1,6 @@
 //! A script of two hosts and a wire between them.
 use play_script::Style;
-use play_wire::play_hosts;
+use play_wire::{Nowhere, Start, play_hosts};
 use std::alloc::Global;
 
 /// A datagram from a to b, and what is expected of it.
@@ -23,6 +23,10 @@ pub fn arrives(alloc: Global) -> bool {
     };
     let mut reader = SCRIPT;
     let mut written = Vec::new(alloc);
-    let played = play_hosts(alloc, style, 1, &mut reader, &mut written);
-    played.status() == 0
+    let start = Start {
+        seed: 1,
+        capture: Nowhere,
+    };
+    let done = play_hosts(alloc, style, start, &mut reader, &mut written);
+    done.played.status() == 0
 }

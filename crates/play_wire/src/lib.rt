@@ -20,4 +20,5 @@ mod tape;
 mod ticks;
 mod wire_line;
 
+pub use play_pcap::Nowhere;
 pub use runs::{PlayedHosts, Start, play_hosts};
