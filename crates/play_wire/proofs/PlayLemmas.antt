@@ -1,22 +1,32 @@
 -- A line, and what it does.
 use Rattle.std.proofs.Common.{◌≡◌, ◌⊎◌, inl, inr, ℕ, ◌-◌, Bool, true, false, List, [], ◌∷◌, ◌++◌, length, Option, Some, refl, sym, ap, ◌∙◌, subst}
-use Rattle.std.specs.Prelude.{slice_get}
+use Rattle.std.specs.Prelude.{codes, slice_get, Result, Ok, Err, IfOk}
 use Rattle.play_script.specs.Inside.{if_there}
 use Rattle.play_script.specs.Lines.{Reading, reading}
 use Rattle.segment.specs.Law.{Act, AreActs}
 use Rattle.segment.specs.Segment.{SegmentView}
 use Rattle.play_wire.specs.Acts.{Outcome, Refused, Moves, IsHostLine, IsMissing}
-use Rattle.play_wire.specs.Tells.{Play, IsDone, IsParted, Tells, TellsPart, next_line}
+use Rattle.play_wire.specs.Tells.{Play, IsDone, IsParted, Tells, TellsLeft, TellsPart, left_text, next_line}
+use Rattle.flat_model.specs.Scripts.Grammar.{words}
+use Rattle.play_wire.specs.Inside.{came_of}
+use Rattle.play_wire.specs.declared.fault.Fault.{Fault}
 use Rattle.play_wire.specs.declared.fault.Fault.TheVariants as fault
 
 pub done_by_wire : (play : Play) (named : Bool) (host plain : List ℕ) (came : Outcome) (v w : SegmentView) (old new : List (List ℕ))
-    → play.segment ≡ v → play.names ≡ old → named ≡ false → Moves v w → (more : List (List ℕ)) × (new ≡ old ++ more)
+    → play.segment ≡ v → play.names ≡ old → named ≡ false → Moves v w → (more : List (List ℕ)) × (new ≡ old ++ more) → TellsLeft plain came w
     → (acts : List Act) × IsDone play (if_there named host) plain acts came w new
-done_by_wire play named host plain came v w old new e f is (acts, are) (more, joined) = (
+done_by_wire play named host plain came v w old new e f is (acts, are) (more, joined) tells = (
   acts,
   subst (λ b. IsDone play (if_there b host) plain acts came w new) (sym is)
-      (subst (λ (x : SegmentView). AreActs x acts w) (sym e) are, more, joined ∙ ap (λ (xs : List (List ℕ)). xs ++ more) (sym f)),
+      (subst (λ (x : SegmentView). AreActs x acts w) (sym e) are, tells, more, joined ∙ ap (λ (xs : List (List ℕ)). xs ++ more) (sym f)),
 )
+
+-- what is told of a line `carry` that is answered so
+pub tells_left : (came : Result Unit Fault) (plain words' told below : List ℕ) (w : SegmentView) → words' ≡ plain
+    → ((rest : List (List ℕ)) → words words' ≡ codes "carry" ∷ rest → IfOk came (λ _. told ≡ left_text w))
+    → TellsLeft plain (came_of came told below) w
+tells_left (Ok done) plain words' told below w same tells = λ rest is. tells rest (ap words same ∙ is)
+tells_left (Err fault) plain words' told below w same tells = tt
 
 pub done_by_host : (play : Play) (named : Bool) (host words plain : List ℕ) (came : Outcome) (v w : SegmentView) (old : List (List ℕ)) (place : ℕ)
     → play.segment ≡ v → play.names ≡ old → named ≡ true → slice_get old place ≡ Some host → words ≡ plain

@@ -1,12 +1,13 @@
 -- What may be told of a line, and what it leads to (this project's own).
-use Rattle.std.specs.Prelude.{◌≡◌, ◌⊎◌, ℕ, ◌-◌, ◌&&◌, Bool, true, false, List, [], ◌∷◌, ◌++◌, length, codes, slice_get, Option, Some, None}
+use Rattle.std.specs.Prelude.{◌≡◌, ◌⊎◌, ℕ, ◌-◌, ◌&&◌, Bool, true, false, List, [], ◌∷◌, ◌++◌, length, codes, decimal, if◌then◌else◌, slice_get, Option, Some, None}
 use Rattle.flat_model.specs.Machine.Count.{more_by}
 use Rattle.play_line.specs.declared.fault.Slip.{Slip}
 use Rattle.play_script.specs.Lines.{Reading, Nothing, TooLong, Faulty, Asks, reading}
 use Rattle.play_script.specs.Tells.{fault_text, is_sound, slip_text, told_text}
 use Rattle.segment.specs.Law.{Act, AreActs}
 use Rattle.segment.specs.Chances.{seeded}
-use Rattle.segment.specs.Segment.{SegmentView, no_hosts}
+use Rattle.flat_model.specs.Scripts.Grammar.{words}
+use Rattle.segment.specs.Segment.{SegmentView, is_quiet, no_hosts}
 use Rattle.play_wire.specs.Acts.{IsHostLine, IsMissing, Outcome, Told, Refused}
 use Rattle.play_wire.specs.Faults.{words_of}
 use Rattle.play_wire.specs.declared.fault.Fault.TheVariants as fault
@@ -58,7 +59,17 @@ shifted before slip = record slip { column = more_by before slip.column }
 
 -- ---- steps
 
--- A line of a host is that of the host with this name. A line of the wire may add hosts.
+-- what a line `carry` tells: whether anything is under way, or waits for a link
+abbrev pub left_text : SegmentView → List ℕ
+left_text v = if is_quiet v then codes "quiet" else codes "left " ++ decimal (length v.flight) ++ codes " under way"
+
+-- if a line `carry` does something, that's what is told of it
+abbrev pub TellsLeft : List ℕ → Outcome → SegmentView → Type 0
+TellsLeft plain (Told told below) segment =
+    (rest : List (List ℕ)) → words plain ≡ codes "carry" ∷ rest → told ≡ left_text segment
+TellsLeft plain (Refused reason) segment = Unit
+
+-- A line of a host is that of the host with this name. A line of the wire may add hosts, and `carry` tells what is left.
 abbrev pub IsDone : Play → Option (List ℕ) → List ℕ → List Act → Outcome → SegmentView → List (List ℕ) → Type 0
 IsDone now (Some host) plain acts outcome segment names =
     (names ≡ now.names)
@@ -66,7 +77,8 @@ IsDone now (Some host) plain acts outcome segment names =
     × (IsHostLine place plain now.segment acts outcome segment ⊎ IsMissing place now.segment acts outcome segment))
     ⊎ ((acts ≡ []) × (segment ≡ now.segment) × (outcome ≡ Refused fault.NoHost)))
 IsDone now None plain acts outcome segment names =
-    AreActs now.segment acts segment × (more : List (List ℕ)) × (names ≡ now.names ++ more)
+    AreActs now.segment acts segment × TellsLeft plain outcome segment
+    × (more : List (List ℕ)) × (names ≡ now.names ++ more)
 
 -- what the part of a line that is read so does, where `now` has its number
 abbrev pub TellsPart : Play → Option (List ℕ) → ℕ → Reading → List Act → List ℕ → Play → Type 0

@@ -1,7 +1,5 @@
 //! What waits for the links passes.
-ghost use Rattle.std.specs.Prelude.{◌≡◌};
 ghost use Rattle.segment.specs.Inside.{view};
-ghost use Rattle.segment.specs.Segment.{is_quiet};
 ghost use Rattle.play_wire.specs.Acts.{Moves};
 
 use crate::tape::Tape;
@@ -38,15 +36,12 @@ pub(crate) fn bound_of(rest: Option<&[u8]>) -> Option<Bound> {
     }
 }
 
-/// Carries so often. Whether nothing is left then.
-pub(crate) fn carry<T: Sink + Drop>(segment: &mut Segment, bound: Bound, tape: &mut Tape<T>) -> bool
+/// Carries so often.
+pub(crate) fn carry<T: Sink + Drop>(segment: &mut Segment, bound: Bound, tape: &mut Tape<T>)
     ensures { Moves (view segment.old) (view segment.new) }
 {
     match bound {
-        Bound::Times(count) => {
-            carry_times(segment, count, tape);
-            segment.is_quiet()
-        }
+        Bound::Times(count) => carry_times(segment, count, tape),
         Bound::Quiet(most) => carry_all(segment, most, tape),
     }
 }
@@ -68,16 +63,14 @@ fn carry_times<T: Sink + Drop>(segment: &mut Segment, count: u32, tape: &mut Tap
     }
 }
 
-/// Carries until nothing is left, but at most so many times. Whether nothing is left then.
-fn carry_all<T: Sink + Drop>(segment: &mut Segment, most: u32, tape: &mut Tape<T>) -> bool
-    ensures moves { Moves (view segment.old) (view segment.new) }
-    ensures quiet { result ≡ is_quiet (view segment.new) }
+/// Carries until nothing is left, but at most so many times.
+fn carry_all<T: Sink + Drop>(segment: &mut Segment, most: u32, tape: &mut Tape<T>)
+    ensures { Moves (view segment.old) (view segment.new) }
 {
     for _ in 0..most {
         if segment.is_quiet() {
-            return true;
+            return;
         }
         carry_once(segment, tape);
     }
-    segment.is_quiet()
 }

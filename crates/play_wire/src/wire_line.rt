@@ -1,9 +1,10 @@
 //! The lines of the wire.
-ghost use Rattle.std.specs.Prelude.{◌≡◌, ◌++◌, ℕ, List};
+ghost use Rattle.std.specs.Prelude.{◌≡◌, ◌++◌, ◌∷◌, ℕ, List, IfOk, codes};
 ghost use Rattle.segment.specs.Inside.{view};
+ghost use Rattle.flat_model.specs.Scripts.Grammar as line;
 ghost use Rattle.play_wire.specs.Acts.{Moves};
+ghost use Rattle.play_wire.specs.Tells.{left_text};
 
-use crate::add::{add, add_number};
 use crate::by_hand::{by_hand_in, do_by_hand};
 use crate::carries::{bound_of, carry};
 use crate::fault::Fault;
@@ -14,16 +15,21 @@ use crate::summary::tell_summary;
 use crate::ticks::tick_all;
 use play_script::{TOLD, ticks_of};
 use script_loop::{Buffer, Sink, first_word, is_end};
+use segment::Segment;
 
-/// Puts after a text what is left on the wire.
-fn tell_left(told: &mut Buffer<TOLD>, quiet: bool, under_way: usize) {
-    if quiet {
-        add(told, b"quiet");
-    } else {
-        add(told, b"left ");
-        add_number(told, under_way as u64);
-        add(told, b" under way");
+/// Puts into a text what is left on the wire.
+fn tell_left(told: &mut Buffer<TOLD>, segment: &Segment)
+    ensures { told.new ≡ left_text (view segment.now) }
+{
+    told.clear();
+    if segment.is_quiet() {
+        told.append(b"quiet");
+        return;
     }
+    let mut digits = itoa::Buffer::new();
+    told.append(b"left ");
+    told.append(digits.format(segment.flight_len() as u64).as_bytes());
+    told.append(b" under way");
 }
 
 impl<T: Sink + Drop> Hosts<T> {
@@ -31,6 +37,7 @@ impl<T: Sink + Drop> Hosts<T> {
     fn carry(&mut self, rest: Option<&[u8]>, told: &mut Buffer<TOLD>) -> Result<(), Fault>
         ensures moves { Moves (view self.old.segment) (view self.new.segment) }
         ensures names { self.new.names ≡ self.old.names }
+        ensures left { IfOk result (λ _. told.new ≡ left_text (view self.new.segment)) }
     {
         let Some(bound) = bound_of(rest) else {
             return Err(Fault::Nothing);
@@ -38,8 +45,8 @@ impl<T: Sink + Drop> Hosts<T> {
         if !self.wired {
             return Err(Fault::NoWire);
         }
-        let quiet = carry(&mut self.segment, bound, &mut self.tape);
-        tell_left(told, quiet, self.segment.flight_len());
+        carry(&mut self.segment, bound, &mut self.tape);
+        tell_left(told, &self.segment);
         Ok(())
     }
 
@@ -102,8 +109,8 @@ impl<T: Sink + Drop> Hosts<T> {
         }
     }
 
-    /// Does what a line asks that names no host. What is told of it goes into an empty text, but for `ok`.
-    fn do_line(&mut self, words: &[u8], told: &mut Buffer<TOLD>) -> Result<(), Fault>
+    /// Does what a line asks that names no host, but for `carry`.
+    fn do_line(&mut self, words: &[u8]) -> Result<(), Fault>
         ensures moves { Moves (view self.old.segment) (view self.new.segment) }
         ensures names { (more : List (List ℕ)) × (self.new.names.items ≡ self.old.names.items ++ more) }
     {
@@ -111,7 +118,6 @@ impl<T: Sink + Drop> Hosts<T> {
         match word {
             b"host" => self.add(rest),
             b"wire" => self.wire(rest),
-            b"carry" => self.carry(rest, told),
             b"collect" | b"deliver" => self.half(word, rest),
             b"tick" => self.tick(words),
             b"seed" => self.seed(rest),
@@ -144,19 +150,33 @@ impl<T: Sink + Drop> Hosts<T> {
         false
     }
 
-    /// Does what a line asks that names no host, and puts what is told of it into the notes.
-    pub(crate) fn answer_wire(&mut self, words: &[u8], notes: &mut Notes) -> Result<(), Fault>
+    /// Does what a line asks that names no host, but for `carry`, and puts what is told of it into the notes.
+    fn answer_other(&mut self, words: &[u8], notes: &mut Notes) -> Result<(), Fault>
         ensures moves { Moves (view self.old.segment) (view self.new.segment) }
         ensures names { (more : List (List ℕ)) × (self.new.names.items ≡ self.old.names.items ++ more) }
     {
         notes.told.clear();
-        notes.below.clear();
         if !self.tell(words, notes) {
-            self.do_line(words, &mut notes.told)?;
+            self.do_line(words)?;
         }
         if notes.told.is_empty() {
             notes.told.append(b"ok");
         }
         Ok(())
+    }
+
+    /// Does what a line asks that names no host, and puts what is told of it into the notes.
+    pub(crate) fn answer_wire(&mut self, words: &[u8], notes: &mut Notes) -> Result<(), Fault>
+        ensures moves { Moves (view self.old.segment) (view self.new.segment) }
+        ensures names { (more : List (List ℕ)) × (self.new.names.items ≡ self.old.names.items ++ more) }
+        ensures left { (rest : List (List ℕ)) → line.words words.now ≡ codes "carry" ∷ rest
+            → IfOk result (λ _. notes.new.told ≡ left_text (view self.new.segment)) }
+    {
+        notes.below.clear();
+        let (word, rest) = first_word(words);
+        if word == b"carry".as_slice() {
+            return self.carry(rest, &mut notes.told);
+        }
+        self.answer_other(words, notes)
     }
 }

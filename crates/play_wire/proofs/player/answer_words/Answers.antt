@@ -1,6 +1,6 @@
 use Rattle.segment.specs.Inside.{view}
 use Rattle.play_wire.specs.Inside.{came_of}
-use Rattle.play_wire.proofs.PlayLemmas.{done_by_host, done_by_none, done_by_wire}
+use Rattle.play_wire.proofs.PlayLemmas.{done_by_host, done_by_none, done_by_wire, tells_left}
 use Rattle.play_wire.proofs.player.answer_words.Goals as goal
 
 pub returns-in-Some : goal.returns-in-Some
@@ -20,3 +20,5 @@ returns-else-desk g c play e f =
     (came_of c.answer_wire.result c.answer_wire.new.notes.told c.answer_wire.new.notes.below) (view c.args.hosts.now.segment)
     (view c.answer_wire.new.self.segment) c.args.hosts.now.names.items c.answer_wire.new.self.names.items e f c.if-desk.false
     c.answer_wire.ensures.moves c.answer_wire.ensures.names
+    (tells_left c.answer_wire.result c.args.desk.now.words c.bytes_of-words.result.now c.answer_wire.new.notes.told c.answer_wire.new.notes.below
+    (view c.answer_wire.new.self.segment) c.bytes_of-words.ensures.is c.answer_wire.ensures.left)

@@ -3,7 +3,7 @@ use Rattle.segment.specs.Inside.{view}
 use Rattle.play_wire.specs.Acts.{Moves}
 use Rattle.play_wire.specs.declared.hosts.Hosts.{Hosts}
 use Rattle.play_wire.proofs.ActLemmas.{moves_on}
-use Rattle.play_wire.proofs.hosts.Hosts.answer_wire.Goals as goal
+use Rattle.play_wire.proofs.hosts.Hosts.answer_other.Goals as goal
 
 pub returns-in_err-do_line-clause-moves : goal.returns-in_err-do_line-clause-moves
 returns-in_err-do_line-clause-moves g c =
