@@ -18,6 +18,8 @@ uint32_t bsdudp_send_and_receive(const uint8_t *bytes, size_t len, uint32_t mbuf
 uint32_t bsdudp_reassemble(const uint8_t *packets, size_t len, uint32_t mbufs, uint32_t times);
 uint32_t bsdudp_new_keys(const uint8_t *first, size_t first_len, const uint8_t *last, size_t last_len, uint16_t held,
                          uint32_t times);
+uint32_t bsdudp_oldest_keys(const uint8_t *first, size_t first_len, const uint8_t *last, size_t last_len,
+                            uint16_t held, uint32_t times);
 
 static const uint8_t bytes[MOST];
 static uint8_t packets[MOST_FRAGMENTS * PACKETS_APART];
@@ -47,12 +49,25 @@ static uint32_t long_one(uint32_t mbufs, uint32_t turns)
     return sent(MOST, mbufs, 1, 0, turns);
 }
 
-static uint32_t new_key(uint32_t held, uint32_t turns)
+/* The two fragments of a datagram, and where the second lies. */
+static const uint8_t *two_fragments(void)
 {
     uint8_t *last = packets + PACKETS_APART;
     put_fragment(packets, PROTOCOL, 0, PIECE, 2 * PIECE);
     put_fragment(last, PROTOCOL, 1, PIECE, 2 * PIECE);
+    return last;
+}
+
+static uint32_t new_key(uint32_t held, uint32_t turns)
+{
+    const uint8_t *last = two_fragments();
     return bsdudp_new_keys(packets, PACKET_HEADER + PIECE, last, PACKET_HEADER + PIECE, (uint16_t)held, turns);
+}
+
+static uint32_t oldest_key(uint32_t held, uint32_t turns)
+{
+    const uint8_t *last = two_fragments();
+    return bsdudp_oldest_keys(packets, PACKET_HEADER + PIECE, last, PACKET_HEADER + PIECE, (uint16_t)held, turns);
 }
 
 static uint32_t fragments(uint32_t count, bool reversed, uint32_t turns)
@@ -83,6 +98,7 @@ static const Line LINES[] = {
     {"open sockets", "a datagram to the oldest", "1 8 16 32 64", 65, 1, to_oldest},
     {"open sockets", "a datagram to the newest", "1 8 16 32 64", 65, 1, to_newest},
     {"other datagrams unfinished", "a fragment of a new one", "0 10 100 1000 10000", 65, 2, new_key},
+    {"other datagrams unfinished", "a fragment of the oldest", "0 10 100 1000 10000", 65, 2, oldest_key},
     {"fragments of a datagram", "each, in order", "7 45 250 1000 8000", 2, 0, in_order},
     {"fragments of a datagram", "each, reversed", "7 45 250 1000 8000", 2, 0, reversed},
     {"mbufs of the pool", "a datagram of 2 bytes", "64 512 4096 16384 65535", 65, 1, short_one},

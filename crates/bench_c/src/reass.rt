@@ -22,9 +22,13 @@ const APART: usize = 1500;
 fn ready(alloc: Global, mbufs: u32, clusters: u32) -> Option<(Pool, Reass)>
     ensures { IfSome result (λ r. IsReady r.0 r.1) }
 {
-    let store = Store::boot(alloc, Sizes { mbufs, clusters }).ok()?;
+    let Ok(store) = Store::boot(alloc, Sizes { mbufs, clusters }) else {
+        return None;
+    };
     let pool = Pool::over(store);
-    let table = Reass::boot(alloc, mbufs).ok()?;
+    let Ok(table) = Reass::boot(alloc, mbufs) else {
+        return None;
+    };
     Some((pool, table))
 }
 
@@ -208,6 +212,41 @@ pub extern "C" fn bsdudp_new_keys(
         let _ = arrives(&mut pool, &mut table, &mut counters, first, held);
         let made = arrives(&mut pool, &mut table, &mut counters, last, held);
         whole = whole.saturating_add(made);
+    }
+    table.end(&mut pool);
+    whole
+}
+
+/// Beside `held` datagrams of one fragment each that are unfinished, `times` times the fragment `last` makes the oldest
+/// of all whole, which is freed, and `first` begins it anew, as the newest. Answers how many were made whole:
+/// `uint32_t bsdudp_oldest_keys(const uint8_t *first, size_t first_len, const uint8_t *last, size_t last_len,
+/// uint16_t held, uint32_t times)`.
+#[unsafe(no_mangle)]
+pub extern "C" fn bsdudp_oldest_keys(
+    alloc: Global,
+    first: &[u8],
+    last: &[u8],
+    held: u16,
+    times: u32,
+) -> u32 {
+    if first.len() > IP_MAX_PACKET as usize || last.len() > IP_MAX_PACKET as usize {
+        return 0;
+    }
+    let Some((mut pool, mut table)) = ready(alloc, 65_535, 16) else {
+        return 0;
+    };
+    let mut counters = Counters::none();
+    'held: for id in 0..held {
+        let _ = arrives(&mut pool, &mut table, &mut counters, first, id);
+    }
+    let _ = arrives(&mut pool, &mut table, &mut counters, first, held);
+    let mut oldest = 0u16;
+    let mut whole = 0u32;
+    'turns: for _ in 0..times {
+        let made = arrives(&mut pool, &mut table, &mut counters, last, oldest);
+        let _ = arrives(&mut pool, &mut table, &mut counters, first, oldest);
+        whole = whole.saturating_add(made);
+        oldest = if oldest < held { oldest + 1 } else { 0 };
     }
     table.end(&mut pool);
     whole

@@ -7,6 +7,9 @@ mod Lays
 mod Counted
 mod Whole
 mod Joined
+mod Linked
+mod Indexed
+mod Followed
 mod Tables
 mod Aging
 mod Places

@@ -3,3 +3,4 @@ pub mod Walks
 pub mod Known
 pub mod Weighs
 pub mod Steps
+pub mod Index

@@ -86,14 +86,20 @@ impl Reass {
             unreachable!()
         };
         let i = self.datagrams.as_slice().len();
-        begin(&mut self.datagrams, key_of(&head), holder);
-        lay_and_count(
+        let key = key_of(&head);
+        let bucket = self.index.bucket(&key);
+        self.index.add(bucket);
+        begin(&mut self.datagrams, key, holder);
+        let arrival = lay_and_count(
             pool,
             &mut self.datagrams,
             counters,
             i,
             Fragment { chain, head },
-        )
+        );
+        let rest = self.datagrams.as_slice().len();
+        self.index.follow(rest, i);
+        arrival
     }
 
     /// Lets a fragment join the others of its datagram, or begin it.
@@ -124,15 +130,18 @@ impl Reass {
         ensures moves { Moves pool.old (chain ∷ held_all pool.old self.old.datagrams) pool.new
             (in_hand result ++ held_all pool.new self.new.datagrams) }
     {
-        match find(self.datagrams.as_slice(), key_of(&head)) {
+        match find(self.datagrams.as_slice(), &self.index, key_of(&head)) {
             Some(i) => {
-                lay_and_count(
+                let arrival = lay_and_count(
                     pool,
                     &mut self.datagrams,
                     counters,
                     i,
                     Fragment { chain, head },
-                )
+                );
+                let rest = self.datagrams.as_slice().len();
+                self.index.follow(rest, i);
+                arrival
             }
             None => self.begin_with(pool, counters, chain, head),
         }

@@ -8,6 +8,7 @@
 mod arrival;
 mod arrive;
 mod datagram;
+mod index;
 mod lay;
 mod place;
 mod questions;

@@ -1,5 +1,5 @@
 //! The table of unfinished datagrams.
-ghost use Rattle.std.specs.Prelude.{IfOk, ◌==◌, ◌≡◌, ℕ, ◌+◌, ◌-◌, ◌≤◌, ◌<◌, ◌*◌, List, length, take, remove, find, sum_by, slice_get, slice_index_or, MatchOption, None, ◌++◌, ◌∷◌, [], vec_len, vec_capacity};
+ghost use Rattle.std.specs.Prelude.{IfOk, count_by, ◌==◌, ◌≡◌, ℕ, ◌+◌, ◌-◌, ◌≤◌, ◌<◌, ◌*◌, List, length, take, remove, find, sum_by, slice_get, slice_index_or, MatchOption, None, ◌++◌, ◌∷◌, [], vec_len, vec_capacity};
 ghost use Rattle.flat_model.specs.Machine.Count.{counts_more};
 ghost use Rattle.flat_model.specs.Machine.State.{State};
 ghost use Rattle.flat_model.specs.Machine.Step.{ticked};
@@ -10,9 +10,11 @@ ghost use Rattle.mbuf_chain.specs.Owners.{IsOwned, Moves};
 ghost use Rattle.mbuf_chain.specs.Frames.{SameAt};
 ghost use Rattle.mbuf_chain.specs.Train.{IsHeld};
 ghost use Rattle.ip_reass.specs.Arrivals.{machine};
+ghost use Rattle.ip_reass.specs.Inside.Index.{buckets_of};
 ghost use Rattle.ip_reass.specs.Table.{aged, unfinished, has_key, new_datagram, holds, held, held_all, AllUnfinished, IsTable, IsReady};
 
 use crate::datagram::{Datagram, free_datagram};
+use crate::index::Index;
 use flat_model::FragmentKey;
 use ledger::Waiting;
 use mbuf_chain::{Chain, Pool, Reclaim, Train};
@@ -28,6 +30,7 @@ use std::marker::Model;
 /// that they came from. No call but `boot` takes host memory.
 pub struct Reass {
     pub(crate) datagrams: Vec<Datagram>,
+    pub(crate) index: Index,
 }
 
 impl Model for Reass {
@@ -37,9 +40,12 @@ impl Model for Reass {
 
     ghost Value = { TableView };
 
-    ghost view = { λ r. record { datagrams = r.datagrams.items; room = vec_capacity r.datagrams } };
+    ghost use Rattle.ip_reass.specs.Inside.Index.{Indexes};
 
-    ghost invariant = { λ r. vec_len r.datagrams ≤ MAX_MBUFS };
+    ghost view = { λ r. record { datagrams = r.datagrams.items; room = r.index.room } };
+
+    ghost invariant = { λ r. (vec_len r.datagrams ≤ MAX_MBUFS) × (r.index.room ≤ vec_capacity r.datagrams)
+        × Indexes r.index r.datagrams.items };
 }
 
 impl Reass {
@@ -52,7 +58,11 @@ impl Reass {
         ensures room { IfOk result (λ r. mbufs ≤ r.room) }
     {
         let datagrams = Vec::with_capacity(alloc, mbufs as usize)?;
-        Ok(Reass { datagrams })
+        let Ok(index) = Index::boot(alloc, mbufs) else {
+            datagrams.destroy_empty();
+            return Err(AllocError);
+        };
+        Ok(Reass { datagrams, index })
     }
 
     /// Frees all datagrams, with all their mbufs and references.
@@ -60,7 +70,11 @@ impl Reass {
         requires { IsTable pool.old self.datagrams }
         ensures { Moves pool.old (held_all pool.old self.datagrams) pool.new [] }
     {
-        let Reass { mut datagrams } = self;
+        let Reass {
+            mut datagrams,
+            index,
+        } = self;
+        drop(index);
         free_beyond(pool, &mut datagrams, 0);
         datagrams.destroy_empty();
     }
@@ -95,6 +109,8 @@ impl Reass {
         let before = self.datagrams.len();
         let kept = age(self.datagrams.as_mut_slice());
         free_beyond(pool, &mut self.datagrams, kept);
+        let table = self.datagrams.as_slice();
+        self.index.renew(table);
         (before - kept) as u32
     }
 }
@@ -137,17 +153,23 @@ fn age(table: &mut [Datagram]) -> usize
     kept
 }
 
-/// The place of the datagram with a key, where there is one. This is the only look-up: an index of keys may take its
-/// place under the same contract.
-pub(crate) fn find(table: &[Datagram], key: FragmentKey) -> Option<usize>
+/// The place of the datagram with a key, if there is one, by the rows of the key's bucket, the last first.
+pub(crate) fn find(table: &[Datagram], index: &Index, key: FragmentKey) -> Option<usize>
+    requires some { 0 < index.now.count }
+    requires indexed { index.now.buckets ≡ buckets_of index.now.count table.now }
+    requires once { count_by (has_key key) table.now ≤ 1 }
     ensures { MatchOption result (find (has_key key) table.now ≡ None)
         (λ i. (i < length table.now) × (find (has_key key) table.now ≡ slice_get table.now i)
         × (find (has_key key) (take i table.now) ≡ None)) }
 {
-    'table: for i in 0..table.len() {
-        if table[i].key == key {
-            return Some(i);
+    let bucket = index.bucket(&key);
+    let mut rows = index.last(bucket);
+    'rows: while rows > 0 {
+        let place = rows - 1;
+        if table[place as usize].key == key {
+            return Some(place as usize);
         }
+        rows = index.before(place);
     }
     None
 }
@@ -189,6 +211,7 @@ impl Reclaim for Reass {
     fn reclaim(&mut self, pool: &mut Pool) -> u32 {
         let before = self.len();
         free_beyond(pool, &mut self.datagrams, 0);
+        self.index.clear();
         before
     }
 }

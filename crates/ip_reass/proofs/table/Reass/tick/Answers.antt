@@ -1,10 +1,12 @@
-use Rattle.std.proofs.Common.{◌≡◌, ◌-◌, List, length, take, subst, sym, ap, ◌∙◌, arith, sum_by}
+use Rattle.std.proofs.Common.{◌≡◌, ◌-◌, ℕ, List, length, take, subst, sym, ap, ◌∙◌, arith, sum_by}
 use Rattle.ip_reass.specs.declared.datagram.Datagram.{Datagram}
 use Rattle.mbuf_chain.specs.Owners.{Moves}
 use Rattle.ip_reass.specs.Table.{aged, held_all, holds, AllUnfinished, IsTable}
 use Rattle.std.proofs.lemmas.List.{length-take-le}
 use Rattle.ip_reass.specs.Table.{TableView}
 use Rattle.ip_reass.proofs.Aging.{reordered, table_reordered, lent, tick_step, aged_distinct}
+use Rattle.ip_reass.specs.Inside.Index.{buckets_of}
+use Rattle.ip_reass.proofs.Followed.{aged_same, length_buckets}
 use Rattle.ip_reass.proofs.table.Reass.tick.Goals as goal
 
 pub free_beyond-requires-clause-table : goal.free_beyond-requires-clause-table
@@ -24,7 +26,7 @@ returns-clause-moves c =
     (subst (λ (ds : List Datagram). Moves c.args.pool.now (held_all c.args.pool.now ds) c.free_beyond.new.pool (held_all c.free_beyond.new.pool c.free_beyond.new.table.items)) (lent c.self.inside.datagrams.len c.self.inside.datagrams.items c.age-kept.new.table long)
     c.free_beyond.ensures.moves)
 
-aged_now : (c : goal.After-free_beyond) → c.free_beyond.new.table.items ≡ aged c.args.self.now.datagrams
+aged_now : (c : goal.After-renew) → c.free_beyond.new.table.items ≡ aged c.args.self.now.datagrams
 aged_now c =
     let long : length c.age-kept.new.table ≡ c.self.inside.datagrams.len = omega arith in
     let was = c.as_mut_slice.ensures.value ∙ (ap (λ (r : TableView). r.datagrams) c.self.view_is) in
@@ -43,3 +45,13 @@ returns-clause-ready c = record {
   room = omega (arith, c.free_beyond.ensures.capacity, ap (λ (r : TableView). r.room) c.self.view_is, c.requires.room, c.free_beyond.ensures.moves.mbufs);
   distinct = aged_distinct c.args.pool.now c.free_beyond.new.pool c.args.self.now.datagrams c.free_beyond.new.table.items (aged_now c) c.free_beyond.ensures.same c.requires.distinct;
 }
+
+pub renew-requires-clause-same : goal.renew-requires-clause-same
+renew-requires-clause-same c = λ e.
+    let n = c.self.inside.index.count in
+    let was = ap (λ (r : TableView). r.datagrams) c.self.view_is in
+    let size : length c.age-kept.new.table ≡ c.self.inside.datagrams.len = omega arith in
+    let old = c.as_mut_slice.ensures.value ∙ was in
+    let now = c.as_slice-table.ensures.value ∙ c.free_beyond.ensures.items ∙ ap (take c.age-kept.result) (lent c.self.inside.datagrams.len c.self.inside.datagrams.items c.age-kept.new.table size) ∙ c.age-kept.ensures.kept ∙ ap aged old in
+    let long : length c.args.self.now.datagrams ≡ length (aged c.args.self.now.datagrams) = omega (arith, e, ap (λ (bs : List ℕ). length bs) c.self.invariant.2.rows, length_buckets n c.self.inside.datagrams.items, ap (λ (xs : List Datagram). length xs) was, ap (λ (xs : List Datagram). length xs) now) in
+    c.self.invariant.2.rows ∙ ap (buckets_of n) was ∙ aged_same n c.args.self.now.datagrams long ∙ ap (buckets_of n) (sym now)
