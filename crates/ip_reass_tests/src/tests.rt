@@ -25,8 +25,8 @@ fn waits(rt: &impl Abort, host: &mut Host, head: IpHead, piece: Piece)
     assert!(rt; became == Kept);
 }
 
-/// Lets three fragments of a datagram arrive. Answers what became of each, the bytes of the whole, and how many mbufs are
-/// free then.
+/// Lets three fragments of a datagram arrive. Answers what became of each, the bytes of the whole, and how many mbufs
+/// are free then.
 fn three(rt: &impl Abort, alloc: Global, pieces: [Piece; 3]) -> ([Became; 3], [u8; 40], u32) {
     let mut host = booted(rt, alloc, 8, 0);
     let mut whole = [b'-'; 40];
@@ -103,9 +103,9 @@ static THREE: [(&str, [Piece; 3], [Became; 3], &[u8; 40], u32); 6] = [
 
 #[test]
 fn three_fragments(rt: HostRuntime) {
-    for (case, pieces, became, whole, free) in THREE {
-        let (was, bytes, left) = three(&rt, rt.alloc(), pieces);
-        assert!(rt; was == became && bytes == *whole && left == free, "{case}");
+    for (case, pieces, became, whole, free) in THREE.iter() {
+        let is_right = three(&rt, rt.alloc(), *pieces) == (*became, **whole, *free);
+        assert!(rt; is_right, "{case}");
     }
 }
 
@@ -125,8 +125,9 @@ fn fill(rt: &impl Abort, host: &mut Host, first: Piece, second: Piece)
     }
 }
 
-/// Lets two fragments of 8-byte units arrive, `first` before `second`, then one of a unit for each unit from 0 to 7 that neither
-/// holds, and the last of the datagram. Answers what became of the second, and the first byte of each unit of the whole.
+/// Lets two fragments of 8-byte units arrive, `first` before `second`, then one of a unit for each unit from 0 to 7
+/// that neither holds, and the last of the datagram. Answers what became of the second, and the first byte of each unit
+/// of the whole.
 fn two(rt: &impl Abort, alloc: Global, first: Piece, second: Piece) -> (Became, [u8; 9]) {
     let mut host = booted(rt, alloc, 16, 0);
     let mut whole = [b'-'; 72];
@@ -170,29 +171,29 @@ static RELATIONS: [(u32, u32, &[u8; 9], &[u8; 9]); 13] = [
     (7, 8, b"fffaaafbt", b"fffaaafbt"),
 ];
 
+/// Whether two fragments leave these first bytes of each unit, and the second is dropped where the first has all of it.
+fn leaves(rt: &impl Abort, alloc: Global, first: Piece, second: Piece, wanted: &[u8; 9]) -> bool {
+    let (became, bytes) = two(rt, alloc, first, second);
+    assert!(rt; first.0 <= 64 && first.3 <= 64 && second.0 <= 64 && second.3 <= 64);
+    let is_covered = first.0 <= second.0 && second.0 + second.3 <= first.0 + first.3;
+    bytes == *wanted && (became == LOST) == is_covered
+}
+
 #[test]
 fn overlaps_in_both_orders(rt: HostRuntime) {
-    for (first, end, after_a, after_b) in RELATIONS {
-        assert!(rt; first <= end && end <= 8);
+    for (first, end, after_a, after_b) in RELATIONS.iter() {
+        assert!(rt; *first <= *end && *end <= 8);
         let a = units(3, 6, b'a');
-        let b = units(first, end, b'b');
-        let (became, bytes) = two(&rt, rt.alloc(), a, b);
-        let covered = first >= 3 && end <= 6;
-        assert!(rt;
-            bytes == *after_a && (became == LOST) == covered,
-            "b from {first} to {end} after a"
-        );
-        let (became, bytes) = two(&rt, rt.alloc(), b, a);
-        let covered = first <= 3 && end >= 6;
-        assert!(rt;
-            bytes == *after_b && (became == LOST) == covered,
-            "a after b from {first} to {end}"
-        );
+        let b = units(*first, *end, b'b');
+        let is_right = leaves(&rt, rt.alloc(), a, b, after_a);
+        assert!(rt; is_right, "b from {first} to {end} after a");
+        let is_right = leaves(&rt, rt.alloc(), b, a, after_b);
+        assert!(rt; is_right, "a after b from {first} to {end}");
     }
 }
 
-/// Lets a fragment arrive where nothing waits, in a pool of a few buffers: what became of it, and the mbufs and clusters that are
-/// free then.
+/// Lets a fragment arrive where nothing waits, in a pool of a few buffers: what became of it, and the mbufs and
+/// clusters that are free then.
 fn alone(rt: &impl Abort, alloc: Global, mbufs: u32, piece: Piece) -> (Became, u32, u32) {
     let mut host = booted(rt, alloc, mbufs, 1);
     let became = host.arrives(rt, HEAD, piece, &mut []);
@@ -261,8 +262,8 @@ static ALONE: [(&str, u32, Piece, (Became, u32, u32)); 9] = [
 
 #[test]
 fn each_refusal(rt: HostRuntime) {
-    for (case, mbufs, piece, answer) in ALONE {
-        assert!(rt; alone(&rt, rt.alloc(), mbufs, piece) == answer, "{case}");
+    for (case, mbufs, piece, answer) in ALONE.iter() {
+        assert!(rt; alone(&rt, rt.alloc(), *mbufs, *piece) == *answer, "{case}");
     }
 }
 
@@ -285,8 +286,8 @@ fn others_wait(rt: &impl Abort, host: &mut Host)
     requires { IsReady host.old.pool host.old.table }
     ensures { IsReady host.new.pool host.new.table }
 {
-    'others: for head in OTHERS {
-        waits(rt, host, head, (8, false, b'b', 8));
+    'others: for head in OTHERS.iter() {
+        waits(rt, host, *head, (8, false, b'b', 8));
     }
 }
 
@@ -350,7 +351,8 @@ fn a_pool_of_one_mbuf(rt: HostRuntime) {
 #[test]
 fn clusters_of_a_whole(rt: HostRuntime) {
     let mut host = booted(&rt, rt.alloc(), 16, 4);
-    // 316 bytes came in a cluster; 40 of them were pulled up, and 20 of these are left: an mbuf, the cluster, and the key's mbuf
+    // 316 bytes came in a cluster; 40 of them were pulled up, and 20 of these are left: an mbuf, the cluster, and the
+    // key's mbuf
     waits(&rt, &mut host, HEAD, (0, true, b'a', 296));
     assert!(rt; buffers(&host.pool) == (13, 3, 1, 1));
     // the other is joined as it lies, since a cluster takes no bytes of another mbuf

@@ -4,7 +4,6 @@ use flat_plain::Pcb;
 use pcb_table::{Block, Pcbs};
 use std::alloc::Global;
 use std::process::Abort;
-use std::test::Fail;
 
 const OUR: u32 = 0x0a00_0001;
 
@@ -13,10 +12,6 @@ const PEER: u32 = 0x0a00_0002;
 const BROADCAST: u32 = 0x0a00_00ff;
 
 const LOOPBACK: u32 = 0x7f00_0001;
-
-fn at(ip: u32, port: u16) -> Addr {
-    Addr { ip, port }
-}
 
 fn pcb_of(block: Block) -> Pcb {
     Pcb {
@@ -29,101 +24,203 @@ fn pcb_of(block: Block) -> Pcb {
 }
 
 /// The blocks of these descriptors, which are given in the order of opening, the youngest first.
-fn blocks(alloc: Global, table: &Pcbs, fds: &[u32]) -> Result<Vec<Pcb>, Fail> {
+fn blocks(rt: &impl Abort, alloc: Global, table: &Pcbs, fds: &[u32]) -> Vec<Pcb> {
     let mut pcbs = Vec::new(alloc);
     for fd in fds {
         if let Some(block) = table.block(*fd) {
-            pcbs.push(pcb_of(block))?;
+            pcbs.push(pcb_of(block)).expect(rt, "memory");
         }
     }
-    Ok(pcbs)
+    pcbs
 }
 
-/// Asks both what a packet finds.
-fn same_answers(
-    rt: &impl Abort,
-    alloc: Global,
-    table: &mut Pcbs,
-    pcbs: &[Pcb],
+/// A packet to an address and a port, from a peer.
+#[derive(Clone, Copy)]
+struct Packet {
     destination: u32,
     port: u16,
     source: Addr,
-) -> Result<(), Fail> {
-    let key = LookupKey {
-        local: Some(destination),
-        port: Some(port),
-        peer: Some(source),
-    };
-    let best = flat_plain::best(key, pcbs).map(|pcb| pcb.fd);
-    assert_eq!(rt; table.lookup(destination, port, source), best);
-    // the second time the cache may answer
-    assert_eq!(rt; table.lookup(destination, port, source), best);
-    let exact = flat_plain::exact(key, pcbs).map(|pcb| pcb.fd);
-    assert_eq!(rt; table.exact(key), exact);
-    let plain = flat_plain::receivers(alloc, key, pcbs)?;
-    let heard = table.receivers(destination, port, source);
-    assert_eq!(rt; heard.len(), plain.len());
-    for (fd, pcb) in heard.iter().zip(plain.iter()) {
-        assert_eq!(rt; *fd, pcb.fd);
-    }
-    Ok(())
 }
 
-/// Asks about packets of many kinds.
-fn agrees(rt: &impl Abort, alloc: Global, table: &mut Pcbs, fds: &[u32]) -> Result<(), Fail> {
-    let pcbs = blocks(alloc, table, fds)?;
-    for destination in [OUR, BROADCAST, LOOPBACK, 0] {
-        for port in [7, 8, 0, 1024] {
-            for source in [at(PEER, 9), at(PEER, 5000), at(0, 0)] {
-                same_answers(rt, alloc, table, pcbs.as_slice(), destination, port, source)?;
+fn key_of(packet: Packet) -> LookupKey {
+    LookupKey {
+        local: Some(packet.destination),
+        port: Some(packet.port),
+        peer: Some(packet.source),
+    }
+}
+
+fn fd_of(found: Option<Pcb>) -> Option<u32> {
+    Some(found?.fd)
+}
+
+/// Whether both find the same socket; the second time the cache may answer.
+fn finds_alike(table: &mut Pcbs, pcbs: &[Pcb], packet: Packet) -> bool {
+    let key = key_of(packet);
+    let best = fd_of(flat_plain::best(key, pcbs));
+    table.lookup(packet.destination, packet.port, packet.source) == best
+        && table.lookup(packet.destination, packet.port, packet.source) == best
+        && table.exact(key) == fd_of(flat_plain::exact(key, pcbs))
+}
+
+/// Whether the same sockets hear a broadcast.
+fn is_heard_alike(
+    rt: &impl Abort,
+    alloc: Global,
+    table: &Pcbs,
+    pcbs: &[Pcb],
+    packet: Packet,
+) -> bool {
+    let plain = flat_plain::receivers(alloc, key_of(packet), pcbs).expect(rt, "memory");
+    let heard = table.receivers(packet.destination, packet.port, packet.source);
+    if heard.len() != plain.len() {
+        return false;
+    }
+    for (fd, pcb) in heard.iter().zip(plain.iter()) {
+        if *fd != pcb.fd {
+            return false;
+        }
+    }
+    true
+}
+
+static DESTINATIONS: [u32; 4] = [OUR, BROADCAST, LOOPBACK, 0];
+
+static PORTS: [u16; 4] = [7, 8, 0, 1024];
+
+static SOURCES: [Addr; 3] = [
+    Addr { ip: PEER, port: 9 },
+    Addr {
+        ip: PEER,
+        port: 5000,
+    },
+    Addr { ip: 0, port: 0 },
+];
+
+/// Whether both answer alike about packets of many kinds.
+fn agrees(rt: &impl Abort, alloc: Global, table: &mut Pcbs, fds: &[u32]) -> bool {
+    let pcbs = blocks(rt, alloc, table, fds);
+    for destination in DESTINATIONS.iter() {
+        for port in PORTS.iter() {
+            for source in SOURCES.iter() {
+                let packet = Packet {
+                    destination: *destination,
+                    port: *port,
+                    source: *source,
+                };
+                if !finds_alike(table, &pcbs, packet)
+                    || !is_heard_alike(rt, alloc, table, &pcbs, packet)
+                {
+                    return false;
+                }
             }
         }
     }
-    Ok(())
+    true
 }
 
-#[test]
-fn finds_what_the_plain_programs_find(rt: HostRuntime) -> Result<(), Fail> {
-    let alloc = rt.alloc();
-    let mut table = Pcbs::new(OUR, BROADCAST);
-    agrees(&rt, alloc, &mut table, &[])?;
-    for fd in 3..8 {
-        assert_eq!(rt; table.open(), Ok(fd));
+/// A call that is answered well, or the answers of both, where these sockets are open, the youngest first.
+enum Step {
+    Opens(u32),
+    Binds(u32, u32, u16),
+    Shares(u32),
+    Connects(u32, u32, u16),
+    Closes(u32),
+    Agrees(&'static [u32]),
+    // the port that was chosen last, and the one that both choose next
+    Chooses(&'static [u32], Option<u16>, u16),
+}
+
+use Step::{Agrees, Binds, Chooses, Closes, Connects, Opens, Shares};
+
+fn chooses(
+    rt: &impl Abort,
+    alloc: Global,
+    table: &Pcbs,
+    fds: &[u32],
+    last: Option<u16>,
+    next: u16,
+) -> bool {
+    if let Some(port) = last {
+        assert!(rt; 1024 <= port && port <= 5000);
     }
-    agrees(&rt, alloc, &mut table, &[7, 6, 5, 4, 3])?;
-    assert_eq!(rt; table.bind(3, at(OUR, 7)), Ok(()));
-    assert_eq!(rt; table.bind(4, at(LOOPBACK, 7)), Ok(()));
-    assert_eq!(rt; table.set_option(5, Opt::ReusePort, true), Ok(()));
-    assert_eq!(rt; table.bind(5, at(0, 7)), Ok(()));
-    assert_eq!(rt; table.set_option(6, Opt::ReusePort, true), Ok(()));
-    assert_eq!(rt; table.bind(6, at(0, 7)), Ok(()));
-    agrees(&rt, alloc, &mut table, &[7, 6, 5, 4, 3])?;
-    assert_eq!(rt; table.connect(7, at(PEER, 9)), Ok(()));
-    assert_eq!(rt; table.connect(6, at(PEER, 5000)), Ok(()));
-    agrees(&rt, alloc, &mut table, &[7, 6, 5, 4, 3])?;
-    // the youngest has a lower descriptor then
-    assert_eq!(rt; table.close(4), Ok(()));
-    assert_eq!(rt; table.open(), Ok(4));
-    assert_eq!(rt; table.set_option(4, Opt::ReusePort, true), Ok(()));
-    assert_eq!(rt; table.bind(4, at(BROADCAST, 7)), Ok(()));
-    agrees(&rt, alloc, &mut table, &[4, 7, 6, 5, 3])
+    let pcbs = blocks(rt, alloc, table, fds);
+    let chosen = flat_plain::next_port(&pcbs, last, None);
+    chosen == Some(next) && table.next_port() == next
 }
 
-#[test]
-fn chooses_the_port_that_the_plain_program_chooses(rt: HostRuntime) -> Result<(), Fail> {
-    let alloc = rt.alloc();
+fn is_right(rt: &impl Abort, alloc: Global, table: &mut Pcbs, step: &Step) -> bool {
+    match step {
+        Opens(fd) => table.open() == Ok(*fd),
+        Binds(fd, ip, port) => {
+            let local = Addr {
+                ip: *ip,
+                port: *port,
+            };
+            table.bind(*fd, local).is_ok()
+        }
+        Shares(fd) => table.set_option(*fd, Opt::ReusePort, true).is_ok(),
+        Connects(fd, ip, port) => {
+            let peer = Addr {
+                ip: *ip,
+                port: *port,
+            };
+            table.connect(*fd, peer).is_ok()
+        }
+        Closes(fd) => table.close(*fd).is_ok(),
+        Agrees(fds) => agrees(rt, alloc, table, fds),
+        Chooses(fds, last, next) => chooses(rt, alloc, table, fds, *last, *next),
+    }
+}
+
+fn play(rt: &impl Abort, alloc: Global, steps: &[Step]) {
     let mut table = Pcbs::new(OUR, BROADCAST);
-    assert_eq!(rt; table.open(), Ok(3));
-    assert_eq!(rt; table.open(), Ok(4));
-    assert_eq!(rt; table.bind(3, at(0, 1024)), Ok(()));
-    let pcbs = blocks(alloc, &table, &[4, 3])?;
-    let chosen = flat_plain::next_port(pcbs.as_slice(), None, None);
-    assert_eq!(rt; Some(table.next_port()), chosen);
-    assert_eq!(rt; chosen, Some(1025));
-    assert_eq!(rt; table.connect(4, at(PEER, 9)), Ok(()));
-    let pcbs = blocks(alloc, &table, &[4, 3])?;
-    let chosen = flat_plain::next_port(pcbs.as_slice(), Some(1025), None);
-    assert_eq!(rt; Some(table.next_port()), chosen);
-    assert_eq!(rt; chosen, Some(1026));
-    Ok(())
+    for (row, step) in steps.iter().enumerate() {
+        assert!(rt; is_right(rt, alloc, &mut table, step), "row {row}");
+    }
+}
+
+static FOUND: [Step; 22] = [
+    Agrees(&[]),
+    Opens(3),
+    Opens(4),
+    Opens(5),
+    Opens(6),
+    Opens(7),
+    Agrees(&[7, 6, 5, 4, 3]),
+    Binds(3, OUR, 7),
+    Binds(4, LOOPBACK, 7),
+    Shares(5),
+    Binds(5, 0, 7),
+    Shares(6),
+    Binds(6, 0, 7),
+    Agrees(&[7, 6, 5, 4, 3]),
+    Connects(7, PEER, 9),
+    Connects(6, PEER, 5000),
+    Agrees(&[7, 6, 5, 4, 3]),
+    // the youngest has a lower descriptor then
+    Closes(4),
+    Opens(4),
+    Shares(4),
+    Binds(4, BROADCAST, 7),
+    Agrees(&[4, 7, 6, 5, 3]),
+];
+
+#[test]
+fn finds_what_the_plain_programs_find(rt: HostRuntime) {
+    play(&rt, rt.alloc(), &FOUND);
+}
+
+static CHOSEN: [Step; 6] = [
+    Opens(3),
+    Opens(4),
+    Binds(3, 0, 1024),
+    Chooses(&[4, 3], None, 1025),
+    Connects(4, PEER, 9),
+    Chooses(&[4, 3], Some(1025), 1026),
+];
+
+#[test]
+fn chooses_the_port_that_the_plain_program_chooses(rt: HostRuntime) {
+    play(&rt, rt.alloc(), &CHOSEN);
 }

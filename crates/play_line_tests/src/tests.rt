@@ -87,27 +87,43 @@ static SHOWN: [(&str, &str); 5] = [
     ("rx \"a", "rx \"a"),
 ];
 
+/// Whether a line stands for this plain line.
+fn is_plain(scanner: &mut Scanner, line: &str, wanted: &str) -> bool {
+    match scanner.plain_line(line.as_bytes()) {
+        Ok(plain) => plain == wanted.as_bytes(),
+        Err(_) => false,
+    }
+}
+
+/// Whether this is wrong with a line, in this column.
+fn is_faulty(scanner: &mut Scanner, line: &str, fault: &str, column: u64) -> bool {
+    match scanner.plain_line(line.as_bytes()) {
+        Ok(_) => false,
+        Err(slip) => slip.fault.words() == fault && slip.column == column,
+    }
+}
+
 #[test]
 fn reads_plain_lines(rt: HostRuntime) {
     let mut scanner = Scanner::new(rt.alloc()).expect(&rt, "memory");
-    for (line, wanted) in PLAIN {
-        let is_right = match scanner.plain_line(line.as_bytes()) {
-            Ok(plain) => plain == wanted.as_bytes(),
-            Err(_) => false,
-        };
-        assert!(rt; is_right, "at {line}");
+    for (line, wanted) in PLAIN.iter() {
+        assert!(rt; is_plain(&mut scanner, line, wanted), "at {line}");
     }
 }
 
 #[test]
 fn tells_what_is_wrong(rt: HostRuntime) {
     let mut scanner = Scanner::new(rt.alloc()).expect(&rt, "memory");
-    for (line, fault, column) in FAULTY {
-        let is_right = match scanner.plain_line(line.as_bytes()) {
-            Ok(_) => false,
-            Err(slip) => slip.fault.words() == fault && slip.column == column,
-        };
-        assert!(rt; is_right, "at {line}");
+    for (line, fault, column) in FAULTY.iter() {
+        assert!(rt; is_faulty(&mut scanner, line, fault, *column), "at {line}");
+    }
+}
+
+/// How long a line's plain line is.
+fn plain_len(scanner: &mut Scanner, line: &str) -> Option<usize> {
+    match scanner.plain_line(line.as_bytes()) {
+        Ok(plain) => Some(plain.len()),
+        Err(_) => None,
     }
 }
 
@@ -115,36 +131,34 @@ fn tells_what_is_wrong(rt: HostRuntime) {
 #[test]
 fn takes_long_lines(rt: HostRuntime) {
     let mut scanner = Scanner::new(rt.alloc()).expect(&rt, "memory");
-    for (line, is_plain) in [
-        (b"rx @65534+00 => 00*65533".as_slice(), true),
-        (b"rx @65534+00 => 00*65534".as_slice(), false),
-    ] {
-        let is_right = match scanner.plain_line(line) {
-            Ok(plain) => is_plain && plain.len() == 3 + 131_070 + 4 + 131_066,
-            Err(slip) => !is_plain
-                && slip.column == 17
-                && slip.fault.words() == "the line is too long",
-        };
-        assert!(rt; is_right, "at 65533 or 65534");
-    }
+    let len = plain_len(&mut scanner, "rx @65534+00 => 00*65533");
+    assert!(rt; len == Some(3 + 131_070 + 4 + 131_066));
+    let line = "rx @65534+00 => 00*65534";
+    assert!(rt; is_faulty(&mut scanner, line, "the line is too long", 17));
 }
 
 #[test]
 fn tells_columns(rt: HostRuntime) {
     let mut scanner = Scanner::new(rt.alloc()).expect(&rt, "memory");
-    for (line, place, column) in COLUMNS {
-        assert!(rt;
-            scanner.column_of(line.as_bytes(), place) == column,
-            "at {line}"
-        );
+    for (line, place, column) in COLUMNS.iter() {
+        let told = scanner.column_of(line.as_bytes(), *place);
+        assert!(rt; told == *column, "at {line}");
     }
+}
+
+/// Whether this is told of a line.
+fn is_shown(text: &mut Buffer<LONGEST>, line: &str, wanted: &str) -> bool {
+    if line.len() > 262_144 {
+        return false;
+    }
+    put_shown(line.as_bytes(), text);
+    text.as_slice() == wanted.as_bytes()
 }
 
 #[test]
 fn shows_lines_as_written(rt: HostRuntime) {
     let mut text: Buffer<LONGEST> = Buffer::new(rt.alloc()).expect(&rt, "memory");
-    for (line, wanted) in SHOWN {
-        put_shown(line.as_bytes(), &mut text);
-        assert!(rt; text.as_slice() == wanted.as_bytes(), "at {line}");
+    for (line, wanted) in SHOWN.iter() {
+        assert!(rt; is_shown(&mut text, line, wanted), "at {line}");
     }
 }
