@@ -56,6 +56,3 @@ fn cksum_pieces(pool: &Pool, chain: &Chain, off: u32, len: u32, start: Sum) -> u
     }
     sum.finish()
 }
-
-#[cfg(test)]
-mod tests;

@@ -8,7 +8,5 @@
 mod address;
 mod buffer;
 mod measure;
-#[cfg(test)]
-mod tests;
 
 pub use buffer::{Refusal, SockBuf};

@@ -5,10 +5,10 @@ ghost use Rattle.mbuf_chain.specs.Chain.{IsLive, IsPlace, IsUnshared, chain_of, 
 ghost use Rattle.mbuf_chain.specs.Owners.{Moves};
 ghost use Rattle.sockbuf.specs.SockBuf.{IsSockBuf};
 
-use crate::{Refusal, SockBuf};
 use flat_model::Addr;
 use mbuf_chain::{Chain, Place, Pool};
 use mbuf_pool::NoBufs;
+use sockbuf::{Refusal, SockBuf};
 use std::process::Abort;
 
 /// A chain of one empty mbuf, on a cluster or not.
@@ -35,7 +35,7 @@ fn must_be_unshared(rt: &impl Abort, pool: &Pool, chain: &Chain, at: Place)
     ensures { IsUnshared pool.now (entry_of (chain_of pool.now chain.now) at.index) }
 {
     if let Some(cluster) = pool.segment(chain, at).cluster {
-        assert_eq!(rt; pool.count(cluster), 1, "the cluster is shared");
+        assert!(rt; pool.count(cluster) == 1);
     }
 }
 

@@ -1,6 +1,6 @@
 use Rattle.std.proofs.Common.{◌≡◌, ◌+◌, length}
 use Rattle.mbuf_chain.specs.Chain.{IsLive, IsPlace, chain_of}
-use Rattle.in_cksum.proofs.chain.tests.chain_of.Given as goal
+use Rattle.in_cksum_tests.proofs.tests.chains.chain_of.Given as goal
 
 abbrev pub invariant-pieces : goal.invariant-pieces
 invariant-pieces g l = record {

@@ -1,5 +1,5 @@
 use Rattle.mbuf_chain.proofs.Laws.Owners.{moves_adds}
-use Rattle.sockbuf.proofs.tests.steps.empty.Goals as goal
+use Rattle.sockbuf_tests.proofs.tests.steps.empty.Goals as goal
 
 pub returns-in-Ok : goal.returns-in-Ok
 returns-in-Ok g c = moves_adds c.in-Ok.ensures.ok.3

@@ -2,17 +2,12 @@
 ghost use Rattle.mbuf_chain.specs.Chain.{Entry, IsLive, Adds};
 ghost use Rattle.mbuf_chain.specs.Steps.{one_mbuf};
 
-use super::cksum_chain;
-use crate::Sum;
+use super::{EXAMPLE, EXAMPLE_SUM};
+use in_cksum::{Sum, cksum_chain};
 use mbuf_chain::{Chain, Pool};
-use mbuf_pool::{BootFault, Sizes, Store};
+use mbuf_pool::{Sizes, Store};
+use std::alloc::Global;
 use std::process::Abort;
-use std::test::Fail;
-
-/// RFC 1071 section 3, "Numerical Examples".
-const EXAMPLE: [u8; 8] = [0x00, 0x01, 0xf2, 0x03, 0xf4, 0xf5, 0xf6, 0xf7];
-
-const EXAMPLE_SUM: u16 = 0x220d;
 
 /// A plain mbuf with these bytes.
 #[tactic(auto, using(mbuf_chain::proofs::Laws::Maps::map_steps))]
@@ -59,64 +54,71 @@ fn checksum_of(
 }
 
 /// A pool of 16 mbufs.
-fn booted(rt: &HostRuntime) -> Result<Pool, BootFault> {
+fn booted(rt: &impl Abort, alloc: Global) -> Pool {
     let sizes = Sizes {
         mbufs: 16,
         clusters: 0,
     };
-    Ok(Pool::over(Store::boot(rt.alloc(), sizes)?))
+    Pool::over(Store::boot(alloc, sizes).expect(rt, "a pool"))
+}
+
+/// The checksum of the example is that of these pieces.
+fn is_example(rt: &impl Abort, pool: &mut Pool, pieces: &[&[u8]]) -> bool {
+    checksum_of(rt, pool, &[], pieces, 0, 8) == EXAMPLE_SUM
 }
 
 #[test]
-fn the_standards_example_in_two_mbufs(rt: HostRuntime) -> Result<(), Fail> {
-    let mut pool = booted(&rt)?;
+fn the_standards_example_in_two_mbufs(rt: HostRuntime) {
+    let mut pool = booted(&rt, rt.alloc());
     for cut in 0..=EXAMPLE.len() {
         let (front, back) = EXAMPLE.split_at(cut);
-        let sum = checksum_of(&rt, &mut pool, &[], &[front, back], 0, 8);
-        assert_eq!(rt; sum, EXAMPLE_SUM, "cut at {cut}");
-        let sum = checksum_of(&rt, &mut pool, &[], &[front, &[], back], 0, 8);
-        assert_eq!(rt; sum, EXAMPLE_SUM, "cut at {cut}, an empty mbuf between");
+        assert!(rt; is_example(&rt, &mut pool, &[front, back]), "cut at {cut}");
+        assert!(rt;
+            is_example(&rt, &mut pool, &[front, &[], back]),
+            "cut at {cut}, an empty mbuf between"
+        );
     }
-    assert_eq!(rt; pool.free_mbufs(), 16);
-    Ok(())
+    assert!(rt; pool.free_mbufs() == 16);
 }
 
 #[test]
-fn the_standards_example_in_three_mbufs(rt: HostRuntime) -> Result<(), Fail> {
-    let mut pool = booted(&rt)?;
+fn the_standards_example_in_three_mbufs(rt: HostRuntime) {
+    let mut pool = booted(&rt, rt.alloc());
     for first in 0..=EXAMPLE.len() {
         let (front, rest) = EXAMPLE.split_at(first);
         for second in 0..=rest.len() {
             let (middle, back) = rest.split_at(second);
-            let sum = checksum_of(&rt, &mut pool, &[], &[front, middle, back], 0, 8);
-            assert_eq!(rt; sum, EXAMPLE_SUM, "cut at {first} and {second} after it");
+            let pieces = [front, middle, back];
+            assert!(rt;
+                is_example(&rt, &mut pool, &pieces),
+                "cut at {first} and {second} after it"
+            );
             let pieces = [front, &[], middle, &[], &[], back];
-            let sum = checksum_of(&rt, &mut pool, &[], &pieces, 0, 8);
-            assert_eq!(rt;
-                sum,
-                EXAMPLE_SUM,
+            assert!(rt;
+                is_example(&rt, &mut pool, &pieces),
                 "cut at {first} and {second} after it, with empty mbufs"
             );
         }
     }
-    assert_eq!(rt; pool.free_mbufs(), 16);
-    Ok(())
+    assert!(rt; pool.free_mbufs() == 16);
 }
 
 /// A part of the bytes was added before, and the chain has other bytes in front of the rest and after it.
 #[test]
-fn a_range_after_a_sum(rt: HostRuntime) -> Result<(), Fail> {
-    let mut pool = booted(&rt)?;
+fn a_range_after_a_sum(rt: HostRuntime) {
+    let mut pool = booted(&rt, rt.alloc());
     for cut in 0..=EXAMPLE.len() {
         let (before, rest) = EXAMPLE.split_at(cut);
         let pieces = [[9, 9, 9].as_slice(), rest, &[8]];
         let sum = checksum_of(&rt, &mut pool, before, &pieces, 3, rest.len() as u32);
-        assert_eq!(rt; sum, EXAMPLE_SUM, "cut at {cut}");
+        assert!(rt; sum == EXAMPLE_SUM, "cut at {cut}");
     }
-    assert_eq!(rt;
-        checksum_of(&rt, &mut pool, &EXAMPLE, &[&[7]], 1, 0),
-        EXAMPLE_SUM
-    );
-    assert_eq!(rt; checksum_of(&rt, &mut pool, &[], &[], 0, 0), 0xffff);
-    Ok(())
+}
+
+#[test]
+fn a_range_of_no_bytes(rt: HostRuntime) {
+    let mut pool = booted(&rt, rt.alloc());
+    let after_a_sum = checksum_of(&rt, &mut pool, &EXAMPLE, &[&[7]], 1, 0);
+    let alone = checksum_of(&rt, &mut pool, &[], &[], 0, 0);
+    assert!(rt; after_a_sum == EXAMPLE_SUM && alone == 0xffff);
 }

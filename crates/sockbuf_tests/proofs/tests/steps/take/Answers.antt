@@ -1,6 +1,6 @@
 use Rattle.mbuf_chain.proofs.Laws.Owners.{apart_first, owned_after}
-use Rattle.sockbuf.proofs.Beside.{ready_freed}
-use Rattle.sockbuf.proofs.tests.steps.take.Goals as goal
+use Rattle.sockbuf.proofs.Laws.{ready_freed}
+use Rattle.sockbuf_tests.proofs.tests.steps.take.Goals as goal
 
 pub returns : goal.returns
 returns c =

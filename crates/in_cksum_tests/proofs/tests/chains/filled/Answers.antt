@@ -3,7 +3,7 @@ use Rattle.mbuf_chain.specs.Chain.{Entry, ChainView, PoolView, chain_of, with_ch
 use Rattle.mbuf_chain.specs.Steps.{one_mbuf, with_entry}
 use Rattle.mbuf_chain.proofs.Laws.Maps.{insert-insert}
 use Rattle.mbuf_chain.proofs.Laws.Owners.{shown_with}
-use Rattle.in_cksum.proofs.chain.tests.filled.Goals as goal
+use Rattle.in_cksum_tests.proofs.tests.chains.filled.Goals as goal
 
 -- a new chain of one mbuf, filled, is a new chain of one mbuf
 changed : (p q r : PoolView) (c i : ℕ) (header : Bool) (old new : Entry) → Adds p q c (one_mbuf header old c) → i ≡ 0 → r ≡ with_chain q c (with_entry (chain_of q c) i new) → Adds p r c (one_mbuf header new c)

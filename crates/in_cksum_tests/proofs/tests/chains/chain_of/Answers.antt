@@ -1,6 +1,6 @@
 use Rattle.std.proofs.Common.{arith}
 use Rattle.mbuf_chain.proofs.Laws.Steps.{live_shown, apart, count_joined}
-use Rattle.in_cksum.proofs.chain.tests.chain_of.Goals as goal
+use Rattle.in_cksum_tests.proofs.tests.chains.chain_of.Goals as goal
 
 pub pieces-preserved : goal.pieces-preserved
 pieces-preserved g c = record {

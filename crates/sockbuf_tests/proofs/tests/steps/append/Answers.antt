@@ -2,8 +2,8 @@ use Rattle.std.proofs.Common.{◌≡◌, [], ◌∙◌, arith}
 use Rattle.mbuf_chain.specs.Owners.{times}
 use Rattle.mbuf_chain.proofs.Laws.Owners.{live_first, owned_after}
 use Rattle.sockbuf.specs.SockBuf.{chains_of}
-use Rattle.sockbuf.proofs.Beside.{ready_made, apart_ready, ready_freed, refused}
-use Rattle.sockbuf.proofs.tests.steps.append.Goals as goal
+use Rattle.sockbuf.proofs.Laws.{ready_made, apart_ready, ready_freed, refused}
+use Rattle.sockbuf_tests.proofs.tests.steps.append.Goals as goal
 
 pub append_addr-requires-clause-ready : goal.append_addr-requires-clause-ready
 append_addr-requires-clause-ready g c = ready_made _ c.datagram-chain.ensures c.requires
