@@ -7,8 +7,6 @@
 #![tactic(auto)]
 
 mod reservation;
-#[cfg(test)]
-mod tests;
 mod usage;
 mod waiting;
 

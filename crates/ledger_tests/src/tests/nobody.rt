@@ -1,6 +1,6 @@
 //! An owner of nothing.
 
-use crate::Waiting;
+use ledger::Waiting;
 use mbuf_chain::{Pool, Reclaim};
 
 /// Nobody waits for a fragment.

@@ -2,24 +2,22 @@
 
 mod nobody;
 
-ghost use Rattle.std.specs.Prelude.{◌≡◌, ◌≢◌, ℕ, IfOk};
+ghost use Rattle.std.specs.Prelude.{◌≡◌, ◌≢◌, ℕ};
 ghost use Rattle.mbuf_chain.specs.Chain.{IsLive};
 
-use crate::{mbstat, reserve};
 use flat_model::{Counters, Mbstat};
+use ledger::{mbstat, reserve};
 use mbuf_chain::{Chain, Pool};
-use mbuf_pool::{BootFault, NoBufs, Sizes, Store};
+use mbuf_pool::{Sizes, Store};
 use nobody::Nobody;
 use std::alloc::Global;
 use std::process::Abort;
-use std::test::Fail;
 
 /// A pool of which all is free.
-fn booted(alloc: Global, mbufs: u32, clusters: u32) -> Result<Pool, BootFault>
-    ensures { IfOk result (λ p. (p.mbufs ≡ mbufs) × (p.clusters ≡ clusters)) }
+fn booted(rt: &impl Abort, alloc: Global, mbufs: u32, clusters: u32) -> Pool
+    ensures { (result.mbufs ≡ mbufs) × (result.clusters ≡ clusters) }
 {
-    let store = Store::boot(alloc, Sizes { mbufs, clusters })?;
-    Ok(Pool::over(store))
+    Pool::over(Store::boot(alloc, Sizes { mbufs, clusters }).expect(rt, "a pool"))
 }
 
 /// A chain of one mbuf on a cluster of its own.
@@ -31,10 +29,7 @@ fn on_cluster(rt: &impl Abort, pool: &mut Pool) -> Chain
     ensures mbufs { pool.new.mbufs ≡ pool.old.mbufs }
     ensures clusters { pool.new.clusters ≡ pool.old.clusters }
 {
-    match pool.new_cluster(true, 0) {
-        Ok(chain) => chain,
-        Err(NoBufs) => panic!(rt; "no cluster is free"),
-    }
+    pool.new_cluster(true, 0).expect(rt, "a cluster is free")
 }
 
 /// A chain of one mbuf that shares the cluster of a chain's first mbuf.
@@ -54,8 +49,8 @@ fn shared(rt: &impl Abort, pool: &mut Pool, chain: &Chain) -> Chain
 
 #[test]
 #[tactic(auto, using(mbuf_chain::proofs::Laws::Maps::map_steps))]
-fn shows_what_is_in_use(rt: HostRuntime) -> Result<(), Fail> {
-    let mut pool = booted(rt.alloc(), 8, 4)?;
+fn shows_what_is_in_use(rt: HostRuntime) {
+    let mut pool = booted(&rt, rt.alloc(), 8, 4);
     let nothing = Mbstat {
         free_mbufs: 8,
         mbufs: 8,
@@ -64,7 +59,7 @@ fn shows_what_is_in_use(rt: HostRuntime) -> Result<(), Fail> {
         refs: 0,
         most: 0,
     };
-    assert_eq!(rt; mbstat(&pool), nothing);
+    assert!(rt; mbstat(&pool) == nothing);
     let a = on_cluster(&rt, &mut pool);
     let b = shared(&rt, &mut pool, &a);
     let c = on_cluster(&rt, &mut pool);
@@ -76,17 +71,16 @@ fn shows_what_is_in_use(rt: HostRuntime) -> Result<(), Fail> {
         refs: 3,
         most: 2,
     };
-    assert_eq!(rt; mbstat(&pool), in_use);
+    assert!(rt; mbstat(&pool) == in_use);
     pool.free_chain(a);
     pool.free_chain(b);
     pool.free_chain(c);
-    assert_eq!(rt; mbstat(&pool), nothing);
-    Ok(())
+    assert!(rt; mbstat(&pool) == nothing);
 }
 
 #[test]
-fn tests_the_pool(rt: HostRuntime) -> Result<(), Fail> {
-    let mut pool = booted(rt.alloc(), 3, 2)?;
+fn tests_the_pool(rt: HostRuntime) {
+    let mut pool = booted(&rt, rt.alloc(), 3, 2);
     let mut nobody = Nobody;
     let mut counters = Counters::none();
     for (mbufs, clusters, enough) in [
@@ -96,11 +90,8 @@ fn tests_the_pool(rt: HostRuntime) -> Result<(), Fail> {
         (0, 3, false),
         (4, 3, false),
     ] {
-        assert_eq!(rt;
-            reserve(&mut pool, &mut nobody, &mut counters, mbufs, clusters),
-            enough
-        );
+        let answer = reserve(&mut pool, &mut nobody, &mut counters, mbufs, clusters);
+        assert!(rt; answer == enough, "{mbufs} mbufs and {clusters} clusters");
     }
-    assert_eq!(rt; counters, Counters::none());
-    Ok(())
+    assert!(rt; counters == Counters::none());
 }
