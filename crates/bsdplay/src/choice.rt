@@ -74,8 +74,8 @@ impl<R: Read> Ahead<R> {
         self.summary = true;
     }
 
-    /// Whether it's a script of many machines: its first line that asks for something begins with `host`. It reads as far
-    /// as it has to, and 4,096 bytes at most; a script that doesn't tell by then has one machine.
+    /// Whether it's a script of many machines: its first line that asks for something begins with `host`. It reads as
+    /// far as it has to, and 4,096 bytes at most; a script that doesn't tell by then has one machine.
     pub(crate) fn has_hosts(&mut self) -> bool {
         for _ in 0..AHEAD {
             let len = self.len;

@@ -21,7 +21,8 @@ pub(crate) fn play_uncaptured<R: Source, W: Sink>(
     play_hosts(rt.alloc(), style, start, reader, writer)
 }
 
-/// Plays a script of many machines, and writes what goes on its wire to a new file. `None` if there can't be such a file.
+/// Plays a script of many machines, and writes what goes on its wire to a new file. `None` if there can't be such a
+/// file.
 pub(crate) fn play_captured<R: Source, W: Sink>(
     rt: &HostRuntime,
     style: Style<'_>,

@@ -19,7 +19,8 @@ copied_from room [] skip len = []
 copied_from room (e ∷ es) skip len =
     if len == 0 then [] else copied_entry room e skip (min len (length e.bytes - skip)) ∷ copied_from MBUF_HEADER es 0 (len - (length e.bytes - skip))
 
--- where a byte lies in a list of entries: what stands there from its entry on, and how many bytes of that entry are in front of it
+-- where a byte lies in a list of entries: what stands there from its entry on, and how many bytes of that entry are in
+-- front of it
 pub record Position : Type 0 where
   pub entries : List Entry
   pub skip : ℕ

@@ -3,7 +3,8 @@ use Rattle.std.specs.Prelude.{nat_lt, if◌then◌else◌, List, [], ◌∷◌, 
 use Rattle.mbuf_chain.specs.Chain.{Entry, trailing_space}
 use Rattle.mbuf_chain.specs.Steps.{with_back}
 
--- an entry, and those that stand after it: as long as the next one is shorter than the room after its bytes, that one is moved into it
+-- an entry, and those that stand after it: as long as the next one is shorter than the room after its bytes, that one
+-- is moved into it
 abbrev pub filled_up : Entry → List Entry → List Entry
 filled_up e [] = e ∷ []
 filled_up e (f ∷ fs) = if nat_lt (length f.bytes) (trailing_space e) then filled_up (with_back e f.bytes) fs else e ∷ f ∷ fs

@@ -1,9 +1,11 @@
--- What an operation leaves in the pool: the chain that it made or changed, and every other chain as it was (this project's own).
+-- What an operation leaves in the pool: the chain that it made or changed, and every other chain as it was (this
+-- project's own).
 use Rattle.std.specs.Prelude.{◌≡◌, ℕ, ◌+◌, ◌≤◌, ◌<◌, List}
 use Rattle.mbuf_chain.specs.Chain.{Entry, Front, PoolView, chain_of, with_chain, held_mbufs, Adds}
 
--- From p to q a chain c came, under a number that was nobody's in p, with that front and those entries; nothing else changed. Which mbufs it has isn't said.
--- A chain that was changed, perhaps under another number, is `Makes (without p c) q d ..`; two joined are `Makes (without (without p d) c) q c ..`.
+-- From p to q a chain c came, under a number that was nobody's in p, with that front and those entries; nothing else
+-- changed. Which mbufs it has isn't said. A chain that was changed, perhaps under another number, is `Makes (without p
+-- c) q d ..`; two joined are `Makes (without (without p d) c) q c ..`.
 pub record Makes (p q : PoolView) (c : ℕ) (f : Front) (es : List Entry) : Type 0 where
   pub adds : Adds p q c (chain_of q c)
   pub front : (chain_of q c).front ≡ f

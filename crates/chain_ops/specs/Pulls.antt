@@ -8,7 +8,8 @@ use Rattle.chain_ops.specs.declared.pullup.Refusal.TheVariants.{TooLong, TooShor
 use Rattle.chain_ops.specs.Makes.{LacksMbufs}
 use Rattle.chain_ops.specs.Rooms.{room_low}
 
--- an entry, and those that stand after it: the next n bytes are moved into it. An entry that is emptied goes, and so does one without bytes that is passed
+-- an entry, and those that stand after it: the next n bytes are moved into it. An entry that is emptied goes, and so
+-- does one without bytes that is passed
 abbrev pub moved : ℕ → Entry → List Entry → List Entry
 moved n e [] = e ∷ []
 moved n e (f ∷ fs) =

@@ -1,4 +1,5 @@
--- Bytes put into new mbufs (sosend, chapter 16, and m_devget, chapter 2 of TCP/IP Illustrated, volume 2): the layouts are the flat machine's.
+-- Bytes put into new mbufs (sosend, chapter 16, and m_devget, chapter 2 of TCP/IP Illustrated, volume 2): the layouts
+-- are the flat machine's.
 use Rattle.std.specs.Prelude.{◌≡◌, ℕ, ◌<◌, ◌≤◌, ◌-◌, Bool, true, false, ◌⊎◌, List, [], ◌∷◌, length, take, drop, count_by, Option, Some, None, if◌then◌else◌}
 use Rattle.std.specs.List.{AllByRecursion}
 use Rattle.params.specs.declared.TheConstants.{MBUF_HEADER, MHLEN, MCLBYTES}
@@ -32,7 +33,8 @@ stored_first large ends cs (Plain n ∷ rooms) xs = record { bytes = take n xs; 
 stored_first large ends [] (Cluster n ∷ rooms) xs = []
 stored_first large ends (c ∷ cs) (Cluster n ∷ rooms) xs = record { bytes = take n xs; start = large; cluster = Some c } ∷ stored cs rooms (drop n xs)
 
--- the rooms for n bytes, of which a first cluster begins at `large`: `user` with 56, CLUSTER_LEADING_SPACE, and `wire` with 0
+-- the rooms for n bytes, of which a first cluster begins at `large`: `user` with 56, CLUSTER_LEADING_SPACE, and `wire`
+-- with 0
 abbrev pub rooms_for : ℕ → ℕ → List Room
 rooms_for large n = or_empty (filled n (MCLBYTES - large) MHLEN n)
 

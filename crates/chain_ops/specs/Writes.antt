@@ -1,4 +1,5 @@
--- Bytes written over a chain's (m_copyback; TCP/IP Illustrated, volume 2, chapter 2), and where that may be done (this project's own).
+-- Bytes written over a chain's (m_copyback; TCP/IP Illustrated, volume 2, chapter 2), and where that may be done (this
+-- project's own).
 use Rattle.std.specs.Prelude.{ℕ, zero, suc, ◌+◌, ◌-◌, ◌==◌, Bool, true, false, not, ◌&&◌, nat_lt, if◌then◌else◌, List, [], ◌∷◌, ◌++◌, length, take, drop, replicate, Option, None, Some}
 use Rattle.params.specs.declared.TheConstants.{MBUF_HEADER, MLEN}
 use Rattle.mbuf_chain.specs.Chain.{Entry, flat_bytes}

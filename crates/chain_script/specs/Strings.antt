@@ -1,4 +1,5 @@
--- The machine of the chain script by the strings of its slots alone (this project's own): what its answers say of bytes, whatever the layouts are.
+-- The machine of the chain script by the strings of its slots alone (this project's own): what its answers say of
+-- bytes, whatever the layouts are.
 use Rattle.std.specs.Prelude.{◌≡◌, ℕ, ◌+◌, ◌==◌, ◌⊎◌, Bool, true, false, not, ◌&&◌, nat_lt, nat_le, List, [], ◌∷◌, ◌++◌, length, take, drop, map, is_some, unwrap_or, Option, Some, None, slice_set, slice_index_or}
 use Rattle.params.specs.declared.TheConstants.{MHLEN, IP_MAX_PACKET}
 use Rattle.flat_model.specs.declared.usage.Mbstat.{Mbstat}

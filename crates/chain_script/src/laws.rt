@@ -7,8 +7,9 @@ ghost use Rattle.chain_script.specs.Machines.{Machine, booted};
 ghost use Rattle.chain_script.specs.Steps.{Reply, Step, Says};
 ghost use Rattle.chain_script.specs.Strings.{strings_of, StringStep, StringSays};
 
-/// The slots' strings follow from the lines alone, but for which of these lack buffers or hit a shared cluster. So do all
-/// replies but those to `show`, of which the length does, and to `mbstat`: they are those of list operations on strings.
+/// The slots' strings follow from the lines alone, but for which of these lack buffers or hit a shared cluster. So do
+/// all replies but those to `show`, of which the length does, and to `mbstat`: they are those of list operations on
+/// strings.
 pub fn strings_law()
     // At boot there are none.
     ensures boot { (mbufs clusters : ℕ) → strings_of (booted mbufs clusters) ≡ replicate SLOTS None }

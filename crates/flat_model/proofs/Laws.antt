@@ -1,5 +1,5 @@
--- All the lemmas that crates above may cite. Their statements stand in the files named; the laws that need a contract of
--- their own are in src/theorems.rt.
+-- All the lemmas that crates above may cite. Their statements stand in the files named; the laws that need a contract
+-- of their own are in src/theorems.rt.
 
 -- ---- facts by cases, and facts of each element of a list
 pub use Rattle.flat_model.proofs.Lists.Each.{by_choice, by_case, none_passed, each-map, each-map_to, each-append, each-filter, each-find, each-both, each-weaker, each-take}

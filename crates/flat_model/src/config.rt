@@ -38,8 +38,8 @@ impl Config {
     ///
     /// # Errors
     ///
-    /// `BadSizes` where it has no mbuf, more than 65,535 of them or more than 4,096 clusters; else `BadConfig` where its
-    /// MTU isn't 68 to 4352, an address isn't that of a host, or both addresses are the same.
+    /// `BadSizes` where it has no mbuf, more than 65,535 of them or more than 4,096 clusters; else `BadConfig` where
+    /// its MTU isn't 68 to 4352, an address isn't that of a host, or both addresses are the same.
     pub fn check(self) -> Result<(), ConfigFault>
         ensures { MatchResult result (λ done. IsConfig self) (λ fault. IsRefused self fault) }
     {

@@ -1,8 +1,8 @@
 //! The definitions of `flat_model` that compute, as small programs over slices and vectors.
 //!
 //! Each is proved to give its definition, and is slow on purpose: the tests here run them on values from outside, and
-//! those of `pcb_compare` compare a control block table's answers with theirs. They stand apart from `flat_model` so that
-//! every other crate is checked over a base of definitions and laws alone.
+//! those of `pcb_compare` compare a control block table's answers with theirs. They stand apart from `flat_model` so
+//! that every other crate is checked over a base of definitions and laws alone.
 #![tactic(auto)]
 
 mod headers;

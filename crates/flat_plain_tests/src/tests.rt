@@ -1,5 +1,5 @@
-//! The definitions beside values from outside: those of RFCs, and others that were worked out by hand. Most tests go over a
-//! table, and one that fails tells the row, from 0 on.
+//! The definitions beside values from outside: those of RFCs, and others that were worked out by hand. Most tests go
+//! over a table, and one that fails tells the row, from 0 on.
 
 mod fragments;
 mod headers;

@@ -19,8 +19,8 @@ pub fn wire_law()
     ensures { WireLaw exact_ledger exact_ledger }
 {}
 
-/// The same of what the second machine's program is told: what its `recvfrom` answers with the first machine's address as
-/// the sender's is the front of what the first sent so, whole.
+/// The same of what the second machine's program is told: what its `recvfrom` answers with the first machine's address
+/// as the sender's is the front of what the first sent so, whole.
 pub fn received_law()
     ensures { ReceivedLaw exact_ledger exact_ledger }
 {}

@@ -1,5 +1,5 @@
--- What is known of a packet by its origin: what it weighs once its header is pulled up, and that its arrival is the flat
--- machine's.
+-- What is known of a packet by its origin: what it weighs once its header is pulled up, and that its arrival is the
+-- flat machine's.
 use Rattle.std.proofs.Common.{◌≡◌, ◌⊎◌, ℕ, suc, ◌+◌, ◌-◌, ◌<◌, ◌≤◌, min, true, false, not, List, [], ◌∷◌, length, drop, take, Option, None, Some, is_some, get_or, refl, sym, ap, ◌∙◌, subst, arith, inl, inr, length-drop, length-append}
 use Rattle.std.specs.Prelude.{filter_map}
 use Rattle.std.specs.List.{cons_option}

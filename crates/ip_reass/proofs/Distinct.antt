@@ -1,5 +1,5 @@
--- No key is held twice: an arrival leaves the keys that waited, without that of a datagram that it made whole, or with one
--- more that wasn't held.
+-- No key is held twice: an arrival leaves the keys that waited, without that of a datagram that it made whole, or with
+-- one more that wasn't held.
 use Rattle.std.proofs.Common.{◌≡◌, ◌⊎◌, ℕ, ◌+◌, ◌≤◌, Bool, true, cond, List, [], ◌∷◌, refl, ap, arith, inl, inr}
 use Rattle.std.specs.Prelude.{count_by}
 use Rattle.std.proofs.lemmas.Bool.{cases_Bool, cond-true, cond-false}

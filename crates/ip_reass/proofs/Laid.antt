@@ -165,7 +165,8 @@ module _ (f : Fragment) (xs ys : List Fragment) (w : Around f.offset xs ys) wher
       go None h = over k true None (inside k l m) (known_right xs ys k e ∙ h)
       go (Some c) h = over k true (Some c) (inside k l m) (known_right xs ys k e ∙ h) ∙ cond-false _ _ _ (lt-leb c.piece.first f.offset (begins_above f.offset ys k c w.above h))
 
-  -- **the fragments before, what they leave of the new one, and what it leaves of the fragments after, are the overlay**
+  -- **the fragments before, what they leave of the new one, and what it leaves of the fragments after, are the
+  -- overlay**
   pub laid_at : (cut k : ℕ) → cut ≡ reach 0 xs - f.offset → cut < length f.bytes → map_of (new_parts cut) k ≡ overlay (map_of (xs ++ ys)) f k
   laid_at cut k is_cut some = elim (none_or_some (map_of xs k)) [
     | inr (c, e) ↦ known_left xs (trimmed cut f ∷ left_from (flat.fragment_end f) ys) k c e ∙ sym (early_stays k c e)

@@ -1,5 +1,5 @@
--- An arrival beside that of the flat machine (`ip_reass` of TCP/IP Illustrated, volume 2, chapter 10): the clauses hold for
--- every rest of the machine.
+-- An arrival beside that of the flat machine (`ip_reass` of TCP/IP Illustrated, volume 2, chapter 10): the clauses hold
+-- for every rest of the machine.
 use Rattle.std.specs.Prelude.{◌≡◌, ◌⊎◌, ℕ, ◌+◌, ◌<◌, ◌≤◌, Bool, true, false, is_some, nat_le, if◌then◌else◌, List, [], ◌∷◌, length, drop, None}
 use Rattle.params.specs.declared.TheConstants.{IP_HEADER, MINCLSIZE, MAX_PROTOCOL_HEADER}
 use Rattle.flat_model.specs.Amounts.Weight.{Weight, Item, ◌⊕◌}
@@ -69,8 +69,8 @@ GoesOn held q Kept now new = new ≡ now
 GoesOn held q (Whole c h) now new = WholeArrives exact_ledger held h.src h.dst h.proto (item_at q c) now new
 GoesOn held q (Dropped why) now new = new ≡ now
 
--- A fragment's datagram begins, where an mbuf is to be had for its key: from p, ds and counters c on to q, es and d, chain
--- n arrived as the fragment f, whose key isn't held yet.
+-- A fragment's datagram begins, where an mbuf is to be had for its key: from p, ds and counters c on to q, es and d,
+-- chain n arrived as the fragment f, whose key isn't held yet.
 pub record BeginsAt (p : PoolView) (ds : List Datagram) (c : Counters) (k : Key) (f : Fragment) (w : Weight) (result : Arrival) (q : PoolView) (es : List Datagram) (d : Counters) (rest : State) (held : Weight) (new : State) : Type 0 where
   pub tests : Tests exact_ledger (machine p ds c rest) (held ⊕ w) 1 new (λ mid. Lays exact_ledger held k f (begun k) (begin_unfinished k mid) new)
 

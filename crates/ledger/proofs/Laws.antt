@@ -2,7 +2,8 @@
 
 -- What an owner's chains weigh is the sum over them.
 pub use Rattle.ledger.proofs.Weights.{owned_mbufs, owned_bag}
--- Accounts: from the owners of all chains; beside another state of the same weight; what is free is what the machine says is free.
+-- Accounts: from the owners of all chains; beside another state of the same weight; what is free is what the machine
+-- says is free.
 pub use Rattle.ledger.proofs.Accounts.{accounted_all, accounted_as, free_mbufs_are, free_clusters_are, test_is}
 -- A test that passed: so many are free.
 pub use Rattle.ledger.proofs.Accounts.{enough_mbufs, enough_clusters}

@@ -1,4 +1,5 @@
--- What an owner's step does to the accounts, by `Moves` alone: what it doesn't touch stays as it was, so the counts change as those of its own chains.
+-- What an owner's step does to the accounts, by `Moves` alone: what it doesn't touch stays as it was, so the counts
+-- change as those of its own chains.
 use Rattle.std.proofs.Common.{◌≡◌, ◌≢◌, ℕ, zero, suc, ◌+◌, ◌<◌, ◌≤◌, List, [], ◌∷◌, None, sum_by, refl, sym, ap, ◌∙◌, subst, arith, inl, inr}
 use Rattle.std.specs.FinMap as finmap
 use Rattle.std.proofs.lemmas.Bool.{cases_eq}

@@ -37,7 +37,8 @@ pub record IsAccounted (p : PoolView) (s : State) (held : Weight) : Type 0 where
   pub total : held_mbufs p ≡ (weight_of_state s ⊕ held).mbufs
   pub references : (c : ℕ) → references p c ≡ count_of s held c
 
--- what state and hand weigh changes from s with `held` to t with `kept` as an owner's chains change from `before` to `after`
+-- what state and hand weigh changes from s with `held` to t with `kept` as an owner's chains change from `before` to
+-- `after`
 pub record Shifts (s : State) (held before : Weight) (t : State) (kept after : Weight) : Type 0 where
   pub mbufs : (weight_of_state s ⊕ held).mbufs + after.mbufs ≡ (weight_of_state t ⊕ kept).mbufs + before.mbufs
   pub bag : (c : ℕ) → times c (weight_of_state s ⊕ held).bag + times c after.bag ≡ times c (weight_of_state t ⊕ kept).bag + times c before.bag

@@ -17,8 +17,8 @@ use Rattle.libbsdudp.specs.Plain.{whom}
 abbrev pub stack_in : Handle → Option StackView
 stack_in h = if h.live == 1651729525 then option_map (λ b. b.stack) h.held.kept else None
 
--- The answer of a handle without a stack is -ENXIO, it stays without one, and `idle` says that all else is as it was. If
--- the handle has one, `call` says what becomes of it.
+-- The answer of a handle without a stack is -ENXIO, it stays without one, and `idle` says that all else is as it was.
+-- If the handle has one, `call` says what becomes of it.
 abbrev pub Answers : Option StackView → ℤ → Option StackView → Type 0 → (StackView → StackView → Type 0) → Type 0
 Answers None answer after idle call = (answer ≡ no_stack) × (after ≡ None) × idle
 Answers (Some s) answer after idle call = (n : StackView) × (after ≡ Some n) × call s n

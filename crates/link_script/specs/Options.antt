@@ -1,5 +1,5 @@
--- The words of the command line (this project's own). How they're cut into options and values is told by crate clap: `fault_of` has
--- the faults that it finds in words, and `subcommand_of` what the words after a subcommand give.
+-- The words of the command line (this project's own). How they're cut into options and values is told by crate clap:
+-- `fault_of` has the faults that it finds in words, and `subcommand_of` what the words after a subcommand give.
 use Rattle.std.specs.Prelude.{◌≡◌, ◌≢◌, ◌⊎◌, ℕ, ◌-◌, true, List, [], length, slice_get, codes, Option, Some, None, Result, Ok, Err}
 use Rattle.clap.specs.Words.{App, Rule, Row, new_app, new_rule, with_rule, with_subcommand, first_of, subcommand_of, fault_of}
 use Rattle.flat_model.specs.Scripts.Grammar.{IsNumber, IsAddress}
@@ -68,7 +68,8 @@ pub record NamesSizes (defaults : Config) (text : List ℕ → Option (List ℕ)
   pub mbufs : HasNumber 4294967295 defaults.mbufs (text (codes "mbufs")) z.mbufs
   pub clusters : HasNumber 4294967295 defaults.clusters (text (codes "clusters")) z.clusters
 
--- A subcommand of this name asks for this task: `run` for the script of calls on sockets, `chain` for the one of calls on chains.
+-- A subcommand of this name asks for this task: `run` for the script of calls on sockets, `chain` for the one of calls
+-- on chains.
 abbrev pub NamesTask : Config → List ℕ → (List ℕ → Option (List ℕ)) → Task → Type 0
 NamesTask defaults name text (Run c) = (name ≡ codes "run") × Names defaults text c
 NamesTask defaults name text (Chain z) = (name ≡ codes "chain") × NamesSizes defaults text z

@@ -46,8 +46,8 @@ Served (task.Run config) unread rest before after outcome =
 Served (task.Chain sizes) unread rest before after outcome =
     chains.Boots sizes outcome × (new : Machine) × Serves steps.Says (booted sizes.mbufs sizes.clusters) new unread rest before after outcome
 
--- What was done by words that ask for these tasks. They ask for none, or memory was lacking to read them, and nothing was read or
--- written; or the script that they ask for was served.
+-- What was done by words that ask for these tasks. They ask for none, or memory was lacking to read them, and nothing
+-- was read or written; or the script that they ask for was served.
 abbrev pub Ran : (Task → Type 0) → Option (List ℕ) → Option (List ℕ) → Option (List ℕ) → Option (List ℕ) → Result Unit Failure → Type 0
 Ran asks unread rest before after (Err Usage) = ((task : Task) → ¬ asks task) × Moves unread rest [] before after []
 Ran asks unread rest before after (Err (failure.Run fault)) =

@@ -35,8 +35,8 @@ pub enum Failure {
 }
 
 impl Failure {
-    /// The status that the program ends with, 2 to 4: 2 where the words aren't a command, 3 where there is no machine, 4
-    /// where reading or writing failed or the script has too many lines (this project's own).
+    /// The status that the program ends with, 2 to 4: 2 where the words aren't a command, 3 where there is no machine,
+    /// 4 where reading or writing failed or the script has too many lines (this project's own).
     pub fn status(self) -> u8
         ensures { result ≡ status_of (Err self) }
     {
@@ -103,18 +103,18 @@ fn serve<R: Source, W: Sink>(
 }
 
 /// Does what the words ask for, the program's name first, and answers the status. `run` serves the script from the
-/// reader to the writer, on a machine with the configuration that its options name: `--addr` and `--bcast` the addresses,
-/// `--mtu`, `--mbufs`, `--clusters`, and `--id` the first identification. Each comes at most once, in any order, its value
-/// in the next word or after `=`. Else it's 10.0.0.1, 10.0.0.255, 1500, 512, 64 and 1. `chain` serves the script of calls
-/// on chains, over a pool whose sizes `--mbufs` and `--clusters` name in the same way.
+/// reader to the writer, on a machine with the configuration that its options name: `--addr` and `--bcast` the
+/// addresses, `--mtu`, `--mbufs`, `--clusters`, and `--id` the first identification. Each comes at most once, in any
+/// order, its value in the next word or after `=`. Else it's 10.0.0.1, 10.0.0.255, 1500, 512, 64 and 1. `chain` serves
+/// the script of calls on chains, over a pool whose sizes `--mbufs` and `--clusters` name in the same way.
 ///
 /// `words` is an error where they couldn't be had: `OutOfMemory` for want of memory, and another one where a word isn't
 /// UTF-8.
 ///
-/// The status is 0 where all lines were answered; 2 where the words aren't a command, or a number isn't one or is out of
-/// its range; 3 where host memory is lacking, or the configuration or the sizes are bad; 4 where reading or writing
-/// failed, or there were too many lines. Each status but 0 has its text, which goes to `errors`; a failure there changes
-/// nothing.
+/// The status is 0 where all lines were answered; 2 where the words aren't a command, or a number isn't one or is out
+/// of its range; 3 where host memory is lacking, or the configuration or the sizes are bad; 4 where reading or writing
+/// failed, or there were too many lines. Each status but 0 has its text, which goes to `errors`; a failure there
+/// changes nothing.
 pub fn program<R: Source, W: Sink, E: Write>(
     alloc: Global,
     words: io::Result<Vec<String>>,

@@ -16,9 +16,9 @@ pub fn lines_law()
     ensures ranges { (line : List ℕ) (event : Event) → IsLine line event → IsEvent event }
 {}
 
-/// What is printed line by line, each text being that of an answer of the machine that keeps exact accounts, is what its
-/// definition prints for all lines together. From boot it's told by one run: each line that asks for something has its turn,
-/// in their order, and what is printed are the replies of these turns.
+/// What is printed line by line, each text being that of an answer of the machine that keeps exact accounts, is what
+/// its definition prints for all lines together. From boot it's told by one run: each line that asks for something has
+/// its turn, in their order, and what is printed are the replies of these turns.
 pub fn prints_law()
     ensures all { (old new : State) (lines : List (List ℕ)) (printed : List ℕ)
         → Prints (Says Step) old lines printed new → script.Prints all_events Step old lines printed new }

@@ -26,8 +26,8 @@ pub trait Machine: Sized {
     ///
     /// # Errors
     ///
-    /// `BadSizes` where the configuration has sizes that no pool can have; else `BadConfig` where something else of it is
-    /// bad; else `Memory` where host memory is lacking.
+    /// `BadSizes` where the configuration has sizes that no pool can have; else `BadConfig` where something else of it
+    /// is bad; else `Memory` where host memory is lacking.
     fn boot(alloc: Global, config: Config) -> Result<Self, RunFault>
         ensures { MatchResult result
             (λ machine. flat.IsConfig config × (state machine ≡ flat.boot config)) (IsUnbooted config) };
@@ -37,9 +37,9 @@ pub trait Machine: Sized {
         ensures { may_step (state self.old) Open (opened_reply result) (state self.new) };
 
     /// Gives an unbound socket its local address, unless that is 0.0.0.0, and its port, where that is 0 an ephemeral
-    /// one. Refused, and then nothing changes: `BadDescriptor`; `Invalid` where the socket has a port or a local address;
-    /// `AddressNotAvailable` where the address isn't 0.0.0.0 or one of the machine; `AddressInUse` where the port isn't
-    /// 0 and another socket stands in the way.
+    /// one. Refused, and then nothing changes: `BadDescriptor`; `Invalid` where the socket has a port or a local
+    /// address; `AddressNotAvailable` where the address isn't 0.0.0.0 or one of the machine; `AddressInUse` where the
+    /// port isn't 0 and another socket stands in the way.
     fn bind(&mut self, fd: u32, local: Addr) -> Result<(), Errno>
         ensures { may_step (state self.old) (Bind fd local) (done_reply result) (state self.new) };
 
@@ -54,15 +54,15 @@ pub trait Machine: Sized {
     /// Refused, and then nothing changes: `BadDescriptor`; `DestinationRequired` without an address on an unconnected
     /// socket; `MessageSize` above 9,216 bytes; `IsConnected` with an address on a connected one; `AddressNotAvailable`
     /// for port 0; `HostUnreachable`; `AddressInUse`; `Access` for the broadcast address without the option;
-    /// `MessageSize` for a broadcast that is longer than the link's packets. Then `NoBufs(Pool)`, where the pool has too
-    /// few buffers even without the unfinished datagrams, which are dropped then; and `NoBufs(Queue)`, where not all
-    /// packets find room in the output queue: those that do are sent, and port and identification are spent.
+    /// `MessageSize` for a broadcast that is longer than the link's packets. Then `NoBufs(Pool)`, where the pool has
+    /// too few buffers even without the unfinished datagrams, which are dropped then; and `NoBufs(Queue)`, where not
+    /// all packets find room in the output queue: those that do are sent, and port and identification are spent.
     fn sendto(&mut self, fd: u32, to: Option<Addr>, bytes: &[u8]) -> Result<usize, Errno>
         ensures { may_step (state self.old) (Send fd to bytes.now) (sent_reply result) (state self.new) };
 
     /// Takes the oldest datagram of a socket, puts at most as many bytes of it into the room as that has, and
-    /// answers the sender and how many bytes these are. Refused, and then nothing changes: `BadDescriptor`; `WouldBlock`
-    /// where none waits.
+    /// answers the sender and how many bytes these are. Refused, and then nothing changes: `BadDescriptor`;
+    /// `WouldBlock` where none waits.
     fn recvfrom(&mut self, fd: u32, room: &mut [u8]) -> Result<(Addr, usize), Errno>
         ensures step { may_step (state self.old) (Receive fd (length room.old)) (received_reply result room.new)
             (state self.new) }
@@ -81,8 +81,8 @@ pub trait Machine: Sized {
         requires { length packet.now ≤ IP_MAX_PACKET }
         ensures { may_step (state self.old) (Comes packet.now) Done (state self.new) };
 
-    /// Puts the oldest packet that waits for the link in front of the room, and answers its length, or nothing where none
-    /// waits.
+    /// Puts the oldest packet that waits for the link in front of the room, and answers its length, or nothing where
+    /// none waits.
     fn tx(&mut self, room: &mut [u8]) -> Option<usize>
         requires { MAX_MTU ≤ length room.old }
         ensures step { may_step (state self.old) Transmit (given_reply result room.new) (state self.new) }

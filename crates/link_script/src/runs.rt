@@ -84,8 +84,8 @@ pub fn run<R: Source, W: Sink>(
     // The reader failed once where the fault is `Read`, and the writer where it is `Write`; else they didn't.
     ensures read { MoreBy (reader_failures result) (R.failures reader.old) (R.failures reader.new) }
     ensures wrote { MoreBy (writer_failures result) (W.failures writer.old) (W.failures writer.new) }
-    // What is written is printed on the way of the machine with exact accounts from boot, over the lines of what is read, and
-    // nothing else.
+    // What is written is printed on the way of the machine with exact accounts from boot, over the lines of what is
+    // read, and nothing else.
     ensures served { (new : State) × Serves (Says Step) (boot config) new
         (R.remaining reader.old) (R.remaining reader.new) (W.contents writer.old) (W.contents writer.new) result }
 {

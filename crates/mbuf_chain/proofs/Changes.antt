@@ -145,7 +145,8 @@ all_linked : (s : StoreView) (xs ys : List (List ℕ)) → AllByRecursion (IsCha
 all_linked s [] ys g h = h
 all_linked s (x ∷ xs) ys g h = (g.0, all_linked s xs ys g.1 h)
 
--- a step from s to t that takes the chains of the lists `before` and leaves those of `after`, and changes no mbuf of another chain
+-- a step from s to t that takes the chains of the lists `before` and leaves those of `after`, and changes no mbuf of
+-- another chain
 pub record Step (s t : StoreView) (before after rest : List (List ℕ)) : Type 0 where
   pub kept : (k : ℕ) → 0 < weigh_all (is_at k) rest → SameCell s t k
   pub linked : AllByRecursion (IsChain t) after

@@ -1,4 +1,5 @@
--- What a pool of chains shows: a finite map from a chain's number to its entries, and the totals (this project's own; mbufs, clusters and their counts are those of TCP/IP Illustrated, volume 2, chapter 2).
+-- What a pool of chains shows: a finite map from a chain's number to its entries, and the totals (this project's own;
+-- mbufs, clusters and their counts are those of TCP/IP Illustrated, volume 2, chapter 2).
 use Rattle.std.specs.Prelude.{◌≡◌, ℕ, ◌+◌, ◌-◌, Bool, false, List, [], ◌∷◌, ◌++◌, length, map, sum_by, count_by, Option, None, Some, unwrap_or, is_some, nat_eq, ◌==◌, if◌then◌else◌, refl, slice_get, slice_index_or, ◌<◌, ◌≤◌}
 use Rattle.std.specs.Coded.{Coded, code_by, coded×, coded_list, coded_ℕ, coded_bool, coded_option}
 use Rattle.std.specs.List.{range_with_len}
@@ -15,7 +16,8 @@ pub record Entry : Type 0 where
   pub start : ℕ
   pub cluster : Option ℕ
 
--- what the first mbuf says of the chain: whether it has a packet header, the chain after it in a train, and the number kept in the packet header
+-- what the first mbuf says of the chain: whether it has a packet header, the chain after it in a train, and the number
+-- kept in the packet header
 pub record Front : Type 0 where
   pub header : Bool
   pub after : Option ℕ
@@ -88,7 +90,8 @@ leading_space v i = if is_some (entry_of v i).cluster then 0 else (entry_of v i)
 abbrev pub trailing_space : Entry → ℕ
 trailing_space e = if is_some e.cluster then 0 else MSIZE - e.start - length e.bytes
 
--- n bytes fit in front of the data of entry i, or after the data of an entry: in the room of the mbuf, or in its cluster
+-- n bytes fit in front of the data of entry i, or after the data of an entry: in the room of the mbuf, or in its
+-- cluster
 abbrev pub HasLeadingSpace : ChainView → ℕ → ℕ → Type 0
 HasLeadingSpace v i n = room_start v i + n ≤ (entry_of v i).start
 

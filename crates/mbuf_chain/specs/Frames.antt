@@ -16,8 +16,8 @@ pub record Fits (p : PoolView) (v : ChainView) (i : ℕ) : Type 0 where
   pub high : (entry_of v i).start + length (entry_of v i).bytes ≤ room_end (entry_of v i)
   pub known : (c : ℕ) → (entry_of v i).cluster ≡ Some c → c < p.clusters
 
--- Each chain has an mbuf and is numbered by one, each of its entries fits, and an mbuf stands in one chain at most, once.
--- All chains together have no more mbufs than there are, and these are at most 65,535.
+-- Each chain has an mbuf and is numbered by one, each of its entries fits, and an mbuf stands in one chain at most,
+-- once. All chains together have no more mbufs than there are, and these are at most 65,535.
 pub record IsBounded (p : PoolView) : Type 0 where
   pub some : (c : ℕ) → IsLive p c → 0 < mbufs_of (chain_of p c)
   pub numbers : (c : ℕ) → IsLive p c → c < p.mbufs

@@ -1,4 +1,5 @@
--- Trains: chains linked one after another through their first mbufs, each with a tag (TCP/IP Illustrated, volume 2, chapter 2: mbuf chains linked by m_nextpkt; the tag is this project's own).
+-- Trains: chains linked one after another through their first mbufs, each with a tag (TCP/IP Illustrated, volume 2,
+-- chapter 2: mbuf chains linked by m_nextpkt; the tag is this project's own).
 use Rattle.std.specs.Prelude.{◌≡◌, ℕ, zero, suc, ◌+◌, ◌<◌, true, List, [], ◌∷◌, length, map, insert, remove, slice_get, slice_index_or, Option, None, Some}
 use Rattle.mbuf_chain.specs.Chain.{Entry, PoolView, chain_of, alone}
 use Rattle.mbuf_chain.specs.declared.queued_place.QueuedPlace.{QueuedPlace}
@@ -51,7 +52,8 @@ last_number [] = None
 last_number (x ∷ []) = Some x
 last_number (x ∷ y ∷ ys) = last_number (y ∷ ys)
 
--- the train and the pool fit together: its chains are live, once each, and have a packet header, and none stands after the last
+-- the train and the pool fit together: its chains are live, once each, and have a packet header, and none stands after
+-- the last
 pub record IsHeld (p : PoolView) (t : TrainView) : Type 0 where
   pub owned : IsOwned p (numbers p t)
   pub headed : (k : ℕ) → 0 < times k (numbers p t) → (chain_of p k).front.header ≡ true

@@ -1,4 +1,5 @@
--- What a contract sees of a store: the mbufs and clusters that are in use (this project's own; mbufs, clusters and their counts are those of TCP/IP Illustrated, volume 2, chapter 2).
+-- What a contract sees of a store: the mbufs and clusters that are in use (this project's own; mbufs, clusters and
+-- their counts are those of TCP/IP Illustrated, volume 2, chapter 2).
 use Rattle.std.specs.Prelude.{◌≡◌, ℕ, ◌+◌, ◌-◌, ◌<◌, ◌≤◌, ◌==◌, ◌⊎◌, if◌then◌else◌, Bool, IsTrue, is_some, is_none, unwrap_or, Some, None, Option, List, [], length, map, take, drop, replicate, count_by, slice_index_or, slice_set, slice_get}
 use Rattle.std.specs.List.{range_with_len}
 use Rattle.params.specs.declared.TheConstants.{MSIZE, MCLBYTES, MAX_MBUFS, MAX_CLUSTERS}
@@ -106,7 +107,8 @@ pub record TakesCluster (old new : StoreView) (c : ℕ) : Type 0 where
   pub long : length bytes ≡ MCLBYTES
   pub change : new ≡ with_cluster old c (record { count = 1; bytes = bytes })
 
--- the mbuf i has a new head, which takes some bytes of its own at the beginning of the mbuf; its other bytes are as they were
+-- the mbuf i has a new head, which takes some bytes of its own at the beginning of the mbuf; its other bytes are as
+-- they were
 abbrev pub SetsHead : StoreView → StoreView → ℕ → Head → Type 0
 SetsHead old new i h = (b : List ℕ) × (length b ≡ head_size h) × (new ≡ with_mbuf old i (Some (record { head = h; bytes = over (mbuf_of old i).bytes 0 b })))
 

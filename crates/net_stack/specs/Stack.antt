@@ -1,4 +1,5 @@
--- What a stack shows, the state of the flat machine that it means, and when its parts fit together (this project's own).
+-- What a stack shows, the state of the flat machine that it means, and when its parts fit together (this project's
+-- own).
 use Rattle.std.specs.Prelude.{◌≡◌, ℕ, List, ◌++◌}
 use Rattle.flat_model.specs.Machine.State.{State, boot}
 use Rattle.flat_model.specs.Runs.Consistent.{IsConsistent}
@@ -34,8 +35,8 @@ state_of s = with_net s.pool s.socks (unfinished s.pool s.reass.datagrams) s.cou
 abbrev pub chains_of : StackView → List ℕ
 chains_of s = (held_all s.pool s.reass.datagrams ++ queued_chains s.pool s.socks.queues) ++ numbers s.pool s.output
 
--- Parts, pool and configuration fit together, each chain of the pool has one owner among the parts, and the state is one
--- that the flat machine may reach.
+-- Parts, pool and configuration fit together, each chain of the pool has one owner among the parts, and the state is
+-- one that the flat machine may reach.
 pub record IsStack (s : StackView) : Type 0 where
   pub mbufs : s.config.mbufs ≡ s.pool.mbufs
   pub clusters : s.config.clusters ≡ s.pool.clusters

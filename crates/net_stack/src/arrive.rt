@@ -68,9 +68,10 @@ impl Host {
     /// A packet arrives, by loopback or from the wire, and its chain is spent: `ipintr` of volume 2, chapter 8.
     ///
     /// It is counted; then, in this order, a packet whose header is refused ends, for the first test that it fails, and
-    /// one for another machine, `CantForward`, since packets aren't forwarded. What is longer than the total length that
-    /// the header tells is cut after. A fragment goes to the reassembly, and what that makes whole to the sockets; any
-    /// other packet goes to the sockets at once, without its header. Each packet that ends is counted for its cause.
+    /// one for another machine, `CantForward`, since packets aren't forwarded. What is longer than the total length
+    /// that the header tells is cut after. A fragment goes to the reassembly, and what that makes whole to the sockets;
+    /// any other packet goes to the sockets at once, without its header. Each packet that ends is counted for its
+    /// cause.
     pub(crate) fn arrive(&mut self, chain: Chain)
         requires socks { IsSocks self.old.pool self.old.socks }
         requires reass { IsReady self.old.pool self.old.reass }

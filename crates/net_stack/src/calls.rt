@@ -46,8 +46,8 @@ impl Stack {
 
     /// Takes the oldest datagram that waits in a socket, copies as many of its bytes as there is room for, and answers
     /// its sender and how many were copied; the others are lost, and all its buffers are freed (`soreceive` of volume
-    /// 2, chapter 16). The rest of the room stays as it was. It never blocks. Refused, and then nothing changes, the room
-    /// neither: `BadDescriptor`; `WouldBlock` where none waits.
+    /// 2, chapter 16). The rest of the room stays as it was. It never blocks. Refused, and then nothing changes, the
+    /// room neither: `BadDescriptor`; `WouldBlock` where none waits.
     pub fn recvfrom(&mut self, fd: u32, room: &mut [u8]) -> Result<(Addr, usize), Errno>
         ensures step { Step (state_of self.old) (Receive fd (length room.old)) (received_reply result room.new)
             (state_of self.new) }
@@ -80,8 +80,8 @@ impl Stack {
         take_packet(&mut self.host.pool, &mut self.host.net.out, room)
     }
 
-    /// The clock ticks, in 4.4BSD each half second: each unfinished datagram has a tick less, and those that have none left
-    /// are freed, and counted as `IpFragtimeout` (`ip_slowtimo` of volume 2, chapter 10).
+    /// The clock ticks, in 4.4BSD each half second: each unfinished datagram has a tick less, and those that have none
+    /// left are freed, and counted as `IpFragtimeout` (`ip_slowtimo` of volume 2, chapter 10).
     pub fn tick(&mut self)
         ensures { Step (state_of self.old) Tick Done (state_of self.new) }
     {

@@ -28,8 +28,8 @@ impl Stack {
         self.host.socks.next_datagram(&self.host.pool, fd)
     }
 
-    /// The sockets in which a datagram waits, as a set of descriptors: bit k stands for descriptor 3 + k, the lowest bit
-    /// for 3. It takes one step for each of the 64 descriptors.
+    /// The sockets in which a datagram waits, as a set of descriptors: bit k stands for descriptor 3 + k, the lowest
+    /// bit for 3. It takes one step for each of the 64 descriptors.
     pub fn readable(&self) -> u64
         ensures { result ≡ readable (state_of self.now) }
     {
@@ -74,8 +74,9 @@ impl Stack {
         self.host.reass.unfinished(&self.host.pool, i)
     }
 
-    /// The `k`th range of bytes that the unfinished datagram at place `i` holds, in order of offset, from 0. `None` exactly
-    /// if there is no such datagram, or if it has no more than `k` ranges. It takes a step for each range in front.
+    /// The `k`th range of bytes that the unfinished datagram at place `i` holds, in order of offset, from 0. `None`
+    /// exactly if there is no such datagram, or if it has no more than `k` ranges. It takes a step for each range in
+    /// front.
     pub fn unfinished_range(&self, i: u32, k: u32) -> Option<HeldRange>
         ensures { result ≡ nth_range i k (state_of self.now).unfinished }
     {

@@ -17,7 +17,8 @@ use ledger::reserve;
 use mbuf_chain::{Chain, Pool};
 use params::{IP_MAX_PACKET, MCLBYTES, MHLEN, MINCLSIZE, MLEN};
 
-/// How many bytes go into the next mbuf, of those left, and how many clusters it takes: `small` at most into a plain one.
+/// How many bytes go into the next mbuf, of those left, and how many clusters it takes: `small` at most into a plain
+/// one.
 fn next_mbuf(small: u32, left: u32) -> (u32, u32)
     ensures size { result.0 ≡ size_of (next_room MCLBYTES small left) }
     ensures cluster { result.1 ≡ (if is_cluster (next_room MCLBYTES small left) then 1 else 0) }
@@ -69,8 +70,8 @@ fn put_packet(pool: &mut Pool, packet: &[u8]) -> Chain
 }
 
 impl Host {
-    /// A packet comes from the wire and arrives; if the pool has too few buffers for it, all unfinished datagrams are given
-    /// back, and if it has too few then, the packet is lost and counted. At most 65,535 bytes.
+    /// A packet comes from the wire and arrives; if the pool has too few buffers for it, all unfinished datagrams are
+    /// given back, and if it has too few then, the packet is lost and counted. At most 65,535 bytes.
     pub(crate) fn come_in(&mut self, packet: &[u8])
         requires socks { IsSocks self.old.pool self.old.socks }
         requires reass { IsReady self.old.pool self.old.reass }

@@ -32,8 +32,8 @@ pub enum BootFault {
     BadConfig,
 }
 
-/// A host with one interface: its sockets, the datagrams of which some fragments have come, and the packets that wait for
-/// the link, over one pool of mbufs and clusters. It must be spent, by `end`.
+/// A host with one interface: its sockets, the datagrams of which some fragments have come, and the packets that wait
+/// for the link, over one pool of mbufs and clusters. It must be spent, by `end`.
 ///
 /// A contract sees it as a `StackView`, the parts' own views, and `state_of` of that is the flat machine's state: each
 /// call is a step from the state before it to the state after it. No call but `boot` takes host memory.
@@ -58,14 +58,14 @@ impl Model for Stack {
 }
 
 impl Stack {
-    /// A stack that has just started: no socket is open, nothing waits, and nothing was counted. All host memory that it
-    /// will ever need is taken here.
+    /// A stack that has just started: no socket is open, nothing waits, and nothing was counted. All host memory that
+    /// it will ever need is taken here.
     ///
     /// # Errors
     ///
-    /// `BadSizes` where the pool would have no mbuf, more than 65,535 of them or more than 4,096 clusters; else `BadConfig`
-    /// where the MTU isn't 68 to 4352, an address isn't that of a host, or both addresses are the same; else `Memory`
-    /// where host memory was refused, and then nothing is left behind.
+    /// `BadSizes` where the pool would have no mbuf, more than 65,535 of them or more than 4,096 clusters; else
+    /// `BadConfig` where the MTU isn't 68 to 4352, an address isn't that of a host, or both addresses are the same;
+    /// else `Memory` where host memory was refused, and then nothing is left behind.
     pub fn boot(alloc: Global, config: Config) -> Result<Stack, BootFault>
         ensures sizes { (result ≡ Err BootFault.BadSizes) ↔ ¬ HasSizes config }
         ensures config { (result ≡ Err BootFault.BadConfig) ↔ (HasSizes config × ¬ IsConfig config) }

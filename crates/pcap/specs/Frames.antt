@@ -13,8 +13,8 @@ abbrev pub ◌>>=◌ : {A B : Type 0} → Result A NoPacket → (A → Result B 
 (Ok x) >>= f = f x
 (Err e) >>= f = Err e
 
--- A packet without what stands behind its total length, a 16-bit number at byte 2 (RFC 791, section 3.1). If that number
--- is less than a header, or more than there is, it tells nothing, and nothing is taken off.
+-- A packet without what stands behind its total length, a 16-bit number at byte 2 (RFC 791, section 3.1). If that
+-- number is less than a header, or more than there is, it tells nothing, and nothing is taken off.
 abbrev pub unpadded : List ℕ → List ℕ
 unpadded bytes =
     if nat_lt (number_of Big w16 (drop 2 bytes)) 20 || nat_lt (length bytes) (number_of Big w16 (drop 2 bytes)) then bytes

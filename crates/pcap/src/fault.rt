@@ -35,8 +35,8 @@ pub enum Why {
 pub struct Fault {
     /// What is wrong.
     pub why: Why,
-    /// Bytes from the start of the file to the field that is wrong: 0 for `HeaderCut` and `BadMagic`, 4 for `BadVersion`,
-    /// 20 for `BadLinkType`, the start of the record for `RecordCut`, its captured length for `BytesCut`.
+    /// Bytes from the start of the file to the field that is wrong: 0 for `HeaderCut` and `BadMagic`, 4 for
+    /// `BadVersion`, 20 for `BadLinkType`, the start of the record for `RecordCut`, its captured length for `BytesCut`.
     pub offset: usize,
 }
 

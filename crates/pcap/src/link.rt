@@ -136,9 +136,10 @@ fn of_version(frame: &[u8]) -> Result<&[u8], NoPacket>
 }
 
 /// The IPv4 packet in a frame of a link type, without the link layer's header in front of it and without padding behind
-/// its total length. A packet that is cut short, or whose header is nonsense, is answered as it stands: what takes it in
-/// tests it. Refused with `FrameCut` if the frame ends within the link layer's header, or else with what stands there in
-/// the place of IPv4: `OtherProtocol` (Ethernet and Linux cooked), `OtherFamily` (Null and Loop) or `OtherVersion` (Raw).
+/// its total length. A packet that is cut short, or whose header is nonsense, is answered as it stands: what takes it
+/// in tests it. Refused with `FrameCut` if the frame ends within the link layer's header, or else with what stands
+/// there in the place of IPv4: `OtherProtocol` (Ethernet and Linux cooked), `OtherFamily` (Null and Loop) or
+/// `OtherVersion` (Raw).
 pub fn ipv4_packet(link: LinkType, frame: &[u8]) -> Result<&[u8], NoPacket>
     ensures { Gives (λ p. p.now) result (packet_of link frame.now) }
 {

@@ -49,8 +49,8 @@ fn record_header(seconds: u32, microseconds: u32, len: u32) -> [u8; 16]
     ]
 }
 
-/// Puts a packet's record at the end of `out`, 16 bytes and the packet. Refused with `TooLong` exactly if the packet has
-/// more than [`LONGEST_PACKET`] bytes, or else if memory is lacking; `out` is then as before.
+/// Puts a packet's record at the end of `out`, 16 bytes and the packet. Refused with `TooLong` exactly if the packet
+/// has more than [`LONGEST_PACKET`] bytes, or else if memory is lacking; `out` is then as before.
 pub fn put_record(out: &mut Vec<u8>, packet: &Packet<'_>) -> Result<(), WriteError>
     ensures written { OnOk result (out.new.items ≡ out.old.items ++ record_bytes Little (sent packet.now)) }
     ensures fits { OnOk result (Fits (sent packet.now)) }

@@ -1,6 +1,6 @@
 //! Bytes from outside: scapy 2.5.0 wrote the files (`PcapWriter` with `linktype`, `nano` and `endianness`) and the
-//! frames. tcpdump 4.99.3 reads each of them, and `tcpdump -r FILE -w OTHER` writes `TAGGED` and `RAW_IPV4` again byte by
-//! byte. The broken files are these, with fields changed as pcap-savefile(5) has them.
+//! frames. tcpdump 4.99.3 reads each of them, and `tcpdump -r FILE -w OTHER` writes `TAGGED` and `RAW_IPV4` again byte
+//! by byte. The broken files are these, with fields changed as pcap-savefile(5) has them.
 use pcap::{
     Header, LinkType, NoPacket, Order, Packet, ReadError, Reader, Record, Resolution, Why,
     WriteError, ipv4_packet, put_record, read, write,

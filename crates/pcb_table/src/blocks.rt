@@ -22,8 +22,8 @@ const NOTED: usize = SOCKETS + LANES;
 ///
 /// Beside them stand two notes, written anew by each change. `ports` has the port of the block at each place, so that
 /// sixteen blocks with another port are passed by one comparison: a datagram of 2 bytes takes 1,638 instructions beside
-/// 63 other sockets, and took 2,600 by walks from block to block. `places` has where the block of each descriptor stood.
-/// It's only looked at first: a block found there is tested, and else a walk finds it.
+/// 63 other sockets, and took 2,600 by walks from block to block. `places` has where the block of each descriptor
+/// stood. It's only looked at first: a block found there is tested, and else a walk finds it.
 #[derive(Drop)]
 pub(crate) struct Blocks {
     blocks: ArrayVec<Block, SOCKETS>,

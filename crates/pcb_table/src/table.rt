@@ -224,9 +224,9 @@ impl Pcbs {
     }
 
     /// Gives an unbound socket its local address, unless that is 0.0.0.0, and its port, where that is 0 an
-    /// ephemeral one (volume 2 section 22.7). Refused, and then nothing changes, in this order: `BadDescriptor`; `Invalid` where the
-    /// socket has a port or a local address; `AddressNotAvailable` where the address isn't 0.0.0.0 or one of the
-    /// machine; `AddressInUse` where the port isn't 0 and another block stands in the way.
+    /// ephemeral one (volume 2 section 22.7). Refused, and then nothing changes, in this order: `BadDescriptor`;
+    /// `Invalid` where the socket has a port or a local address; `AddressNotAvailable` where the address isn't 0.0.0.0
+    /// or one of the machine; `AddressInUse` where the port isn't 0 and another block stands in the way.
     pub fn bind(&mut self, fd: u32, address: Addr) -> Result<(), Errno>
         ensures step { IsCall self.old (Bind fd address) (done_reply result) self.new }
         ensures descriptors { KeepsOpen self.old self.new }
@@ -252,11 +252,11 @@ impl Pcbs {
         Ok(())
     }
 
-    /// Connects a socket (volume 2 section 22.8) to an address, 0.0.0.0 read as this machine and 255.255.255.255 as its broadcast
-    /// address; a connected one is first disconnected. One without a port gets an ephemeral one, and one without
-    /// a local address that of its packets to the peer. Refused in this order: `BadDescriptor`;
-    /// `AddressNotAvailable` where the port is 0; `HostUnreachable`; `AddressInUse` where another socket has the
-    /// same four values. A socket that was connected is then disconnected, and any other is as it was.
+    /// Connects a socket (volume 2 section 22.8) to an address, 0.0.0.0 read as this machine and 255.255.255.255 as its
+    /// broadcast address; a connected one is first disconnected. One without a port gets an ephemeral one, and one
+    /// without a local address that of its packets to the peer. Refused in this order: `BadDescriptor`;
+    /// `AddressNotAvailable` where the port is 0; `HostUnreachable`; `AddressInUse` where another socket has the same
+    /// four values. A socket that was connected is then disconnected, and any other is as it was.
     pub fn connect(&mut self, fd: u32, address: Addr) -> Result<(), Errno>
         ensures step { IsCall self.old (Connect fd address) (done_reply result) self.new }
         ensures descriptors { KeepsOpen self.old self.new }

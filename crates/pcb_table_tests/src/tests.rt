@@ -1,5 +1,5 @@
-//! Calls in a row, with answers that were worked out by hand. A step of a script that fails is told by its number, from 0
-//! on.
+//! Calls in a row, with answers that were worked out by hand. A step of a script that fails is told by its number, from
+//! 0 on.
 ghost use Rattle.pcb_table.specs.Table.{IsOpen};
 
 use flat_model::{Addr, Errno, LookupKey, Opt};

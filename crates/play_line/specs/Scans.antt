@@ -84,7 +84,8 @@ places word =
     if bytes_eq word (codes "send") then 2 else
     if bytes_eq word (codes "sendto") then 4 else 0
 
--- The word after `rx` is `udp`: a packet by name. After it stand the two ends with `>` between them, and then the bytes.
+-- The word after `rx` is `udp`: a packet by name. After it stand the two ends with `>` between them, and then the
+-- bytes.
 abbrev pub is_named : Scanner → Bool
 is_named s = s.begin == 3 && (s.awaits == 1 && bytes_eq s.piece (codes "udp"))
 

@@ -1,4 +1,5 @@
--- The packet that the words of a line name: a datagram of this stack, cut and changed at named bytes (this project's own).
+-- The packet that the words of a line name: a datagram of this stack, cut and changed at named bytes (this project's
+-- own).
 use Rattle.std.specs.Prelude.{ℕ, ◌+◌, ◌-◌, ◌%◌, ◌==◌, Bool, List, [], ◌∷◌, ◌++◌, length, take, drop, slice_index, if◌then◌else◌, codes, nat_lt, Option, Some, None, Result, Ok, Err}
 use Rattle.params.specs.declared.TheConstants.{IP_DEFAULT_TTL, IP_MAX_DATA, PROTOCOL_UDP}
 use Rattle.flat_model.specs.Packets.Checksum.{checksum}
@@ -126,7 +127,7 @@ named_at stage.Size f line text = plain_packet line (Err (misfit_here NoCount f)
 named_at stage.Last f line text = plain_packet line (Err (misfit_here NoMore f))
 named_at stage.Failed f line text = plain_packet line (Err f.misfit)
 
--- The plain line for the words of a line, of which `line` is what was written: `rx` with the packet that they name, or the
--- words as they are if they name none; or what is wrong with them, and the column of the word that is.
+-- The plain line for the words of a line, of which `line` is what was written: `rx` with the packet that they name, or
+-- the words as they are if they name none; or what is wrong with them, and the column of the word that is.
 abbrev pub named : List ℕ → List ℕ → Result (List ℕ) Slip
 named line text = named_at (formed text).stage (formed text) line text

@@ -32,8 +32,8 @@ impl LineReader {
         })
     }
 
-    /// The plain line that a line stands for, as a [`Scanner`] answers it. If the line names a packet, the words that do
-    /// are still there.
+    /// The plain line that a line stands for, as a [`Scanner`] answers it. If the line names a packet, the words that
+    /// do are still there.
     ///
     /// # Errors
     ///

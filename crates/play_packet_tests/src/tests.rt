@@ -8,7 +8,8 @@ use std::process::Abort;
 /// What stands in front of the words of each line below.
 const FRONT: &str = "rx udp 10.0.0.2:5000 > 10.0.0.1:7 ";
 
-/// What more a line says, and its packet. The first eleven packets were made by scapy, and the others from these by hand.
+/// What more a line says, and its packet. The first eleven packets were made by scapy, and the others from these by
+/// hand.
 static PACKETS: [(&str, &str); 20] = [
     (
         "\"hi\"",

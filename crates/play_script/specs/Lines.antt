@@ -17,8 +17,8 @@ gap_text true (byte ∷ bytes) = 32 ∷ []
 gap_text true [] = []
 gap_text false done = []
 
--- The bytes after `done`, with one space for the blanks between two words, and none in front or at the end. There was a blank
--- since the last byte if `gap`.
+-- The bytes after `done`, with one space for the blanks between two words, and none in front or at the end. There was a
+-- blank since the last byte if `gap`.
 abbrev pub spaced_after : List ℕ → Bool → List ℕ → List ℕ
 spaced_after done gap [] = done
 spaced_after done gap (byte ∷ bytes) =

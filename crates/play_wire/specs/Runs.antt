@@ -20,9 +20,9 @@ AreToldBy old (line ∷ lines) acts printed new =
     × TellsBy old line first text mid × AreToldBy mid lines rest more new
     × (acts ≡ first ++ rest) × (printed ≡ text ++ more)
 
--- The law of these acts: for each two hosts, if the first has sent fewer than 65,536 times, and no line `rx` brought the second
--- a packet with the first's address as its source, then what `recvfrom` of the second is told with that address as the
--- sender's was sent so by the first.
+-- The law of these acts: for each two hosts, if the first has sent fewer than 65,536 times, and no line `rx` brought
+-- the second a packet with the first's address as its source, then what `recvfrom` of the second is told with that
+-- address as the sender's was sent so by the first.
 abbrev pub IsLawful : List Act → SegmentView → Type 0
 IsLawful acts last =
     (i j : ℕ) (first second : Config) (s t : StackView) (before after : List Turn) (fd most : ℕ) (sender : Addr) (bytes : List ℕ)
@@ -31,8 +31,8 @@ IsLawful acts last =
     → sender.ip ≡ first.addr
     → WasSent exact_ledger exact_ledger first second (turns_of i acts) before (state_of s) fd most sender bytes
 
--- What is printed for the lines of a script that begins with this seed is told by acts, line by line. With the start of the
--- generator in front, they lead from a segment without hosts to this one, and of them the law holds.
+-- What is printed for the lines of a script that begins with this seed is told by acts, line by line. With the start of
+-- the generator in front, they lead from a segment without hosts to this one, and of them the law holds.
 pub record IsPlayed (seed : ℕ) (quiet : Bool) (name : List ℕ) (lines : List (List ℕ)) (printed : List ℕ) (new : Play) : Type 0 where
   pub acts : List Act
   pub told : AreToldBy (started seed quiet name) lines acts printed new

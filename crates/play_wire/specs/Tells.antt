@@ -13,8 +13,8 @@ use Rattle.play_wire.specs.Faults.{words_of}
 use Rattle.play_wire.specs.declared.fault.Fault.TheVariants as fault
 use Rattle.play_wire.specs.declared.hosts.TheConstants.{PACKETS}
 
--- What a player has in hand: its hosts and their wire, with the names of the hosts by their places; how many lines it has
--- seen; whether all of them could be read, and all expectations held; and how it prints.
+-- What a player has in hand: its hosts and their wire, with the names of the hosts by their places; how many lines it
+-- has seen; whether all of them could be read, and all expectations held; and how it prints.
 pub record Play : Type 0 where
   pub segment : SegmentView
   pub names : List (List ℕ)
@@ -69,7 +69,8 @@ TellsLeft plain (Told told below) segment =
     (rest : List (List ℕ)) → words plain ≡ codes "carry" ∷ rest → told ≡ left_text segment
 TellsLeft plain (Refused reason) segment = Unit
 
--- A line of a host is that of the host with this name. A line of the wire may add hosts, and `carry` tells what is left.
+-- A line of a host is that of the host with this name. A line of the wire may add hosts, and `carry` tells what is
+-- left.
 abbrev pub IsDone : Play → Option (List ℕ) → List ℕ → List Act → Outcome → SegmentView → List (List ℕ) → Type 0
 IsDone now (Some host) plain acts outcome segment names =
     (names ≡ now.names)

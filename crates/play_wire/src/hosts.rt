@@ -134,8 +134,8 @@ impl<T: Sink + Drop> Hosts<T> {
         }
     }
 
-    /// The host that a line `host NAME ..` tells: its name and its settings. Refused in this order: it has no name, or the
-    /// word isn't one; there is a wire already; a host has the name; and what `config_of` refuses.
+    /// The host that a line `host NAME ..` tells: its name and its settings. Refused in this order: it has no name, or
+    /// the word isn't one; there is a wire already; a host has the name; and what `config_of` refuses.
     fn host_of<'a>(&self, rest: Option<&'a [u8]>) -> Result<(&'a [u8], Config), Fault>
         ensures { IfOk result (λ r. length r.0.now ≤ NAME) }
     {

@@ -1,5 +1,5 @@
-//! Scripts of many machines: hosts with names, each of them asked by the lines of `play_script`, and one wire that joins
-//! them. What waits in their output queues passes by lines of its own.
+//! Scripts of many machines: hosts with names, each of them asked by the lines of `play_script`, and one wire that
+//! joins them. What waits in their output queues passes by lines of its own.
 #![tactic(auto)]
 
 mod add;

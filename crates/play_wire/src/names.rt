@@ -17,7 +17,8 @@ pub(crate) fn is_name(word: &[u8]) -> bool
         .all(|byte| byte.is_ascii_alphanumeric() || *byte == b'_')
 }
 
-/// The host that a line names in front of a colon, and what stands after the colon. `None` if the line begins otherwise.
+/// The host that a line names in front of a colon, and what stands after the colon. `None` if the line begins
+/// otherwise.
 pub(crate) fn named(line: &[u8]) -> Option<(&[u8], &[u8])>
     ensures parts { IfSome result (λ r. line.now ≡ r.0.now ++ 58 ∷ r.1.now) }
     ensures short { IfSome result (λ r. length r.0.now ≤ NAME) }

@@ -20,8 +20,8 @@ use play_packet::LineReader;
 use play_script::{Kind, meets, read_line};
 use script_loop::{Answers, Buffer, HELD, Sink};
 
-/// A line: the host that it names, the rest as it's written, the plain line that the rest stands for, and the words that
-/// are expected.
+/// A line: the host that it names, the rest as it's written, the plain line that the rest stands for, and the words
+/// that are expected.
 #[derive(Drop)]
 pub(crate) struct Desk {
     /// Whether it names a host.

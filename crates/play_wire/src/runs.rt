@@ -145,13 +145,14 @@ fn player_for<T: Sink + Drop>(
     }
 }
 
-/// Plays a script of many machines. It begins without hosts; each line `host` adds one. A line that names a host is played
-/// on it as `play_script` plays it on its one machine. The other lines carry what waits for the links, and let time pass.
-/// `start.seed` starts the choices of the wire, until a line `seed` starts them anew. All hosts are spent then.
+/// Plays a script of many machines. It begins without hosts; each line `host` adds one. A line that names a host is
+/// played on it as `play_script` plays it on its one machine. The other lines carry what waits for the links, and let
+/// time pass. `start.seed` starts the choices of the wire, until a line `seed` starts them anew. All hosts are spent
+/// then.
 ///
-/// Each packet is written to `start.capture` as it goes on the wire, at a time that `play_pcap::Trace` tells by the ticks
-/// and the line's number. One that is lost by chance isn't, and one that goes twice is there twice. No clause speaks of
-/// the capture.
+/// Each packet is written to `start.capture` as it goes on the wire, at a time that `play_pcap::Trace` tells by the
+/// ticks and the line's number. One that is lost by chance isn't, and one that goes twice is there twice. No clause
+/// speaks of the capture.
 ///
 /// `sound` tells whether all lines that were read did something, and all that was expected came.
 ///

@@ -37,7 +37,8 @@ pub(crate) fn tick_stack(stack: &mut Stack, count: u32)
     }
 }
 
-/// Lets so many ticks pass at the host at a place, if there is such a host. The spare stack stands in its place meanwhile.
+/// Lets so many ticks pass at the host at a place, if there is such a host. The spare stack stands in its place
+/// meanwhile.
 fn tick_host(segment: &mut Segment, spare: &mut Stack, place: usize, count: u32)
     ensures { Moves (view segment.old) (view segment.new) }
 {

@@ -67,7 +67,8 @@ module _ (Z : RattleType) (g : Ghosts Z.Denot) where
   abbrev pub new_parts : Ptr → ℕ → Z.Denot → Parts.Denot
   new_parts p len owner = (record { ptr = p }, record { at = p; written = []; blank = len }, record { mark = record {}; alloc = owner; at = p; len = len })
 
-  -- room for a block and the token by which it is given back are these parts: from the last to the first, each is put together and set before those after it
+  -- room for a block and the token by which it is given back are these parts: from the last to the first, each is put
+  -- together and set before those after it
   pub parts_made : {M : Type 1} {𝓤 : Ura M} (𝓛 : Logic 𝓤) (b o len : ℕ) (owner : Z.Denot) → len < 2 ^ 63
       → ent 𝓤 (sep 𝓤 (sem 𝓛 (froom (block_type len) b o)) (sem 𝓛 (g.dealloc_token owner (block_type len) (block_ptr b o)))) (sem 𝓛 (Parts.own_val (new_parts (block_ptr b o) len owner) (parts_val (block_ptr b o) ∷ [])))
   parts_made {𝓤 = 𝓤} 𝓛 b o len owner small =

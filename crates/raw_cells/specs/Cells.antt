@@ -1,4 +1,5 @@
--- What a contract sees of a region (this project's own layout; the sizes are those of a 32-bit 4.4BSD, TCP/IP Illustrated, volume 2, section 2.2).
+-- What a contract sees of a region (this project's own layout; the sizes are those of a 32-bit 4.4BSD, TCP/IP
+-- Illustrated, volume 2, section 2.2).
 use Rattle.std.specs.Prelude.{◌≡◌, ℕ, ◌+◌, ◌*◌, ◌<◌, ◌≤◌, if◌then◌else◌, is_some, Some, None, Option, option_map, List, length, take, drop, replicate, slice_index_or, slice_set}
 use Rattle.params.specs.declared.TheConstants.{MAX_CLUSTERS, MAX_MBUFS, MBUF_HEADER, MCLBYTES, MSIZE, PACKET_START}
 use Rattle.raw_cells.specs.Over.{over}
@@ -76,7 +77,8 @@ write c p ws = record c { bytes = over c.bytes (place c p) (take p.len ws) }
 abbrev pub with_head : Cells → ℕ → Head → List ℕ → Cells
 with_head c i h b = record { heads = slice_set c.heads i h; bytes = over c.bytes (MSIZE * i) b; clusters = c.clusters }
 
--- the mbuf i has a new head: it takes some bytes of its own at the beginning of the mbuf, and every other byte and head is as it was
+-- the mbuf i has a new head: it takes some bytes of its own at the beginning of the mbuf, and every other byte and head
+-- is as it was
 abbrev pub SetsHead : Cells → Cells → ℕ → Head → Type 0
 SetsHead old new i h = (b : List ℕ) × (length b ≡ head_size h) × (new ≡ with_head old i h b)
 

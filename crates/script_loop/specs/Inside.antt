@@ -47,7 +47,8 @@ TakesPiece gives begin now seen piece printed before after line (Some count) =
 TakesPiece gives begin now seen piece printed before after line None =
     BreaksLimit seen piece × (after ≡ before) × Prints gives begin (whole_lines seen) printed now
 
--- Of a text a writer took the part before the one that is left at `Ok`, and a front at `Err(Write)`, which is the only error.
+-- Of a text a writer took the part before the one that is left at `Ok`, and a front at `Err(Write)`, which is the only
+-- error.
 abbrev pub Flushes : Option (List ℕ) → Option (List ℕ) → List ℕ → List ℕ → Result Unit RunFault → Type 0
 Flushes before after text left (Ok done) = (sent : List ℕ) × (text ≡ sent ++ left) × Appends before after sent
 Flushes before after text left (Err Write) = (sent unsent : List ℕ) × (text ≡ sent ++ unsent) × Appends before after sent

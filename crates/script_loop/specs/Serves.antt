@@ -25,8 +25,8 @@ pub record Moves (unread rest : Option (List ℕ)) (read : List ℕ) (before aft
   pub consumed : Consumes unread rest read
   pub appended : Appends before after written
 
--- What answers the lines came from the old state to the new one, each answer being one that it `gives`. The reader had the bytes
--- `unread` left and has `rest`, and the writer held those `before` and holds those `after`.
+-- What answers the lines came from the old state to the new one, each answer being one that it `gives`. The reader had
+-- the bytes `unread` left and has `rest`, and the writer held those `before` and holds those `after`.
 abbrev pub Serves : {S : Type 0} → (S → List ℕ → List ℕ → S → Type 0) → S → S
     → Option (List ℕ) → Option (List ℕ) → Option (List ℕ) → Option (List ℕ) → Result Unit RunFault → Type 0
 -- all lines were answered

@@ -4,10 +4,10 @@
 pub use Rattle.sock_calls.proofs.Frames.{Kept, kept}
 -- What the receive queues weigh is what their chains weigh.
 pub use Rattle.sock_calls.proofs.Weights.{queue_weight, socks_weigh}
--- A chain weighs what its layout does; how often a cluster stands in a list, counted either way; clusters to which nothing
--- refers are free.
+-- A chain weighs what its layout does; how often a cluster stands in a list, counted either way; clusters to which
+-- nothing refers are free.
 pub use Rattle.sock_calls.proofs.Arriving.{laid_weight}
 pub use Rattle.sock_calls.proofs.Going.{bag_of_times, free_each}
--- A send that isn't refused for the pool is the machine's send; one that is, and then is made once more without the unfinished
--- datagrams, is too.
+-- A send that isn't refused for the pool is the machine's send; one that is, and then is made once more without the
+-- unfinished datagrams, is too.
 pub use Rattle.sock_calls.proofs.Tested.{sends_at_once, sends_again}

@@ -1,6 +1,6 @@
--- What a question about the sockets answers, as a function of the flat machine's state: `getsockname`, `getpeername` and
--- `getsockopt` (volume 2, chapters 15 and 17), `FIONREAD` and `select` (chapters 15 and 16); that all of a socket is
--- told at once, and of all sockets what is readable, is this project's own.
+-- What a question about the sockets answers, as a function of the flat machine's state: `getsockname`, `getpeername`
+-- and `getsockopt` (volume 2, chapters 15 and 17), `FIONREAD` and `select` (chapters 15 and 16); that all of a socket
+-- is told at once, and of all sockets what is readable, is this project's own.
 use Rattle.std.specs.Prelude.{ℕ, zero, suc, ◌+◌, ◌^◌, Bool, false, not, ◌==◌, if◌then◌else◌, List, [], ◌∷◌, length, Option, None, Some, Result, Ok, Err}
 use Rattle.params.specs.declared.TheConstants.{FIRST_DESCRIPTOR, MAX_SOCKETS}
 use Rattle.flat_model.specs.Machine.State.{State, Socket, Datagram, socket_at}

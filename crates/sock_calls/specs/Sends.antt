@@ -1,6 +1,6 @@
--- A send that is tested once (this project's own). Where the pool has too few buffers it's refused, and changes nothing;
--- the machine that holds unfinished datagrams then gives them back and sends once more: both are its one `Sends`, by
--- `sends_at_once` and `sends_again` of proofs/Laws.
+-- A send that is tested once (this project's own). Where the pool has too few buffers it's refused, and changes
+-- nothing; the machine that holds unfinished datagrams then gives them back and sends once more: both are its one
+-- `Sends`, by `sends_at_once` and `sends_again` of proofs/Laws.
 use Rattle.std.specs.Prelude.{◌≡◌, ℕ, Bool, List, [], length, Option}
 use Rattle.flat_model.specs.Amounts.Choice.{Choice, Case}
 use Rattle.flat_model.specs.Amounts.Weight.{Item, nothing}

@@ -33,7 +33,8 @@ abbrev pub queued_chains : PoolView → List SockBufView → List ℕ
 queued_chains p [] = []
 queued_chains p (b ∷ bs) = chains_of p b ++ queued_chains p bs
 
--- The sockets and the pool fit together: each queue does, no chain stands in two, and where no socket is open none waits.
+-- The sockets and the pool fit together: each queue does, no chain stands in two, and where no socket is open none
+-- waits.
 pub record IsSocks (p : PoolView) (v : SocksView) : Type 0 where
   pub each : (fd : ℕ) → IsSockBuf p (queue_at v.queues fd)
   pub owned : IsOwned p (queued_chains p v.queues)

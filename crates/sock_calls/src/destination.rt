@@ -51,7 +51,8 @@ fn broadcast_fault(to_all: bool, allowed: bool, mtu: u16, len: usize) -> Option<
 /// Where a send of `len` bytes by the socket of a block goes: to the address given, as it's read, or else to its peer.
 /// Refused, in this order: `DestinationRequired`, `MessageSize` above 9,216 bytes, `IsConnected`,
 /// `AddressNotAvailable`, `HostUnreachable`, `AddressInUse`, `Access` for the broadcast address without the option,
-/// `MessageSize` for a broadcast that is longer than the link's packets. It changes nothing (volume 2 chapters 16 and 23).
+/// `MessageSize` for a broadcast that is longer than the link's packets. It changes nothing (volume 2 chapters 16 and
+/// 23).
 pub(crate) fn send_target(
     pcbs: &Pcbs,
     mtu: u16,

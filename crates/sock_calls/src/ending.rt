@@ -9,8 +9,8 @@ use crate::receive::flush_at;
 use mbuf_chain::Pool;
 use sockbuf::SockBuf;
 
-// An array of values that must be spent ends as its elements do, each by its name. It's done in steps, since the proof of a
-// call grows with the values that are still there.
+// An array of values that must be spent ends as its elements do, each by its name. It's done in steps, since the proof
+// of a call grows with the values that are still there.
 macro_rules! end_parts {
     ($queues:expr; $end:ident; $([$($queue:ident)*])*) => {
         let [$($($queue),*),*] = $queues;

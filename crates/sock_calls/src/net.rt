@@ -21,8 +21,8 @@ pub struct Net {
     pub counters: Counters,
     /// The packets that wait for the link.
     pub out: Queue,
-    /// The packets that come back to this machine, in order. A send puts them here, and they have to be taken before the
-    /// next one.
+    /// The packets that come back to this machine, in order. A send puts them here, and they have to be taken before
+    /// the next one.
     pub looped: Train,
 }
 

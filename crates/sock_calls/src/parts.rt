@@ -6,7 +6,8 @@ use sockbuf::SockBuf;
 /// How many receive queues there are.
 pub(crate) const QUEUES: usize = MAX_SOCKETS as usize;
 
-/// The control blocks, and for each descriptor its receive queue. No fact ties them here: each call says what it asks for.
+/// The control blocks, and for each descriptor its receive queue. No fact ties them here: each call says what it asks
+/// for.
 pub(crate) struct Parts {
     pub(crate) pcbs: Pcbs,
     // by descriptor, from 3 on

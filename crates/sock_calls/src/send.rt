@@ -33,8 +33,8 @@ fn count_send(counters: &mut Counters, is_cut: bool, is_lost: bool)
 }
 
 impl Parts {
-    /// Sends a datagram by its route, and answers whether a packet of it was lost at the output queue. Its buffers have to
-    /// be free. A broadcast isn't cut.
+    /// Sends a datagram by its route, and answers whether a packet of it was lost at the output queue. Its buffers have
+    /// to be free. A broadcast isn't cut.
     fn put(
         &mut self,
         pool: &mut Pool,

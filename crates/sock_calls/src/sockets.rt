@@ -98,8 +98,8 @@ impl Socks {
         self.parts.pcbs.bcast()
     }
 
-    /// What a socket is bound and connected to, and its options (`getsockname`, `getpeername` and `getsockopt` of volume
-    /// 2, chapters 15 and 17). It changes nothing. Refused: `BadDescriptor`.
+    /// What a socket is bound and connected to, and its options (`getsockname`, `getpeername` and `getsockopt` of
+    /// volume 2, chapters 15 and 17). It changes nothing. Refused: `BadDescriptor`.
     pub fn name(&self, fd: u32) -> Result<SocketName, Errno>
         ensures { (p : PoolView) (rest : State) → result ≡ socket_name fd (with_sockets p self.now rest) }
     {
@@ -118,8 +118,8 @@ impl Socks {
         }
     }
 
-    /// The sockets in which a datagram waits, as a set: bit k stands for descriptor 3 + k, the lowest for k = 0. It takes
-    /// one step for each of the 64 descriptors.
+    /// The sockets in which a datagram waits, as a set: bit k stands for descriptor 3 + k, the lowest for k = 0. It
+    /// takes one step for each of the 64 descriptors.
     pub fn readable(&self) -> u64
         ensures { (p : PoolView) (rest : State) → IsSocks p self.now
             → result ≡ readable (with_sockets p self.now rest) }
@@ -172,9 +172,10 @@ impl Socks {
         done
     }
 
-    /// Sends bytes to an address, or without one to the socket's peer, and answers how many they were. Where the machine
-    /// hears the packets too, they're put into `net.looped`, which has to be empty before. The MTU has to be 68 or more, and
-    /// the machine's two addresses have to differ, with a broadcast address that isn't 127.0.0.1. The bytes are copied once.
+    /// Sends bytes to an address, or without one to the socket's peer, and answers how many they were. Where the
+    /// machine hears the packets too, they're put into `net.looped`, which has to be empty before. The MTU has to be 68
+    /// or more, and the machine's two addresses have to differ, with a broadcast address that isn't 127.0.0.1. The
+    /// bytes are copied once.
     ///
     /// Refused, and then nothing changes, in this order: `BadDescriptor`; `DestinationRequired` without an address and
     /// a peer; `MessageSize` above 9,216 bytes; of an address that was given `IsConnected`, `AddressNotAvailable` for
@@ -203,8 +204,8 @@ impl Socks {
 
     /// Takes the oldest datagram that waits in a socket, copies as many of its bytes as there is room for, and answers
     /// its sender and how many were copied; the others are lost, and all its buffers are freed (`soreceive` of volume
-    /// 2, chapter 16). The rest of the room stays as it was. It never blocks. Refused, and then nothing changes, the room
-    /// neither: `BadDescriptor`; `WouldBlock` where none waits.
+    /// 2, chapter 16). The rest of the room stays as it was. It never blocks. Refused, and then nothing changes, the
+    /// room neither: `BadDescriptor`; `WouldBlock` where none waits.
     pub fn recvfrom(
         &mut self,
         pool: &mut Pool,
@@ -250,9 +251,10 @@ impl Socks {
         Ok(())
     }
 
-    /// A whole datagram without its IP header, which said `head`: it's put into the queues of all sockets that hear it, a
-    /// copy into each but the last, or it ends and is counted (`udp_input` of volume 2, chapter 23). Where a buffer is
-    /// wanted and none is free, all that waits for fragments is given back first. The chain has at most 65,535 bytes.
+    /// A whole datagram without its IP header, which said `head`: it's put into the queues of all sockets that hear it,
+    /// a copy into each but the last, or it ends and is counted (`udp_input` of volume 2, chapter 23). Where a buffer
+    /// is wanted and none is free, all that waits for fragments is given back first. The chain has at most 65,535
+    /// bytes.
     pub fn input<R: Waiting>(
         &mut self,
         pool: &mut Pool,

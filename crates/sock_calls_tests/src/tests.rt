@@ -1,5 +1,5 @@
-//! Calls and their answers, on sockets of 10.0.0.1 and broadcast address 10.0.0.255. Packets, counts and what is free were worked
-//! out by hand.
+//! Calls and their answers, on sockets of 10.0.0.1 and broadcast address 10.0.0.255. Packets, counts and what is free
+//! were worked out by hand.
 mod broadcasts;
 mod host;
 mod nobody;

@@ -86,7 +86,8 @@ pub record IsRefused (p : PoolView) (b : SockBufView) (c back : ℕ) (q : PoolVi
   pub pool : q ≡ p
   pub queue : d ≡ b
 
--- Chain c, sent by `sender`, is the newest datagram of the queue; or it doesn't fit; or no mbuf is free for the address.
+-- Chain c, sent by `sender`, is the newest datagram of the queue; or it doesn't fit; or no mbuf is free for the
+-- address.
 abbrev pub AppendsAddr : PoolView → SockBufView → Addr → ℕ → Result Unit (ℕ × Refusal) → PoolView → SockBufView → Type 0
 AppendsAddr p b sender c (Ok done) q d =
     (fits (datagrams p b) (length (string (chain_of p c))) ≡ true) × (held_mbufs p < p.mbufs)
@@ -95,8 +96,8 @@ AppendsAddr p b sender c (Err (back, Full)) q d = (fits (datagrams p b) (length 
 AppendsAddr p b sender c (Err (back, NoBufs)) q d =
     (fits (datagrams p b) (length (string (chain_of p c))) ≡ true) × (held_mbufs p ≡ p.mbufs) × IsRefused p b c back q d
 
--- The oldest datagram, of this sender and with the entries of chain c, was taken out, and its mbuf for the address freed. The
--- chain has no packet header and is in no train.
+-- The oldest datagram, of this sender and with the entries of chain c, was taken out, and its mbuf for the address
+-- freed. The chain has no packet header and is in no train.
 pub record TakesOldest (p : PoolView) (b : SockBufView) (sender : Addr) (c : ℕ) (q : PoolView) (d : SockBufView) : Type 0 where
   pub datagrams : datagrams p b ≡ datagram_from sender q c ∷ datagrams q d
   pub front : (chain_of q c).front ≡ alone false

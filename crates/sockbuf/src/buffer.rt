@@ -94,8 +94,8 @@ impl SockBuf {
             && with_address + u64::from(self.mbcnt) <= u64::from(UDP_RECEIVE_MEMORY)
     }
 
-    /// Who sent the oldest datagram, and how many bytes it has; `None` where none waits. It changes nothing, and takes a
-    /// number of steps that doesn't depend on the queue.
+    /// Who sent the oldest datagram, and how many bytes it has; `None` where none waits. It changes nothing, and takes
+    /// a number of steps that doesn't depend on the queue.
     pub fn oldest(&self, pool: &Pool) -> Option<(Addr, u32)>
         requires { IsSockBuf pool.now self.now }
         ensures { result ≡ oldest_of (datagrams pool.now self.now) }
@@ -109,9 +109,9 @@ impl SockBuf {
         }
     }
 
-    /// Puts a datagram at the end, with its sender's address in an mbuf in front (`sbappendaddr`). It takes one mbuf, and
-    /// a number of steps that doesn't depend on the queue. Refused, and then nothing changes and the chain is handed
-    /// back: `Full` exactly where it doesn't fit, `NoBufs` exactly where it fits and no mbuf is free.
+    /// Puts a datagram at the end, with its sender's address in an mbuf in front (`sbappendaddr`). It takes one mbuf,
+    /// and a number of steps that doesn't depend on the queue. Refused, and then nothing changes and the chain is
+    /// handed back: `Full` exactly where it doesn't fit, `NoBufs` exactly where it fits and no mbuf is free.
     pub fn append_addr(
         &mut self,
         pool: &mut Pool,
@@ -135,8 +135,8 @@ impl SockBuf {
         Ok(())
     }
 
-    /// Puts a datagram of `len` bytes at the end, as `append_addr` does, for a caller who has asked before: it has to fit,
-    /// and an mbuf has to be free.
+    /// Puts a datagram of `len` bytes at the end, as `append_addr` does, for a caller who has asked before: it has to
+    /// fit, and an mbuf has to be free.
     // Inlined, since a stack has one place that appends.
     #[inline(always)]
     pub fn append_fitting(&mut self, pool: &mut Pool, sender: Addr, chain: Chain, len: u32)

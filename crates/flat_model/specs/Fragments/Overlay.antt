@@ -36,7 +36,8 @@ pub record Fragment : Type 0 where
 abbrev pub fragment_end : Fragment → ℕ
 fragment_end f = f.offset + length f.bytes
 
--- Who wins: what a piece brought stays where the piece begins no later than a fragment at a; else the fragment takes it.
+-- Who wins: what a piece brought stays where the piece begins no later than a fragment at a; else the fragment takes
+-- it.
 abbrev pub stays : ℕ → Option Held → Bool
 stays a None = false
 stays a (Some held) = nat_le held.piece.first a

@@ -46,7 +46,8 @@ front_bytes h n = 69 ∷ 0 ∷ two_bytes (IP_HEADER + n) ++ two_bytes h.id ++ tw
 abbrev pub address_bytes : ℕ → ℕ → List ℕ
 address_bytes source destination = four_bytes source ++ four_bytes destination
 
--- a packet of this stack: 20 bytes of header with their checksum, which is computed with 0 in its place, and what it carries
+-- a packet of this stack: 20 bytes of header with their checksum, which is computed with 0 in its place, and what it
+-- carries
 unfoldable pub packet : Head → List ℕ → List ℕ
 packet h t =
     let front : List ℕ = front_bytes h (length t) in

@@ -7,7 +7,8 @@ use Rattle.flat_model.specs.Fragments.Cuts.{Part, cuts}
 abbrev pub bytes_of : List ℕ → Part → List ℕ
 bytes_of s p = take p.size (drop p.offset s)
 
--- The parts of a string put together are the string; all but the last are a multiple of 8 long; and each fits after its header.
+-- The parts of a string put together are the string; all but the last are a multiple of 8 long; and each fits after its
+-- header.
 pub record CutsJoin (s : List ℕ) (mtu : ℕ) : Type 0 where
   pub joined : flat_map (bytes_of s) (cuts (length s) mtu) ≡ s
   pub multiples : (k : ℕ) (d : Part) → k + 1 < length (cuts (length s) mtu) → (slice_index_or (cuts (length s) mtu) k d).size % FRAGMENT_UNIT ≡ 0

@@ -15,7 +15,8 @@ pub record Asks (serves : Event → Bool) (line : List ℕ) (event : Event) : Ty
 
 -- A machine by its steps, which serves some of the events.
 module _ (serves : Event → Bool) (step : State → Event → Reply → State → Type 0) where
-  -- From old the machine may give this answer to the line and go on to new. A line that asks for nothing changes nothing.
+  -- From old the machine may give this answer to the line and go on to new. A line that asks for nothing changes
+  -- nothing.
   abbrev pub Answers : State → List ℕ → Option Reply → State → Type 0
   Answers old line (Some reply) new = (event : Event) × Asks serves line event × step old event reply new
   Answers old line None new = ((event : Event) → ¬ Asks serves line event) × (new ≡ old)
@@ -58,6 +59,7 @@ pub record IsPrintOfRun (L : Ledger) (serves : Event → Bool) (old : State) (li
 abbrev pub all_events : Event → Bool
 all_events event = true
 
--- this is printed for the lines by a run of the machine that keeps exact accounts: by its turns, which `Run` leads through
+-- this is printed for the lines by a run of the machine that keeps exact accounts: by its turns, which `Run` leads
+-- through
 abbrev pub PrintsRun : Config → List (List ℕ) → List ℕ → State → Type 0
 PrintsRun config lines printed new = IsPrintOfRun exact_ledger all_events (boot config) lines printed new

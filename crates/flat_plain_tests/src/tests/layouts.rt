@@ -3,9 +3,9 @@ use super::{same, same_list};
 use flat_plain::Room::{InCluster, InMbuf};
 use flat_plain::{Buffers, Part, Room, cuts, meets, need, need_bcast, sent, user, wire};
 
-/// So many bytes: to send, without their headers; after these; and of a packet that arrives. Few bytes to send fill plain
-/// mbufs of 100 and 108 bytes, and the headers share one with at most 72 of them. From 208 on clusters are taken, of which
-/// the first has 1992; all those of a packet that arrives are full, but for the last one.
+/// So many bytes: to send, without their headers; after these; and of a packet that arrives. Few bytes to send fill
+/// plain mbufs of 100 and 108 bytes, and the headers share one with at most 72 of them. From 208 on clusters are taken,
+/// of which the first has 1992; all those of a packet that arrives are full, but for the last one.
 static LAYOUTS: [(u32, &[Room], &[Room], &[Room]); 12] = [
     (0, &[InMbuf(0)], &[InMbuf(28)], &[InMbuf(0)]),
     (1, &[InMbuf(1)], &[InMbuf(29)], &[InMbuf(1)]),
@@ -92,7 +92,8 @@ static MET: [(u64, u64, u64); 6] = [
     (3028, 4000, 0),
 ];
 
-/// So many bytes to send, on a link with this MTU or to the broadcast address, and the mbufs and clusters that they take.
+/// So many bytes to send, on a link with this MTU or to the broadcast address, and the mbufs and clusters that they
+/// take.
 static NEEDS: [(u32, Option<u32>, u64, u64); 6] = [
     (0, Some(1500), 1, 0),
     (3000, Some(1536), 6, 2),

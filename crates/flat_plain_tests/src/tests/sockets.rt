@@ -99,8 +99,8 @@ const CONNECTED: Pcb = Pcb {
     ..BOUND
 };
 
-/// What a packet finds with as few wildcards as there are, and what without one. The youngest stands first, whatever its
-/// descriptor.
+/// What a packet finds with as few wildcards as there are, and what without one. The youngest stands first, whatever
+/// its descriptor.
 static BEST: [(&[Pcb], Option<Pcb>, Option<Pcb>); 7] = [
     (&[YOUNG, OLD], Some(YOUNG), None),
     (&[OLD, YOUNG], Some(OLD), None),
@@ -205,8 +205,8 @@ const DEEP: Waiting = Waiting {
 
 const DEEPER: Waiting = Waiting { mbufs: 20, ..DEEP };
 
-/// A queue, the bytes of one more datagram, and whether it fits. The limits are 41,600 bytes, less 16 for each address, and
-/// 83,200 bytes of memory.
+/// A queue, the bytes of one more datagram, and whether it fits. The limits are 41,600 bytes, less 16 for each address,
+/// and 83,200 bytes of memory.
 static FITS: [(&[Waiting], u16, bool); 9] = [
     (&[SMALL; 324], 1, true),
     (&[SMALL; 325], 0, false),

@@ -48,8 +48,8 @@ static LATER: [(u32, u32, u64, &[u32]); 6] = [
 /// leaves its cluster, and of 41 it has an mbuf more.
 static PULLED_UP: [(u32, u64, &[u32]); 2] = [(40, 1, &[]), (41, 2, &[7])];
 
-/// Where a fragment begins, its mbufs, its cluster, its bytes, and what all pieces weigh then. One that lost its last byte
-/// weighs nothing any more.
+/// Where a fragment begins, its mbufs, its cluster, its bytes, and what all pieces weigh then. One that lost its last
+/// byte weighs nothing any more.
 static PIECES: [(u32, u32, u32, &[u8], u64, &[u32]); 3] = [
     (16, 2, 5, b"cccccccc", 2, &[5]),
     (24, 3, 6, b"dddddddd", 5, &[5, 6]),

@@ -17,7 +17,8 @@ abbrev pub upto_last : ℕ → List ℕ → ℕ → ℕ
 upto_last b bs zero = 0
 upto_last b bs (suc k) = if get_or bs k 0 == b then suc k else upto_last b bs k
 
--- what a contract sees of an index: the buckets of the rows, how many buckets there are, and for how many rows there is room
+-- what a contract sees of an index: the buckets of the rows, how many buckets there are, and for how many rows there is
+-- room
 pub record IndexView : Type 0 where
   pub buckets : List ℕ
   pub count : ℕ

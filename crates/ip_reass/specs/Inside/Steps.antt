@@ -17,8 +17,8 @@ no_datagram = record { key = record { source = 0; destination = 0; id = 0; proto
 abbrev pub datagram_at : List Datagram → ℕ → Datagram
 datagram_at ds i = slice_index_or ds i no_datagram
 
--- from p and d to q and e, chain c, which is the fragment f, was laid among the fragments of a datagram, where something
--- of it was left
+-- from p and d to q and e, chain c, which is the fragment f, was laid among the fragments of a datagram, where
+-- something of it was left
 pub record IsLaid (p : PoolView) (d : Datagram) (c : ℕ) (f : QueuedFragment) (answer : Bool) (q : PoolView) (e : Datagram) : Type 0 where
   pub same : e ≡ record d { fragments = e.fragments; bytes = e.bytes }
   pub covered : is_covered (map_of (fragments p d.fragments)) (fragment_of f) ≡ not answer

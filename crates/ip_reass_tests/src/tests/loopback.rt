@@ -1,5 +1,5 @@
-//! The two packets of a send of 3,000 bytes by loopback, at MTU 1536, which share a cluster: what becomes of them where there are
-//! just enough mbufs, and where there is one too few.
+//! The two packets of a send of 3,000 bytes by loopback, at MTU 1536, which share a cluster: what becomes of them where
+//! there are just enough mbufs, and where there is one too few.
 
 ghost use Rattle.std.specs.Prelude.{◌∷◌, []};
 ghost use Rattle.mbuf_chain.specs.Owners.{IsOwned, Moves};

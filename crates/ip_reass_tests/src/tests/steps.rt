@@ -231,7 +231,8 @@ impl Host {
         self.counters.value(counter)
     }
 
-    /// Frees what is unfinished: the free mbufs and clusters then, the references to clusters, and the most that one has.
+    /// Frees what is unfinished: the free mbufs and clusters then, the references to clusters, and the most that one
+    /// has.
     pub(super) fn ended(self) -> (u32, u32, u32, u32)
         requires { IsReady self.pool self.table }
     {

@@ -1,4 +1,5 @@
--- The pool's accounts: what a step adds to the mbufs held and to a cluster's references, and both as sums over what the owners have.
+-- The pool's accounts: what a step adds to the mbufs held and to a cluster's references, and both as sums over what the
+-- owners have.
 use Rattle.std.proofs.Common.{◌≡◌, ◌≢◌, ℕ, zero, suc, ◌+◌, ◌<◌, ◌≤◌, Bool, cond, List, [], ◌∷◌, length, None, Some, sum_by, count_by, nat_eq, refl, sym, ap, ◌∙◌, subst, arith, inl, inr}
 use Rattle.std.specs.List.{range_with_len}
 use Rattle.std.specs.Ordering.{nat_cmp}

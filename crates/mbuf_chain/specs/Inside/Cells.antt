@@ -159,7 +159,8 @@ IsTotal s l = (packet : PacketHeader) → (head_of s (first_of l)).packet ≡ So
 abbrev pub off_at : ℕ → ℕ → List ℕ → ℕ
 off_at first n l = cond (nat_eq (first_of l) first) n 0
 
--- the packet length is off at the chain that begins at `first`, and right elsewhere: `added` more and `removed` less would be right there
+-- the packet length is off at the chain that begins at `first`, and right elsewhere: `added` more and `removed` less
+-- would be right there
 abbrev pub IsTotalBy : StoreView → ℕ → ℕ → ℕ → List ℕ → Type 0
 IsTotalBy s first added removed l = (packet : PacketHeader) → (head_of s (first_of l)).packet ≡ Some packet → packet.len + off_at first added l ≡ weigh (len_at s) l + off_at first removed l
 

@@ -1,5 +1,5 @@
--- Packets that arrive, for every rest of the machine (`ipintr` of volume 2, chapter 8; to say it by what a pool shows is
--- this project's own).
+-- Packets that arrive, for every rest of the machine (`ipintr` of volume 2, chapter 8; to say it by what a pool shows
+-- is this project's own).
 use Rattle.std.specs.Prelude.{◌≡◌, ℕ, ◌≤◌, List, ◌∷◌, ◌++◌, length, count_by, Bool, true, false, ◌==◌, ◌||◌}
 use Rattle.flat_model.specs.Amounts.Weight.{Weight, ◌⊕◌, nothing}
 use Rattle.flat_model.specs.Machine.State.{State, Key, Unfinished, limited_broadcast, is_key, loopback}

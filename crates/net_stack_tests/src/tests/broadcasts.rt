@@ -1,5 +1,5 @@
-//! Broadcasts: sent both ways, heard by two sockets that share a port, and lost for want of buffers. Packets and counts were
-//! worked out by hand.
+//! Broadcasts: sent both ways, heard by two sockets that share a port, and lost for want of buffers. Packets and counts
+//! were worked out by hand.
 use super::steps::Question::{Counted, Free};
 use super::steps::Step::{Asks, Bind, Receive, Rx, Send, Set, Socket, Tx};
 use super::steps::{Step, play};

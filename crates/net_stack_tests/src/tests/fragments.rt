@@ -1,5 +1,5 @@
-//! Packets cut short, fragments of a machine that hears itself, and fragments that nothing makes whole. The counts and bytes
-//! were worked out by hand.
+//! Packets cut short, fragments of a machine that hears itself, and fragments that nothing makes whole. The counts and
+//! bytes were worked out by hand.
 use super::LARGE;
 use super::steps::Question::{Counted, Free};
 use super::steps::Step::{Asks, Bind, Fronts, Receive, Rx, Send, Socket, Ticks};

@@ -1,4 +1,5 @@
-//! Packets from the wire and to it, and a machine that hears itself. The bytes of packets were worked out apart from this code.
+//! Packets from the wire and to it, and a machine that hears itself. The bytes of packets were worked out apart from
+//! this code.
 use super::PLAIN;
 use super::steps::Question::{FreeMbufs, Value};
 use super::steps::Step::{Asks, Bind, Packet, Receive, Rx, Send, Socket, Tx};

@@ -177,8 +177,8 @@ fn answers(alloc: Global, segment: &mut Segment, step: &Step) -> bool {
     }
 }
 
-/// Makes these calls on a segment with room for so many packets, and ends it. A call that gives another answer is told by its
-/// row, from 0 on.
+/// Makes these calls on a segment with room for so many packets, and ends it. A call that gives another answer is told
+/// by its row, from 0 on.
 pub(super) fn play(rt: &impl Abort, alloc: Global, room: u16, steps: &[Step]) {
     let mut segment = Segment::new(alloc, room).expect(rt, "memory");
     for (row, step) in steps.iter().enumerate() {

@@ -11,7 +11,8 @@ use Rattle.ledger.specs.Accounts.{item_at, weight_at, IsAccounted}
 use Rattle.sock_calls.specs.Sockets.{IsSocks}
 use Rattle.sock_calls.specs.Delivery.{NetView, state_at, chains_at, queues_at, sockets_named}
 
--- From v on, chain c was offered to the first i of the receivers: whatever becomes of the others makes a delivery to all.
+-- From v on, chain c was offered to the first i of the receivers: whatever becomes of the others makes a delivery to
+-- all.
 pub record IsUnderWay (v : NetView) (c : ℕ) (fds : List ℕ) (sender : Addr) (i : ℕ) (u : NetView) : Type 0 where
   pub goes : (rest : State) (held : Weight) (new : State) → IsAccounted v.pool (state_at v rest) (held ⊕ weight_at v.pool c)
       → Delivers exact_ledger held sender (item_at v.pool c) (sockets_named (queues_at v) v.socks.pcbs (drop i fds)) (state_at u rest) new

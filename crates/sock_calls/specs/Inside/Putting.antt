@@ -52,7 +52,8 @@ sent_as h bytes = record { id = h.id; source = h.source; to = h.to; port = h.por
 abbrev pub head_as : Heading → IpHead
 head_as h = record { tos = 0; total = 0; id = h.id; dont = false; more = false; offset = 0; ttl = IP_DEFAULT_TTL; proto = PROTOCOL_UDP; src = h.source; dst = h.to.ip }
 
--- From p to q chain c came, of n bytes and 28 in front of them, laid out as a send of n bytes on clusters that were free.
+-- From p to q chain c came, of n bytes and 28 in front of them, laid out as a send of n bytes on clusters that were
+-- free.
 pub record IsLaidOut (p : PoolView) (n : ℕ) (clusters : List ℕ) (q : PoolView) (c : ℕ) : Type 0 where
   pub number : length clusters ≡ count_by is_cluster (sent n)
   pub free : AreFree p clusters

@@ -113,8 +113,8 @@ fn answers(rt: &impl Abort, host: &mut Host, step: &Step) -> bool {
     }
 }
 
-/// Makes these calls on a host with so many mbufs and clusters, and ends it. A call that gives another answer is told by its
-/// row, from 0 on.
+/// Makes these calls on a host with so many mbufs and clusters, and ends it. A call that gives another answer is told
+/// by its row, from 0 on.
 pub(super) fn play(rt: &impl Abort, alloc: Global, mbufs: u32, clusters: u32, steps: &[Step]) {
     let mut host = match Host::boot(alloc, mbufs, clusters) {
         Ok(host) => host,
