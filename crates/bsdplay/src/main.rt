@@ -13,7 +13,7 @@ use clap::{Arg, ArgAction, ArgMatches, Command};
 use hosts::{play_captured, play_uncaptured, status_of};
 use play_script::{Config, Played, Silent, Style, play};
 use std::alloc::{AllocError, Global};
-use std::io::Read;
+use std::io::{IsTerminal, Read};
 use std::process::ExitCode;
 use std::{env, fs, io};
 use sweep::{Seeds, seed_in, seeds_in, sweep};
@@ -48,7 +48,7 @@ fn with_wire<'a>(alloc: Global, command: Command<'a>) -> Result<Command<'a>, All
         .action(ArgAction::SetTrue);
     let progress = Arg::new(alloc, "progress")
         .long("progress")
-        .help("Tell each hundredth seed on standard error")
+        .help("Tell each hundredth seed on standard error, even if it is no terminal")
         .action(ArgAction::SetTrue);
     let capture = Arg::new(alloc, "PCAP")
         .long("pcap")
@@ -152,7 +152,8 @@ fn play_seeds<R: Read + Drop>(
     }
     let mut script = Vec::new(rt.alloc());
     reader.read_to_end(&mut script)?;
-    sweep(rt, script.as_slice(), name, seeds, manner.progress)
+    let progress = manner.progress || rt.stderr().is_terminal();
+    sweep(rt, script.as_slice(), name, seeds, progress)
 }
 
 /// Plays a script of many machines.
