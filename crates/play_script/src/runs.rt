@@ -87,6 +87,27 @@ fn sheet_for(alloc: Global, style: Style<'_>) -> Result<Sheet, AllocError>
     })
 }
 
+/// A desk on which no line stands.
+fn desk_for(alloc: Global) -> Result<Desk, AllocError> {
+    Ok(Desk {
+        shown: Buffer::new(alloc)?,
+        words: Buffer::new(alloc)?,
+        wanted: Buffer::new(alloc)?,
+        expects: false,
+    })
+}
+
+/// Notes of no line.
+fn notes_for(alloc: Global) -> Result<Notes, AllocError> {
+    Ok(Notes {
+        reply: Buffer::new(alloc)?,
+        drops: Buffer::new(alloc)?,
+        told: Buffer::new(alloc)?,
+        shown: Buffer::new(alloc)?,
+        below: Buffer::new(alloc)?,
+    })
+}
+
 /// Takes all memory for playing a script.
 fn parts_for(alloc: Global, style: Style<'_>) -> Result<Parts, AllocError>
     ensures { IfOk result (λ p. (p.sheet.quiet ≡ style.entry.quiet) × (p.sheet.number ≡ 0)
@@ -95,19 +116,8 @@ fn parts_for(alloc: Global, style: Style<'_>) -> Result<Parts, AllocError>
     Ok(Parts {
         buffers: LineBuffers::new(alloc)?,
         reader: LineReader::new(alloc)?,
-        desk: Desk {
-            shown: Buffer::new(alloc)?,
-            words: Buffer::new(alloc)?,
-            wanted: Buffer::new(alloc)?,
-            expects: false,
-        },
-        notes: Notes {
-            reply: Buffer::new(alloc)?,
-            drops: Buffer::new(alloc)?,
-            told: Buffer::new(alloc)?,
-            shown: Buffer::new(alloc)?,
-            below: Buffer::new(alloc)?,
-        },
+        desk: desk_for(alloc)?,
+        notes: notes_for(alloc)?,
         sheet: sheet_for(alloc, style)?,
     })
 }
