@@ -48,7 +48,7 @@ def main(program):
                     os.write(tun, packet)
         board.stdin.write(framed(b"\x04"))
         board.stdin.flush()
-        return board.wait(10)
+        return board.wait(60)
 
 
 sys.exit(main(sys.argv[1:]))

@@ -15,6 +15,7 @@ import time
 LENGTHS = [0, 1, 2, 72, 73, 100, 101, 207, 208, 1472, 1473, 2047, 2048, 2049, 2952, 2953, 4095, 4096]
 BOARD, MOST = ("10.0.0.1", 7), 4096
 IP_MTU_DISCOVER = 10
+WAIT = 60  # seconds: much more than any needs, for a busy machine
 
 
 def wait_for_device():
@@ -29,7 +30,7 @@ def wait_for_device():
 def echo(lengths):
     it = socket.socket(socket.AF_INET, socket.SOCK_DGRAM)
     it.setsockopt(socket.IPPROTO_IP, IP_MTU_DISCOVER, 0)
-    it.settimeout(10)
+    it.settimeout(WAIT)
     rng = random.Random(1)
     for length in lengths:
         data = rng.randbytes(length)
@@ -53,6 +54,8 @@ def main(words):
         try:
             wait_for_device()
             fault = echo(lengths)
+            if bridge.poll() is not None:
+                fault = "the board ended before its time"
         finally:
             bridge.send_signal(signal.SIGTERM)
             said = bridge.communicate()[1]
