@@ -31,7 +31,7 @@ def client(without_checksum):
     it.setsockopt(socket.IPPROTO_IP, IP_MTU_DISCOVER, 0)
     if without_checksum:
         it.setsockopt(socket.SOL_SOCKET, SO_NO_CHECK, 1)
-    it.settimeout(5)
+    it.settimeout(60)
     return it
 
 
@@ -105,7 +105,7 @@ def errors():
 
 
 def wait_for_device():
-    for _ in range(200):
+    for _ in range(1200):
         shown = subprocess.run(["ip", "addr", "show", "bsdudp0"], capture_output=True, text=True, check=False).stdout
         if "10.0.0.2" in shown and "UP" in shown:
             return

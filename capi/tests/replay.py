@@ -105,12 +105,12 @@ def by_pcap(program, name, room):
 
 def device():
     """A socket by which packets go into the device of tun_echo, and come out of it, once it's there."""
-    for _ in range(200):
+    for _ in range(1200):
         shown = subprocess.run(["ip", "addr", "show", "bsdudp0"], capture_output=True, text=True, check=False).stdout
         if "10.0.0.2" in shown and "UP" in shown:
             it = socket.socket(socket.AF_PACKET, socket.SOCK_RAW, socket.htons(ETH_P_IP))
             it.bind(("bsdudp0", ETH_P_IP))
-            it.settimeout(5)
+            it.settimeout(60)
             return it
         time.sleep(0.05)
     raise Wrong("the device doesn't come up")

@@ -19,7 +19,7 @@ WAIT = 60  # seconds: much more than any needs, for a busy machine
 
 
 def wait_for_device():
-    for _ in range(100):
+    for _ in range(1200):
         shown = subprocess.run(["ip", "addr", "show", "bsdudp0"], capture_output=True, text=True, check=False).stdout
         if "10.0.0.2" in shown and "UP" in shown:
             return
