@@ -4,14 +4,16 @@
 
 mod capture;
 mod choice;
+mod form;
 mod hosts;
 mod sweep;
 
 use capture::print_capture;
 use choice::Ahead;
 use clap::{Arg, ArgAction, ArgMatches, Command};
+use form::{form_of, with_forms};
 use hosts::{play_captured, play_uncaptured, status_of};
-use play_script::{Config, Played, Silent, Style, play};
+use play_script::{Config, Form, Played, Silent, Style, play};
 use std::alloc::{AllocError, Global};
 use std::io::{IsTerminal, Read};
 use std::process::ExitCode;
@@ -34,62 +36,73 @@ const USAGE: u8 = 2;
 /// The status if a script can't be opened, or something can't be printed.
 const UNREAD: u8 = 4;
 
-/// The options for scripts of many machines.
+/// The options for scripts of many machines. Each is made as it's added, so that none is let go if memory is refused.
 fn with_wire<'a>(alloc: Global, command: Command<'a>) -> Result<Command<'a>, AllocError> {
-    let seed = Arg::new(alloc, "seed").long("seed").help(
-        "The seed of the wire, if the script doesn't say one: 1 if it's left out",
-    );
-    let seeds = Arg::new(alloc, "seeds").long("seeds").help(
-        "A-B: play the script for each of these seeds, and list those that fail",
-    );
-    let summary = Arg::new(alloc, "summary")
-        .long("summary")
-        .help("Tell at the end what was counted of each host")
-        .action(ArgAction::SetTrue);
-    let progress = Arg::new(alloc, "progress")
-        .long("progress")
-        .help("Tell each hundredth seed on standard error, even if it is no terminal")
-        .action(ArgAction::SetTrue);
-    let capture = Arg::new(alloc, "PCAP")
-        .long("pcap")
-        .help("Write what goes on the wire of many machines to this file")
-        .action(ArgAction::Set);
-    let command = command.arg(seed)?.arg(seeds)?.arg(summary)?;
-    command.arg(progress)?.arg(capture)
+    command
+        .arg(
+            Arg::new(alloc, "seed").long("seed").help(
+                "The seed of the wire, if the script doesn't say one: 1 if it's left out",
+            ),
+        )?
+        .arg(
+            Arg::new(alloc, "seeds").long("seeds").help(
+                "A-B: play the script for each of these seeds, and list those that fail",
+            ),
+        )?
+        .arg(
+            Arg::new(alloc, "summary")
+                .long("summary")
+                .help("Tell at the end what was counted of each host")
+                .action(ArgAction::SetTrue),
+        )?
+        .arg(
+            Arg::new(alloc, "progress")
+                .long("progress")
+                .help("Tell each hundredth seed on standard error, even if it is no terminal")
+                .action(ArgAction::SetTrue),
+        )?
+        .arg(
+            Arg::new(alloc, "PCAP")
+                .long("pcap")
+                .help("Write what goes on the wire of many machines to this file")
+                .action(ArgAction::Set),
+        )
 }
 
 /// The options for captures.
 fn with_captures<'a>(alloc: Global, command: Command<'a>) -> Result<Command<'a>, AllocError> {
-    let capture = Arg::new(alloc, "CAPTURE")
-        .long("from-pcap")
-        .help("Print the IPv4 packets of this capture as a script, and play nothing")
-        .action(ArgAction::Set);
-    let records = Arg::new(alloc, "N-M")
-        .long("records")
-        .help("With --from-pcap: the records from number N to M alone")
-        .action(ArgAction::Set);
-    let ticks = Arg::new(alloc, "ticks")
-        .long("ticks")
-        .help("With --from-pcap: a tick for each half second between packets")
-        .action(ArgAction::SetTrue);
-    command.arg(capture)?.arg(records)?.arg(ticks)
+    command
+        .arg(
+            Arg::new(alloc, "CAPTURE")
+                .long("from-pcap")
+                .help("Print the IPv4 packets of this capture as a script, and play nothing")
+                .action(ArgAction::Set),
+        )?
+        .arg(
+            Arg::new(alloc, "N-M")
+                .long("records")
+                .help("With --from-pcap: the records from number N to M alone")
+                .action(ArgAction::Set),
+        )?
+        .arg(
+            Arg::new(alloc, "ticks")
+                .long("ticks")
+                .help("With --from-pcap: a tick for each half second between packets")
+                .action(ArgAction::SetTrue),
+        )
 }
 
 /// The command line.
 fn command<'a>(alloc: Global) -> Result<Command<'a>, AllocError> {
-    let quiet = Arg::new(alloc, "quiet")
-        .short('q')
-        .long("quiet")
-        .help("Print replies and differences alone, without the lines")
-        .action(ArgAction::SetTrue);
-    let files = Arg::new(alloc, "FILE")
-        .help("Scripts, each played on a new machine; '-' or none: standard input")
-        .action(ArgAction::Append);
-    let command = Command::new(alloc, "bsdplay")
-        .version("0.2.0")
-        .about("Plays scripts of socket calls, packets and ticks, and says what came of each line")
-        .arg(quiet)?;
-    with_captures(alloc, with_wire(alloc, command)?)?.arg(files)
+    let command = Command::new(alloc, "bsdplay").version("0.2.0").about(
+        "Plays scripts of socket calls, packets and ticks, and says what came of each line",
+    );
+    let command = with_wire(alloc, with_forms(alloc, command)?)?;
+    with_captures(alloc, command)?.arg(
+        Arg::new(alloc, "FILE")
+            .help("Scripts, each played on a new machine; '-' or none: standard input")
+            .action(ArgAction::Append),
+    )
 }
 
 /// Says why a script ended early.
@@ -103,7 +116,7 @@ fn report(rt: &HostRuntime, name: &str, played: &Played) -> io::Result<()> {
 /// How scripts are played.
 #[derive(Clone, Copy)]
 struct Manner<'a> {
-    quiet: bool,
+    form: Form,
     seed: u64,
     /// Each of these seeds in the place of one.
     seeds: Option<Seeds>,
@@ -114,7 +127,7 @@ struct Manner<'a> {
 }
 
 /// How the options say that scripts are played. `None` if a seed isn't one.
-fn manner_of<'a>(found: &'a ArgMatches<'_>) -> Option<Manner<'a>> {
+fn manner_of<'a>(found: &'a ArgMatches<'_>, form: Form) -> Option<Manner<'a>> {
     let seed = match found.get_str("seed") {
         Some(word) => seed_in(word)?,
         None => 1,
@@ -124,7 +137,7 @@ fn manner_of<'a>(found: &'a ArgMatches<'_>) -> Option<Manner<'a>> {
         None => None,
     };
     Some(Manner {
-        quiet: found.get_flag("quiet"),
+        form,
         seed,
         seeds,
         summary: found.get_flag("summary"),
@@ -150,6 +163,10 @@ fn play_seeds<R: Read + Drop>(
         eprintln!(rt; "bsdplay: a capture is of one seed: --pcap goes with --seed")?;
         return Ok(USAGE);
     }
+    if matches!(manner.form, Form::Json) {
+        eprintln!(rt; "bsdplay: seeds are listed for people: --json goes with --seed")?;
+        return Ok(USAGE);
+    }
     let mut script = Vec::new(rt.alloc());
     reader.read_to_end(&mut script)?;
     let progress = manner.progress || rt.stderr().is_terminal();
@@ -168,7 +185,7 @@ fn play_wired<R: Read + Drop>(
     }
     let mut writer = Silent(rt.stdout());
     let style = Style {
-        quiet: manner.quiet,
+        form: manner.form,
         name: name.as_bytes(),
     };
     let done = match manner.capture {
@@ -205,7 +222,7 @@ fn play_source<R: Read + Drop>(
     }
     let mut writer = Silent(rt.stdout());
     let style = Style {
-        quiet: manner.quiet,
+        form: manner.form,
         name: name.as_bytes(),
     };
     let played = play(rt.alloc(), MACHINE, style, &mut reader, &mut writer);
@@ -227,7 +244,14 @@ fn play_file(rt: &HostRuntime, name: &str, manner: Manner<'_>) -> io::Result<u8>
 
 /// Plays all scripts, and answers the greatest of their statuses.
 fn play_all(rt: &HostRuntime, found: &ArgMatches<'_>) -> io::Result<u8> {
-    let Some(manner) = manner_of(found) else {
+    let form = match form_of(rt, found) {
+        Ok(form) => form,
+        Err(text) => {
+            eprintln!(rt; "bsdplay: {text}")?;
+            return Ok(USAGE);
+        }
+    };
+    let Some(manner) = manner_of(found, form) else {
         eprintln!(rt; "bsdplay: a seed is a number, and seeds are two, as 1-1000")?;
         return Ok(USAGE);
     };

@@ -1,6 +1,6 @@
 //! One script of many machines, played for each seed of a range.
 use crate::hosts::play_uncaptured;
-use play_script::{Played, Style};
+use play_script::{Form, Played, Style};
 use std::io::{self, Write};
 
 /// After how many seeds progress is told.
@@ -73,7 +73,7 @@ pub(crate) fn sweep(
     progress: bool,
 ) -> io::Result<u8> {
     let style = Style {
-        quiet: true,
+        form: Form::Quiet,
         name: name.as_bytes(),
     };
     let mut worst = 0;

@@ -1,6 +1,6 @@
 //! A script with a comment, and with the replies that are expected.
 use flat_model::Config;
-use play_script::{Style, play};
+use play_script::{Form, Style, play};
 use std::alloc::Global;
 
 /// The host 10.0.0.1 of the network 10.0.0.0/24.
@@ -16,7 +16,7 @@ const HOST: Config = Config {
 /// Whether all that the script expects comes.
 pub fn holds(alloc: Global, script: &[u8]) -> bool {
     let style = Style {
-        quiet: true,
+        form: Form::Quiet,
         name: b"script",
     };
     let mut reader = script;

@@ -19,6 +19,7 @@ pub mod named_packet;
 pub mod other_machine;
 pub mod packet_sum;
 pub mod packet_words;
+pub mod printed_line;
 pub mod receive_queue;
 pub mod send;
 pub mod shared_cluster;

@@ -1,5 +1,5 @@
 //! A script of two hosts and a wire between them.
-use play_script::Style;
+use play_script::{Form, Style};
 use play_wire::{Nowhere, Start, play_hosts};
 use std::alloc::Global;
 
@@ -18,7 +18,7 @@ b: recvfrom 3 100 => from 10.0.0.1 _ \"hi\"
 /// Whether all that the script expects comes.
 pub fn arrives(alloc: Global) -> bool {
     let style = Style {
-        quiet: true,
+        form: Form::Quiet,
         name: b"script",
     };
     let mut reader = SCRIPT;

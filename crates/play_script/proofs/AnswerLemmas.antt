@@ -10,7 +10,7 @@ use Rattle.play_show.specs.Tells.{Shows}
 use Rattle.play_show.specs.declared.snapshot.Snapshot.{Snapshot}
 use Rattle.play_show.specs.declared.topic.Topic.{Topic}
 use Rattle.play_script.proofs.TextLemmas.{take-reply}
-use Rattle.play_script.specs.Inside.{if_there}
+use Rattle.play_print.specs.Texts.{if_there}
 use Rattle.play_script.specs.Moved.{IsBelow, IsMoved}
 use Rattle.play_script.specs.Outcomes.{outcome}
 use Rattle.play_script.specs.Tells.{Does, IsAnswered}

@@ -1,5 +1,5 @@
 -- A player before its first line, and a machine that isn't made.
-use Rattle.std.proofs.Common.{◌≡◌, ℕ, Bool, true, List, Option, Result, Err, refl, subst}
+use Rattle.std.proofs.Common.{◌≡◌, ℕ, true, List, Option, Result, Err, refl, subst}
 use Rattle.flat_model.specs.Machine.Event.{Event, Reply}
 use Rattle.flat_model.specs.Machine.State.{State, boot}
 use Rattle.flat_model.specs.declared.config.Config.{Config}
@@ -8,29 +8,30 @@ use Rattle.script_loop.specs.declared.fault.RunFault.{RunFault}
 use Rattle.script_loop.specs.declared.fault.RunFault.TheVariants.{Read, Write, Memory, TooManyLines, BadSizes, BadConfig}
 use Rattle.script_loop.proofs.Laws.{Moves-none}
 use Rattle.link_script.specs.Boots.{IsUnbooted}
+use Rattle.play_print.specs.declared.form.Form.{Form}
 use Rattle.play_script.specs.Tells.{Play, Tells, started}
 
-pub started-is : (machine : State) (config : Config) (number : ℕ) (quiet quiet' : Bool) (name name' : List ℕ) → config ≡ machine.config
-    → quiet ≡ quiet' → number ≡ 0 → name ≡ name'
-    → record (started machine quiet name) { config = config; number = number } ≡ started machine quiet' name'
-started-is machine config number quiet quiet' name name' c e f h = rw (c, e, f, h) refl
+pub started-is : (machine : State) (config : Config) (number : ℕ) (form form' : Form) (name name' : List ℕ) → config ≡ machine.config
+    → form ≡ form' → number ≡ 0 → name ≡ name'
+    → record (started machine form name) { config = config; number = number } ≡ started machine form' name'
+started-is machine config number form form' name name' c e f h = rw (c, e, f, h) refl
 
 -- nothing is served without a machine
-pub Serves-unbooted : (step : State → Event → Reply → State → Type 0) (c : Config) (fault : RunFault) (quiet : Bool) (name : List ℕ)
+pub Serves-unbooted : (step : State → Event → Reply → State → Type 0) (c : Config) (fault : RunFault) (form : Form) (name : List ℕ)
     (a w : Option (List ℕ)) → IsUnbooted c fault
-    → (new : Play) × Serves (Tells step) (started (boot c) quiet name) new a a w w (Err fault) × (true ≡ new.sound)
-Serves-unbooted step c Memory quiet name a w h = (started (boot c) quiet name, (Moves-none a w, refl), refl)
-Serves-unbooted step c BadSizes quiet name a w h = (started (boot c) quiet name, (Moves-none a w, refl), refl)
-Serves-unbooted step c BadConfig quiet name a w h = (started (boot c) quiet name, (Moves-none a w, refl), refl)
-Serves-unbooted step c Read quiet name a w h = absurd h
-Serves-unbooted step c Write quiet name a w h = absurd h
-Serves-unbooted step c TooManyLines quiet name a w h = absurd h
+    → (new : Play) × Serves (Tells step) (started (boot c) form name) new a a w w (Err fault) × (true ≡ new.sound)
+Serves-unbooted step c Memory form name a w h = (started (boot c) form name, (Moves-none a w, refl), refl)
+Serves-unbooted step c BadSizes form name a w h = (started (boot c) form name, (Moves-none a w, refl), refl)
+Serves-unbooted step c BadConfig form name a w h = (started (boot c) form name, (Moves-none a w, refl), refl)
+Serves-unbooted step c Read form name a w h = absurd h
+Serves-unbooted step c Write form name a w h = absurd h
+Serves-unbooted step c TooManyLines form name a w h = absurd h
 
 -- what a new player serves
-pub Serves-started : (step : State → Event → Reply → State → Type 0) (machine : State) (config : Config) (number : ℕ) (quiet quiet' : Bool)
+pub Serves-started : (step : State → Event → Reply → State → Type 0) (machine : State) (config : Config) (number : ℕ) (form form' : Form)
     (name name' : List ℕ) (new : Play) (a b w v : Option (List ℕ)) (r : Result Unit RunFault)
-    → config ≡ machine.config → quiet ≡ quiet' → number ≡ 0 → name ≡ name'
-    → Serves (Tells step) (record (started machine quiet name) { config = config; number = number }) new a b w v r
-    → (x : Play) × Serves (Tells step) (started machine quiet' name') x a b w v r × (new.sound ≡ x.sound)
-Serves-started step machine config number quiet quiet' name name' new a b w v r c e f h served =
-    (new, subst (λ (s : Play). Serves (Tells step) s new a b w v r) (started-is machine config number quiet quiet' name name' c e f h) served, refl)
+    → config ≡ machine.config → form ≡ form' → number ≡ 0 → name ≡ name'
+    → Serves (Tells step) (record (started machine form name) { config = config; number = number }) new a b w v r
+    → (x : Play) × Serves (Tells step) (started machine form' name') x a b w v r × (new.sound ≡ x.sound)
+Serves-started step machine config number form form' name name' new a b w v r c e f h served =
+    (new, subst (λ (s : Play). Serves (Tells step) s new a b w v r) (started-is machine config number form form' name name' c e f h) served, refl)

@@ -20,6 +20,7 @@ use Rattle.play_settings.proofs.Laws.{first_dash}
 use Rattle.play_show.specs.Topics.{topic_asked}
 use Rattle.play_show.specs.declared.topic.Topic.{Topic}
 use Rattle.play_show.proofs.Laws.{begins_with_show}
+use Rattle.play_print.specs.Forms.{is_quiet}
 use Rattle.play_script.specs.Lines.{Reading, Nothing, TooLong, Faulty, Asks, IsTicks, reading}
 use Rattle.play_script.specs.Outcomes.{outcome}
 use Rattle.play_script.specs.Runs.{AreTurns, IsRunOf, MaySet, MaySetAll, turn_of}
@@ -190,7 +191,7 @@ Asked-line : (now new : Play) (shown plain text : List ℕ) (wanted : Option (Li
 Asked-line now new shown plain text wanted true is (outcome, settled, told) =
     Settings-line now new shown plain text wanted now.head refl is outcome settled told
 Asked-line now new shown plain text wanted false is (machine, told, below, answered, tells, same) =
-    let made = Answered-turns now.machine machine shown plain wanted (topic_asked plain) refl told below now.quiet answered in
+    let made = Answered-turns now.machine machine shown plain wanted (topic_asked plain) refl told below (is_quiet now.form) answered in
     let stayed : new.head ≡ (now.head && stays_head (topic_asked plain) told) = ap (λ (p : Play). p.head) same in
     inl (record {
       turns = made.0;

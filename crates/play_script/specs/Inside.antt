@@ -1,5 +1,6 @@
 -- What only this crate reads.
-use Rattle.std.specs.Prelude.{ℕ, Bool, true, false, List, Option, Some, None}
+use Rattle.std.specs.Prelude.{ℕ, Bool, List, Option}
+use Rattle.play_print.specs.Texts.{if_there}
 use Rattle.play_script.specs.Lines.{Reading, Nothing, TooLong, Faulty, Asks}
 use Rattle.play_script.specs.declared.line.Kind.{Kind}
 use Rattle.play_script.specs.declared.line.Kind.TheVariants as kind
@@ -8,11 +9,6 @@ use Rattle.flat_model.specs.declared.config.Config.{Config}
 use Rattle.play_script.specs.Tells.{Play}
 use Rattle.play_script.specs.declared.player.Desk.{Desk}
 use Rattle.play_script.specs.declared.player.Sheet.{Sheet}
-
--- a text, if there is one
-abbrev pub if_there : Bool → List ℕ → Option (List ℕ)
-if_there true text = Some text
-if_there false text = None
 
 -- a line of some kind, with its words and those that are expected
 abbrev pub is_reading : Kind → List ℕ → List ℕ → List ℕ → Reading
@@ -33,6 +29,6 @@ play_of machine config head sheet sound = record {
   head = head;
   number = sheet.number;
   sound = sound;
-  quiet = sheet.quiet;
+  form = sheet.form;
   name = sheet.name;
 }

@@ -1,5 +1,5 @@
 -- What a player of commented scripts may tell for a line, by a machine's steps (this project's own).
-use Rattle.std.specs.Prelude.{◌≡◌, ◌⊎◌, ℕ, zero, suc, ◌&&◌, Bool, true, false, List, [], ◌++◌, if◌then◌else◌, codes, decimal, Option, Some, None, Result, Ok, Err}
+use Rattle.std.specs.Prelude.{◌≡◌, ◌⊎◌, ℕ, zero, suc, ◌&&◌, Bool, true, false, List, [], codes, Option, Some, None, Result, Ok, Err}
 use Rattle.flat_model.specs.Machine.Count.{more_by}
 use Rattle.flat_model.specs.Machine.Event.{Event, Reply, Tick, Done}
 use Rattle.flat_model.specs.Machine.State.{State, IsConfig, HasSizes, boot}
@@ -9,8 +9,9 @@ use Rattle.flat_model.specs.Scripts.Script as script
 use Rattle.flat_model.specs.Scripts.Script.{all_events}
 use Rattle.script_loop.specs.declared.fault.RunFault.{RunFault}
 use Rattle.script_loop.specs.declared.fault.RunFault.TheVariants.{Read, Write, Memory, TooManyLines, BadSizes, BadConfig}
-use Rattle.play_line.specs.Scans.{words_of}
-use Rattle.play_line.specs.declared.fault.Slip.{Slip}
+use Rattle.play_print.specs.Forms.{is_quiet}
+use Rattle.play_print.specs.Texts.{fault_text, slip_text, outcome_text}
+use Rattle.play_print.specs.declared.form.Form.{Form}
 use Rattle.play_settings.specs.Settings.{has_dashes, IsSet, fault_words}
 use Rattle.play_settings.specs.declared.fault.SettingFault.{SettingFault}
 use Rattle.play_settings.specs.declared.fault.SettingFault.TheVariants as settings
@@ -25,70 +26,45 @@ use Rattle.play_script.specs.Outcomes.{outcome, meets}
 
 -- What a player has in hand: its machine, and the configuration that this was booted with; whether settings may still
 -- make another one; how many lines it has seen; whether all of them could be read and all expectations held; and how it
--- prints: replies and differences alone if it's quiet, and differences under the script's name.
+-- prints: in which form, and what is wrong with a line under the script's name.
 pub record Play : Type 0 where
   pub machine : State
   pub config : Config
   pub head : Bool
   pub number : ℕ
   pub sound : Bool
-  pub quiet : Bool
+  pub form : Form
   pub name : List ℕ
 
 -- before the first line
-abbrev pub started : State → Bool → List ℕ → Play
-started machine quiet name = record {
+abbrev pub started : State → Form → List ℕ → Play
+started machine form name = record {
   machine = machine;
   config = machine.config;
   head = true;
   number = 0;
   sound = true;
-  quiet = quiet;
+  form = form;
   name = name;
 }
 
 -- ---- texts
-
--- where a line stands
-abbrev pub place_text : List ℕ → ℕ → List ℕ
-place_text name number = name ++ codes ":" ++ decimal number ++ codes ": "
-
-abbrev pub fault_text : List ℕ → ℕ → List ℕ → List ℕ
-fault_text name number what = place_text name number ++ what ++ codes "\n"
-
--- bytes that can't be read, with their column
-abbrev pub slip_text : List ℕ → ℕ → Slip → List ℕ
-slip_text name number slip =
-    name ++ codes ":" ++ decimal number ++ codes ":" ++ decimal slip.column ++ codes ": " ++ words_of slip.fault ++ codes "\n"
-
--- the line with its number and what is told of it
-abbrev pub line_text : Bool → ℕ → List ℕ → List ℕ → List ℕ
-line_text true number shown told = told ++ codes "\n"
-line_text false number shown told = decimal number ++ codes "  " ++ shown ++ codes " => " ++ told ++ codes "\n"
-
-abbrev pub differs_text : List ℕ → ℕ → List ℕ → List ℕ → List ℕ
-differs_text name number wanted told =
-    place_text name number ++ codes "expected " ++ wanted ++ codes ", got " ++ told ++ codes "\n"
-
-abbrev pub difference_text : List ℕ → ℕ → Option (List ℕ) → List ℕ → List ℕ
-difference_text name number None told = []
-difference_text name number (Some wanted) told = if meets wanted told then [] else differs_text name number wanted told
-
--- what is told of a line, the lines below it, and the difference if something else was expected
-abbrev pub told_text : Bool → List ℕ → ℕ → List ℕ → Option (List ℕ) → List ℕ → List ℕ → List ℕ
-told_text quiet name number shown wanted told below =
-    line_text quiet number shown told ++ below ++ difference_text name number wanted told
-
--- the text of a line that asks for something, or for nothing
-abbrev pub printed : Bool → List ℕ → ℕ → List ℕ → Option (List ℕ) → Option (List ℕ) → List ℕ → List ℕ
-printed quiet name number shown wanted None below = fault_text name number (codes "this asks for nothing")
-printed quiet name number shown wanted (Some told) below = told_text quiet name number shown wanted told below
 
 -- the line could be read, and what was told is what was expected
 abbrev pub is_sound : Option (List ℕ) → Option (List ℕ) → Bool
 is_sound wanted None = false
 is_sound None (Some told) = true
 is_sound (Some wanted) (Some told) = meets wanted told
+
+-- what is told of a line, the lines below it, and what was expected, in the player's form
+abbrev pub told_text : Form → List ℕ → ℕ → List ℕ → Option (List ℕ) → List ℕ → List ℕ → List ℕ
+told_text form name number shown wanted told below =
+    outcome_text form name number shown wanted (is_sound wanted (Some told)) told below
+
+-- the text of a line that asks for something, or for nothing
+abbrev pub printed : Form → List ℕ → ℕ → List ℕ → Option (List ℕ) → Option (List ℕ) → List ℕ → List ℕ
+printed form name number shown wanted None below = fault_text form name number (codes "this asks for nothing")
+printed form name number shown wanted (Some told) below = told_text form name number shown wanted told below
 
 -- ---- settings
 
@@ -120,10 +96,10 @@ IsSettled true old plain (Err fault) =
 -- a line of settings is told as `ok`, and the machine is a new one; or it's told what is wrong
 abbrev pub TellsSettled : Play → List ℕ → Option (List ℕ) → Result Config SettingFault → List ℕ → Play → Type 0
 TellsSettled now shown wanted (Ok c) text new =
-    (text ≡ told_text now.quiet now.name now.number shown wanted (codes "ok") [])
+    (text ≡ told_text now.form now.name now.number shown wanted (codes "ok") [])
     × (new ≡ record now { machine = boot c; config = c; sound = now.sound && is_sound wanted (Some (codes "ok")) })
 TellsSettled now shown wanted (Err fault) text new =
-    (text ≡ fault_text now.name now.number (fault_words fault)) × (new ≡ record now { sound = false })
+    (text ≡ fault_text now.form now.name now.number (fault_words fault)) × (new ≡ record now { sound = false })
 
 abbrev pub TellsSettings : Play → List ℕ → List ℕ → Option (List ℕ) → List ℕ → Play → Type 0
 TellsSettings now shown plain wanted text new =
@@ -165,8 +141,8 @@ module _ (step : State → Event → Reply → State → Type 0) where
   TellsAsked true now shown plain wanted text new = TellsSettings now shown plain wanted text new
   TellsAsked false now shown plain wanted text new =
       (machine : State) × (told : Option (List ℕ)) × (below : List ℕ)
-      × IsAnswered now.quiet now.machine (topic_asked plain) plain told below machine
-      × (text ≡ printed now.quiet now.name now.number shown wanted told below)
+      × IsAnswered (is_quiet now.form) now.machine (topic_asked plain) plain told below machine
+      × (text ≡ printed now.form now.name now.number shown wanted told below)
       × (new ≡ record now {
         machine = machine;
         head = now.head && stays_head (topic_asked plain) told;
@@ -177,9 +153,10 @@ module _ (step : State → Event → Reply → State → Type 0) where
   abbrev pub TellsReading : Play → Reading → List ℕ → Play → Type 0
   TellsReading now Nothing text new = (text ≡ []) × (new ≡ now)
   TellsReading now TooLong text new =
-      (text ≡ fault_text now.name now.number (codes "the line is too long")) × (new ≡ record now { sound = false })
+      (text ≡ fault_text now.form now.name now.number (codes "the line is too long"))
+      × (new ≡ record now { sound = false })
   TellsReading now (Faulty slip) text new =
-      (text ≡ slip_text now.name now.number slip) × (new ≡ record now { sound = false })
+      (text ≡ slip_text now.form now.name now.number slip) × (new ≡ record now { sound = false })
   TellsReading now (Asks shown plain wanted) text new = TellsAsked (has_dashes plain) now shown plain wanted text new
 
   abbrev pub Tells : Play → List ℕ → List ℕ → Play → Type 0

@@ -16,6 +16,7 @@ pub use flat_model::Config;
 pub use laws::runs_law;
 pub use line::{Kind, read_line};
 pub use outcome::{DROPS, TOLD, put_drops};
+pub use play_print::Form;
 pub use player::{tell_answer, ticks_of};
 pub use runs::{Played, Style, play};
 pub use script_loop::{RunFault, Silent, Sink, Source};

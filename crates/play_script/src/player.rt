@@ -5,6 +5,7 @@ ghost use Rattle.flat_model.specs.Machine.State.{boot};
 ghost use Rattle.flat_model.specs.declared.config.Config.{Config};
 ghost use Rattle.flat_model.specs.declared.counters.Counters.{Counters};
 ghost use Rattle.flat_model.specs.Scripts.Texts.{answer_text};
+ghost use Rattle.play_print.specs.Texts.{if_there};
 ghost use Rattle.play_script.specs.Lines.{IsTicks};
 ghost use Rattle.play_script.specs.Outcomes.{outcome, drops_text};
 ghost use Rattle.play_show.specs.Changes.{IsSnapshot};
@@ -12,17 +13,18 @@ ghost use Rattle.play_show.specs.Topics.{topic_asked};
 ghost use Rattle.play_script.specs.Moved.{IsBelow};
 ghost use Rattle.link_script.specs.Boots.{IsUnbooted};
 ghost use Rattle.play_script.specs.Tells.{Play, Ticks, Does, IsAnswered, IsRefused, IsSettled, Tells, TellsAsked, TellsSettings, told_text, printed, is_sound, stays_head};
-ghost use Rattle.play_script.specs.Inside.{if_there, expected_on, play_of};
+ghost use Rattle.play_script.specs.Inside.{expected_on, play_of};
 
 use crate::fits::meets;
 use crate::line::{Kind, read_line};
 use crate::moved::put_below;
 use crate::outcome::{DROPS, TOLD, put_drops, put_told};
-use crate::print::{NAME, ROOM, put_difference, put_fault, put_line, put_slip};
+use crate::print::{NAME, ROOM};
 use flat_model::Config;
 use link_script::{Caller, Machine, TEXT};
 use play_line::LONGEST;
 use play_packet::LineReader;
+use play_print::{Form, Outcome, put_fault, put_outcome, put_slip};
 use play_settings::{SettingFault, is_settings, settings_of};
 use play_show::{Questions, SHOWN, Snapshot, snapshot_of, tell_topic, topic_of};
 use script_loop::{Answers, Buffer, HELD, RunFault, first_word, number, one};
@@ -181,7 +183,7 @@ pub(crate) struct Desk {
 /// How a player prints, and how many lines it has seen.
 #[derive(Drop)]
 pub(crate) struct Sheet {
-    pub(crate) quiet: bool,
+    pub(crate) form: Form,
     pub(crate) name: Buffer<NAME>,
     pub(crate) number: u64,
 }
@@ -202,32 +204,32 @@ pub(crate) struct Player<M> {
     pub(crate) sound: bool,
 }
 
+/// Whether what is told of the line on a desk is what was expected, or nothing was.
+fn is_met(desk: &Desk, told: &[u8]) -> bool
+    ensures { result ≡ is_sound (expected_on desk.now) (Some told.now) }
+{
+    !desk.expects || meets(bytes_of(&desk.wanted), told)
+}
+
 /// Prints what is told of a line, and answers whether that's what was expected.
 fn print_told(sheet: &Sheet, desk: &Desk, notes: &Notes, text: &mut Buffer<ROOM>) -> bool
     requires { length text.old ≤ HELD }
-    ensures text { text.new ≡ text.old ++ told_text sheet.now.quiet sheet.now.name sheet.now.number
+    ensures text { text.new ≡ text.old ++ told_text sheet.now.form sheet.now.name sheet.now.number
         desk.now.shown (expected_on desk.now) notes.now.told notes.now.below }
     ensures sound { result ≡ is_sound (expected_on desk.now) (Some notes.now.told) }
 {
-    put_line(
-        text,
-        sheet.quiet,
-        sheet.number,
-        bytes_of(&desk.shown),
-        bytes_of(&notes.told),
-    );
-    text.append(bytes_of(&notes.below));
-    if !desk.expects || meets(bytes_of(&desk.wanted), bytes_of(&notes.told)) {
-        return true;
-    }
-    put_difference(
-        text,
-        bytes_of(&sheet.name),
-        sheet.number,
-        bytes_of(&desk.wanted),
-        bytes_of(&notes.told),
-    );
-    false
+    let met = is_met(desk, bytes_of(&notes.told));
+    let outcome = Outcome {
+        number: sheet.number,
+        line: bytes_of(&desk.shown),
+        told: bytes_of(&notes.told),
+        below: bytes_of(&notes.below),
+        expects: desk.expects,
+        wanted: bytes_of(&desk.wanted),
+        met,
+    };
+    put_outcome(text, sheet.form, bytes_of(&sheet.name), &outcome);
+    met
 }
 
 /// Why settings are refused that no machine has.
@@ -272,7 +274,7 @@ fn tell_outcome(
     text: &mut Buffer<ROOM>,
 ) -> bool
     requires { length text.old ≤ HELD }
-    ensures text { text.new ≡ text.old ++ printed sheet.now.quiet sheet.now.name sheet.now.number
+    ensures text { text.new ≡ text.old ++ printed sheet.now.form sheet.now.name sheet.now.number
         desk.now.shown (expected_on desk.now) (if_there asks notes.now.told) notes.now.below }
     ensures sound { result ≡ is_sound (expected_on desk.now) (if_there asks notes.now.told) }
 {
@@ -281,6 +283,7 @@ fn tell_outcome(
     } else {
         put_fault(
             text,
+            sheet.form,
             bytes_of(&sheet.name),
             sheet.number,
             b"this asks for nothing",
@@ -351,6 +354,7 @@ impl<M: Questions> Player<M> {
             Err(fault) => {
                 put_fault(
                     text,
+                    self.sheet.form,
                     bytes_of(&self.sheet.name),
                     self.sheet.number,
                     fault.words().as_bytes(),
@@ -373,7 +377,7 @@ impl<M: Questions> Player<M> {
         let asks = answer_line(
             &mut self.caller,
             bytes_of(&self.desk.words),
-            self.sheet.quiet,
+            self.sheet.form.is_quiet(),
             &mut self.notes,
         );
         let sound = tell_outcome(asks, &self.sheet, &self.desk, &self.notes, text);
@@ -403,6 +407,7 @@ impl<M: Questions> Answers<ROOM> for Player<M> {
             Kind::TooLong => {
                 put_fault(
                     text,
+                    self.sheet.form,
                     bytes_of(&self.sheet.name),
                     self.sheet.number,
                     b"the line is too long",
@@ -410,7 +415,13 @@ impl<M: Questions> Answers<ROOM> for Player<M> {
                 self.sound = false;
             }
             Kind::Faulty(slip) => {
-                put_slip(text, bytes_of(&self.sheet.name), self.sheet.number, slip);
+                put_slip(
+                    text,
+                    self.sheet.form,
+                    bytes_of(&self.sheet.name),
+                    self.sheet.number,
+                    slip,
+                );
                 self.sound = false;
             }
             Kind::Asks(expects) => {

@@ -14,6 +14,7 @@ use flat_model::Config;
 use link_script::Caller;
 use net_stack::Stack;
 use play_packet::LineReader;
+use play_print::Form;
 use play_show::Questions;
 use script_loop::{Buffer, LineBuffers, RunFault, Sink, Source, serve_script};
 use std::alloc::{AllocError, Global};
@@ -21,8 +22,8 @@ use std::alloc::{AllocError, Global};
 /// How a script is printed.
 #[derive(Clone, Copy)]
 pub struct Style<'a> {
-    /// Whether replies and differences are printed alone, without the lines.
-    pub quiet: bool,
+    /// In which form.
+    pub form: Form,
     /// The script's name, in front of what is wrong with a line. Its first 4,096 bytes are printed.
     pub name: &'a [u8],
 }
@@ -75,13 +76,13 @@ fn front_of(name: &[u8]) -> &[u8]
 
 /// How a player prints whose script has this style.
 fn sheet_for(alloc: Global, style: Style<'_>) -> Result<Sheet, AllocError>
-    ensures { IfOk result (λ s. (s.quiet ≡ style.entry.quiet) × (s.number ≡ 0)
+    ensures { IfOk result (λ s. (s.form ≡ style.entry.form) × (s.number ≡ 0)
         × (s.name ≡ take NAME style.entry.name.now)) }
 {
     let mut name = Buffer::new(alloc)?;
     name.append(front_of(style.name));
     Ok(Sheet {
-        quiet: style.quiet,
+        form: style.form,
         name,
         number: 0,
     })
@@ -110,7 +111,7 @@ fn notes_for(alloc: Global) -> Result<Notes, AllocError> {
 
 /// Takes all memory for playing a script.
 fn parts_for(alloc: Global, style: Style<'_>) -> Result<Parts, AllocError>
-    ensures { IfOk result (λ p. (p.sheet.quiet ≡ style.entry.quiet) × (p.sheet.number ≡ 0)
+    ensures { IfOk result (λ p. (p.sheet.form ≡ style.entry.form) × (p.sheet.number ≡ 0)
         × (p.sheet.name ≡ take NAME style.entry.name.now)) }
 {
     Ok(Parts {
@@ -135,7 +136,7 @@ fn play_machine<M: Questions, R: Source, W: Sink>(
     ensures wrote { MoreBy (writer_failures result.outcome) (W.failures writer.old) (W.failures writer.new) }
     ensures served { (new : Play)
         × Serves (Tells M.may_step)
-        (started (M.state booted.0) style.entry.quiet (take NAME style.entry.name.now)) new
+        (started (M.state booted.0) style.entry.form (take NAME style.entry.name.now)) new
         (R.remaining reader.old) (R.remaining reader.new)
         (W.contents writer.old) (W.contents writer.new) result.outcome
         × (result.sound ≡ new.sound) }
@@ -185,7 +186,7 @@ fn play_on<M: Questions, R: Source, W: Sink>(
     ensures read { MoreBy (reader_failures result.outcome) (R.failures reader.old) (R.failures reader.new) }
     ensures wrote { MoreBy (writer_failures result.outcome) (W.failures writer.old) (W.failures writer.new) }
     ensures served { (new : Play)
-        × Serves (Tells M.may_step) (started (boot config) style.entry.quiet (take NAME style.entry.name.now)) new
+        × Serves (Tells M.may_step) (started (boot config) style.entry.form (take NAME style.entry.name.now)) new
         (R.remaining reader.old) (R.remaining reader.new)
         (W.contents writer.old) (W.contents writer.new) result.outcome
         × (result.sound ≡ new.sound) }
@@ -228,7 +229,7 @@ pub fn play<R: Source, W: Sink>(
     ensures wrote { MoreBy (writer_failures result.outcome) (W.failures writer.old) (W.failures writer.new) }
     // What is written is told on the way of the machine with exact accounts from boot, over the lines of what is read.
     ensures served { (new : Play)
-        × Serves (Tells Step) (started (boot config) style.entry.quiet (take NAME style.entry.name.now)) new
+        × Serves (Tells Step) (started (boot config) style.entry.form (take NAME style.entry.name.now)) new
         (R.remaining reader.old) (R.remaining reader.new)
         (W.contents writer.old) (W.contents writer.new) result.outcome
         × (result.sound ≡ new.sound) }

@@ -1,11 +1,12 @@
 -- A line, and what it does.
 use Rattle.std.proofs.Common.{◌≡◌, ◌⊎◌, inl, inr, ℕ, ◌-◌, Bool, true, false, List, [], ◌∷◌, ◌++◌, length, Option, Some, refl, sym, ap, ◌∙◌, subst}
 use Rattle.std.specs.Prelude.{codes, slice_get, Result, Ok, Err, IfOk}
-use Rattle.play_script.specs.Inside.{if_there}
+use Rattle.play_print.specs.Texts.{if_there}
 use Rattle.play_script.specs.Lines.{Reading, reading}
 use Rattle.segment.specs.Law.{Act, AreActs}
 use Rattle.segment.specs.Segment.{SegmentView}
 use Rattle.play_wire.specs.Acts.{Outcome, Refused, Moves, IsHostLine, IsMissing}
+use Rattle.play_print.specs.declared.form.Form.{Form}
 use Rattle.play_wire.specs.Tells.{Play, IsDone, IsParted, Tells, TellsLeft, TellsPart, left_text, next_line}
 use Rattle.flat_model.specs.Scripts.Grammar.{words}
 use Rattle.play_wire.specs.Inside.{came_of}
@@ -62,15 +63,15 @@ nothing_more [] = refl
 nothing_more (x ∷ xs) = ap (λ ys. x ∷ ys) (nothing_more xs)
 
 -- a player with another number of its line, and with what came of the line
-pub numbered_sound : (v : SegmentView) (names : List (List ℕ)) (m n : ℕ) (a b quiet : Bool) (name : List ℕ) → m ≡ n → a ≡ b
-    → ◌≡◌ {A = Play} (record { segment = v; names = names; number = m; sound = a; quiet = quiet; name = name })
-    (record { segment = v; names = names; number = n; sound = b; quiet = quiet; name = name })
-numbered_sound v names m n a b quiet name e f =
-    let first : ℕ → Play = λ k. record { segment = v; names = names; number = k; sound = a; quiet = quiet; name = name } in
-    let second : Bool → Play = λ t. record { segment = v; names = names; number = n; sound = t; quiet = quiet; name = name } in
+pub numbered_sound : (v : SegmentView) (names : List (List ℕ)) (m n : ℕ) (a b : Bool) (form : Form) (name : List ℕ) → m ≡ n → a ≡ b
+    → ◌≡◌ {A = Play} (record { segment = v; names = names; number = m; sound = a; form = form; name = name })
+    (record { segment = v; names = names; number = n; sound = b; form = form; name = name })
+numbered_sound v names m n a b form name e f =
+    let first : ℕ → Play = λ k. record { segment = v; names = names; number = k; sound = a; form = form; name = name } in
+    let second : Bool → Play = λ t. record { segment = v; names = names; number = n; sound = t; form = form; name = name } in
     ap first e ∙ ap second f
 
-pub numbered : (v : SegmentView) (names : List (List ℕ)) (m n : ℕ) (sound quiet : Bool) (name : List ℕ) → m ≡ n
-    → ◌≡◌ {A = Play} (record { segment = v; names = names; number = m; sound = sound; quiet = quiet; name = name })
-    (record { segment = v; names = names; number = n; sound = sound; quiet = quiet; name = name })
-numbered v names m n sound quiet name e = numbered_sound v names m n sound sound quiet name e refl
+pub numbered : (v : SegmentView) (names : List (List ℕ)) (m n : ℕ) (sound : Bool) (form : Form) (name : List ℕ) → m ≡ n
+    → ◌≡◌ {A = Play} (record { segment = v; names = names; number = m; sound = sound; form = form; name = name })
+    (record { segment = v; names = names; number = n; sound = sound; form = form; name = name })
+numbered v names m n sound form name e = numbered_sound v names m n sound sound form name e refl

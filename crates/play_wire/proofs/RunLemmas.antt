@@ -1,5 +1,5 @@
 -- Whole scripts.
-use Rattle.std.proofs.Common.{◌≡◌, inl, inr, ℕ, Bool, true, List, [], ◌∷◌, ◌++◌, map, Option, Some, None, refl, sym, ap, subst}
+use Rattle.std.proofs.Common.{◌≡◌, inl, inr, ℕ, true, List, [], ◌∷◌, ◌++◌, map, Option, Some, None, refl, sym, ap, subst}
 use Rattle.play_script.specs.Lines.{Reading, Nothing, TooLong, Faulty, Asks, reading}
 use Rattle.script_loop.specs.Printed.{Prints}
 use Rattle.segment.specs.Law.{Act, Calls, Seeds, AreActs}
@@ -7,6 +7,7 @@ use Rattle.segment.specs.Chances.{seeded}
 use Rattle.segment.specs.Segment.{SegmentView, no_hosts}
 use Rattle.play_wire.specs.Acts.{Outcome, IsHostLine}
 use Rattle.play_wire.specs.Runs.{AreToldBy, IsLawful, IsPlayed}
+use Rattle.play_print.specs.declared.form.Form.{Form}
 use Rattle.play_wire.specs.Tells.{Play, Tells, TellsPart, IsDone, next_line, started}
 use Rattle.play_wire.specs.declared.hosts.TheConstants.{PACKETS}
 use Rattle.play_wire.proofs.ActLemmas.{acts_append, calls_are_acts}
@@ -46,15 +47,9 @@ told_by_acts old new (line ∷ lines) printed (mid, text, more, (first, tells), 
           (part_acts (next_line old) mid tells.0 _ (reading tells.1) first text tells.3) rest.2,
     )
 
-pub played : (seed : ℕ) (quiet : Bool) (name : List ℕ) (new : Play) (lines : List (List ℕ)) (printed : List ℕ)
-    → ((acts : List Act) → IsLawful acts new.segment) → Prints Tells (started seed quiet name) lines printed new
-    → IsPlayed seed quiet name lines printed new
-played seed quiet name new lines printed law prints =
-    let made = told_by_acts (started seed quiet name) new lines printed prints in
-    record { acts = made.0; told = made.1; done = ((started seed quiet name).segment, refl, made.2); lawful = law (Seeds seed ∷ made.0) }
-
--- a player before its first line
-pub player_starts : (seed number : ℕ) (v : SegmentView) (names : List (List ℕ)) (quiet quiet' : Bool) (name name' : List ℕ)
-    → v ≡ record (no_hosts PACKETS) { random = seeded seed } → names ≡ [] → number ≡ 0 → quiet ≡ quiet' → name ≡ name'
-    → record { segment = v; names = names; number = number; sound = true; quiet = quiet; name = name } ≡ started seed quiet' name'
-player_starts seed number v names quiet quiet' name name' e f g h i = rw (e, f, g, h, i) refl
+pub played : (seed : ℕ) (form : Form) (name : List ℕ) (new : Play) (lines : List (List ℕ)) (printed : List ℕ)
+    → ((acts : List Act) → IsLawful acts new.segment) → Prints Tells (started seed form name) lines printed new
+    → IsPlayed seed form name lines printed new
+played seed form name new lines printed law prints =
+    let made = told_by_acts (started seed form name) new lines printed prints in
+    record { acts = made.0; told = made.1; done = ((started seed form name).segment, refl, made.2); lawful = law (Seeds seed ∷ made.0) }

@@ -1,5 +1,5 @@
 -- What holds of a whole script (this project's own).
-use Rattle.std.specs.Prelude.{◌≡◌, ℕ, Bool, List, [], ◌∷◌, ◌++◌}
+use Rattle.std.specs.Prelude.{◌≡◌, ℕ, List, [], ◌∷◌, ◌++◌}
 use Rattle.flat_model.specs.Machine.Event.{Receive, Received}
 use Rattle.flat_model.specs.Machine.Ledger.{exact_ledger}
 use Rattle.flat_model.specs.Runs.Run.{Turn}
@@ -9,6 +9,7 @@ use Rattle.flat_wire.specs.Wire.{WasSent}
 use Rattle.net_stack.specs.Stack.{StackView, state_of}
 use Rattle.segment.specs.Law.{Act, Seeds, AreActs, AreOnSegment, turns_of}
 use Rattle.segment.specs.Segment.{SegmentView, no_hosts}
+use Rattle.play_print.specs.declared.form.Form.{Form}
 use Rattle.play_wire.specs.Tells.{Play, TellsBy, started}
 use Rattle.play_wire.specs.declared.hosts.TheConstants.{PACKETS}
 
@@ -33,8 +34,8 @@ IsLawful acts last =
 
 -- What is printed for the lines of a script that begins with this seed is told by acts, line by line. With the start of
 -- the generator in front, they lead from a segment without hosts to this one, and of them the law holds.
-pub record IsPlayed (seed : ℕ) (quiet : Bool) (name : List ℕ) (lines : List (List ℕ)) (printed : List ℕ) (new : Play) : Type 0 where
+pub record IsPlayed (seed : ℕ) (form : Form) (name : List ℕ) (lines : List (List ℕ)) (printed : List ℕ) (new : Play) : Type 0 where
   pub acts : List Act
-  pub told : AreToldBy (started seed quiet name) lines acts printed new
+  pub told : AreToldBy (started seed form name) lines acts printed new
   pub done : AreActs (no_hosts PACKETS) (Seeds seed ∷ acts) new.segment
   pub lawful : IsLawful (Seeds seed ∷ acts) new.segment

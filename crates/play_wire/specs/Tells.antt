@@ -3,7 +3,9 @@ use Rattle.std.specs.Prelude.{◌≡◌, ◌⊎◌, ℕ, ◌-◌, ◌&&◌, Bool
 use Rattle.flat_model.specs.Machine.Count.{more_by}
 use Rattle.play_line.specs.declared.fault.Slip.{Slip}
 use Rattle.play_script.specs.Lines.{Reading, Nothing, TooLong, Faulty, Asks, reading}
-use Rattle.play_script.specs.Tells.{fault_text, is_sound, slip_text, told_text}
+use Rattle.play_print.specs.Texts.{fault_text, slip_text}
+use Rattle.play_print.specs.declared.form.Form.{Form}
+use Rattle.play_script.specs.Tells.{is_sound, told_text}
 use Rattle.segment.specs.Law.{Act, AreActs}
 use Rattle.segment.specs.Chances.{seeded}
 use Rattle.flat_model.specs.Scripts.Grammar.{words}
@@ -20,12 +22,12 @@ pub record Play : Type 0 where
   pub names : List (List ℕ)
   pub number : ℕ
   pub sound : Bool
-  pub quiet : Bool
+  pub form : Form
   pub name : List ℕ
 
 -- before the first line: no hosts, and this seed for all choices
-abbrev pub started : ℕ → Bool → List ℕ → Play
-started seed quiet name = record { segment = record (no_hosts PACKETS) { random = seeded seed }; names = []; number = 0; sound = true; quiet = quiet; name = name }
+abbrev pub started : ℕ → Form → List ℕ → Play
+started seed form name = record { segment = record (no_hosts PACKETS) { random = seeded seed }; names = []; number = 0; sound = true; form = form; name = name }
 
 -- the next line
 abbrev pub next_line : Play → Play
@@ -45,8 +47,9 @@ labelled None shown = shown
 
 -- what is told of a line
 abbrev pub text_of : Play → Option (List ℕ) → List ℕ → Option (List ℕ) → Outcome → List ℕ
-text_of now host shown wanted (Told told below) = told_text now.quiet now.name now.number (labelled host shown) wanted told below
-text_of now host shown wanted (Refused reason) = fault_text now.name now.number (words_of reason)
+text_of now host shown wanted (Told told below) =
+    told_text now.form now.name now.number (labelled host shown) wanted told below
+text_of now host shown wanted (Refused reason) = fault_text now.form now.name now.number (words_of reason)
 
 -- it did something, and what is told is what was expected
 abbrev pub sound_of : Option (List ℕ) → Outcome → Bool
@@ -85,9 +88,11 @@ IsDone now None plain acts outcome segment names =
 abbrev pub TellsPart : Play → Option (List ℕ) → ℕ → Reading → List Act → List ℕ → Play → Type 0
 TellsPart now host before Nothing acts text new = (acts ≡ []) × (text ≡ []) × (new ≡ now)
 TellsPart now host before TooLong acts text new =
-    (acts ≡ []) × (text ≡ fault_text now.name now.number (codes "the line is too long")) × (new ≡ record now { sound = false })
+    (acts ≡ []) × (text ≡ fault_text now.form now.name now.number (codes "the line is too long"))
+    × (new ≡ record now { sound = false })
 TellsPart now host before (Faulty slip) acts text new =
-    (acts ≡ []) × (text ≡ slip_text now.name now.number (shifted before slip)) × (new ≡ record now { sound = false })
+    (acts ≡ []) × (text ≡ slip_text now.form now.name now.number (shifted before slip))
+    × (new ≡ record now { sound = false })
 TellsPart now host before (Asks shown plain wanted) acts text new =
     (outcome : Outcome) × (segment : SegmentView) × (names : List (List ℕ))
     × IsDone now host plain acts outcome segment names

@@ -6,7 +6,7 @@ ghost use Rattle.flat_model.specs.Runs.Run.{Turn};
 ghost use Rattle.flat_model.specs.Scripts.Script as script;
 ghost use Rattle.flat_model.specs.Scripts.Script.{all_events};
 ghost use Rattle.net_stack.specs.Stack.{state_of};
-ghost use Rattle.play_script.specs.Inside.{if_there};
+ghost use Rattle.play_print.specs.Texts.{if_there};
 ghost use Rattle.play_script.specs.Outcomes.{outcome};
 ghost use Rattle.play_show.specs.Tells.{Shows};
 ghost use Rattle.segment.specs.Inside.{view};
@@ -15,6 +15,7 @@ ghost use Rattle.play_wire.specs.Acts.{IsAnswered, IsHostLine, IsMissing};
 ghost use Rattle.play_wire.specs.Inside.{came_of};
 
 use crate::fault::Fault;
+use crate::print::LINE;
 use crate::ticks::{exchange, tick_stack};
 use link_script::{Caller, TEXT};
 use net_stack::Stack;
@@ -32,6 +33,8 @@ pub(crate) struct Notes {
     /// What is shown, and the lines below what is told.
     pub(crate) shown: Buffer<SHOWN>,
     pub(crate) below: Buffer<SHOWN>,
+    /// The line with its host.
+    pub(crate) line: Buffer<LINE>,
 }
 
 /// The bytes of a buffer.

@@ -3,8 +3,8 @@ ghost use Rattle.std.specs.Prelude.{◌≡◌, ◌≤◌, ◌++◌, ◌&&◌, �
 ghost use Rattle.flat_model.specs.Machine.Count.{more_by};
 ghost use Rattle.segment.specs.Inside.{view};
 ghost use Rattle.segment.specs.Law.{Act};
-ghost use Rattle.play_script.specs.Tells.{fault_text, is_sound, slip_text, told_text};
-ghost use Rattle.play_script.specs.Inside.{if_there};
+ghost use Rattle.play_print.specs.Texts.{fault_text, if_there, slip_text};
+ghost use Rattle.play_script.specs.Tells.{is_sound, told_text};
 ghost use Rattle.play_wire.specs.Acts.{Outcome};
 ghost use Rattle.play_wire.specs.Faults.{words_of};
 ghost use Rattle.play_wire.specs.Tells.{Play, IsDone, IsParted, Tells, labelled, shifted, sound_of, text_of};
@@ -14,9 +14,10 @@ use crate::fault::Fault;
 use crate::host_line::{Notes, answer_host, bytes_of};
 use crate::hosts::Hosts;
 use crate::names::{NAME, named, place_of};
-use crate::print::{ROOM, SCRIPT, put_difference, put_fault, put_line, put_slip};
+use crate::print::{ROOM, SCRIPT, put_labelled, shift};
 use play_line::{LONGEST, Slip};
 use play_packet::LineReader;
+use play_print::{Form, put_fault, put_outcome, put_slip};
 use play_script::{Kind, meets, read_line};
 use script_loop::{Answers, Buffer, HELD, Sink};
 
@@ -37,7 +38,7 @@ pub(crate) struct Desk {
 /// How a player prints, and how many lines it has seen.
 #[derive(Drop)]
 pub(crate) struct Sheet {
-    pub(crate) quiet: bool,
+    pub(crate) form: Form,
     pub(crate) name: Buffer<SCRIPT>,
     pub(crate) number: u64,
 }
@@ -87,26 +88,33 @@ fn part_of<'a>(line: &'a [u8], is_named: &mut bool, host: &mut Buffer<NAME>) -> 
     }
 }
 
-/// Prints what is told of a line, and answers whether that's what was expected.
-fn print_told(sheet: &Sheet, desk: &Desk, notes: &Notes, text: &mut Buffer<ROOM>) -> bool
-    requires { length text.old ≤ HELD }
-    ensures text { text.new ≡ text.old ++ told_text sheet.now.quiet sheet.now.name sheet.now.number
-        (labelled (host_on desk.now) desk.now.shown) (expected_on desk.now) notes.now.told notes.now.below }
-    ensures sound { result ≡ is_sound (expected_on desk.now) (Some notes.now.told) }
+/// Whether what is told of the line on a desk is what was expected, or nothing was.
+fn is_met(desk: &Desk, told: &[u8]) -> bool
+    ensures { result ≡ is_sound (expected_on desk.now) (Some told.now) }
 {
-    put_line(text, sheet.quiet, sheet.number, desk, bytes_of(&notes.told));
-    text.append(bytes_of(&notes.below));
-    if !desk.expects || meets(bytes_of(&desk.wanted), bytes_of(&notes.told)) {
-        return true;
-    }
-    put_difference(
-        text,
-        bytes_of(&sheet.name),
-        sheet.number,
-        bytes_of(&desk.wanted),
-        bytes_of(&notes.told),
-    );
-    false
+    !desk.expects || meets(bytes_of(&desk.wanted), told)
+}
+
+/// Prints what is told of a line, and answers whether that's what was expected.
+fn print_told(sheet: &Sheet, desk: &Desk, notes: &mut Notes, text: &mut Buffer<ROOM>) -> bool
+    requires { length text.old ≤ HELD }
+    ensures text { text.new ≡ text.old ++ told_text sheet.now.form sheet.now.name sheet.now.number
+        (labelled (host_on desk.now) desk.now.shown) (expected_on desk.now) notes.old.told notes.old.below }
+    ensures sound { result ≡ is_sound (expected_on desk.now) (Some notes.old.told) }
+{
+    put_labelled(&mut notes.line, desk);
+    let met = is_met(desk, bytes_of(&notes.told));
+    let outcome = play_print::Outcome {
+        number: sheet.number,
+        line: bytes_of(&notes.line),
+        told: bytes_of(&notes.told),
+        below: bytes_of(&notes.below),
+        expects: desk.expects,
+        wanted: bytes_of(&desk.wanted),
+        met,
+    };
+    put_outcome(text, sheet.form, bytes_of(&sheet.name), &outcome);
+    met
 }
 
 /// The place of the host whose line is on a desk.
@@ -140,10 +148,11 @@ fn answer_words<T: Sink + Drop>(
 /// Puts why a line did nothing after the text.
 fn put_refusal(text: &mut Buffer<ROOM>, sheet: &Sheet, fault: Fault)
     requires { length text.old ≤ HELD }
-    ensures { text.new ≡ text.old ++ fault_text sheet.now.name sheet.now.number (words_of fault) }
+    ensures { text.new ≡ text.old ++ fault_text sheet.now.form sheet.now.name sheet.now.number (words_of fault) }
 {
     put_fault(
         text,
+        sheet.form,
         bytes_of(&sheet.name),
         sheet.number,
         fault.words().as_bytes(),
@@ -153,10 +162,12 @@ fn put_refusal(text: &mut Buffer<ROOM>, sheet: &Sheet, fault: Fault)
 /// Puts after the text that a line is too long.
 fn put_too_long(text: &mut Buffer<ROOM>, sheet: &Sheet)
     requires { length text.old ≤ HELD }
-    ensures { text.new ≡ text.old ++ fault_text sheet.now.name sheet.now.number (codes "the line is too long") }
+    ensures { text.new ≡ text.old
+        ++ fault_text sheet.now.form sheet.now.name sheet.now.number (codes "the line is too long") }
 {
     put_fault(
         text,
+        sheet.form,
         bytes_of(&sheet.name),
         sheet.number,
         b"the line is too long",
@@ -166,9 +177,15 @@ fn put_too_long(text: &mut Buffer<ROOM>, sheet: &Sheet)
 /// Puts after the text what is wrong with a part of a line, in front of which so many bytes stand.
 fn put_misread(text: &mut Buffer<ROOM>, sheet: &Sheet, before: u64, slip: Slip)
     requires { length text.old ≤ HELD }
-    ensures { text.new ≡ text.old ++ slip_text sheet.now.name sheet.now.number (shifted before slip) }
+    ensures { text.new ≡ text.old ++ slip_text sheet.now.form sheet.now.name sheet.now.number (shifted before slip) }
 {
-    put_slip(text, bytes_of(&sheet.name), sheet.number, before, slip);
+    put_slip(
+        text,
+        sheet.form,
+        bytes_of(&sheet.name),
+        sheet.number,
+        shift(slip, before),
+    );
 }
 
 /// Does what the words on a desk ask, prints what is told of it, and answers whether all is as it was expected.

@@ -1,10 +1,13 @@
 //! The scripts that callers have played.
-ghost use Rattle.std.specs.Prelude.{◌≡◌, ◌≤◌, ℕ, List, length, take, IfOk, IfSome};
+ghost use Rattle.std.specs.Prelude.{◌≡◌, ◌≤◌, ℕ, List, [], length, take, IfOk, IfSome};
 ghost use Rattle.script_loop.specs.Printed.{Prints};
 ghost use Rattle.script_loop.specs.Streams.{MoreBy, reader_failures, writer_failures};
 ghost use Rattle.script_loop.specs.Serves.{Serves, IsServed};
+ghost use Rattle.play_wire.specs.declared.hosts.TheConstants.{PACKETS};
 ghost use Rattle.play_wire.specs.declared.print.TheConstants.{SCRIPT};
+ghost use Rattle.segment.specs.Chances.{seeded};
 ghost use Rattle.segment.specs.Inside.{view};
+ghost use Rattle.segment.specs.Segment.{no_hosts};
 ghost use Rattle.play_wire.specs.Inside.{play_with};
 ghost use Rattle.play_wire.specs.Runs.{IsPlayed};
 ghost use Rattle.play_wire.specs.Tells.{Play, Tells, started};
@@ -21,16 +24,6 @@ use script_loop::{Buffer, LineBuffers, RunFault, Sink, Source, serve_script};
 use segment::hosts_on_a_segment;
 use std::alloc::{AllocError, Global};
 
-/// Memory for playing a script.
-#[derive(Drop)]
-struct Parts {
-    buffers: LineBuffers,
-    reader: LineReader,
-    desk: Desk,
-    notes: Notes,
-    sheet: Sheet,
-}
-
 /// The part of a name that is printed.
 fn front_of(name: &[u8]) -> &[u8]
     ensures is { result.now ≡ take SCRIPT name.now }
@@ -45,13 +38,13 @@ fn front_of(name: &[u8]) -> &[u8]
 
 /// How a player prints whose script has this style.
 fn sheet_for(alloc: Global, style: Style<'_>) -> Result<Sheet, AllocError>
-    ensures { IfOk result (λ s. (s.quiet ≡ style.entry.quiet) × (s.number ≡ 0)
+    ensures { IfOk result (λ s. (s.form ≡ style.entry.form) × (s.number ≡ 0)
         × (s.name ≡ take SCRIPT style.entry.name.now)) }
 {
     let mut name = Buffer::new(alloc)?;
     name.append(front_of(style.name));
     Ok(Sheet {
-        quiet: style.quiet,
+        form: style.form,
         name,
         number: 0,
     })
@@ -77,20 +70,34 @@ fn notes_for(alloc: Global) -> Result<Notes, AllocError> {
         told: Buffer::new(alloc)?,
         shown: Buffer::new(alloc)?,
         below: Buffer::new(alloc)?,
+        line: Buffer::new(alloc)?,
     })
 }
 
-/// Takes memory for playing a script.
-fn parts_for(alloc: Global, style: Style<'_>) -> Result<Parts, AllocError>
-    ensures { IfOk result (λ p. (p.sheet.quiet ≡ style.entry.quiet) × (p.sheet.number ≡ 0)
-        × (p.sheet.name ≡ take SCRIPT style.entry.name.now)) }
+/// What a player has beside its hosts.
+#[derive(Drop)]
+struct Tools {
+    reader: LineReader,
+    desk: Desk,
+    notes: Notes,
+    sheet: Sheet,
+}
+
+/// Takes memory for what a player has beside its hosts. What is let go if memory is refused stands first, and what has
+/// most pieces last.
+fn tools_for(alloc: Global, style: Style<'_>) -> Result<Tools, AllocError>
+    ensures { IfOk result (λ t. (t.sheet.form ≡ style.entry.form) × (t.sheet.number ≡ 0)
+        × (t.sheet.name ≡ take SCRIPT style.entry.name.now)) }
 {
-    Ok(Parts {
-        buffers: LineBuffers::new(alloc)?,
-        reader: LineReader::new(alloc)?,
-        desk: desk_for(alloc)?,
-        notes: notes_for(alloc)?,
-        sheet: sheet_for(alloc, style)?,
+    let sheet = sheet_for(alloc, style)?;
+    let desk = desk_for(alloc)?;
+    let notes = notes_for(alloc)?;
+    let reader = LineReader::new(alloc)?;
+    Ok(Tools {
+        reader,
+        desk,
+        notes,
+        sheet,
     })
 }
 
@@ -121,6 +128,19 @@ fn tape_for<T: Sink + Drop>(alloc: Global, capture: T) -> Option<Tape<T>> {
     })
 }
 
+/// No hosts, a wire with this seed, and a capture that is written to this sink. `None` if host memory was refused.
+fn hosts_for<T: Sink + Drop>(alloc: Global, seed: u64, capture: T) -> Option<Hosts<T>>
+    ensures { IfSome result (λ h. (view h.segment ≡ record (no_hosts PACKETS) { random = seeded seed })
+        × (h.names.items ≡ [])) }
+{
+    let tape = tape_for(alloc, capture)?;
+    let Ok(buffers) = LineBuffers::new(alloc) else {
+        tape.end();
+        return None;
+    };
+    Hosts::new(alloc, buffers, seed, tape)
+}
+
 /// A player whose script has this style, before its first line. `None` if host memory was refused.
 fn player_for<T: Sink + Drop>(
     alloc: Global,
@@ -129,30 +149,27 @@ fn player_for<T: Sink + Drop>(
     capture: T,
 ) -> Option<Player<T>>
     ensures { IfSome result (λ p. play_with (view p.hosts.segment) p.hosts.names.items p.sheet p.sound
-        ≡ started seed style.entry.quiet (take SCRIPT style.entry.name.now)) }
+        ≡ started seed style.entry.form (take SCRIPT style.entry.name.now)) }
 {
-    let Ok(parts) = parts_for(alloc, style) else {
+    let hosts = hosts_for(alloc, seed, capture)?;
+    let Ok(tools) = tools_for(alloc, style) else {
+        hosts.end();
         return None;
     };
-    let tape = tape_for(alloc, capture)?;
-    let Parts {
-        buffers,
+    let Tools {
         reader,
         desk,
         notes,
         sheet,
-    } = parts;
-    match Hosts::new(alloc, buffers, seed, tape) {
-        Some(hosts) => Some(Player {
-            hosts,
-            reader,
-            desk,
-            notes,
-            sheet,
-            sound: true,
-        }),
-        None => None,
-    }
+    } = tools;
+    Some(Player {
+        hosts,
+        reader,
+        desk,
+        notes,
+        sheet,
+        sound: true,
+    })
 }
 
 /// Plays a script of many machines. It begins without hosts; each line `host` adds one. A line that names a host is
@@ -182,14 +199,14 @@ pub fn play_hosts<R: Source, W: Sink, T: Sink + Drop>(
     ensures wrote { MoreBy (writer_failures result.played.outcome) (W.failures writer.old) (W.failures writer.new) }
     // What is written is told of the lines of what is read, one after another.
     ensures served { (new : Play)
-        × Serves Tells (started start.seed style.entry.quiet (take SCRIPT style.entry.name.now)) new
+        × Serves Tells (started start.seed style.entry.form (take SCRIPT style.entry.name.now)) new
         (R.remaining reader.old) (R.remaining reader.new)
         (W.contents writer.old) (W.contents writer.new) result.played.outcome
         × (result.played.sound ≡ new.sound) }
     // Whatever is told of lines so is told by acts of which the law of a wire holds.
     ensures lawful { (new : Play) (lines : List (List ℕ)) (printed : List ℕ)
-        → Prints Tells (started start.seed style.entry.quiet (take SCRIPT style.entry.name.now)) lines printed new
-        → IsPlayed start.seed style.entry.quiet (take SCRIPT style.entry.name.now) lines printed new }
+        → Prints Tells (started start.seed style.entry.form (take SCRIPT style.entry.name.now)) lines printed new
+        → IsPlayed start.seed style.entry.form (take SCRIPT style.entry.name.now) lines printed new }
     ensures begun { IsServed result.played.outcome }
 {
     hosts_on_a_segment();

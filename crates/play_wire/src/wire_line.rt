@@ -32,6 +32,45 @@ fn tell_left(told: &mut Buffer<TOLD>, segment: &Segment)
     told.append(b" under way");
 }
 
+/// What a line of the wire asks, but for `carry`.
+#[derive(Clone, Copy)]
+enum Verb {
+    Host,
+    Wire,
+    Half,
+    Tick,
+    Seed,
+    ByHand,
+    Repeat,
+    Impair,
+}
+
+/// The words that lines of the wire begin with.
+static VERBS: [(&[u8], Verb); 12] = [
+    (b"host", Verb::Host),
+    (b"wire", Verb::Wire),
+    (b"collect", Verb::Half),
+    (b"deliver", Verb::Half),
+    (b"tick", Verb::Tick),
+    (b"seed", Verb::Seed),
+    (b"drop", Verb::ByHand),
+    (b"swap", Verb::ByHand),
+    (b"repeat", Verb::Repeat),
+    (b"loss", Verb::Impair),
+    (b"reorder", Verb::Impair),
+    (b"delay", Verb::Impair),
+];
+
+/// The verb that a line begins with.
+fn verb_of(word: &[u8]) -> Option<Verb> {
+    'verbs: for (name, verb) in &VERBS {
+        if word == *name {
+            return Some(*verb);
+        }
+    }
+    None
+}
+
 impl<T: Sink + Drop> Hosts<T> {
     /// `carry ..`.
     fn carry(&mut self, rest: Option<&[u8]>, told: &mut Buffer<TOLD>) -> Result<(), Fault>
@@ -115,16 +154,18 @@ impl<T: Sink + Drop> Hosts<T> {
         ensures names { (more : List (List ℕ)) × (self.new.names.items ≡ self.old.names.items ++ more) }
     {
         let (word, rest) = first_word(words);
-        match word {
-            b"host" => self.add(rest),
-            b"wire" => self.wire(rest),
-            b"collect" | b"deliver" => self.half(word, rest),
-            b"tick" => self.tick(words),
-            b"seed" => self.seed(rest),
-            b"drop" | b"swap" => self.by_hand(word, rest),
-            b"repeat" => self.repeat(rest),
-            b"loss" | b"reorder" | b"delay" => self.impair(word, rest),
-            _ => Err(Fault::Nothing),
+        let Some(verb) = verb_of(word) else {
+            return Err(Fault::Nothing);
+        };
+        match verb {
+            Verb::Host => self.add(rest),
+            Verb::Wire => self.wire(rest),
+            Verb::Half => self.half(word, rest),
+            Verb::Tick => self.tick(words),
+            Verb::Seed => self.seed(rest),
+            Verb::ByHand => self.by_hand(word, rest),
+            Verb::Repeat => self.repeat(rest),
+            Verb::Impair => self.impair(word, rest),
         }
     }
 

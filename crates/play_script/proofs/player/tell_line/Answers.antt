@@ -1,6 +1,6 @@
 use Rattle.std.proofs.Common.{◌≡◌, Bool, true, false, sym, ◌∙◌, rules, subst}
 use Rattle.std.proofs.lemmas.Bool.{false≢true}
-use Rattle.play_script.specs.Inside.{if_there}
+use Rattle.play_print.specs.Texts.{if_there}
 use Rattle.play_script.specs.Outcomes.{outcome}
 use Rattle.play_script.proofs.AnswerLemmas.{Below-nothing, Below-reply, Moved-reply}
 use Rattle.play_script.proofs.player.tell_line.Goals.{then-quiet-via-then-quiet, then-quiet-via-else-quiet+then-not-asks}

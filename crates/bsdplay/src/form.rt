@@ -1,0 +1,73 @@
+//! How scripts are printed, by the options and by where the output goes.
+use clap::{Arg, ArgAction, ArgMatches, Command};
+use play_script::Form;
+use std::alloc::{AllocError, Global};
+use std::env::{self, VarError};
+use std::io::IsTerminal;
+
+/// The options for what is printed.
+pub(crate) fn with_forms<'a>(
+    alloc: Global,
+    command: Command<'a>,
+) -> Result<Command<'a>, AllocError> {
+    command
+        .arg(
+            Arg::new(alloc, "quiet")
+                .short('q')
+                .long("quiet")
+                .help("Print replies and differences alone, without the lines")
+                .action(ArgAction::SetTrue),
+        )?
+        .arg(
+            Arg::new(alloc, "json")
+                .long("json")
+                .help("Print each line as an object of JSON, for programs")
+                .action(ArgAction::SetTrue),
+        )?
+        .arg(
+            Arg::new(alloc, "WHEN")
+                .long("color")
+                .help("Colours: always, never, or auto: on a terminal, if NO_COLOR isn't set")
+                .action(ArgAction::Set),
+        )
+}
+
+/// Whether the variable `NO_COLOR` is there and isn't empty.
+fn declines_colours(rt: &HostRuntime) -> bool {
+    match env::var(rt, "NO_COLOR") {
+        Ok(value) => !value.is_empty(),
+        Err(VarError::NotPresent) => false,
+        Err(VarError::NotUnicode | VarError::OutOfMemory) => true,
+    }
+}
+
+/// Whether there are colours. `None` if the option has another word than those that it takes.
+fn has_colours(rt: &HostRuntime, when: Option<&str>) -> Option<bool> {
+    match when {
+        Some("always") => Some(true),
+        Some("never") => Some(false),
+        None | Some("auto") => Some(rt.stdout().is_terminal() && !declines_colours(rt)),
+        Some(_) => None,
+    }
+}
+
+/// The form that the options say, or what is wrong with them.
+pub(crate) fn form_of(rt: &HostRuntime, found: &ArgMatches<'_>) -> Result<Form, &'static str> {
+    let quiet = found.get_flag("quiet");
+    let Some(colours) = has_colours(rt, found.get_str("WHEN")) else {
+        return Err("--color takes auto, always or never");
+    };
+    if found.get_flag("json") {
+        return if quiet {
+            Err("--json tells all of each line, so it goes without --quiet")
+        } else {
+            Ok(Form::Json)
+        };
+    }
+    Ok(match (quiet, colours) {
+        (false, false) => Form::Plain,
+        (true, false) => Form::Quiet,
+        (false, true) => Form::Coloured,
+        (true, true) => Form::QuietColoured,
+    })
+}

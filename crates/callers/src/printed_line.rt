@@ -1,0 +1,25 @@
+//! What is told of a line, as an object of JSON.
+ghost use Rattle.std.specs.Prelude.{◌≡◌, [], false, IfOk, None, codes};
+ghost use Rattle.play_print.specs.Texts.{outcome_object};
+
+use play_print::{Form, Outcome, put_outcome};
+use script_loop::Buffer;
+use std::alloc::{AllocError, Global};
+
+/// The text for a line 7 that has this reply.
+pub fn line_7(alloc: Global, line: &[u8; 6], reply: &[u8; 2]) -> Result<Buffer<256>, AllocError>
+    ensures { IfOk result (λ text. text ≡ outcome_object (codes "script.txt") 7 line.now None false reply.now []) }
+{
+    let mut text = Buffer::new(alloc)?;
+    let outcome = Outcome {
+        number: 7,
+        line: line.as_slice(),
+        told: reply.as_slice(),
+        below: b"",
+        expects: false,
+        wanted: b"",
+        met: false,
+    };
+    put_outcome(&mut text, Form::Json, b"script.txt", &outcome);
+    Ok(text)
+}

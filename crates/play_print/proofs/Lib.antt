@@ -1,0 +1,2 @@
+mod StringLemmas
+mod ColourLemmas

@@ -1,0 +1,4 @@
+pub mod Forms
+pub mod Strings
+pub mod Texts
+pub mod Law
