@@ -2,7 +2,7 @@
 ghost use Rattle.std.specs.Prelude.{◌≡◌, length};
 ghost use Rattle.ip_out.specs.Questions.{oldest_length};
 ghost use Rattle.ip_reass.specs.Questions.{nth_range, nth_unfinished};
-ghost use Rattle.sock_calls.specs.Questions.{next_datagram, readable, socket_name};
+ghost use Rattle.sock_calls.specs.Questions.{bytes_queued, next_datagram, readable, socket_name};
 ghost use Rattle.net_stack.specs.Stack.{state_of};
 
 use crate::stack::Stack;
@@ -26,6 +26,14 @@ impl Stack {
         ensures { result ≡ next_datagram fd (state_of self.now) }
     {
         self.host.socks.next_datagram(&self.host.pool, fd)
+    }
+
+    /// How many bytes wait in a socket in all, with 16 for each sender's address among them, 0 to 41,600: a datagram of
+    /// more than the rest finds the socket full (`sb_cc` of volume 2, chapter 16). Refused: `BadDescriptor`.
+    pub fn bytes_queued(&self, fd: u32) -> Result<u32, Errno>
+        ensures { result ≡ bytes_queued fd (state_of self.now) }
+    {
+        self.host.socks.bytes_queued(fd)
     }
 
     /// The sockets in which a datagram waits, as a set of descriptors: bit k stands for descriptor 3 + k, the lowest

@@ -3,18 +3,18 @@ use Rattle.std.specs.Prelude.{ℕ, zero, suc, ◌+◌, Bool, true, false, List, 
 use Rattle.params.specs.declared.TheConstants.{FIRST_DESCRIPTOR}
 use Rattle.flat_model.specs.Machine.State.{State}
 use Rattle.flat_model.specs.declared.errno.Errno.{Errno}
-use Rattle.sock_calls.specs.Questions.{socket_name, next_datagram}
+use Rattle.sock_calls.specs.Questions.{bytes_queued, next_datagram, socket_name}
 use Rattle.sock_calls.specs.declared.questions.SocketName.{SocketName}
 use Rattle.sock_calls.specs.declared.questions.NextDatagram.{NextDatagram}
 use Rattle.play_show.specs.Texts.{socket_line}
 
-abbrev pub named_line : ℕ → Result SocketName Errno → Result NextDatagram Errno → List ℕ
-named_line fd (Ok name) next = socket_line fd name next
-named_line fd (Err errno) next = []
+abbrev pub named_line : ℕ → Result SocketName Errno → Result NextDatagram Errno → Result ℕ Errno → List ℕ
+named_line fd (Ok name) next queued = socket_line fd name next queued
+named_line fd (Err errno) next queued = []
 
 -- the line of a descriptor's socket, if one is open
 abbrev pub descriptor_line : State → ℕ → List ℕ
-descriptor_line s fd = named_line fd (socket_name fd s) (next_datagram fd s)
+descriptor_line s fd = named_line fd (socket_name fd s) (next_datagram fd s) (bytes_queued fd s)
 
 abbrev pub is_named : Result SocketName Errno → Bool
 is_named (Ok name) = true

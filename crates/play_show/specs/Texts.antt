@@ -1,5 +1,6 @@
 -- Sockets and the output queue in words (this project's own).
 use Rattle.std.specs.Prelude.{ℕ, ◌==◌, Bool, List, [], ◌++◌, codes, decimal, if◌then◌else◌, Option, Some, None, Result, Ok, Err}
+use Rattle.params.specs.declared.TheConstants.{UDP_RECEIVE_SPACE}
 use Rattle.flat_model.specs.Scripts.Grammar.{address_text}
 use Rattle.flat_model.specs.declared.address.Addr.{Addr}
 use Rattle.flat_model.specs.declared.errno.Errno.{Errno}
@@ -37,16 +38,24 @@ ends_text name = codes "local " ++ ip_text name.local ++ codes ":" ++ port_text 
 abbrev pub options_text : SocketName → List ℕ
 options_text name = switch_text name.broadcast (codes "broadcast") ++ switch_text name.reuse_port (codes "reuseport")
 
--- how many datagrams wait, how many bytes the oldest one has, and who sent it
-abbrev pub waiting_text : Result NextDatagram Errno → List ℕ
-waiting_text (Ok next) =
+-- how many of the bytes that a socket takes wait in it
+abbrev pub queued_text : Result ℕ Errno → List ℕ
+queued_text (Ok queued) = codes ", " ++ decimal queued ++ codes " of " ++ amount UDP_RECEIVE_SPACE (codes "byte") ++ codes " queued"
+queued_text (Err errno) = []
+
+-- how many datagrams wait, how many bytes the oldest one has, who sent it, and how many bytes wait in all
+abbrev pub waiting_text : Result NextDatagram Errno → Result ℕ Errno → List ℕ
+waiting_text (Ok next) queued =
     amount next.waiting (codes "datagram") ++ codes ", the next of " ++ amount next.len (codes "byte") ++ codes " from "
     ++ end_text next.sender
-waiting_text (Err errno) = codes "no datagram"
+    ++ queued_text queued
+waiting_text (Err errno) queued = codes "no datagram"
 
-abbrev pub socket_line : ℕ → SocketName → Result NextDatagram Errno → List ℕ
-socket_line fd name next =
-    codes "    socket " ++ decimal fd ++ codes ": " ++ ends_text name ++ options_text name ++ codes "; " ++ waiting_text next ++ codes "\n"
+abbrev pub socket_line : ℕ → SocketName → Result NextDatagram Errno → Result ℕ Errno → List ℕ
+socket_line fd name next queued =
+    codes "    socket " ++ decimal fd ++ codes ": " ++ ends_text name ++ options_text name ++ codes "; "
+    ++ waiting_text next queued
+    ++ codes "\n"
 
 -- ---- the output queue
 

@@ -2,7 +2,7 @@
 ghost use Rattle.std.specs.Prelude.{◌≡◌, length};
 ghost use Rattle.ip_out.specs.Questions.{oldest_length};
 ghost use Rattle.ip_reass.specs.Questions.{nth_range, nth_unfinished};
-ghost use Rattle.sock_calls.specs.Questions.{next_datagram, socket_name};
+ghost use Rattle.sock_calls.specs.Questions.{bytes_queued, next_datagram, socket_name};
 
 use flat_model::Errno;
 use link_script::Machine;
@@ -19,6 +19,10 @@ pub trait Questions: Machine {
     /// Refused, in this order: `BadDescriptor`; `WouldBlock` if none waits.
     fn next_datagram(&self, fd: u32) -> Result<NextDatagram, Errno>
         ensures { result ≡ next_datagram fd (Self.state self.now) };
+
+    /// How many bytes wait in a socket in all, with 16 for each sender's address. Refused: `BadDescriptor`.
+    fn bytes_queued(&self, fd: u32) -> Result<u32, Errno>
+        ensures { result ≡ bytes_queued fd (Self.state self.now) };
 
     /// How many packets wait for the link.
     fn output_len(&self) -> u32
@@ -49,6 +53,10 @@ impl Questions for Stack {
 
     fn next_datagram(&self, fd: u32) -> Result<NextDatagram, Errno> {
         Stack::next_datagram(self, fd)
+    }
+
+    fn bytes_queued(&self, fd: u32) -> Result<u32, Errno> {
+        Stack::bytes_queued(self, fd)
     }
 
     fn output_len(&self) -> u32 {

@@ -2,14 +2,14 @@
 ghost use Rattle.std.specs.Prelude.{◌≡◌, ◌+◌, ◌≤◌, ◌++◌, Bool, length};
 ghost use Rattle.flat_model.specs.Machine.State.{State};
 ghost use Rattle.params.specs.declared.TheConstants.{MAX_SOCKETS};
-ghost use Rattle.play_show.specs.Texts.{peer_text, switch_text, ends_text, options_text, waiting_text, socket_line, queue_text};
+ghost use Rattle.play_show.specs.Texts.{peer_text, switch_text, ends_text, options_text, queued_text, waiting_text, socket_line, queue_text};
 ghost use Rattle.play_show.specs.Sockets.{descriptor_line, is_open, sockets_below, open_below, one_if};
 
 use crate::amounts::{SHOWN, put_ip, put_port};
 use crate::questions::Questions;
 use flat_model::{Addr, Errno};
 use net_stack::{NextDatagram, SocketName};
-use params::{FIRST_DESCRIPTOR, MAX_SOCKETS};
+use params::{FIRST_DESCRIPTOR, MAX_SOCKETS, UDP_RECEIVE_SPACE};
 use play_decode::{put_amount, put_end};
 use script_loop::{Buffer, put_number};
 
@@ -60,11 +60,30 @@ fn put_options(text: &mut Buffer<SHOWN>, name: SocketName)
     put_switch(text, name.reuse_port, b"reuseport");
 }
 
-/// Puts after the text how many datagrams wait in a socket, and who sent the oldest one.
-fn put_waiting(text: &mut Buffer<SHOWN>, next: Result<NextDatagram, Errno>)
-    requires { length text.old + 130 ≤ SHOWN }
-    ensures items { text.new ≡ text.old ++ waiting_text next }
-    ensures len { length text.new ≤ length text.old + 130 }
+/// Puts after the text how many of the bytes that a socket takes wait in it.
+fn put_queued(text: &mut Buffer<SHOWN>, queued: Result<u32, Errno>)
+    requires { length text.old + 40 ≤ SHOWN }
+    ensures items { text.new ≡ text.old ++ queued_text queued }
+    ensures len { length text.new ≤ length text.old + 40 }
+{
+    if let Ok(queued) = queued {
+        text.append(b", ");
+        put_number(text, queued);
+        text.append(b" of ");
+        put_amount(text, UDP_RECEIVE_SPACE, b"byte");
+        text.append(b" queued");
+    }
+}
+
+/// Puts after the text how many datagrams wait in a socket, who sent the oldest one, and how many bytes wait in all.
+fn put_waiting(
+    text: &mut Buffer<SHOWN>,
+    next: Result<NextDatagram, Errno>,
+    queued: Result<u32, Errno>,
+)
+    requires { length text.old + 170 ≤ SHOWN }
+    ensures items { text.new ≡ text.old ++ waiting_text next queued }
+    ensures len { length text.new ≤ length text.old + 170 }
 {
     match next {
         Ok(next) => {
@@ -73,6 +92,7 @@ fn put_waiting(text: &mut Buffer<SHOWN>, next: Result<NextDatagram, Errno>)
             put_amount(text, next.len, b"byte");
             text.append(b" from ");
             put_end(text, next.sender);
+            put_queued(text, queued);
         }
         Err(_) => text.append(b"no datagram"),
     }
@@ -84,10 +104,11 @@ fn put_socket(
     fd: u32,
     name: SocketName,
     next: Result<NextDatagram, Errno>,
+    queued: Result<u32, Errno>,
 )
-    requires { length text.old + 320 ≤ SHOWN }
-    ensures items { text.new ≡ text.old ++ socket_line fd name next }
-    ensures len { length text.new ≤ length text.old + 320 }
+    requires { length text.old + 360 ≤ SHOWN }
+    ensures items { text.new ≡ text.old ++ socket_line fd name next queued }
+    ensures len { length text.new ≤ length text.old + 360 }
 {
     text.append(b"    socket ");
     put_number(text, fd);
@@ -95,20 +116,26 @@ fn put_socket(
     put_ends(text, name);
     put_options(text, name);
     text.append(b"; ");
-    put_waiting(text, next);
+    put_waiting(text, next, queued);
     text.append(b"\n");
 }
 
 /// Puts the line of a descriptor's socket after the text, if one is open, and answers whether one is.
 fn put_descriptor<M: Questions>(machine: &M, text: &mut Buffer<SHOWN>, fd: u32) -> bool
-    requires { length text.old + 320 ≤ SHOWN }
+    requires { length text.old + 360 ≤ SHOWN }
     ensures items { text.new ≡ text.old ++ descriptor_line (M.state machine.now) fd }
     ensures counted { result ≡ is_open (M.state machine.now) fd }
-    ensures len { length text.new ≤ length text.old + 320 }
+    ensures len { length text.new ≤ length text.old + 360 }
 {
     match machine.socket_name(fd) {
         Ok(name) => {
-            put_socket(text, fd, name, machine.next_datagram(fd));
+            put_socket(
+                text,
+                fd,
+                name,
+                machine.next_datagram(fd),
+                machine.bytes_queued(fd),
+            );
             true
         }
         Err(_) => false,

@@ -1,15 +1,16 @@
 -- What the questions about the sockets find, as the flat machine has it.
-use Rattle.std.specs.Prelude.{slice_index_or}
+use Rattle.std.specs.Prelude.{slice_index_or, Ok}
 use Rattle.std.proofs.Common.{◌≡◌, ℕ, zero, suc, ◌+◌, ◌*◌, ◌%◌, ◌<◌, ◌≤◌, ◌^◌, Bool, true, false, not, cond, List, [], length, Option, None, Some, option_map, refl, sym, ap, ◌∙◌, subst, ◌==◌, arith}
 use Rattle.std.proofs.lemmas.Nat.{pow_pos}
 use Rattle.std.proofs.Math.Nat.{pow-le-pow_right, mod-eq_of_lt}
 use Rattle.flat_model.specs.Machine.State.{State, Datagram, socket_at}
+use Rattle.flat_model.specs.Sockets.Fits as queue
 use Rattle.mbuf_chain.specs.Chain.{PoolView}
 use Rattle.pcb_table.specs.declared.block.Block.{Block}
 use Rattle.pcb_table.specs.Table.{Table, Queues, block_at, machine, socket_with}
 use Rattle.pcb_table.proofs.Laws.{socket_found}
 use Rattle.sockbuf.specs.SockBuf.{SockBufView, IsSockBuf, datagrams, no_datagrams}
-use Rattle.sock_calls.specs.Questions.{named, next_in, next_of, next_datagram, socket_name, set_below, waits_in}
+use Rattle.sock_calls.specs.Questions.{named, next_in, next_of, next_datagram, bytes_in, bytes_queued, socket_name, set_below, waits_in}
 use Rattle.sock_calls.specs.Inside.Asked.{name_in, waits_at}
 use Rattle.sock_calls.specs.Sockets.{IsSocks, from_three, queue_at, queues_of}
 use Rattle.sock_calls.proofs.Frames.{at_default}
@@ -37,6 +38,18 @@ pub next_refused : (f : Queues) (t : Table) (fd : ℕ) (rest : State) → block_
 next_refused f t fd rest is =
     ap (λ (o : Option Block). next_in (option_map (socket_with f) o)) (sym is)
     ∙ ap next_in (sym (socket_found rest f t fd))
+
+-- the same of how many bytes wait
+pub bytes_found : (f : Queues) (t : Table) (fd : ℕ) (b : Block) (rest : State) → block_at fd t ≡ Some b → b.fd ≡ fd → Ok (queue.bytes_queued (f fd)) ≡ bytes_queued fd (machine rest f t)
+bytes_found f t fd b rest is names =
+    ap (λ (k : ℕ). Ok (queue.bytes_queued (f k))) (sym names)
+    ∙ ap (λ (o : Option Block). bytes_in (option_map (socket_with f) o)) (sym is)
+    ∙ ap bytes_in (sym (socket_found rest f t fd))
+
+pub bytes_refused : (f : Queues) (t : Table) (fd : ℕ) (rest : State) → block_at fd t ≡ None → bytes_in None ≡ bytes_queued fd (machine rest f t)
+bytes_refused f t fd rest is =
+    ap (λ (o : Option Block). bytes_in (option_map (socket_with f) o)) (sym is)
+    ∙ ap bytes_in (sym (socket_found rest f t fd))
 
 -- ---- all sockets
 

@@ -4,6 +4,7 @@
 use Rattle.std.specs.Prelude.{ℕ, zero, suc, ◌+◌, ◌^◌, Bool, false, not, ◌==◌, if◌then◌else◌, List, [], ◌∷◌, length, Option, None, Some, Result, Ok, Err}
 use Rattle.params.specs.declared.TheConstants.{FIRST_DESCRIPTOR, MAX_SOCKETS}
 use Rattle.flat_model.specs.Machine.State.{State, Socket, Datagram, socket_at}
+use Rattle.flat_model.specs.Sockets.Fits as queue
 use Rattle.flat_model.specs.declared.errno.Errno.{Errno}
 use Rattle.flat_model.specs.declared.errno.Errno.TheVariants.{BadDescriptor, WouldBlock}
 use Rattle.sock_calls.specs.declared.questions.SocketName.{SocketName}
@@ -41,6 +42,15 @@ next_in (Some me) = next_of me.queue
 -- the oldest datagram that waits in a descriptor's socket; refused where no such socket is open, and where none waits
 abbrev pub next_datagram : ℕ → State → Result NextDatagram Errno
 next_datagram fd s = next_in (socket_at fd s)
+
+abbrev pub bytes_in : Option Socket → Result ℕ Errno
+bytes_in None = Err BadDescriptor
+bytes_in (Some me) = Ok (queue.bytes_queued me.queue)
+
+-- How many bytes wait in a descriptor's socket, with 16 for each sender's address (`sb_cc` of chapter 16); refused
+-- where no such socket is open.
+abbrev pub bytes_queued : ℕ → State → Result ℕ Errno
+bytes_queued fd s = bytes_in (socket_at fd s)
 
 -- ---- all sockets
 

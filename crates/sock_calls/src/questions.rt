@@ -1,5 +1,6 @@
 //! What a caller may ask of the sockets. A question changes nothing.
 ghost use Rattle.std.specs.Prelude.{◌≡◌, ◌<◌, length, ℕ};
+ghost use Rattle.flat_model.specs.Sockets.Fits as flat;
 ghost use Rattle.mbuf_chain.specs.Chain.{PoolView};
 ghost use Rattle.pcb_table.specs.Table.{block_at};
 ghost use Rattle.sockbuf.specs.SockBuf.{IsSockBuf, datagrams};
@@ -71,6 +72,15 @@ pub(crate) fn next_at(pool: &Pool, queues: &[SockBuf], place: usize) -> Result<N
         }),
         None => Err(Errno::WouldBlock),
     }
+}
+
+/// How many bytes wait in the queue at a place, with those of the senders' addresses.
+pub(crate) fn bytes_at(queues: &[SockBuf], place: usize) -> u32
+    requires { place < length queues.now }
+    ensures { (p : PoolView) → IsSockBuf p (queue_at queues.now place)
+        → result ≡ flat.bytes_queued (queues_of p queues.now place) }
+{
+    queues[place].cc()
 }
 
 /// The places of the queues in which a datagram waits: bit k is set where one does in that at place k.

@@ -10,14 +10,14 @@ ghost use Rattle.pcb_table.specs.Table.{IsDescriptor};
 ghost use Rattle.sockbuf.specs.SockBuf.{no_datagrams};
 ghost use Rattle.sock_calls.specs.Delivery.{seen, IsInput};
 ghost use Rattle.sock_calls.specs.Outgoing.{sending, CanSend, IsSent};
-ghost use Rattle.sock_calls.specs.Questions.{next_datagram, readable, socket_name};
+ghost use Rattle.sock_calls.specs.Questions.{bytes_queued, next_datagram, readable, socket_name};
 ghost use Rattle.sock_calls.specs.Sockets.{IsSocks, IsCalled, queue_at, queued_chains, with_sockets};
 
 use crate::delivery::Datagram;
 use crate::ending::{end_empty, flush_all};
 use crate::net::Net;
 use crate::parts::{Parts, QUEUES};
-use crate::questions::{NextDatagram, SocketName, name_of, next_at, readable};
+use crate::questions::{NextDatagram, SocketName, bytes_at, name_of, next_at, readable};
 use crate::receive::{flush_at, refusal, take_at};
 use arrayvec::ArrayVec;
 use flat_model::{Addr, Counters, Errno, Opt};
@@ -114,6 +114,19 @@ impl Socks {
     {
         match self.parts.pcbs.block(fd) {
             Some(_) => next_at(pool, &self.parts.queues, place_of(fd)),
+            None => Err(Errno::BadDescriptor),
+        }
+    }
+
+    /// How many bytes wait in a socket in all, with 16 for each sender's address, 0 to 41,600 (`sb_cc` of volume 2,
+    /// chapter 16). It changes nothing, and takes a number of steps that doesn't depend on the queue. Refused:
+    /// `BadDescriptor`.
+    pub fn bytes_queued(&self, fd: u32) -> Result<u32, Errno>
+        ensures { (p : PoolView) (rest : State) → IsSocks p self.now
+            → result ≡ bytes_queued fd (with_sockets p self.now rest) }
+    {
+        match self.parts.pcbs.block(fd) {
+            Some(_) => Ok(bytes_at(&self.parts.queues, place_of(fd))),
             None => Err(Errno::BadDescriptor),
         }
     }

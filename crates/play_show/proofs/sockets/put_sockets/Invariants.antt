@@ -7,5 +7,5 @@ invariant-places g l = record {
   items : l.text ≡ sockets_below l.place (g.M.Machine.state l.machine);
   counted : l.count ≡ open_below l.place (g.M.Machine.state l.machine);
   few : l.count ≤ l.place;
-  len : length l.text ≤ 320 * l.place;
+  len : length l.text ≤ 360 * l.place;
 }
