@@ -8,4 +8,5 @@ mod Sends
 mod Copies
 mod Flat
 mod Datagrams
+mod Found
 pub mod Laws

@@ -6,6 +6,7 @@ mod head;
 mod needs;
 mod queue;
 mod sending;
+mod waiting;
 mod ways;
 
 pub use head::{IpHead, MAX_OFFSET, read_head, write_head};

@@ -1,15 +1,16 @@
 //! The output queue.
-ghost use Rattle.std.specs.Prelude.{◌≡◌, ℕ, ◌+◌, ◌<◌, ◌≤◌, ◌==◌, ◌++◌, [], ◌∷◌, true, None, IfSome, MatchOption, take, length, nat_lt};
+ghost use Rattle.std.specs.Prelude.{◌≡◌, ℕ, ◌+◌, ◌<◌, ◌≤◌, ◌==◌, ◌++◌, [], ◌∷◌, true, None, IfSome, MatchOption, option_map, drop, take, length, nat_lt, IfNone};
 ghost use Rattle.mbuf_chain.specs.Chain.{PoolView, IsLive, chain_of, entry_of, string, alone};
 ghost use Rattle.mbuf_chain.specs.Owners.{Moves, IsOwned, times};
 ghost use Rattle.mbuf_chain.specs.Train.{IsHeld, numbers};
 ghost use Rattle.ledger.specs.Accounts.{item_at};
 ghost use Rattle.ip_out.specs.Packets.{BeginPlain, IsDatagram, packets, packets_of};
-ghost use Rattle.ip_out.specs.Questions.{oldest_length};
+ghost use Rattle.ip_out.specs.Questions.{nth_packet, oldest_length};
 ghost use Rattle.ip_out.specs.Queues.{IsQueue};
 
 use crate::fragments::add_whole;
 use crate::head::IpHead;
+use crate::waiting::copy_packet;
 use mbuf_chain::{Chain, Pool, Train};
 use params::OUTPUT_QUEUE_PACKETS;
 use std::marker::Model;
@@ -90,6 +91,20 @@ impl Queue {
     {
         let at = self.train.first(pool)?;
         Some(self.train.len_at(pool, at))
+    }
+
+    /// Copies the bytes of the packet out in front of which `i` others wait, to the front of the room, and answers how
+    /// many they are; `None` exactly if no more than `i` packets wait. The rest of the room stays as it was. Condition:
+    /// the room has a place for each of the bytes. The packet stays where it is; it takes a step for each one in front.
+    pub fn packet(&self, pool: &Pool, i: u32, room: &mut [u8]) -> Option<usize>
+        requires queue { IsQueue pool.now self.now }
+        requires fits { IfSome (nth_packet i (packets pool.now self.now)) (λ bytes. length bytes ≤ length room.old) }
+        ensures packet { option_map (λ n. take n room.new) result ≡ nth_packet i (packets pool.now self.now) }
+        ensures within { IfSome result (λ n. n ≤ length room.new) }
+        ensures same { IfNone result (room.new ≡ room.old) }
+        ensures rest { IfSome result (λ n. drop n room.new ≡ drop n room.old) }
+    {
+        copy_packet(pool, &self.train, i, room)
     }
 
     /// Puts a packet at the end. Conditions: fewer than 50 wait; the first mbuf has a packet header. It takes a number

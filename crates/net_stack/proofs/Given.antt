@@ -1,5 +1,5 @@
 -- A packet is taken from the output queue, copied out and freed.
-use Rattle.std.proofs.Common.{◌≡◌, ℕ, ◌≤◌, List, ◌∷◌, ◌++◌, length, take, drop, Some, refl, sym, ap, ◌∙◌, subst}
+use Rattle.std.proofs.Common.{◌≡◌, ℕ, zero, suc, ◌≤◌, List, [], ◌∷◌, ◌++◌, length, take, drop, Some, IfSome, refl, sym, ap, ◌∙◌, subst}
 use Rattle.std.proofs.Math.Seq.{take-append_seam, take-length}
 use Rattle.std.specs.List.{AllByRecursion}
 use Rattle.flat_model.specs.Amounts.Weight.{Item}
@@ -12,6 +12,7 @@ use Rattle.mbuf_chain.specs.Train.{TrainView, numbers}
 use Rattle.mbuf_chain.proofs.Laws.Owners.{same_without, then_without}
 use Rattle.ledger.specs.Accounts.{item_at}
 use Rattle.ip_out.specs.Packets.{packets}
+use Rattle.ip_out.specs.Questions.{nth_packet}
 use Rattle.ip_out.specs.Queues.{IsQueue}
 use Rattle.net_stack.specs.Inside.Transmit.{with_packets, AreWithin, IsGiven}
 use Rattle.net_stack.proofs.Lifted.{OutputKept, output_kept}
@@ -27,6 +28,13 @@ all_copied n k s to is is_k is_n = is ∙ ap (λ (j : ℕ). take j s) (is_k ∙ 
 -- the first packet fits where each does
 pub first_within : (p q : PoolView) (t u : TrainView) (c most : ℕ) → AreWithin p t most → packets p t ≡ item_at q c ∷ packets q u → length (string (chain_of q c)) ≤ most
 first_within p q t u c most each e = (subst (λ (items : List Item). AllByRecursion (λ (item : Item). length item.bytes ≤ most) items) e each).0
+
+-- so does the one at a place, if there is one
+pub nth_within : (i most : ℕ) (items : List Item) → AllByRecursion (λ (item : Item). length item.bytes ≤ most) items → IfSome (nth_packet i items) (λ bytes. length bytes ≤ most)
+nth_within zero most [] each = tt
+nth_within (suc i) most [] each = tt
+nth_within zero most (item ∷ items) each = each.0
+nth_within (suc i) most (item ∷ items) each = nth_within i most items each.1
 
 pub packet_given : (p q r : PoolView) (t u : TrainView) (c : ℕ) (bytes : List ℕ) → IsQueue p t → packets p t ≡ item_at q c ∷ packets q u → times c (numbers q u) ≡ 0 → IsQueue q u
     → Moves p (numbers p t) q (c ∷ numbers q u) → r ≡ without q c → bytes ≡ string (chain_of q c)

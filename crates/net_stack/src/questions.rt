@@ -1,6 +1,6 @@
 //! What a caller may ask of a stack. A question changes nothing, and takes no step.
-ghost use Rattle.std.specs.Prelude.{◌≡◌, length};
-ghost use Rattle.ip_out.specs.Questions.{oldest_length};
+ghost use Rattle.std.specs.Prelude.{◌≡◌, ◌≤◌, drop, length, take, option_map, IfNone, IfSome};
+ghost use Rattle.ip_out.specs.Questions.{nth_packet, oldest_length};
 ghost use Rattle.ip_reass.specs.Questions.{nth_range, nth_unfinished};
 ghost use Rattle.sock_calls.specs.Questions.{bytes_queued, next_datagram, readable, socket_name};
 ghost use Rattle.net_stack.specs.Stack.{state_of};
@@ -65,6 +65,20 @@ impl Stack {
         ensures { result ≡ oldest_length (state_of self.now).output }
     {
         self.host.net.out.next_len(&self.host.pool)
+    }
+
+    /// The packet in front of which `i` others wait for the link, from 0: puts its bytes in front of the room, and
+    /// answers how many they are. They're what `tx` gives once the others are gone. `None` exactly if no more than `i`
+    /// packets wait. The rest of the room stays as it was. Condition: the room has as many bytes as the MTU, as for
+    /// `tx`. It takes a step for each packet in front.
+    pub fn output_packet(&self, i: u32, room: &mut [u8]) -> Option<usize>
+        requires { self.now.config.mtu ≤ length room.old }
+        ensures packet { option_map (λ n. take n room.new) result ≡ nth_packet i (state_of self.now).output }
+        ensures fits { IfSome result (λ n. n ≤ length room.new) }
+        ensures same { IfNone result (room.new ≡ room.old) }
+        ensures rest { IfSome result (λ n. drop n room.new ≡ drop n room.old) }
+    {
+        self.host.net.out.packet(&self.host.pool, i, room)
     }
 
     /// How many datagrams are unfinished: some of their fragments have come, and others are missing.

@@ -1,6 +1,8 @@
 //! What a stack answers when it's asked, and that it's as it was then.
 use super::PLAIN;
-use super::steps::Question::{Name, Next, Output, Range, Readable, Unfinished, UnfinishedLen};
+use super::steps::Question::{
+    Name, Next, Output, Queued, Range, Readable, Unfinished, UnfinishedLen, Waits,
+};
 use super::steps::Step::{Asks, Bind, Connect, Receive, Rx, Send, Set, Socket, Ticks, Tx};
 use super::steps::{Step, play};
 use flat_model::{Addr, Config, Errno, FragmentKey, Opt};
@@ -70,20 +72,24 @@ const LATER: NextDatagram = NextDatagram {
     waiting: 1,
 };
 
-static WAITS: [Step; 16] = [
+static WAITS: [Step; 20] = [
     Socket(Ok(3)),
     Socket(Ok(4)),
     Bind(4, ANY, Ok(())),
     Asks(Readable(0)),
     Asks(Next(4, Err(Errno::WouldBlock))),
     Asks(Next(5, Err(Errno::BadDescriptor))),
+    Asks(Queued(4, Ok(0))),
+    Asks(Queued(5, Err(Errno::BadDescriptor))),
     Send(3, Some(SELF), b"abc", Ok(3)),
     Send(3, Some(SELF), b"", Ok(0)),
     Asks(Readable(2)),
     Asks(Next(4, Ok(OLDEST))),
+    Asks(Queued(4, Ok(35))),
     Asks(Next(3, Err(Errno::WouldBlock))),
     Receive(4, 2, Ok((SENDER, b"ab"))),
     Asks(Next(4, Ok(LATER))),
+    Asks(Queued(4, Ok(16))),
     Asks(Readable(2)),
     Receive(4, 2, Ok((SENDER, b""))),
     Asks(Readable(0)),
@@ -95,13 +101,17 @@ fn tells_what_waits_before_it_is_taken(rt: HostRuntime) {
 }
 
 /// 50 bytes with their header of 8 are cut after 48.
-static TWO_PACKETS: [Step; 8] = [
+static TWO_PACKETS: [Step; 12] = [
     Asks(Output(0, None)),
     Socket(Ok(3)),
     Send(3, Some(NEAR), &[7; 50], Ok(50)),
     Asks(Output(2, Some(68))),
+    Asks(Waits(0, Some(68))),
+    Asks(Waits(1, Some(30))),
+    Asks(Waits(2, None)),
     Tx(Some(68)),
     Asks(Output(1, Some(30))),
+    Asks(Waits(0, Some(30))),
     Tx(Some(30)),
     Asks(Output(0, None)),
 ];

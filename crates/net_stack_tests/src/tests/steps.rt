@@ -39,16 +39,21 @@ pub(super) enum Question {
     Value(Counter, u64),
     Name(u32, Result<SocketName, Errno>),
     Next(u32, Result<NextDatagram, Errno>),
+    /// How many bytes wait in a socket.
+    Queued(u32, Result<u32, Errno>),
     Readable(u64),
     /// How many packets wait for the link, and how long the first is.
     Output(u32, Option<u32>),
+    /// How long the packet is in front of which so many wait.
+    Waits(u32, Option<usize>),
     UnfinishedLen(u32),
     Unfinished(u32, Option<UnfinishedDatagram>),
     Range(u32, u32, Option<HeldRange>),
 }
 
 use Question::{
-    Counted, Free, FreeMbufs, Name, Next, Output, Range, Readable, Unfinished, UnfinishedLen, Value,
+    Counted, Free, FreeMbufs, Name, Next, Output, Queued, Range, Readable, Unfinished,
+    UnfinishedLen, Value, Waits,
 };
 use Step::{Asks, Bind, Close, Connect, Fronts, Packet, Receive, Rx, Send, Set, Socket, Ticks, Tx};
 
@@ -119,6 +124,12 @@ fn has_free(stack: &Stack, mbufs: u32, refs: u32) -> bool {
     free.free_mbufs == mbufs && free.refs == refs
 }
 
+/// How long the packet is in front of which `i` others wait.
+fn waits(stack: &Stack, i: u32) -> Option<usize> {
+    stack.laws();
+    stack.output_packet(i, &mut [0; 4352])
+}
+
 /// Whether the question is answered so.
 fn is_told(stack: &Stack, question: &Question) -> bool {
     match question {
@@ -130,8 +141,10 @@ fn is_told(stack: &Stack, question: &Question) -> bool {
         Value(counter, value) => stack.counters().value(*counter) == *value,
         Name(fd, want) => stack.socket_name(*fd) == *want,
         Next(fd, want) => stack.next_datagram(*fd) == *want,
+        Queued(fd, want) => stack.bytes_queued(*fd) == *want,
         Readable(want) => stack.readable() == *want,
         Output(len, next) => stack.output_len() == *len && stack.next_packet() == *next,
+        Waits(i, want) => waits(stack, *i) == *want,
         UnfinishedLen(len) => stack.unfinished_len() == *len,
         Unfinished(i, want) => stack.unfinished(*i) == *want,
         Range(i, k, want) => stack.unfinished_range(*i, *k) == *want,

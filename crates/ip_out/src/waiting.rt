@@ -1,0 +1,60 @@
+//! A packet that waits for the link, read where it is.
+ghost use Rattle.std.specs.Prelude.{◌≡◌, ◌<◌, ◌≤◌, drop, length, take, option_map, IfNone, IfSome};
+ghost use Rattle.std.specs.List.{concat};
+ghost use Rattle.mbuf_chain.specs.Train.{IsHeld, IsQueuedPlace};
+ghost use Rattle.ip_out.specs.Packets.{packets};
+ghost use Rattle.ip_out.specs.Questions.{nth_packet};
+
+use mbuf_chain::{Pieces, Pool, QueuedPlace, Train};
+
+/// The place of the packet in front of which `i` others wait.
+fn place_at(pool: &Pool, train: &Train, i: u32) -> QueuedPlace
+    requires within { i < train.now.len }
+    requires held { IsHeld pool.now train.now }
+    ensures index { result.index ≡ i }
+    ensures place { IsQueuedPlace pool.now train.now result }
+{
+    let mut at = match train.first(pool) {
+        Some(first) => first,
+        None => unreachable!(),
+    };
+    'packets: for _passed in 0..i {
+        at = match train.next(pool, at) {
+            Some(next) => next,
+            None => unreachable!(),
+        };
+    }
+    at
+}
+
+/// Copies the bytes of all mbufs to the front of a room that has a place for each, and answers how many they are.
+fn copy_all(pieces: Pieces<'_>, room: &mut [u8]) -> usize
+    requires { length (concat pieces) ≤ length room.old }
+    ensures copied { take result room.new ≡ concat pieces.entry }
+    ensures within { result ≤ length room.new }
+    ensures rest { drop result room.new ≡ drop result room.old }
+{
+    let mut at = 0;
+    'mbufs: for piece in pieces {
+        let end = at + piece.len();
+        room[at..end].copy_from_slice(piece);
+        at = end;
+    }
+    at
+}
+
+/// Copies the packet out in front of which `i` others wait: see `Queue::packet`.
+pub(crate) fn copy_packet(pool: &Pool, train: &Train, i: u32, room: &mut [u8]) -> Option<usize>
+    requires held { IsHeld pool.now train.now }
+    requires fits { IfSome (nth_packet i (packets pool.now train.now)) (λ bytes. length bytes ≤ length room.old) }
+    ensures packet { option_map (λ n. take n room.new) result ≡ nth_packet i (packets pool.now train.now) }
+    ensures within { IfSome result (λ n. n ≤ length room.new) }
+    ensures same { IfNone result (room.new ≡ room.old) }
+    ensures rest { IfSome result (λ n. drop n room.new ≡ drop n room.old) }
+{
+    if i >= train.len() {
+        return None;
+    }
+    let at = place_at(pool, train, i);
+    Some(copy_all(train.pieces_at(pool, at), room))
+}
