@@ -1,10 +1,10 @@
 //! Scripts of many machines, with a capture of their wire or without one.
-use play_script::{Silent, Sink, Source, Style};
+use play_script::{Played, Silent, Sink, Source, Style};
 use play_wire::{Nowhere, PlayedHosts, Start, play_hosts};
 use std::{fs, io};
 
 /// The status if a capture can't be written.
-const UNWRITTEN: u8 = 4;
+pub(crate) const UNWRITTEN: u8 = 4;
 
 /// Plays a script of many machines without a capture.
 pub(crate) fn play_uncaptured<R: Source, W: Sink>(
@@ -41,9 +41,9 @@ pub(crate) fn play_captured<R: Source, W: Sink>(
 }
 
 /// The status of a script, after a line for a capture that isn't whole.
-pub(crate) fn status_of(rt: &HostRuntime, done: &PlayedHosts) -> io::Result<u8> {
-    if done.kept {
-        return Ok(done.played.status());
+pub(crate) fn status_of(rt: &HostRuntime, played: &Played, kept: bool) -> io::Result<u8> {
+    if kept {
+        return Ok(played.status());
     }
     eprintln!(rt; "bsdplay: the capture isn't whole, since a write failed")?;
     Ok(UNWRITTEN)

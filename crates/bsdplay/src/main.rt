@@ -6,6 +6,7 @@ mod capture;
 mod choice;
 mod form;
 mod hosts;
+mod one;
 mod sweep;
 
 use capture::print_capture;
@@ -13,7 +14,8 @@ use choice::Ahead;
 use clap::{Arg, ArgAction, ArgMatches, Command};
 use form::{form_of, with_forms};
 use hosts::{play_captured, play_uncaptured, status_of};
-use play_script::{Config, Form, Played, Silent, Style, play};
+use one::play_one;
+use play_script::{Config, Form, Played, Silent, Style};
 use std::alloc::{AllocError, Global};
 use std::io::{IsTerminal, Read};
 use std::process::ExitCode;
@@ -21,7 +23,7 @@ use std::{env, fs, io};
 use sweep::{Seeds, seed_in, seeds_in, sweep};
 
 /// The machine that a script is played on.
-const MACHINE: Config = Config {
+pub(crate) const MACHINE: Config = Config {
     addr: 0x0a00_0001,
     bcast: 0x0a00_00ff,
     mtu: 1500,
@@ -36,7 +38,8 @@ const USAGE: u8 = 2;
 /// The status if a script can't be opened, or something can't be printed.
 const UNREAD: u8 = 4;
 
-/// The options for scripts of many machines. Each is made as it's added, so that none is let go if memory is refused.
+/// The options for scripts of many machines, and for captures that are written. Each is made as it's added, so that
+/// none is let go if memory is refused.
 fn with_wire<'a>(alloc: Global, command: Command<'a>) -> Result<Command<'a>, AllocError> {
     command
         .arg(
@@ -64,7 +67,7 @@ fn with_wire<'a>(alloc: Global, command: Command<'a>) -> Result<Command<'a>, All
         .arg(
             Arg::new(alloc, "PCAP")
                 .long("pcap")
-                .help("Write what goes on the wire of many machines to this file")
+                .help("Write the packets that come and go, or what goes on the wire of many machines, to this file")
                 .action(ArgAction::Set),
         )
 }
@@ -106,7 +109,7 @@ fn command<'a>(alloc: Global) -> Result<Command<'a>, AllocError> {
 }
 
 /// Says why a script ended early.
-fn report(rt: &HostRuntime, name: &str, played: &Played) -> io::Result<()> {
+pub(crate) fn report(rt: &HostRuntime, name: &str, played: &Played) -> io::Result<()> {
     if let Err(fault) = played.outcome {
         eprintln!(rt; "bsdplay: {name}: {fault}")?;
     }
@@ -122,7 +125,7 @@ struct Manner<'a> {
     seeds: Option<Seeds>,
     summary: bool,
     progress: bool,
-    /// Where the capture of a wire is written.
+    /// Where the capture is written.
     capture: Option<&'a str>,
 }
 
@@ -199,7 +202,7 @@ fn play_wired<R: Read + Drop>(
         },
     };
     report(rt, name, &done.played)?;
-    status_of(rt, &done)
+    status_of(rt, &done.played, done.kept)
 }
 
 /// Plays a script: on many machines if it begins with a host, and else on one.
@@ -216,18 +219,11 @@ fn play_source<R: Read + Drop>(
     if reader.has_hosts() {
         return play_wired(rt, &mut reader, name, manner);
     }
-    if manner.capture.is_some() {
-        eprintln!(rt; "bsdplay: {name}: it has no hosts, so it has no wire to capture")?;
-        return Ok(USAGE);
-    }
-    let mut writer = Silent(rt.stdout());
     let style = Style {
         form: manner.form,
         name: name.as_bytes(),
     };
-    let played = play(rt.alloc(), MACHINE, style, &mut reader, &mut writer);
-    report(rt, name, &played)?;
-    Ok(played.status())
+    play_one(rt, &mut reader, name, style, manner.capture)
 }
 
 /// Plays a script that stands in a file, or standard input if its name is `-`.

@@ -1,35 +1,58 @@
 -- What is told of a plain line: what it asks to be shown, or its reply.
-use Rattle.std.proofs.Common.{◌≡◌, ℕ, ◌-◌, Bool, true, false, List, [], length, take, Option, Some, None, refl, sym, ap, ◌∙◌, subst}
+use Rattle.std.proofs.Common.{◌≡◌, ℕ, ◌-◌, ◌&&◌, Bool, true, false, List, [], length, take, Option, Some, None, refl, sym, ap, ap₂, ◌∙◌, subst}
 use Rattle.std.proofs.lemmas.Bool.{false≢true}
 use Rattle.flat_model.specs.Machine.Event.{Event, Reply}
 use Rattle.flat_model.specs.Machine.State.{State}
 use Rattle.flat_model.specs.declared.counters.Counters.{Counters}
 use Rattle.flat_model.specs.Scripts.Texts.{answer_text, reply_text}
 use Rattle.play_show.specs.Changes.{IsSnapshot}
+use Rattle.play_pcap.specs.Traces.{Traced}
 use Rattle.play_show.specs.Tells.{Shows}
+use Rattle.play_show.specs.Topics.{topic_asked}
+use Rattle.play_script.specs.Captures.{Notes}
 use Rattle.play_show.specs.declared.snapshot.Snapshot.{Snapshot}
 use Rattle.play_show.specs.declared.topic.Topic.{Topic}
 use Rattle.play_script.proofs.TextLemmas.{take-reply}
+use Rattle.play_print.specs.Forms.{is_quiet}
 use Rattle.play_print.specs.Texts.{if_there}
 use Rattle.play_script.specs.Moved.{IsBelow, IsMoved}
 use Rattle.play_script.specs.Outcomes.{outcome}
-use Rattle.play_script.specs.Tells.{Does, IsAnswered}
+use Rattle.play_script.specs.Tells.{Play, Does, IsAnswered, TellsAsked, is_sound, printed, stays_head}
 
-pub Answered-shown : (step : State → Event → Reply → State → Type 0) (quiet : Bool) (s : State) (plain : List ℕ) (asked : Option Topic)
+pub Answered-shown : (step : State → Event → Reply → State → Type 0) (quiet : Bool) (notes : Option Reply → Type 0) (s : State) (plain : List ℕ) (asked : Option Topic)
     (topic : Topic) (shown told below : List ℕ) → asked ≡ Some topic → told ≡ shown → Shows step s topic shown below
-    → IsAnswered step quiet s asked plain (Some told) below s
-Answered-shown step quiet s plain asked topic shown told below is same shows =
-    subst (λ (t : Option Topic). IsAnswered step quiet s t plain (Some told) below s) (sym is)
-    (subst (λ (text : List ℕ). Shows step s topic text below) (sym same) shows, refl)
+    → notes None → IsAnswered step quiet notes s asked plain (Some told) below s
+Answered-shown step quiet notes s plain asked topic shown told below is same shows noted =
+    subst (λ (t : Option Topic). IsAnswered step quiet notes s t plain (Some told) below s) (sym is)
+    (subst (λ (text : List ℕ). Shows step s topic text below) (sym same) shows, refl, noted)
 
-pub Answered-call : (step : State → Event → Reply → State → Type 0) (quiet : Bool) (old new : State) (plain : List ℕ) (asked : Option Topic)
+pub Answered-call : (step : State → Event → Reply → State → Type 0) (quiet : Bool) (notes : Option Reply → Type 0) (old new : State) (plain : List ℕ) (asked : Option Topic)
     (told : Option (List ℕ)) (below : List ℕ) (reply : Option Reply) (before after : Snapshot) → asked ≡ None
-    → Does step old plain reply new → IsSnapshot step old before → IsSnapshot step new after
+    → Does step old plain reply new → notes reply → IsSnapshot step old before → IsSnapshot step new after
     → told ≡ outcome reply before.counters after.counters → IsBelow quiet plain reply before after below
-    → IsAnswered step quiet old asked plain told below new
-Answered-call step quiet old new plain asked told below reply before after is does was now same tells =
-    subst (λ (t : Option Topic). IsAnswered step quiet old t plain told below new) (sym is)
-    (reply, before, after, does, was, now, same, tells)
+    → IsAnswered step quiet notes old asked plain told below new
+Answered-call step quiet notes old new plain asked told below reply before after is does noted was now same tells =
+    subst (λ (t : Option Topic). IsAnswered step quiet notes old t plain told below new) (sym is)
+    (reply, before, after, does, noted, was, now, same, tells)
+
+-- a line that was asked
+pub Asked-tells : (step : State → Event → Reply → State → Type 0) (now : Play) (shown plain words : List ℕ) (wanted told : Option (List ℕ))
+    (below : List ℕ) (machine : State) (traced : Traced) (quiet head sound : Bool) → words ≡ plain → quiet ≡ is_quiet now.form
+    → IsAnswered step quiet (λ reply. Notes now.number words reply now.traced traced) now.machine (topic_asked words) words told below machine
+    → head ≡ (now.head && stays_head (topic_asked plain) told) → sound ≡ (now.sound && is_sound wanted told)
+    → TellsAsked step false now shown plain wanted (printed now.form now.name now.number shown wanted told below)
+    (record now { machine = machine; traced = traced; head = head; sound = sound })
+Asked-tells step now shown plain words wanted told below machine traced quiet head sound same loud answered is_head is_sound_now = (
+  machine,
+  traced,
+  told,
+  below,
+  subst (λ (t : List ℕ). IsAnswered step (is_quiet now.form) (λ reply. Notes now.number t reply now.traced traced) now.machine (topic_asked t) t told below machine)
+      same (subst (λ (q : Bool). IsAnswered step q (λ reply. Notes now.number words reply now.traced traced) now.machine (topic_asked words) words told below machine)
+      loud answered),
+  refl,
+  ap₂ (λ (h s : Bool). record now { machine = machine; traced = traced; head = h; sound = s }) is_head is_sound_now,
+)
 
 -- ---- the lines below a reply
 

@@ -1,4 +1,6 @@
 mod TextLemmas
+mod CaptureLemmas
+mod NoteLemmas
 mod FitLemmas
 mod RunLemmas
 mod AnswerLemmas

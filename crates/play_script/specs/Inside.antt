@@ -6,6 +6,7 @@ use Rattle.play_script.specs.declared.line.Kind.{Kind}
 use Rattle.play_script.specs.declared.line.Kind.TheVariants as kind
 use Rattle.flat_model.specs.Machine.State.{State}
 use Rattle.flat_model.specs.declared.config.Config.{Config}
+use Rattle.play_pcap.specs.Traces.{Traced}
 use Rattle.play_script.specs.Tells.{Play}
 use Rattle.play_script.specs.declared.player.Desk.{Desk}
 use Rattle.play_script.specs.declared.player.Sheet.{Sheet}
@@ -22,9 +23,10 @@ abbrev pub expected_on : Desk → Option (List ℕ)
 expected_on desk = if_there desk.expects desk.wanted
 
 -- what a player has in hand, by its parts
-abbrev pub play_of : State → Config → Bool → Sheet → Bool → Play
-play_of machine config head sheet sound = record {
+abbrev pub play_of : State → Traced → Config → Bool → Sheet → Bool → Play
+play_of machine traced config head sheet sound = record {
   machine = machine;
+  traced = traced;
   config = config;
   head = head;
   number = sheet.number;

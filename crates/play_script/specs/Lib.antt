@@ -1,6 +1,7 @@
 pub mod Lines
 pub mod Outcomes
 pub mod Moved
+pub mod Captures
 pub mod Tells
 pub mod Runs
 pub mod Inside

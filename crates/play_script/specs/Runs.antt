@@ -9,11 +9,10 @@ use Rattle.flat_model.specs.Scripts.Script.{all_events}
 use Rattle.flat_model.specs.Scripts.Script as script
 use Rattle.flat_model.specs.declared.config.Config.{Config}
 use Rattle.play_settings.specs.Settings.{has_dashes, IsSet}
+use Rattle.play_pcap.specs.Traces.{Keeps, passes_bytes}
+use Rattle.play_script.specs.Captures.{all_passes, turn_of}
 use Rattle.play_script.specs.Lines.{Reading, Nothing, TooLong, Faulty, Asks, IsTicks, reading}
 use Rattle.play_script.specs.Tells.{Play}
-
-abbrev pub turn_of : Event → Reply → Turn
-turn_of event reply = record { event = event; reply = reply }
 
 -- The turns that a line makes: one for the event that it asks for, so many ticks, or none if it asks for nothing.
 abbrev pub AreTurns : Reading → List Turn → Type 0
@@ -25,11 +24,16 @@ AreTurns (Asks shown plain wanted) turns =
     ⊎ ((n : ℕ) × IsTicks plain n × (turns ≡ replicate n (turn_of Tick Done)))
     ⊎ (((event : Event) → ¬ script.Asks all_events plain event) × ((n : ℕ) → ¬ IsTicks plain n) × (turns ≡ []))
 
--- the turns that these lines make, one after another
-abbrev pub AreAllTurns : List (List ℕ) → List Turn → Type 0
+-- the turns that these lines make, a list of them for each line
+abbrev pub AreAllTurns : List (List ℕ) → List (List Turn) → Type 0
 AreAllTurns [] turns = turns ≡ []
-AreAllTurns (line ∷ lines) turns =
-    (first rest : List Turn) × AreTurns (reading line) first × AreAllTurns lines rest × (turns ≡ first ++ rest)
+AreAllTurns (line ∷ lines) [] = ⊥
+AreAllTurns (line ∷ lines) (first ∷ rest) = AreTurns (reading line) first × AreAllTurns lines rest
+
+-- one after another
+abbrev pub all_turns : List (List Turn) → List Turn
+all_turns [] = []
+all_turns (first ∷ rest) = first ++ all_turns rest
 
 -- ---- settings
 
@@ -50,10 +54,12 @@ abbrev pub Begins : Play → List (List ℕ) → State → Type 0
 Begins old lines first =
     (first ≡ old.machine) ⊎ ((old.head ≡ true) × ((c : Config) × MaySetAll lines old.config c × (first ≡ boot c)))
 
--- the turns of these lines are a run of the machine that keeps exact accounts
+-- The turns of these lines are a run of the machine that keeps exact accounts, and what the lines add to a capture are
+-- the packets that these turns move, in their order: each once, whole, with the number of its line.
 pub record IsRunOf (old : Play) (lines : List (List ℕ)) (new : Play) : Type 0 where
   pub first : State
   pub begins : Begins old lines first
-  pub turns : List Turn
+  pub turns : List (List Turn)
   pub are : AreAllTurns lines turns
-  pub leads : Leads exact_ledger first turns new.machine
+  pub leads : Leads exact_ledger first (all_turns turns) new.machine
+  pub kept : Keeps old.traced new.traced (passes_bytes (all_passes old.number old.traced.ticks turns))

@@ -20,15 +20,18 @@ use Rattle.play_show.specs.Tells.{Shows}
 use Rattle.play_show.specs.declared.snapshot.Snapshot.{Snapshot}
 use Rattle.play_show.specs.Topics.{topic_asked}
 use Rattle.play_show.specs.declared.topic.Topic.{Topic}
+use Rattle.play_pcap.specs.Traces.{Traced}
+use Rattle.play_script.specs.Captures.{Notes}
 use Rattle.play_script.specs.Lines.{Reading, Nothing, TooLong, Faulty, Asks, IsTicks, reading}
 use Rattle.play_script.specs.Moved.{IsBelow}
 use Rattle.play_script.specs.Outcomes.{outcome, meets}
 
--- What a player has in hand: its machine, and the configuration that this was booted with; whether settings may still
--- make another one; how many lines it has seen; whether all of them could be read and all expectations held; and how it
--- prints: in which form, and what is wrong with a line under the script's name.
+-- What a player has in hand: its machine, the capture of its packets, and the configuration that the machine was booted
+-- with; whether settings may still make another one; how many lines it has seen; whether all of them could be read and
+-- all expectations held; and how it prints: in which form, and what is wrong with a line under the script's name.
 pub record Play : Type 0 where
   pub machine : State
+  pub traced : Traced
   pub config : Config
   pub head : Bool
   pub number : ℕ
@@ -37,9 +40,10 @@ pub record Play : Type 0 where
   pub name : List ℕ
 
 -- before the first line
-abbrev pub started : State → Form → List ℕ → Play
-started machine form name = record {
+abbrev pub started : State → Traced → Form → List ℕ → Play
+started machine traced form name = record {
   machine = machine;
+  traced = traced;
   config = machine.config;
   head = true;
   number = 0;
@@ -127,24 +131,26 @@ module _ (step : State → Event → Reply → State → Type 0) where
   Does old plain None new = script.Answers all_events step old plain None new × ((n : ℕ) → ¬ IsTicks plain n)
 
   -- What may be told of a plain line, with the lines below it: what it asks to be shown, and then nothing changes; else
-  -- its reply and what was dropped, and below it what came of it.
-  abbrev pub IsAnswered : Bool → State → Option Topic → List ℕ → Option (List ℕ) → List ℕ → State → Type 0
-  IsAnswered quiet old (Some topic) plain None below new = ⊥
-  IsAnswered quiet old (Some topic) plain (Some told) below new = Shows step old topic told below × (new ≡ old)
-  IsAnswered quiet old None plain told below new =
+  -- its reply and what was dropped, and below it what came of it. The capture then has what `notes` says of the reply.
+  abbrev pub IsAnswered : Bool → (Option Reply → Type 0) → State → Option Topic → List ℕ → Option (List ℕ) → List ℕ → State → Type 0
+  IsAnswered quiet notes old (Some topic) plain None below new = ⊥
+  IsAnswered quiet notes old (Some topic) plain (Some told) below new =
+      Shows step old topic told below × (new ≡ old) × notes None
+  IsAnswered quiet notes old None plain told below new =
       (reply : Option Reply) × (before after : Snapshot)
-      × Does old plain reply new × IsSnapshot step old before × IsSnapshot step new after
+      × Does old plain reply new × notes reply × IsSnapshot step old before × IsSnapshot step new after
       × (told ≡ outcome reply before.counters after.counters) × IsBelow quiet plain reply before after below
 
   -- what a line may have as its text that doesn't begin with two dashes, and one that does
   abbrev pub TellsAsked : Bool → Play → List ℕ → List ℕ → Option (List ℕ) → List ℕ → Play → Type 0
   TellsAsked true now shown plain wanted text new = TellsSettings now shown plain wanted text new
   TellsAsked false now shown plain wanted text new =
-      (machine : State) × (told : Option (List ℕ)) × (below : List ℕ)
-      × IsAnswered (is_quiet now.form) now.machine (topic_asked plain) plain told below machine
+      (machine : State) × (traced : Traced) × (told : Option (List ℕ)) × (below : List ℕ)
+      × IsAnswered (is_quiet now.form) (λ reply. Notes now.number plain reply now.traced traced) now.machine (topic_asked plain) plain told below machine
       × (text ≡ printed now.form now.name now.number shown wanted told below)
       × (new ≡ record now {
         machine = machine;
+        traced = traced;
         head = now.head && stays_head (topic_asked plain) told;
         sound = now.sound && is_sound wanted told;
       })

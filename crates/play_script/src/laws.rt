@@ -6,11 +6,15 @@ ghost use Rattle.play_script.specs.Lines.{IsTicks};
 ghost use Rattle.play_script.specs.Runs.{IsRunOf};
 ghost use Rattle.play_script.specs.Tells.{Play, Tells};
 
+use play_pcap::trace_law;
+
 /// A line asks for one number of ticks at most. What is told line by line is told of one run of the machine: each line
 /// has its turns, in their order, by which the machine comes from the state before the first line to that after the
-/// last.
+/// last. What the lines add to a capture are the packets that these turns move, in their order.
 pub fn runs_law()
     ensures ticks { (plain : List ℕ) (m n : ℕ) → IsTicks plain m → IsTicks plain n → m ≡ n }
     ensures run { (old new : Play) (lines : List (List ℕ)) (printed : List ℕ)
         → Prints (Tells Step) old lines printed new → IsRunOf old lines new }
-{}
+{
+    trace_law();
+}

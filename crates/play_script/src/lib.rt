@@ -2,6 +2,7 @@
 //! expected. What is told of a line is its reply, and why packets were dropped.
 #![tactic(auto)]
 
+mod capture;
 mod fits;
 mod laws;
 mod line;
@@ -16,7 +17,8 @@ pub use flat_model::Config;
 pub use laws::runs_law;
 pub use line::{Kind, read_line};
 pub use outcome::{DROPS, TOLD, put_drops};
+pub use play_pcap::{RECORD, Trace};
 pub use play_print::Form;
 pub use player::{tell_answer, ticks_of};
-pub use runs::{Played, Style, play};
+pub use runs::{Captured, Played, Start, Style, play, play_captured};
 pub use script_loop::{RunFault, Silent, Sink, Source};

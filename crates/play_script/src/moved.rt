@@ -8,7 +8,7 @@ use play_show::{SHOWN, Snapshot, put_changes};
 use script_loop::{Buffer, bytes, first_word, one};
 
 /// Puts the packet into the room whose digits stand in a text behind a word, and answers how many bytes it has.
-fn packet_behind(word: &[u8], text: &[u8], room: &mut [u8]) -> Option<usize>
+pub(crate) fn packet_behind(word: &[u8], text: &[u8], room: &mut [u8]) -> Option<usize>
     requires { length room.old ≡ IP_MAX_PACKET }
     ensures packet { HasPacket word.now text.now (option_map (λ n. take n room.new) result) }
     ensures fits { IfSome result (λ n. n ≤ IP_MAX_PACKET) }

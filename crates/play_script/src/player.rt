@@ -1,5 +1,5 @@
 //! What plays a script line by line.
-ghost use Rattle.std.specs.Prelude.{◌≡◌, ◌<◌, ◌≤◌, ◌++◌, ◌+◌, ℕ, true, false, [], length, List, Option, Some, Ok, Err, MatchOption, MatchResult};
+ghost use Rattle.std.specs.Prelude.{◌≡◌, ◌&&◌, ◌<◌, ◌≤◌, ◌++◌, ◌+◌, ℕ, true, false, [], length, List, Option, Some, Ok, Err, MatchOption, MatchResult};
 ghost use Rattle.flat_model.specs.Machine.Event.{Reply};
 ghost use Rattle.flat_model.specs.Machine.State.{boot};
 ghost use Rattle.flat_model.specs.declared.config.Config.{Config};
@@ -8,6 +8,7 @@ ghost use Rattle.flat_model.specs.Scripts.Texts.{answer_text};
 ghost use Rattle.play_print.specs.Texts.{if_there};
 ghost use Rattle.play_script.specs.Lines.{IsTicks};
 ghost use Rattle.play_script.specs.Outcomes.{outcome, drops_text};
+ghost use Rattle.play_script.specs.Captures as captures;
 ghost use Rattle.play_show.specs.Changes.{IsSnapshot};
 ghost use Rattle.play_show.specs.Topics.{topic_asked};
 ghost use Rattle.play_script.specs.Moved.{IsBelow};
@@ -15,6 +16,7 @@ ghost use Rattle.link_script.specs.Boots.{IsUnbooted};
 ghost use Rattle.play_script.specs.Tells.{Play, Ticks, Does, IsAnswered, IsRefused, IsSettled, Tells, TellsAsked, TellsSettings, told_text, printed, is_sound, stays_head};
 ghost use Rattle.play_script.specs.Inside.{expected_on, play_of};
 
+use crate::capture::{Tape, do_noted};
 use crate::fits::meets;
 use crate::line::{Kind, read_line};
 use crate::moved::put_below;
@@ -24,10 +26,11 @@ use flat_model::Config;
 use link_script::{Caller, Machine, TEXT};
 use play_line::LONGEST;
 use play_packet::LineReader;
+use play_pcap::Trace;
 use play_print::{Form, Outcome, put_fault, put_outcome, put_slip};
 use play_settings::{SettingFault, is_settings, settings_of};
 use play_show::{Questions, SHOWN, Snapshot, snapshot_of, tell_topic, topic_of};
-use script_loop::{Answers, Buffer, HELD, RunFault, first_word, number, one};
+use script_loop::{Answers, Buffer, HELD, RunFault, Sink, first_word, number, one};
 use std::alloc::Global;
 use std::mem;
 
@@ -70,7 +73,7 @@ fn tick_all<M: Machine>(machine: &mut M, count: u32)
 }
 
 /// Does what a line asks for, and puts the text of its answer into a buffer.
-fn do_line<M: Machine>(caller: &mut Caller<M>, words: &[u8], reply: &mut Buffer<TEXT>)
+pub(crate) fn do_line<M: Machine>(caller: &mut Caller<M>, words: &[u8], reply: &mut Buffer<TEXT>)
     ensures { (answer : Option Reply)
         × Does M.may_step (M.state caller.old.machine) words.now answer (M.state caller.new.machine)
         × (reply.new ≡ answer_text answer) }
@@ -111,22 +114,25 @@ pub(crate) struct Notes {
     pub(crate) below: Buffer<SHOWN>,
 }
 
-/// Does a line, puts what is told of it into the notes, and answers whether it asks for something.
-fn tell_line<M: Questions>(
+/// Does a line, puts what is told of it into the notes, and answers whether it asks for something. The capture has what
+/// the line adds.
+fn tell_line<M: Questions, T: Sink>(
     caller: &mut Caller<M>,
     words: &[u8],
     quiet: bool,
     notes: &mut Notes,
+    tape: &mut Tape<T>,
 ) -> bool
     ensures { (reply : Option Reply) × (before after : Snapshot)
         × Does M.may_step (M.state caller.old.machine) words.now reply (M.state caller.new.machine)
+        × captures.Notes tape.old.line words.now reply tape.old.trace tape.new.trace
         × IsSnapshot M.may_step (M.state caller.old.machine) before
         × IsSnapshot M.may_step (M.state caller.new.machine) after
         × (if_there result notes.new.told ≡ outcome reply before.counters after.counters)
         × IsBelow quiet words.now reply before after notes.new.below }
 {
     let before = snapshot_of(&caller.machine);
-    do_line(caller, words, &mut notes.reply);
+    do_noted(caller, words, &mut notes.reply, tape);
     let after = snapshot_of(&caller.machine);
     put_drops(&mut notes.drops, &before.counters, &after.counters);
     let asks = tell_answer(
@@ -150,13 +156,15 @@ fn tell_line<M: Questions>(
 
 /// Does what a line asks for or tells what it asks to be shown, puts what is told of it into the notes, and answers
 /// whether it asks for something.
-fn answer_line<M: Questions>(
+fn answer_line<M: Questions, T: Sink>(
     caller: &mut Caller<M>,
     words: &[u8],
     quiet: bool,
     notes: &mut Notes,
+    tape: &mut Tape<T>,
 ) -> bool
-    ensures { IsAnswered M.may_step quiet (M.state caller.old.machine) (topic_asked words.now) words.now
+    ensures { IsAnswered M.may_step quiet
+        (λ reply. captures.Notes tape.old.line words.now reply tape.old.trace tape.new.trace) (M.state caller.old.machine) (topic_asked words.now) words.now
         (if_there result notes.new.told) notes.new.below (M.state caller.new.machine) }
 {
     match topic_of(words) {
@@ -166,7 +174,7 @@ fn answer_line<M: Questions>(
             notes.told.append(bytes_of(&notes.shown));
             true
         }
-        None => tell_line(caller, words, quiet, notes),
+        None => tell_line(caller, words, quiet, notes, tape),
     }
 }
 
@@ -189,9 +197,11 @@ pub(crate) struct Sheet {
 }
 
 /// What plays a script.
-pub(crate) struct Player<M> {
+pub(crate) struct Player<M, T: Sink> {
     pub(crate) alloc: Global,
     pub(crate) caller: Caller<M>,
+    /// The capture of the packets that come and go.
+    pub(crate) tape: Tape<T>,
     /// What the machine was booted with.
     pub(crate) config: Config,
     /// Whether settings may still make another machine.
@@ -302,12 +312,22 @@ fn stays(words: &[u8], asks: bool) -> bool
     }
 }
 
-impl<M: Machine> Player<M> {
-    /// Spends the player and its machine.
-    pub(crate) fn end(self) {
+/// Whether both hold.
+fn both(first: bool, second: bool) -> bool
+    ensures { result ≡ (first && second) }
+{
+    first && second
+}
+
+impl<M: Machine, T: Sink> Player<M, T> {
+    /// Spends the player and its machine, and gives the capture back.
+    pub(crate) fn end(self) -> Trace<T>
+        ensures { result ≡ self.tape.trace }
+    {
         let Player {
             alloc: _alloc,
             caller,
+            tape,
             config: _config,
             head: _head,
             reader: _reader,
@@ -321,18 +341,22 @@ impl<M: Machine> Player<M> {
             buffers: _buffers,
         } = caller;
         machine.end();
+        let Tape { trace, line: _line } = tape;
+        trace
     }
 }
 
-impl<M: Questions> Player<M> {
+impl<M: Questions, T: Sink> Player<M, T> {
     /// Makes a new machine as the settings on the desk say, and prints `ok` or what is wrong with them.
     fn set_up(&mut self, text: &mut Buffer<ROOM>)
         requires { length text.old ≤ HELD }
         ensures { (added : List ℕ)
             × TellsSettings
-            (play_of (M.state self.old.caller.machine) self.old.config self.old.head self.old.sheet self.old.sound)
+            (play_of (M.state self.old.caller.machine) self.old.tape.trace self.old.config self.old.head self.old.sheet
+            self.old.sound)
             self.old.desk.shown self.old.desk.words (expected_on self.old.desk) added
-            (play_of (M.state self.new.caller.machine) self.new.config self.new.head self.new.sheet self.new.sound)
+            (play_of (M.state self.new.caller.machine) self.new.tape.trace self.new.config self.new.head self.new.sheet
+            self.new.sound)
             × (text.new ≡ text.old ++ added) }
     {
         let outcome = settled::<M>(
@@ -369,28 +393,32 @@ impl<M: Questions> Player<M> {
         requires { length text.old ≤ HELD }
         ensures { (added : List ℕ)
             × TellsAsked M.may_step false
-            (play_of (M.state self.old.caller.machine) self.old.config self.old.head self.old.sheet self.old.sound)
+            (play_of (M.state self.old.caller.machine) self.old.tape.trace self.old.config self.old.head self.old.sheet
+            self.old.sound)
             self.old.desk.shown self.old.desk.words (expected_on self.old.desk) added
-            (play_of (M.state self.new.caller.machine) self.new.config self.new.head self.new.sheet self.new.sound)
+            (play_of (M.state self.new.caller.machine) self.new.tape.trace self.new.config self.new.head self.new.sheet
+            self.new.sound)
             × (text.new ≡ text.old ++ added) }
     {
+        self.tape.line = self.sheet.number;
         let asks = answer_line(
             &mut self.caller,
             bytes_of(&self.desk.words),
             self.sheet.form.is_quiet(),
             &mut self.notes,
+            &mut self.tape,
         );
         let sound = tell_outcome(asks, &self.sheet, &self.desk, &self.notes, text);
         let stays = stays(bytes_of(&self.desk.words), asks);
-        self.sound = self.sound && sound;
-        self.head = self.head && stays;
+        self.sound = both(self.sound, sound);
+        self.head = both(self.head, stays);
     }
 }
 
-impl<M: Questions> Answers<ROOM> for Player<M> {
+impl<M: Questions, T: Sink> Answers<ROOM> for Player<M, T> {
     ghost State = { Play };
 
-    ghost state = { λ p. play_of (M.state p.caller.machine) p.config p.head p.sheet p.sound };
+    ghost state = { λ p. play_of (M.state p.caller.machine) p.tape.trace p.config p.head p.sheet p.sound };
 
     ghost may_answer = { Tells M.may_step };
 

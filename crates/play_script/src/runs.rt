@@ -1,5 +1,6 @@
 //! The scripts that callers have played.
 ghost use Rattle.std.specs.Prelude.{◌≡◌, ◌≤◌, length, take, IfOk};
+ghost use Rattle.play_pcap.specs.Traces.{Traced};
 ghost use Rattle.flat_model.specs.Machine.State.{boot};
 ghost use Rattle.flat_model.specs.Machine.Step.{Step};
 ghost use Rattle.script_loop.specs.Streams.{MoreBy, reader_failures, writer_failures};
@@ -8,12 +9,14 @@ ghost use Rattle.link_script.specs.Boots.{Boots};
 ghost use Rattle.play_script.specs.declared.print.TheConstants.{NAME};
 ghost use Rattle.play_script.specs.Tells.{Play, Tells, started, status_of};
 
+use crate::capture::Tape;
 use crate::player::{Desk, Notes, Player, Sheet};
 use crate::print::NAME;
 use flat_model::Config;
 use link_script::Caller;
 use net_stack::Stack;
 use play_packet::LineReader;
+use play_pcap::{Nowhere, Trace};
 use play_print::Form;
 use play_show::Questions;
 use script_loop::{Buffer, LineBuffers, RunFault, Sink, Source, serve_script};
@@ -123,32 +126,47 @@ fn parts_for(alloc: Global, style: Style<'_>) -> Result<Parts, AllocError>
     })
 }
 
+/// What a script begins with.
+pub struct Start<T: Sink> {
+    /// What the machine is booted with.
+    pub config: Config,
+    /// The capture to which the packets are added that come and go.
+    pub trace: Trace<T>,
+}
+
+/// What came of a script, and its capture. This must be ended by `Trace::end`.
+pub struct Captured<T: Sink> {
+    pub played: Played,
+    pub trace: Trace<T>,
+}
+
 /// Plays a script on a machine of this configuration, and spends it.
-fn play_machine<M: Questions, R: Source, W: Sink>(
+fn play_machine<M: Questions, R: Source, W: Sink, T: Sink>(
     alloc: Global,
-    booted: (M, Config),
+    booted: (M, Start<T>),
     style: Style<'_>,
     reader: &mut R,
     writer: &mut W,
-) -> Played
-    requires { (M.state booted.0).config ≡ booted.1 }
-    ensures read { MoreBy (reader_failures result.outcome) (R.failures reader.old) (R.failures reader.new) }
-    ensures wrote { MoreBy (writer_failures result.outcome) (W.failures writer.old) (W.failures writer.new) }
+) -> Captured<T>
+    requires { (M.state booted.0).config ≡ booted.1.config }
+    ensures read { MoreBy (reader_failures result.played.outcome) (R.failures reader.old) (R.failures reader.new) }
+    ensures wrote { MoreBy (writer_failures result.played.outcome) (W.failures writer.old) (W.failures writer.new) }
     ensures served { (new : Play)
         × Serves (Tells M.may_step)
-        (started (M.state booted.0) style.entry.form (take NAME style.entry.name.now)) new
+        (started (M.state booted.0) booted.1.trace style.entry.form (take NAME style.entry.name.now)) new
         (R.remaining reader.old) (R.remaining reader.new)
-        (W.contents writer.old) (W.contents writer.new) result.outcome
-        × (result.sound ≡ new.sound) }
-    ensures started { IsServed result.outcome }
+        (W.contents writer.old) (W.contents writer.new) result.played.outcome
+        × (result.played.sound ≡ new.sound) × (result.trace ≡ new.traced) }
+    ensures started { IsServed result.played.outcome }
 {
-    let (machine, config) = booted;
+    let (machine, Start { config, trace }) = booted;
     let Ok(parts) = parts_for(alloc, style) else {
         machine.end();
-        return Played {
+        let played = Played {
             outcome: Err(RunFault::Memory),
             sound: true,
         };
+        return Captured { played, trace };
     };
     let Parts {
         buffers,
@@ -160,6 +178,7 @@ fn play_machine<M: Questions, R: Source, W: Sink>(
     let mut player = Player {
         alloc,
         caller: Caller { machine, buffers },
+        tape: Tape { trace, line: 0 },
         config,
         head: true,
         reader: lines,
@@ -170,12 +189,85 @@ fn play_machine<M: Questions, R: Source, W: Sink>(
     };
     let outcome = serve_script(alloc, &mut player, reader, writer);
     let sound = player.sound;
-    player.end();
-    Played { outcome, sound }
+    let trace = player.end();
+    Captured {
+        played: Played { outcome, sound },
+        trace,
+    }
 }
 
 /// Plays a script on a new machine, which is spent then.
-fn play_on<M: Questions, R: Source, W: Sink>(
+fn play_on<M: Questions, R: Source, W: Sink, T: Sink>(
+    alloc: Global,
+    start: Start<T>,
+    style: Style<'_>,
+    reader: &mut R,
+    writer: &mut W,
+) -> Captured<T>
+    ensures booted { Boots start.config result.played.outcome }
+    ensures read { MoreBy (reader_failures result.played.outcome) (R.failures reader.old) (R.failures reader.new) }
+    ensures wrote { MoreBy (writer_failures result.played.outcome) (W.failures writer.old) (W.failures writer.new) }
+    ensures served { (new : Play)
+        × Serves (Tells M.may_step)
+        (started (boot start.config) start.trace style.entry.form (take NAME style.entry.name.now)) new
+        (R.remaining reader.old) (R.remaining reader.new)
+        (W.contents writer.old) (W.contents writer.new) result.played.outcome
+        × (result.played.sound ≡ new.sound) × (result.trace ≡ new.traced) }
+{
+    let Start { config, trace } = start;
+    match M::boot(alloc, config) {
+        Ok(machine) => {
+            let start = Start { config, trace };
+            play_machine(alloc, (machine, start), style, reader, writer)
+        }
+        Err(fault) => {
+            let played = Played {
+                outcome: Err(fault),
+                sound: true,
+            };
+            Captured { played, trace }
+        }
+    }
+}
+
+/// Plays a script on a machine of this configuration, without a capture, and spends it.
+fn play_untraced<M: Questions, R: Source, W: Sink>(
+    alloc: Global,
+    booted: (M, Config),
+    style: Style<'_>,
+    reader: &mut R,
+    writer: &mut W,
+) -> Played
+    requires { (M.state booted.0).config ≡ booted.1 }
+    ensures read { MoreBy (reader_failures result.outcome) (R.failures reader.old) (R.failures reader.new) }
+    ensures wrote { MoreBy (writer_failures result.outcome) (W.failures writer.old) (W.failures writer.new) }
+    ensures served { (traced : Traced) × (new : Play)
+        × Serves (Tells M.may_step)
+        (started (M.state booted.0) traced style.entry.form (take NAME style.entry.name.now)) new
+        (R.remaining reader.old) (R.remaining reader.new)
+        (W.contents writer.old) (W.contents writer.new) result.outcome
+        × (result.sound ≡ new.sound) }
+    ensures started { IsServed result.outcome }
+{
+    let (machine, config) = booted;
+    let Ok(room) = Buffer::new(alloc) else {
+        machine.end();
+        return Played {
+            outcome: Err(RunFault::Memory),
+            sound: true,
+        };
+    };
+    let start = Start {
+        config,
+        trace: Trace::begin(Nowhere, room),
+    };
+    let Captured { played, trace } = play_machine(alloc, (machine, start), style, reader, writer);
+    let _nowhere = trace.end();
+    played
+}
+
+/// Plays a script on a new machine, without a capture, and spends the machine.
+fn play_plainly<M: Questions, R: Source, W: Sink>(
     alloc: Global,
     config: Config,
     style: Style<'_>,
@@ -185,14 +277,15 @@ fn play_on<M: Questions, R: Source, W: Sink>(
     ensures booted { Boots config result.outcome }
     ensures read { MoreBy (reader_failures result.outcome) (R.failures reader.old) (R.failures reader.new) }
     ensures wrote { MoreBy (writer_failures result.outcome) (W.failures writer.old) (W.failures writer.new) }
-    ensures served { (new : Play)
-        × Serves (Tells M.may_step) (started (boot config) style.entry.form (take NAME style.entry.name.now)) new
+    ensures served { (traced : Traced) × (new : Play)
+        × Serves (Tells M.may_step)
+        (started (boot config) traced style.entry.form (take NAME style.entry.name.now)) new
         (R.remaining reader.old) (R.remaining reader.new)
         (W.contents writer.old) (W.contents writer.new) result.outcome
         × (result.sound ≡ new.sound) }
 {
     match M::boot(alloc, config) {
-        Ok(machine) => play_machine(alloc, (machine, config), style, reader, writer),
+        Ok(machine) => play_untraced(alloc, (machine, config), style, reader, writer),
         Err(fault) => Played {
             outcome: Err(fault),
             sound: true,
@@ -228,11 +321,42 @@ pub fn play<R: Source, W: Sink>(
     ensures read { MoreBy (reader_failures result.outcome) (R.failures reader.old) (R.failures reader.new) }
     ensures wrote { MoreBy (writer_failures result.outcome) (W.failures writer.old) (W.failures writer.new) }
     // What is written is told on the way of the machine with exact accounts from boot, over the lines of what is read.
-    ensures served { (new : Play)
-        × Serves (Tells Step) (started (boot config) style.entry.form (take NAME style.entry.name.now)) new
+    // The capture is nobody's.
+    ensures served { (traced : Traced) × (new : Play)
+        × Serves (Tells Step)
+        (started (boot config) traced style.entry.form (take NAME style.entry.name.now)) new
         (R.remaining reader.old) (R.remaining reader.new)
         (W.contents writer.old) (W.contents writer.new) result.outcome
         × (result.sound ≡ new.sound) }
 {
-    play_on::<Stack, R, W>(alloc, config, style, reader, writer)
+    play_plainly::<Stack, R, W>(alloc, config, style, reader, writer)
+}
+
+/// Plays a script on a new stack, as [`play`] does, and adds each packet that comes or goes to a capture: one that a
+/// line `rx` lets come, and one that a line `tx` gives. A packet's time is half a second for each tick before it, and a
+/// microsecond for each line of the script up to its own, 499,999 at most. Once writing to the capture has failed,
+/// nothing more is added to it, and the script goes on.
+///
+/// # Errors
+///
+/// Those of [`play`], with which nothing is added to the capture unless a line was answered.
+pub fn play_captured<R: Source, W: Sink, T: Sink>(
+    alloc: Global,
+    start: Start<T>,
+    style: Style<'_>,
+    reader: &mut R,
+    writer: &mut W,
+) -> Captured<T>
+    ensures booted { Boots start.config result.played.outcome }
+    ensures read { MoreBy (reader_failures result.played.outcome) (R.failures reader.old) (R.failures reader.new) }
+    ensures wrote { MoreBy (writer_failures result.played.outcome) (W.failures writer.old) (W.failures writer.new) }
+    // The capture has what the lines add to it that were answered: see `runs_law`.
+    ensures served { (new : Play)
+        × Serves (Tells Step)
+        (started (boot start.config) start.trace style.entry.form (take NAME style.entry.name.now)) new
+        (R.remaining reader.old) (R.remaining reader.new)
+        (W.contents writer.old) (W.contents writer.new) result.played.outcome
+        × (result.played.sound ≡ new.sound) × (result.trace ≡ new.traced) }
+{
+    play_on::<Stack, R, W, T>(alloc, start, style, reader, writer)
 }

@@ -1,8 +1,9 @@
-use Rattle.play_script.proofs.TurnLemmas.{one_count, Prints-run}
+use Rattle.play_script.proofs.CaptureLemmas.{one_count}
+use Rattle.play_script.proofs.TurnLemmas.{Prints-run}
 use Rattle.play_script.proofs.laws.runs_law.Goals as goal
 
 pub returns-clause-ticks : goal.returns-clause-ticks
 returns-clause-ticks c = one_count
 
 pub returns-clause-run : goal.returns-clause-run
-returns-clause-run c = Prints-run
+returns-clause-run c = Prints-run c.trace_law.ensures

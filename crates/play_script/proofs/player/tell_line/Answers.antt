@@ -8,7 +8,7 @@ use Rattle.play_script.proofs.player.tell_line.Goals as goal
 
 pub returns-then-quiet : goal.returns-then-quiet
 returns-then-quiet g c =
-    let d = c.do_line.ensures in
+    let d = c.do_noted.ensures in
     let told : if_there c.tell_answer-asks.result c.tell_answer-asks.new.told
     ≡ outcome d.0 c.snapshot_of-before.result.counters c.snapshot_of-after.result.counters =
     c.tell_answer-asks.ensures.is d.0 c.snapshot_of-before.result.counters c.snapshot_of-after.result.counters
@@ -22,6 +22,7 @@ returns-then-quiet g c =
       c.snapshot_of-before.result,
       c.snapshot_of-after.result,
       d.1,
+      d.3,
       c.snapshot_of-before.ensures,
       c.snapshot_of-after.ensures,
       told,
@@ -32,7 +33,7 @@ returns-then-quiet g c =
 
 pub returns : goal.returns
 returns g c =
-    let d = c.do_line.ensures in
+    let d = c.do_noted.ensures in
     let told : if_there c.tell_answer-asks.result c.tell_answer-asks.new.told
     ≡ outcome d.0 c.snapshot_of-before.result.counters c.snapshot_of-after.result.counters =
     c.tell_answer-asks.ensures.is d.0 c.snapshot_of-before.result.counters c.snapshot_of-after.result.counters
@@ -43,6 +44,7 @@ returns g c =
       c.snapshot_of-before.result,
       c.snapshot_of-after.result,
       d.1,
+      d.3,
       c.snapshot_of-before.ensures,
       c.snapshot_of-after.ensures,
       subst (λ (b : Bool). if_there b c.tell_answer-asks.new.told

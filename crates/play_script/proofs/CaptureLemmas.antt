@@ -1,0 +1,151 @@
+-- What turns add to a capture.
+use Rattle.std.proofs.Common.{◌≡◌, ℕ, zero, suc, ◌+◌, ◌*◌, ◌-◌, ◌<◌, ◌≤◌, Bool, true, false, List, [], ◌∷◌, ◌++◌, length, flat_map, get_or, map, replicate, codes, Option, Some, None, refl, sym, ap, ◌∙◌, arith, subst, append-nil}
+use Rattle.std.proofs.KnownBytes.{Appends-nil}
+use Rattle.std.proofs.lemmas.Fmt.{decimal_injective}
+use Rattle.std.proofs.lemmas.List.{map-append}
+use Rattle.std.proofs.lemmas.List.Concat.{flat_map-append}
+use Rattle.flat_model.specs.Machine.Event.{Event, Reply, Open, Bind, Connect, Send, Receive, Close, Set_option, Comes, Transmit, Tick, Ask_counters, Ask_usage, Done, Given}
+use Rattle.flat_model.specs.Runs.Run.{Turn}
+use Rattle.flat_model.specs.Scripts.Grammar.{IsLine, keyword}
+use Rattle.flat_model.specs.Scripts.Script as script
+use Rattle.flat_model.specs.Scripts.Script.{all_events}
+use Rattle.pcap.specs.Records.{Captured, record_bytes}
+use Rattle.pcap.specs.declared.header.Order.TheVariants.{Little}
+use Rattle.play_pcap.specs.Traces.{Keeps, Pass, SentAfter, Traced, later, pass_at, pass_bytes, passes_bytes, record_of}
+use Rattle.play_script.specs.Captures.{Captures, all_passes, passes, ticks_after, turn_of}
+use Rattle.play_script.specs.Lines.{IsTicks}
+
+-- ---- what is written
+
+none_sent : (whole : Bool) (wrote : Option (List ℕ)) → SentAfter whole whole wrote wrote []
+none_sent true wrote = Appends-nil wrote
+none_sent false wrote = (refl, refl)
+
+pub Keeps-none : (t : Traced) → Keeps t t []
+Keeps-none t = none_sent t.whole t.wrote
+
+pub passes_bytes-append : (xs ys : List Pass) → passes_bytes (xs ++ ys) ≡ passes_bytes xs ++ passes_bytes ys
+passes_bytes-append xs ys =
+    ap (λ (cs : List Captured). flat_map (record_bytes Little) cs) (map-append record_of xs ys)
+    ∙ flat_map-append (record_bytes Little) (map record_of xs) (map record_of ys)
+
+-- one packet
+pub Keeps-one : (old new : Traced) (p : Pass) → Keeps old new (pass_bytes p) → Keeps old new (passes_bytes (p ∷ []))
+Keeps-one old new p h = subst (λ (bytes : List ℕ). Keeps old new bytes) (sym (append-nil (pass_bytes p))) h
+
+-- ---- ticks
+
+same_but_ticks : (old new : Traced) → new.ticks ≡ later old.ticks → new.whole ≡ old.whole → new.wrote ≡ old.wrote
+    → new ≡ record old { ticks = later old.ticks }
+same_but_ticks old new t w b = rw (sym t, sym w, sym b) refl
+
+pub Captures-no_ticks : (number n : ℕ) (t : Traced) → n ≤ 0 → Captures number t (replicate n (turn_of Tick Done)) t
+Captures-no_ticks number zero t none = (Keeps-none t, refl)
+Captures-no_ticks number (suc n) t none = absurd (omega (arith, none))
+
+-- a tick in front of others
+pub Captures-ticks : (number n m : ℕ) (old mid new : Traced) → 0 < n → m ≡ n - 1
+    → mid.ticks ≡ later old.ticks → mid.whole ≡ old.whole → mid.wrote ≡ old.wrote
+    → Captures number mid (replicate m (turn_of Tick Done)) new → Captures number old (replicate n (turn_of Tick Done)) new
+Captures-ticks number zero m old mid new some is t w b h = absurd (omega arith)
+Captures-ticks number (suc n) m old mid new some is t w b h =
+    let less : m ≡ n = omega arith in
+    let front : Captures number mid (replicate n (turn_of Tick Done)) new =
+    subst (λ (k : ℕ). Captures number mid (replicate k (turn_of Tick Done)) new) less h in
+    subst (λ (s : Traced). Captures number s (replicate n (turn_of Tick Done)) new) (same_but_ticks old mid t w b) front
+
+-- ---- a line
+
+-- the first two bytes of a word, and of the first word
+abbrev pub front_of : List ℕ → ℕ
+front_of word = get_or word 0 0 * 256 + get_or word 1 0
+
+is_tick : (event : Event) → front_of (keyword event) ≡ 29801 → event ≡ Tick
+is_tick Open h = absurd (omega (arith, h))
+is_tick (Bind fd address) h = absurd (omega (arith, h))
+is_tick (Connect fd address) h = absurd (omega (arith, h))
+is_tick (Send fd (Some to) bytes) h = absurd (omega (arith, h))
+is_tick (Send fd None bytes) h = absurd (omega (arith, h))
+is_tick (Receive fd most) h = absurd (omega (arith, h))
+is_tick (Close fd) h = absurd (omega (arith, h))
+is_tick (Set_option fd option on) h = absurd (omega (arith, h))
+is_tick (Comes packet) h = absurd (omega (arith, h))
+is_tick Transmit h = absurd (omega (arith, h))
+is_tick Tick h = refl
+is_tick Ask_counters h = absurd (omega (arith, h))
+is_tick Ask_usage h = absurd (omega (arith, h))
+
+abbrev pub first_of : List (List ℕ) → ℕ
+first_of [] = 0
+first_of (word ∷ more) = front_of word
+
+-- a line asks for one number of ticks at most
+pub one_count : (plain : List ℕ) (m n : ℕ) → IsTicks plain m → IsTicks plain n → m ≡ n
+one_count plain m n h k =
+    let all : codes "tick" ∷ h.0 ∷ [] ≡ codes "tick" ∷ k.0 ∷ [] = sym h.1 ∙ k.1 in
+    let word : h.0 ≡ k.0 = cc all in
+    decimal_injective m n (omega (arith, h.2.0)) (omega (arith, k.2.0)) (sym h.2.1 ∙ word ∙ k.2.1)
+
+pub one_word : (digits : List ℕ) → codes "tick" ∷ [] ≡ codes "tick" ∷ digits ∷ [] → ⊥
+one_word digits e = let size : 1 ≡ 2 = ap length e in omega (arith, size)
+
+-- a line that asks for several ticks asks for no event
+pub Ticks-no_event : (plain : List ℕ) (n : ℕ) → IsTicks plain n → (event : Event) → ¬ script.Asks all_events plain event
+Ticks-no_event plain n ticks event asks =
+    let all : keyword event ∷ asks.form.args ≡ codes "tick" ∷ ticks.0 ∷ [] = sym asks.form.words_are ∙ ticks.1 in
+    let name : keyword event ≡ codes "tick" = cc all in
+    let same = is_tick event (ap front_of name) in
+    let line = subst (λ (e : Event). IsLine plain e) same asks.form in
+    one_word ticks.0 (sym (line.words_are ∙ ap (λ (args : List (List ℕ)). codes "tick" ∷ args) line.arguments) ∙ ticks.1)
+
+-- a tick alone
+pub Captures-tick : (number : ℕ) (old new : Traced) (reply : Reply) → new.ticks ≡ later old.ticks → new.whole ≡ old.whole → new.wrote ≡ old.wrote
+    → Captures number old (turn_of Tick reply ∷ []) new
+Captures-tick number old new reply t w b =
+    subst (λ (s : Traced). Captures number old (turn_of Tick reply ∷ []) s) (sym (same_but_ticks old new t w b)) (Keeps-none old, refl)
+
+-- a packet that comes, and one that the link takes
+pub Captures-comes : (number : ℕ) (old new : Traced) (packet : List ℕ) (reply : Reply)
+    → Keeps old new (pass_bytes (pass_at old.ticks number packet)) → new.ticks ≡ old.ticks
+    → Captures number old (turn_of (Comes packet) reply ∷ []) new
+Captures-comes number old new packet reply h t = (Keeps-one old new (pass_at old.ticks number packet) h, t)
+
+pub Captures-given : (number : ℕ) (old new : Traced) (packet : List ℕ)
+    → Keeps old new (pass_bytes (pass_at old.ticks number packet)) → new.ticks ≡ old.ticks
+    → Captures number old (turn_of Transmit (Given (Some packet)) ∷ []) new
+Captures-given number old new packet h t = (Keeps-one old new (pass_at old.ticks number packet) h, t)
+
+pub Captures-not_given : (number : ℕ) (t : Traced) → Captures number t (turn_of Transmit (Given None) ∷ []) t
+Captures-not_given number t = (Keeps-none t, refl)
+
+-- an event that moves nothing
+pub Captures-nothing : (number : ℕ) (t : Traced) (event : Event) (reply : Reply) → (event ≡ Transmit → ⊥) → (event ≡ Tick → ⊥)
+    → ((packet : List ℕ) → event ≡ Comes packet → ⊥) → Captures number t (turn_of event reply ∷ []) t
+Captures-nothing number t Open reply x y z = (Keeps-none t, refl)
+Captures-nothing number t (Bind fd address) reply x y z = (Keeps-none t, refl)
+Captures-nothing number t (Connect fd address) reply x y z = (Keeps-none t, refl)
+Captures-nothing number t (Send fd to bytes) reply x y z = (Keeps-none t, refl)
+Captures-nothing number t (Receive fd most) reply x y z = (Keeps-none t, refl)
+Captures-nothing number t (Close fd) reply x y z = (Keeps-none t, refl)
+Captures-nothing number t (Set_option fd option on) reply x y z = (Keeps-none t, refl)
+Captures-nothing number t (Comes packet) reply x y z = absurd (z packet refl)
+Captures-nothing number t Transmit reply x y z = absurd (x refl)
+Captures-nothing number t Tick reply x y z = absurd (y refl)
+Captures-nothing number t Ask_counters reply x y z = (Keeps-none t, refl)
+Captures-nothing number t Ask_usage reply x y z = (Keeps-none t, refl)
+
+-- ---- lines one after another
+
+abbrev pub Joins : Type 0
+Joins = (old mid new : Traced) (a b : List ℕ) → Keeps old mid a → Keeps mid new b → Keeps old new (a ++ b)
+
+-- a line in front of others
+pub Captures-join : Joins → (number m : ℕ) (old mid new : Traced) (first : List Turn) (rest : List (List Turn)) → m ≡ number
+    → Captures number old first mid → Keeps mid new (passes_bytes (all_passes m mid.ticks rest))
+    → Keeps old new (passes_bytes (passes number old.ticks first ++ all_passes number (ticks_after old.ticks first) rest))
+Captures-join join number m old mid new first rest is captured kept =
+    let later_kept : Keeps mid new (passes_bytes (all_passes number (ticks_after old.ticks first) rest)) =
+    subst (λ (t : ℕ). Keeps mid new (passes_bytes (all_passes number t rest))) captured.1
+    (subst (λ (k : ℕ). Keeps mid new (passes_bytes (all_passes k mid.ticks rest))) is kept) in
+    subst (λ (bytes : List ℕ). Keeps old new bytes) (sym (passes_bytes-append (passes number old.ticks first) (all_passes number (ticks_after old.ticks first) rest)))
+    (join old mid new _ _ captured.0 later_kept)

@@ -1,0 +1,65 @@
+-- What a run adds to a capture: the packets that come and go, in their order (this project's own).
+use Rattle.std.specs.Prelude.{◌≡◌, ℕ, List, [], ◌∷◌, ◌++◌, replicate, Option, Some, None}
+use Rattle.flat_model.specs.Machine.Count.{more_by}
+use Rattle.flat_model.specs.Machine.Event.{Event, Reply, Comes, Transmit, Tick, Done, Given}
+use Rattle.flat_model.specs.Runs.Run.{Turn}
+use Rattle.flat_model.specs.Scripts.Script as script
+use Rattle.flat_model.specs.Scripts.Script.{all_events}
+use Rattle.play_pcap.specs.Traces.{Keeps, Pass, Traced, later, pass_at, passes_bytes}
+use Rattle.play_script.specs.Lines.{IsTicks}
+
+abbrev pub turn_of : Event → Reply → Turn
+turn_of event reply = record { event = event; reply = reply }
+
+-- ---- a turn
+
+abbrev pub given : Reply → Option (List ℕ)
+given (Given packet) = packet
+given reply = None
+
+-- the packet that a turn moves: the one that comes from the wire, or the one that the link takes
+abbrev pub moved_by : Event → Reply → Option (List ℕ)
+moved_by (Comes packet) reply = Some packet
+moved_by Transmit reply = given reply
+moved_by event reply = None
+
+-- how many ticks have passed after an event
+abbrev pub ticks_by : Event → ℕ → ℕ
+ticks_by Tick ticks = later ticks
+ticks_by event ticks = ticks
+
+abbrev pub pass_if : ℕ → ℕ → Option (List ℕ) → List Pass
+pass_if ticks number None = []
+pass_if ticks number (Some packet) = pass_at ticks number packet ∷ []
+
+-- ---- the turns of a line
+
+-- the packets that they move, by the line of this number, where so many ticks have passed before
+abbrev pub passes : ℕ → ℕ → List Turn → List Pass
+passes number ticks [] = []
+passes number ticks (turn ∷ turns) =
+    pass_if ticks number (moved_by turn.event turn.reply) ++ passes number (ticks_by turn.event ticks) turns
+
+abbrev pub ticks_after : ℕ → List Turn → ℕ
+ticks_after ticks [] = ticks
+ticks_after ticks (turn ∷ turns) = ticks_after (ticks_by turn.event ticks) turns
+
+-- what they add to a capture
+abbrev pub Captures : ℕ → Traced → List Turn → Traced → Type 0
+Captures number old turns new =
+    Keeps old new (passes_bytes (passes number old.ticks turns)) × (new.ticks ≡ ticks_after old.ticks turns)
+
+-- What the plain line of this number with this reply adds to a capture: what its turns do, for whatever it asks.
+abbrev pub Notes : ℕ → List ℕ → Option Reply → Traced → Traced → Type 0
+Notes number plain None old new = new ≡ old
+Notes number plain (Some reply) old new =
+    ((event : Event) → script.Asks all_events plain event → Captures number old (turn_of event reply ∷ []) new)
+    × ((n : ℕ) → IsTicks plain n → Captures number old (replicate n (turn_of Tick Done)) new)
+
+-- ---- the turns of all lines, a list of them for each line
+
+-- the packets that they move, where so many lines and ticks came before
+abbrev pub all_passes : ℕ → ℕ → List (List Turn) → List Pass
+all_passes number ticks [] = []
+all_passes number ticks (turns ∷ lines) =
+    passes (more_by 1 number) ticks turns ++ all_passes (more_by 1 number) (ticks_after ticks turns) lines
