@@ -67,7 +67,9 @@ fn with_wire<'a>(alloc: Global, command: Command<'a>) -> Result<Command<'a>, All
         .arg(
             Arg::new(alloc, "PCAP")
                 .long("pcap")
-                .help("Write the packets that come and go, or what goes on the wire of many machines, to this file")
+                .help(
+                    "Write the packets that come and go, or what goes on the wire of many machines, to this file",
+                )
                 .action(ArgAction::Set),
         )
 }

@@ -1,6 +1,7 @@
 -- What is told of a plain line: what it asks to be shown, or its reply.
 use Rattle.std.proofs.Common.{◌≡◌, ℕ, ◌-◌, ◌&&◌, Bool, true, false, List, [], length, take, Option, Some, None, refl, sym, ap, ap₂, ◌∙◌, subst}
 use Rattle.std.proofs.lemmas.Bool.{false≢true}
+use Rattle.flat_model.specs.Amounts.Weight.{Item}
 use Rattle.flat_model.specs.Machine.Event.{Event, Reply}
 use Rattle.flat_model.specs.Machine.State.{State}
 use Rattle.flat_model.specs.declared.counters.Counters.{Counters}
@@ -29,7 +30,7 @@ Answered-shown step quiet notes s plain asked topic shown told below is same sho
 pub Answered-call : (step : State → Event → Reply → State → Type 0) (quiet : Bool) (notes : Option Reply → Type 0) (old new : State) (plain : List ℕ) (asked : Option Topic)
     (told : Option (List ℕ)) (below : List ℕ) (reply : Option Reply) (before after : Snapshot) → asked ≡ None
     → Does step old plain reply new → notes reply → IsSnapshot step old before → IsSnapshot step new after
-    → told ≡ outcome reply before.counters after.counters → IsBelow quiet plain reply before after below
+    → told ≡ outcome reply before.counters after.counters → IsBelow quiet plain reply before after new.output below
     → IsAnswered step quiet notes old asked plain told below new
 Answered-call step quiet notes old new plain asked told below reply before after is does noted was now same tells =
     subst (λ (t : Option Topic). IsAnswered step quiet notes old t plain told below new) (sym is)
@@ -67,18 +68,18 @@ not_some text e = cc
 
 -- nothing is told below a line, if it's quiet or has no reply
 pub Below-nothing : (quiet asks : Bool) (plain told below : List ℕ) (reply : Option Reply) (b a : Counters) (before after : Snapshot)
-    → if_there asks told ≡ outcome reply b a → (asks ≡ true → quiet ≡ true) → below ≡ [] → IsBelow quiet plain reply before after below
-Below-nothing quiet asks plain told below None b a before after e why is = is
-Below-nothing true asks plain told below (Some reply) b a before after e why is = is
-Below-nothing false true plain told below (Some reply) b a before after e why is = absurd (false≢true (why refl))
-Below-nothing false false plain told below (Some reply) b a before after e why is = absurd (not_some _ e)
+    (output : List Item) → if_there asks told ≡ outcome reply b a → (asks ≡ true → quiet ≡ true) → below ≡ [] → IsBelow quiet plain reply before after output below
+Below-nothing quiet asks plain told below None b a before after output e why is = is
+Below-nothing true asks plain told below (Some reply) b a before after output e why is = is
+Below-nothing false true plain told below (Some reply) b a before after output e why is = absurd (false≢true (why refl))
+Below-nothing false false plain told below (Some reply) b a before after output e why is = absurd (not_some _ e)
 
 -- what is told below a reply
 pub Below-reply : (quiet asks : Bool) (plain told below answer : List ℕ) (reply : Option Reply) (b a : Counters) (before after : Snapshot)
-    → if_there asks told ≡ outcome reply b a → asks ≡ true → quiet ≡ false → answer ≡ answer_text reply
-    → ((r : Reply) → answer ≡ answer_text (Some r) → IsBelow false plain (Some r) before after below)
-    → IsBelow quiet plain reply before after below
-Below-reply quiet true plain told below answer None b a before after e asked loud same tells = absurd (not_some _ (sym e))
-Below-reply quiet false plain told below answer None b a before after e asked loud same tells = absurd (false≢true asked)
-Below-reply quiet asks plain told below answer (Some reply) b a before after e asked loud same tells =
-    subst (λ (q : Bool). IsBelow q plain (Some reply) before after below) (sym loud) (tells reply same)
+    (output : List Item) → if_there asks told ≡ outcome reply b a → asks ≡ true → quiet ≡ false → answer ≡ answer_text reply
+    → ((r : Reply) → answer ≡ answer_text (Some r) → IsBelow false plain (Some r) before after output below)
+    → IsBelow quiet plain reply before after output below
+Below-reply quiet true plain told below answer None b a before after output e asked loud same tells = absurd (not_some _ (sym e))
+Below-reply quiet false plain told below answer None b a before after output e asked loud same tells = absurd (false≢true asked)
+Below-reply quiet asks plain told below answer (Some reply) b a before after output e asked loud same tells =
+    subst (λ (q : Bool). IsBelow q plain (Some reply) before after output below) (sym loud) (tells reply same)

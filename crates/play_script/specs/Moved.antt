@@ -1,5 +1,6 @@
 -- The lines below a line's reply: the packet that it moves, and what came of it (this project's own).
 use Rattle.std.specs.Prelude.{◌≡◌, ◌⊎◌, ℕ, Bool, true, false, List, [], ◌∷◌, codes, Option, Some, None}
+use Rattle.flat_model.specs.Amounts.Weight.{Item}
 use Rattle.flat_model.specs.Machine.Event.{Reply}
 use Rattle.flat_model.specs.Scripts.Grammar.{words, IsHex}
 use Rattle.flat_model.specs.Scripts.Texts.{reply_text}
@@ -17,9 +18,10 @@ IsMoved plain reply moved =
     ((packet : List ℕ) × HasPacket (codes "rx") plain (Some packet) × (moved ≡ Some packet))
     ⊎ (HasPacket (codes "rx") plain None × HasPacket (codes "packet") reply moved)
 
--- what is told below a reply, by looks at the machine before and after
-abbrev pub IsBelow : Bool → List ℕ → Option Reply → Snapshot → Snapshot → List ℕ → Type 0
-IsBelow quiet plain None before after below = below ≡ []
-IsBelow true plain (Some reply) before after below = below ≡ []
-IsBelow false plain (Some reply) before after below =
-    (moved : Option (List ℕ)) × IsMoved plain (reply_text reply) moved × (below ≡ changes_text moved before after)
+-- What is told below a reply, by looks at the machine before and after. `output` are the packets that wait for the link
+-- after it.
+abbrev pub IsBelow : Bool → List ℕ → Option Reply → Snapshot → Snapshot → List Item → List ℕ → Type 0
+IsBelow quiet plain None before after output below = below ≡ []
+IsBelow true plain (Some reply) before after output below = below ≡ []
+IsBelow false plain (Some reply) before after output below =
+    (moved : Option (List ℕ)) × IsMoved plain (reply_text reply) moved × (below ≡ changes_text moved before after output)

@@ -139,7 +139,7 @@ module _ (step : State → Event → Reply → State → Type 0) where
   IsAnswered quiet notes old None plain told below new =
       (reply : Option Reply) × (before after : Snapshot)
       × Does old plain reply new × notes reply × IsSnapshot step old before × IsSnapshot step new after
-      × (told ≡ outcome reply before.counters after.counters) × IsBelow quiet plain reply before after below
+      × (told ≡ outcome reply before.counters after.counters) × IsBelow quiet plain reply before after new.output below
 
   -- what a line may have as its text that doesn't begin with two dashes, and one that does
   abbrev pub TellsAsked : Bool → Play → List ℕ → List ℕ → Option (List ℕ) → List ℕ → Play → Type 0

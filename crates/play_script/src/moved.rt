@@ -4,7 +4,8 @@ ghost use Rattle.params.specs.declared.TheConstants.{IP_MAX_PACKET};
 ghost use Rattle.play_show.specs.Changes.{changes_text};
 ghost use Rattle.play_script.specs.Moved.{HasPacket, IsMoved};
 
-use play_show::{SHOWN, Snapshot, put_changes};
+use params::MAX_MTU;
+use play_show::{Questions, SHOWN, Snapshot, put_changes};
 use script_loop::{Buffer, bytes, first_word, one};
 
 /// Puts the packet into the room whose digits stand in a text behind a word, and answers how many bytes it has.
@@ -34,23 +35,28 @@ fn moved_packet(plain: &[u8], reply: &[u8], room: &mut [u8]) -> Option<usize>
     }
 }
 
-/// Puts what came of a plain line into a buffer. `answer` is its reply with a line feed.
-pub(crate) fn put_below(
-    plain: &[u8],
-    answer: &[u8],
-    room: &mut [u8],
+/// Puts what came of a line into a buffer. `line` is the plain line, and its reply with a line feed. The packets that
+/// are told are copied into both rooms.
+pub(crate) fn put_below<M: Questions>(
+    line: (&[u8], &[u8]),
+    machine: &M,
+    bytes: &mut [u8],
+    digits: &mut [u8],
     looks: (&Snapshot, &Snapshot),
     below: &mut Buffer<SHOWN>,
 )
-    requires room { length room.old ≡ IP_MAX_PACKET }
-    requires answer { 0 < length answer.now }
-    ensures { (moved : Option (List ℕ)) × IsMoved plain.now (take (length answer.now - 1) answer.now) moved
-        × (below.new ≡ changes_text moved looks.entry.0.now looks.entry.1.now) }
+    requires line { 0 < length line.1.now }
+    requires bytes { length bytes.old ≡ IP_MAX_PACKET }
+    requires digits { MAX_MTU ≤ length digits.old }
+    ensures { (moved : Option (List ℕ))
+        × IsMoved line.entry.0.now (take (length line.entry.1.now - 1) line.entry.1.now) moved
+        × (below.new ≡ changes_text moved looks.entry.0.now looks.entry.1.now (M.state machine.now).output) }
 {
+    let (plain, answer) = line;
     let reply = &answer[..answer.len() - 1];
-    let (before, after) = looks;
-    match moved_packet(plain, reply, room) {
-        Some(len) => put_changes(below, Some(&room[..len]), before, after),
-        None => put_changes(below, None, before, after),
+    let room = &mut digits[..MAX_MTU as usize];
+    match moved_packet(plain, reply, bytes) {
+        Some(len) => put_changes(below, Some(&bytes[..len]), looks, machine, room),
+        None => put_changes(below, None, looks, machine, room),
     }
 }

@@ -129,7 +129,7 @@ fn tell_line<M: Questions, T: Sink>(
         × IsSnapshot M.may_step (M.state caller.old.machine) before
         × IsSnapshot M.may_step (M.state caller.new.machine) after
         × (if_there result notes.new.told ≡ outcome reply before.counters after.counters)
-        × IsBelow quiet words.now reply before after notes.new.below }
+        × IsBelow quiet words.now reply before after (M.state caller.new.machine).output notes.new.below }
 {
     let before = snapshot_of(&caller.machine);
     do_noted(caller, words, &mut notes.reply, tape);
@@ -145,9 +145,10 @@ fn tell_line<M: Questions, T: Sink>(
         return asks;
     }
     put_below(
-        words,
-        bytes_of(&notes.reply),
+        (words, bytes_of(&notes.reply)),
+        &caller.machine,
         caller.buffers.bytes.as_mut_slice(),
+        caller.buffers.digits.as_mut_slice(),
         (&before, &after),
         &mut notes.below,
     );

@@ -1,16 +1,19 @@
 -- What has changed between two looks at a machine, in words (this project's own).
-use Rattle.std.specs.Prelude.{◌≡◌, ℕ, zero, suc, ◌+◌, ◌-◌, ◌<◌, ◌&&◌, not, Bool, List, [], ◌++◌, length, get_or, codes, decimal, nat_lt, if◌then◌else◌, Option, Some, None, Result, Ok, Err}
+use Rattle.std.specs.Prelude.{◌≡◌, ℕ, zero, suc, ◌+◌, ◌-◌, ◌<◌, ◌&&◌, not, Bool, List, [], ◌++◌, length, min, get_or, codes, decimal, nat_lt, if◌then◌else◌, Option, Some, None, Result, Ok, Err}
 use Rattle.params.specs.declared.TheConstants.{FIRST_DESCRIPTOR, MAX_SOCKETS}
+use Rattle.flat_model.specs.Amounts.Weight.{Item}
 use Rattle.flat_model.specs.Machine.Count.{value_of}
 use Rattle.flat_model.specs.Machine.Event.{Event, Reply, Ask_counters, Ask_usage, Counted, Shown}
 use Rattle.flat_model.specs.Machine.State.{State}
 use Rattle.flat_model.specs.declared.counter.Counter.{Counter}
 use Rattle.flat_model.specs.declared.counter.Counter.TheVariants.{IpFragments, IpFragdropped, IpFragtimeout, IpReassembled, IpReclaimed, Nobufs}
 use Rattle.flat_model.specs.declared.errno.Errno.{Errno}
+use Rattle.ip_out.specs.Questions.{nth_packet}
 use Rattle.sock_calls.specs.Questions.{next_datagram}
 use Rattle.sock_calls.specs.declared.questions.NextDatagram.{NextDatagram}
 use Rattle.play_decode.specs.Packets.{packet_text, kept_text, whole_text}
 use Rattle.play_decode.specs.Texts.{amount}
+use Rattle.play_show.specs.declared.changes.TheConstants.{MOST_SENT}
 use Rattle.play_show.specs.declared.snapshot.Snapshot.{Snapshot}
 
 -- ---- a look
@@ -65,10 +68,30 @@ unfoldable pub delivered_below : ℕ → List ℕ → List ℕ → List ℕ
 delivered_below zero before after = []
 delivered_below (suc n) before after = delivered_below n before after ++ delivered_line n (get_or before n 0) (get_or after n 0)
 
--- more packets wait for the link than before
-abbrev pub sent_text : ℕ → ℕ → List ℕ
-sent_text before after =
-    if nat_lt before after then codes "    sent as " ++ amount (after - before) (codes "packet") ++ codes "\n" else []
+-- something was sent as so many packets
+abbrev pub sent_line : ℕ → List ℕ
+sent_line all = codes "    sent as " ++ amount all (codes "packet") ++ codes "\n"
+
+-- a packet that waits for the link, if there is one
+abbrev pub waiting_line : Option (List ℕ) → List ℕ
+waiting_line None = []
+waiting_line (Some packet) = line_of (packet_text packet)
+
+-- so many packets of an output queue, from a place on
+unfoldable pub packets_below : ℕ → ℕ → List Item → List ℕ
+packets_below zero from output = []
+packets_below (suc n) from output = packets_below n from output ++ waiting_line (nth_packet (from + n) output)
+
+-- how many there are past the first ones, which are told
+abbrev pub more_line : ℕ → List ℕ
+more_line all = if nat_lt MOST_SENT all then codes "    and " ++ decimal (all - MOST_SENT) ++ codes " more\n" else []
+
+-- More packets wait for the link than before: how many, and the first of them, which stand behind those of before.
+abbrev pub sent_text : ℕ → ℕ → List Item → List ℕ
+sent_text before after output =
+    if nat_lt before after then
+    sent_line (after - before) ++ packets_below (min (after - before) MOST_SENT) before output ++ more_line (after - before)
+    else []
 
 -- a counter of unfinished datagrams went up by so many
 abbrev pub lost_text : ℕ → ℕ → List ℕ → List ℕ
@@ -92,11 +115,12 @@ pool_changes before after =
     pool_change before.usage.free_mbufs after.usage.free_mbufs (codes "mbuf")
     ++ pool_change before.usage.free_clusters after.usage.free_clusters (codes "cluster")
 
--- What came of an event by which this packet came or went, if one did.
-abbrev pub changes_text : Option (List ℕ) → Snapshot → Snapshot → List ℕ
-changes_text packet before after =
+-- What came of an event by which this packet came or went, if one did. `output` are the packets that wait for the link
+-- after it.
+abbrev pub changes_text : Option (List ℕ) → Snapshot → Snapshot → List Item → List ℕ
+changes_text packet before after output =
     moved_text packet before after
     ++ delivered_below MAX_SOCKETS before.waiting after.waiting
-    ++ sent_text before.output after.output
+    ++ sent_text before.output after.output output
     ++ all_lost_text before after
     ++ pool_changes before after

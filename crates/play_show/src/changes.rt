@@ -1,15 +1,20 @@
 //! What has changed between two looks at a machine, in words.
-ghost use Rattle.std.specs.Prelude.{◌≡◌, ◌+◌, ◌*◌, ◌<◌, ◌≤◌, ◌++◌, length, IfSome, option_map};
-ghost use Rattle.params.specs.declared.TheConstants.{IP_MAX_PACKET, MAX_SOCKETS};
+ghost use Rattle.std.specs.Prelude.{◌≡◌, ◌+◌, ◌*◌, ◌^◌, ◌<◌, ◌≤◌, ◌++◌, length, IfSome, option_map};
+ghost use Rattle.params.specs.declared.TheConstants.{IP_MAX_PACKET, MAX_MTU, MAX_SOCKETS};
+ghost use Rattle.ip_out.specs.Questions.{nth_packet};
 ghost use Rattle.play_decode.specs.Packets as packets;
 ghost use Rattle.play_show.specs.Changes as texts;
 
 use crate::amounts::{SHOWN, put_long};
+use crate::questions::Questions;
 use crate::snapshot::{SOCKETS, Snapshot};
 use flat_model::Counter;
 use params::FIRST_DESCRIPTOR;
 use play_decode::{put_amount, put_kept, put_packet, put_whole};
 use script_loop::{Buffer, put_number};
+
+/// So many packets of a send are told; of more than these, how many more there are.
+const MOST_SENT: u32 = 16;
 
 /// Whether a counter went up.
 fn rose(counter: Counter, before: &Snapshot, after: &Snapshot) -> bool
@@ -113,16 +118,80 @@ fn put_all_delivered(text: &mut Buffer<SHOWN>, before: &[u32; SOCKETS], after: &
     }
 }
 
-/// Puts a line after the text if more packets wait for the link than before.
-fn put_sent(text: &mut Buffer<SHOWN>, before: u32, after: u32)
+/// Puts a line after the text for the packet in front of which `i` others wait for the link, if there is one.
+fn put_waiting_line<M: Questions>(text: &mut Buffer<SHOWN>, machine: &M, i: u32, room: &mut [u8])
+    requires room { length room.old ≡ MAX_MTU }
+    requires text { length text.old + 180 ≤ SHOWN }
+    ensures items { text.new ≡ text.old ++ texts.waiting_line (nth_packet i (M.state machine.now).output) }
+    ensures len { length text.new ≤ length text.old + 180 }
+{
+    if let Some(len) = machine.output_packet(i, room) {
+        put_packet_line(text, &room[..len]);
+    }
+}
+
+/// Puts a line after the text for each of so many packets that wait for the link, from a place on.
+fn put_all_waiting<M: Questions>(
+    text: &mut Buffer<SHOWN>,
+    machine: &M,
+    from: u32,
+    count: u32,
+    room: &mut [u8],
+)
+    requires room { length room.old ≡ MAX_MTU }
+    requires most { count ≤ MOST_SENT }
+    requires small { from + count < 2 ^ 32 }
+    requires text { length text.old + 2880 ≤ SHOWN }
+    ensures items { text.new ≡ text.old ++ texts.packets_below count from (M.state machine.now).output }
+    ensures len { length text.new ≤ length text.old + 2880 }
+{
+    'packets: for i in 0..count {
+        put_waiting_line(text, machine, from + i, room);
+    }
+}
+
+/// Puts a line after the text: as how many packets something was sent.
+fn put_sent_line(text: &mut Buffer<SHOWN>, all: u32)
     requires { length text.old + 40 ≤ SHOWN }
-    ensures items { text.new ≡ text.old ++ texts.sent_text before after }
+    ensures items { text.new ≡ text.old ++ texts.sent_line all }
     ensures len { length text.new ≤ length text.old + 40 }
 {
+    text.append(b"    sent as ");
+    put_amount(text, all, b"packet");
+    text.append(b"\n");
+}
+
+/// Puts a line after the text for the packets past the first ones, if there are any.
+fn put_more_line(text: &mut Buffer<SHOWN>, all: u32)
+    requires { length text.old + 30 ≤ SHOWN }
+    ensures items { text.new ≡ text.old ++ texts.more_line all }
+    ensures len { length text.new ≤ length text.old + 30 }
+{
+    if MOST_SENT < all {
+        text.append(b"    and ");
+        put_number(text, all - MOST_SENT);
+        text.append(b" more\n");
+    }
+}
+
+/// Puts lines after the text if more packets wait for the link than before: how many, and the first of them.
+fn put_sent<M: Questions>(
+    text: &mut Buffer<SHOWN>,
+    machine: &M,
+    before: u32,
+    after: u32,
+    room: &mut [u8],
+)
+    requires room { length room.old ≡ MAX_MTU }
+    requires text { length text.old + 2950 ≤ SHOWN }
+    ensures items { text.new ≡ text.old ++ texts.sent_text before after (M.state machine.now).output }
+    ensures len { length text.new ≤ length text.old + 2950 }
+{
     if before < after {
-        text.append(b"    sent as ");
-        put_amount(text, after - before, b"packet");
-        text.append(b"\n");
+        let all = after - before;
+        put_sent_line(text, all);
+        put_all_waiting(text, machine, before, all.min(MOST_SENT), room);
+        put_more_line(text, all);
     }
 }
 
@@ -203,20 +272,26 @@ fn put_pool_changes(text: &mut Buffer<SHOWN>, before: &Snapshot, after: &Snapsho
 /// Puts into a buffer what came of an event, by looks at the machine before and after it. `packet` is the one that came
 /// from the link or went to it, of 65,535 bytes at most. Told are, each in a line with its line feed: what the packet's
 /// headers say; that it's a fragment and kept, or that its datagram is whole; the sockets to which a datagram was
-/// delivered; as how many packets something was sent; how many unfinished datagrams were dropped; and how many mbufs
-/// and clusters were taken or given back. What doesn't change isn't told, and what the buffer held before is lost.
-pub fn put_changes(
+/// delivered; as how many packets something was sent, and what the headers of the first 16 say, which are asked of the
+/// machine; how many unfinished datagrams were dropped; and how many mbufs and clusters were taken or given back. What
+/// doesn't change isn't told, and what the buffer held before is lost. The packets are copied into the room, one after
+/// another; it has 4,352 bytes.
+pub fn put_changes<M: Questions>(
     text: &mut Buffer<SHOWN>,
     packet: Option<&[u8]>,
-    before: &Snapshot,
-    after: &Snapshot,
+    looks: (&Snapshot, &Snapshot),
+    machine: &M,
+    room: &mut [u8],
 )
-    requires { IfSome packet (λ p. length p.now ≤ IP_MAX_PACKET) }
-    ensures { text.new ≡ texts.changes_text (option_map (λ p. p.now) packet.entry) before.now after.now }
+    requires packet { IfSome packet (λ p. length p.now ≤ IP_MAX_PACKET) }
+    requires room { length room.old ≡ MAX_MTU }
+    ensures { text.new ≡ texts.changes_text (option_map (λ p. p.now) packet.entry) looks.entry.0.now looks.entry.1.now
+        (M.state machine.now).output }
 {
+    let (before, after) = looks;
     put_moved(text, packet, before, after);
     put_all_delivered(text, &before.waiting, &after.waiting);
-    put_sent(text, before.output, after.output);
+    put_sent(text, machine, before.output, after.output, room);
     put_all_lost(text, before, after);
     put_pool_changes(text, before, after);
 }

@@ -1,6 +1,7 @@
 //! What may be asked of a machine beside its calls.
-ghost use Rattle.std.specs.Prelude.{◌≡◌, length};
-ghost use Rattle.ip_out.specs.Questions.{oldest_length};
+ghost use Rattle.std.specs.Prelude.{◌≡◌, ◌≤◌, length, take, option_map, IfSome};
+ghost use Rattle.params.specs.declared.TheConstants.{MAX_MTU};
+ghost use Rattle.ip_out.specs.Questions.{nth_packet, oldest_length};
 ghost use Rattle.ip_reass.specs.Questions.{nth_range, nth_unfinished};
 ghost use Rattle.sock_calls.specs.Questions.{bytes_queued, next_datagram, socket_name};
 
@@ -31,6 +32,13 @@ pub trait Questions: Machine {
     /// How many bytes the packet has that has waited longest. `None` if none waits.
     fn next_packet(&self) -> Option<u32>
         ensures { result ≡ oldest_length (Self.state self.now).output };
+
+    /// The packet in front of which `i` others wait for the link, from 0: puts its bytes in front of the room, which
+    /// has 4,352 at least, and answers how many they are. `None` exactly if no more than `i` packets wait.
+    fn output_packet(&self, i: u32, room: &mut [u8]) -> Option<usize>
+        requires { MAX_MTU ≤ length room.old }
+        ensures packet { option_map (λ n. take n room.new) result ≡ nth_packet i (Self.state self.now).output }
+        ensures fits { IfSome result (λ n. n ≤ length room.new) };
 
     /// How many datagrams are unfinished.
     fn unfinished_len(&self) -> u32
@@ -65,6 +73,11 @@ impl Questions for Stack {
 
     fn next_packet(&self) -> Option<u32> {
         Stack::next_packet(self)
+    }
+
+    fn output_packet(&self, i: u32, room: &mut [u8]) -> Option<usize> {
+        Stack::laws(self);
+        Stack::output_packet(self, i, room)
     }
 
     fn unfinished_len(&self) -> u32 {

@@ -28,7 +28,7 @@ returns-then-quiet g c =
       told,
       Below-nothing c.args.quiet c.tell_answer-asks.result c.args.words.now c.tell_answer-asks.new.told c.clear.new.self d.0
           c.snapshot_of-before.result.counters c.snapshot_of-after.result.counters c.snapshot_of-before.result c.snapshot_of-after.result
-          told why c.clear.ensures,
+          _ told why c.clear.ensures,
     )
 
 pub returns : goal.returns
@@ -51,6 +51,6 @@ returns g c =
           ≡ outcome d.0 c.snapshot_of-before.result.counters c.snapshot_of-after.result.counters) asked told,
       Below-reply c.args.quiet c.tell_answer-asks.result c.args.words.now c.tell_answer-asks.new.told c.put_below.new.below
           c.bytes_of-3.result.now d.0 c.snapshot_of-before.result.counters c.snapshot_of-after.result.counters
-          c.snapshot_of-before.result c.snapshot_of-after.result told asked c.if-quiet.false (c.bytes_of-3.ensures.is ∙ d.2)
+          c.snapshot_of-before.result c.snapshot_of-after.result _ told asked c.if-quiet.false (c.bytes_of-3.ensures.is ∙ d.2)
           (λ r same. (t.0, Moved-reply c.args.words.now c.bytes_of-3.result.now r t.0 same t.1, t.2)),
     )

@@ -1,0 +1,19 @@
+use Rattle.std.proofs.Common.{ℕ, ◌-◌, ◌++◌, min, List, ap, ◌∙◌}
+use Rattle.flat_model.specs.Amounts.Weight.{Item}
+use Rattle.play_show.specs.Changes.{sent_line, packets_below, more_line}
+use Rattle.play_show.specs.declared.changes.TheConstants.{MOST_SENT}
+use Rattle.play_show.proofs.JoinLemmas.{joined_three, put_if_less}
+use Rattle.play_show.proofs.changes.put_sent.Goals as goal
+
+pub returns-then-before-after-clause-items : goal.returns-then-before-after-clause-items
+returns-then-before-after-clause-items g c =
+    let output : List Item = (g.M.Machine.state c.args.machine.now).output in
+    let all : ℕ = c.args.after - c.args.before in
+    put_if_less c.args.before c.args.after c.args.text.now c.put_more_line.new.text
+    (sent_line all ++ packets_below (min all MOST_SENT) c.args.before output ++ more_line all) c.if-before-after.true
+    (joined_three c.args.text.now c.put_sent_line.new.text c.put_all_waiting.new.text c.put_more_line.new.text
+    (sent_line all) (packets_below (min all MOST_SENT) c.args.before output) (more_line all)
+    c.put_sent_line.ensures.items
+    (c.put_all_waiting.ensures.items
+    ∙ ap (λ (k : ℕ). c.put_sent_line.new.text ++ packets_below k c.args.before output) c.min.ensures)
+    c.put_more_line.ensures.items)
