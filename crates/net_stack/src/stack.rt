@@ -91,13 +91,17 @@ impl Stack {
         let Ok(store) = Store::boot(alloc, sizes) else {
             return Err(BootFault::Memory);
         };
-        let pool = Pool::over(store);
+        let mut pool = Pool::over(store);
+        let Ok(socks) = Socks::boot(alloc, config.addr, config.bcast) else {
+            return Err(BootFault::Memory);
+        };
         let Ok(reass) = Reass::boot(alloc, config.mbufs) else {
+            socks.end(&mut pool);
             return Err(BootFault::Memory);
         };
         let host = Host {
             pool,
-            socks: Socks::new(config.addr, config.bcast),
+            socks,
             reass,
             net: Net::new(config.mtu, config.first_id),
         };

@@ -1,6 +1,5 @@
-//! Control blocks in their order: how one is found, put in front, and taken out.
-ghost use Rattle.std.specs.Prelude.{◌≡◌, ℕ, ◌==◌, ◌+◌, ◌<◌, ◌≤◌, ◌∷◌, length, map, find, option_copied, position, IsSome, remove, slice_set};
-ghost use Rattle.arrayvec.specs.ArrayVec.{array_vec_len};
+//! How control blocks are found, in their order.
+ghost use Rattle.std.specs.Prelude.{◌≡◌, ℕ, ◌==◌, ◌+◌, ◌<◌, ◌≤◌, ◌∷◌, length, map, find, option_copied, position, IsSome};
 ghost use Rattle.pcb_table.specs.Inside.Search.{best_block, from_port, hearing_blocks, youngest_block};
 ghost use Rattle.pcb_table.specs.Apart.{has_fd};
 ghost use Rattle.pcb_table.specs.Inside.Fields.{IsLocated, Locates};
@@ -38,43 +37,6 @@ pub(crate) fn locate_by_walk(blocks: &[Block], fd: u32) -> Option<Place>
             block: blocks[index],
         }),
     }
-}
-
-/// Puts a block into a place that holds one.
-fn set_block(blocks: &mut ArrayVec<Block, SOCKETS>, index: usize, block: Block)
-    requires { index < array_vec_len blocks.old }
-    ensures { blocks.new.items ≡ slice_set blocks.old.items index block }
-{
-    blocks[index] = block;
-}
-
-/// Puts a block in front of the others.
-// Block by block: `ArrayVec::insert` turns a part of its array, which takes nine kilobytes of code.
-pub(crate) fn insert_first(blocks: &mut ArrayVec<Block, SOCKETS>, block: Block)
-    requires { array_vec_len blocks.old < SOCKETS }
-    ensures { blocks.new.items ≡ block ∷ blocks.old.items }
-{
-    let mut moved = block;
-    for index in 0..blocks.len() {
-        let next = blocks[index];
-        blocks[index] = moved;
-        moved = next;
-    }
-    blocks.push(moved);
-}
-
-/// Takes out the block at a place, and moves the later ones down.
-// Block by block, as `insert_first` does.
-pub(crate) fn remove_at(blocks: &mut ArrayVec<Block, SOCKETS>, index: usize)
-    requires { index < array_vec_len blocks.old }
-    ensures { blocks.new.items ≡ remove blocks.old.items index }
-{
-    let last = blocks.len() - 1;
-    for place in index..last {
-        let next = blocks[place + 1];
-        set_block(blocks, place, next);
-    }
-    blocks.pop();
 }
 
 /// The youngest of the blocks that meet the key with the fewest wildcards.

@@ -13,13 +13,12 @@ ghost use Rattle.sock_calls.specs.Delivery.{seen, IsAppended, IsOffered, IsDeliv
 ghost use Rattle.sock_calls.specs.Inside.Parts.{shown};
 
 use crate::parts::Parts;
+use crate::queues::ReceiveQueues;
 use crate::sockets::place_of;
 use chain_ops::{Extent, m_copym};
 use flat_model::{Addr, Counters, Why};
 use ledger::{Waiting, reserve};
 use mbuf_chain::{Chain, Pool};
-use params::MAX_SOCKETS;
-use sockbuf::SockBuf;
 
 /// A datagram without its headers, and who sent it.
 pub(crate) struct Datagram {
@@ -27,34 +26,34 @@ pub(crate) struct Datagram {
     pub(crate) chain: Chain,
 }
 
-/// Whether a datagram of `len` bytes fits into a descriptor's queue.
-fn fits_at(queues: &[SockBuf], fd: u32, len: u32) -> bool
-    requires descriptor { IsDescriptor fd }
-    requires places { length queues.now ≡ MAX_SOCKETS }
-    ensures { (p : PoolView) → ((k : ℕ) → IsSockBuf p (queue_at (from_three queues.now) k))
-        → result ≡ flat.fits (queues_of p (from_three queues.now) fd) len }
-{
-    queues[place_of(fd)].fits(len)
-}
+impl ReceiveQueues {
+    /// Whether a datagram of `len` bytes fits into a descriptor's queue.
+    fn fits_at(&self, fd: u32, len: u32) -> bool
+        requires { IsDescriptor fd }
+        ensures { (p : PoolView) → ((k : ℕ) → IsSockBuf p (queue_at (from_three self.now) k))
+            → result ≡ flat.fits (queues_of p (from_three self.now) fd) len }
+    {
+        self.queues[place_of(fd)].fits(len)
+    }
 
-/// Puts a datagram of `len` bytes at the end of a descriptor's queue. It has to fit, and an mbuf has to be free.
-// Inlined, as `deliver` is.
-#[inline(always)]
-fn append_at(pool: &mut Pool, queues: &mut [SockBuf], fd: u32, datagram: Datagram, len: u32)
-    requires each { (k : ℕ) → IsSockBuf pool.old (queue_at (from_three queues.old) k) }
-    requires descriptor { IsDescriptor fd }
-    requires places { length queues.old ≡ MAX_SOCKETS }
-    requires owned { IsOwned pool.old (datagram.chain ∷ queued_chains pool.old (from_three queues.old)) }
-    requires free { held_mbufs pool.old < pool.old.mbufs }
-    requires len { len ≡ length (string (chain_of pool.old datagram.chain)) }
-    requires fits { flat.fits (queues_of pool.old (from_three queues.old) fd) len ≡ true }
-    ensures steps { StepsAt pool.old (datagram.chain ∷ []) (from_three queues.old) fd
-        pool.new [] (from_three queues.new) }
-    ensures here { queues_of pool.new (from_three queues.new) fd ≡ queues_of pool.old (from_three queues.old) fd
-        ++ datagram_from datagram.sender pool.old datagram.chain ∷ [] }
-{
-    let Datagram { sender, chain } = datagram;
-    queues[place_of(fd)].append_fitting(pool, sender, chain, len);
+    /// Puts a datagram of `len` bytes at the end of a descriptor's queue. It has to fit, and an mbuf has to be free.
+    // Inlined, as `deliver` is.
+    #[inline(always)]
+    fn append_at(&mut self, pool: &mut Pool, fd: u32, datagram: Datagram, len: u32)
+        requires each { (k : ℕ) → IsSockBuf pool.old (queue_at (from_three self.old) k) }
+        requires descriptor { IsDescriptor fd }
+        requires owned { IsOwned pool.old (datagram.chain ∷ queued_chains pool.old (from_three self.old)) }
+        requires free { held_mbufs pool.old < pool.old.mbufs }
+        requires len { len ≡ length (string (chain_of pool.old datagram.chain)) }
+        requires fits { flat.fits (queues_of pool.old (from_three self.old) fd) len ≡ true }
+        ensures steps { StepsAt pool.old (datagram.chain ∷ []) (from_three self.old) fd
+            pool.new [] (from_three self.new) }
+        ensures here { queues_of pool.new (from_three self.new) fd ≡ queues_of pool.old (from_three self.old) fd
+            ++ datagram_from datagram.sender pool.old datagram.chain ∷ [] }
+    {
+        let Datagram { sender, chain } = datagram;
+        self.queues[place_of(fd)].append_fitting(pool, sender, chain, len);
+    }
 }
 
 /// A copy of a chain, which shares its clusters. So many mbufs have to be free.
@@ -98,7 +97,7 @@ impl Parts {
     {
         let Datagram { sender, chain } = datagram;
         let len = pool.len(&chain);
-        if !fits_at(&self.queues, fd, len) {
+        if !self.queues.fits_at(fd, len) {
             pool.free_chain(chain);
             counters.count_ended(Why::UdpFullSocket);
             return;
@@ -110,7 +109,7 @@ impl Parts {
         }
         pool.laws();
         let datagram = Datagram { sender, chain };
-        append_at(pool, &mut self.queues, fd, datagram, len);
+        self.queues.append_at(pool, fd, datagram, len);
     }
 
     /// Puts a copy of a datagram into the queue of an open socket, if it and an mbuf for the sender's address fit; else

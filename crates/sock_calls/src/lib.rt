@@ -12,6 +12,7 @@ mod net;
 mod packets;
 mod parts;
 mod questions;
+mod queues;
 mod receive;
 mod send;
 mod sockets;

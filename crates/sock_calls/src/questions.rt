@@ -8,9 +8,10 @@ ghost use Rattle.sock_calls.specs.Questions.{set_below, next_of};
 ghost use Rattle.sock_calls.specs.Inside.Asked.{name_in, waits_at};
 ghost use Rattle.sock_calls.specs.Sockets.{queue_at, queues_of};
 
-use crate::parts::QUEUES;
+use crate::queues::QUEUES;
 use flat_model::{Addr, Errno};
 use mbuf_chain::Pool;
+use params::MAX_SOCKETS;
 use pcb_table::Pcbs;
 use sockbuf::SockBuf;
 
@@ -84,9 +85,10 @@ pub(crate) fn bytes_at(queues: &[SockBuf], place: usize) -> u32
 }
 
 /// The places of the queues in which a datagram waits: bit k is set where one does in that at place k.
-pub(crate) fn readable(queues: &[SockBuf; QUEUES]) -> u64
+pub(crate) fn readable(queues: &[SockBuf]) -> u64
+    requires { length queues.now ≡ MAX_SOCKETS }
     ensures { (p : PoolView) → ((k : ℕ) → IsSockBuf p (queue_at queues.now k))
-        → result ≡ set_below (waits_at p queues.now) QUEUES }
+        → result ≡ set_below (waits_at p queues.now) MAX_SOCKETS }
 {
     let mut set = 0;
     'places: for place in 0..QUEUES {

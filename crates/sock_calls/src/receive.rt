@@ -7,9 +7,11 @@ ghost use Rattle.pcb_table.specs.Table.{block_at};
 ghost use Rattle.sockbuf.specs.SockBuf.{IsSockBuf, chains_of, datagrams};
 ghost use Rattle.sock_calls.specs.Sockets.{TakesAt, queue_at, queues_of, queued_chains};
 
+use crate::queues::ReceiveQueues;
 use chain_ops::m_copydata;
 use flat_model::{Addr, Errno};
 use mbuf_chain::Pool;
+use params::MAX_SOCKETS;
 use pcb_table::Pcbs;
 use sockbuf::SockBuf;
 
@@ -33,28 +35,6 @@ fn take_oldest(pool: &mut Pool, queue: &mut SockBuf, room: &mut [u8]) -> Option<
     Some((sender, len))
 }
 
-/// The same of the queue at a place.
-pub(crate) fn take_at(
-    pool: &mut Pool,
-    queues: &mut [SockBuf],
-    place: usize,
-    room: &mut [u8],
-) -> Option<(Addr, usize)>
-    requires each { (k : ℕ) → IsSockBuf pool.old (queue_at queues.old k) }
-    requires owned { IsOwned pool.old (queued_chains pool.old queues.old) }
-    requires place { place < length queues.old }
-    ensures takes { TakesAt pool.old queues.old place pool.new queues.new }
-    ensures taken { MatchOption result
-        ((queues_of pool.old queues.old place ≡ []) × (queues_of pool.new queues.new place ≡ []))
-        (λ found. (d : Datagram) × (queues_of pool.old queues.old place ≡ d ∷ queues_of pool.new queues.new place)
-        × (found.0 ≡ d.sender) × (take found.1 room.new ≡ take (length room.old) d.item.bytes)) }
-    ensures within { MatchOption result (Unit {0}) (λ found. found.1 ≤ length room.new) }
-    ensures same { IfNone result (room.new ≡ room.old) }
-    ensures rest { IfSome result (λ found. drop found.1 room.new ≡ drop found.1 room.old) }
-{
-    take_oldest(pool, &mut queues[place], room)
-}
-
 /// Why nothing is received of a descriptor in whose queue no datagram waits.
 pub(crate) fn refusal(pcbs: &Pcbs, fd: u32) -> Errno
     ensures { result ≡ (if is_some (block_at fd pcbs.now) then WouldBlock else BadDescriptor) }
@@ -66,13 +46,37 @@ pub(crate) fn refusal(pcbs: &Pcbs, fd: u32) -> Errno
     }
 }
 
-/// Frees all that waits in the queue at a place.
-pub(crate) fn flush_at(pool: &mut Pool, queues: &mut [SockBuf], place: usize)
-    requires each { (k : ℕ) → IsSockBuf pool.old (queue_at queues.old k) }
-    requires owned { IsOwned pool.old (queued_chains pool.old queues.old) }
-    requires place { place < length queues.old }
-    ensures takes { TakesAt pool.old queues.old place pool.new queues.new }
-    ensures empty { queues_of pool.new queues.new place ≡ [] }
-{
-    queues[place].flush(pool);
+impl ReceiveQueues {
+    /// `take_oldest` of the queue at a place, 0 for descriptor 3.
+    pub(crate) fn take_at(
+        &mut self,
+        pool: &mut Pool,
+        place: usize,
+        room: &mut [u8],
+    ) -> Option<(Addr, usize)>
+        requires each { (k : ℕ) → IsSockBuf pool.old (queue_at self.old k) }
+        requires owned { IsOwned pool.old (queued_chains pool.old self.old) }
+        requires place { place < MAX_SOCKETS }
+        ensures takes { TakesAt pool.old self.old place pool.new self.new }
+        ensures taken { MatchOption result
+            ((queues_of pool.old self.old place ≡ []) × (queues_of pool.new self.new place ≡ []))
+            (λ found. (d : Datagram) × (queues_of pool.old self.old place ≡ d ∷ queues_of pool.new self.new place)
+            × (found.0 ≡ d.sender) × (take found.1 room.new ≡ take (length room.old) d.item.bytes)) }
+        ensures within { MatchOption result (Unit {0}) (λ found. found.1 ≤ length room.new) }
+        ensures same { IfNone result (room.new ≡ room.old) }
+        ensures rest { IfSome result (λ found. drop found.1 room.new ≡ drop found.1 room.old) }
+    {
+        take_oldest(pool, &mut self.queues[place], room)
+    }
+
+    /// Frees all that waits in the queue at a place.
+    pub(crate) fn flush_at(&mut self, pool: &mut Pool, place: usize)
+        requires each { (k : ℕ) → IsSockBuf pool.old (queue_at self.old k) }
+        requires owned { IsOwned pool.old (queued_chains pool.old self.old) }
+        requires place { place < MAX_SOCKETS }
+        ensures takes { TakesAt pool.old self.old place pool.new self.new }
+        ensures empty { queues_of pool.new self.new place ≡ [] }
+    {
+        self.queues[place].flush(pool);
+    }
 }

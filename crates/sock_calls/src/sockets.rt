@@ -1,5 +1,5 @@
 //! Sockets: control blocks and receive queues.
-ghost use Rattle.std.specs.Prelude.{◌≡◌, ◌<◌, ◌≤◌, ◌+◌, ◌∷◌, ◌++◌, ℕ, [], None, drop, length, IfOk, OnErr};
+ghost use Rattle.std.specs.Prelude.{◌≡◌, ◌<◌, ◌≤◌, ◌+◌, ◌∷◌, ◌++◌, [], None, drop, length, IfOk, OnErr};
 ghost use Rattle.flat_model.specs.Machine.Event.{Open, Bind, Close, Connect, Receive, Set_option};
 ghost use Rattle.flat_model.specs.Machine.State.{State};
 ghost use Rattle.flat_model.specs.Machine.Step.{Step};
@@ -7,18 +7,18 @@ ghost use Rattle.flat_model.specs.Machine.Replies.{opened_reply, done_reply, rec
 ghost use Rattle.mbuf_chain.specs.Chain.{PoolView, chain_of, string};
 ghost use Rattle.mbuf_chain.specs.Owners.{IsOwned, Moves};
 ghost use Rattle.pcb_table.specs.Table.{IsDescriptor};
-ghost use Rattle.sockbuf.specs.SockBuf.{no_datagrams};
 ghost use Rattle.sock_calls.specs.Delivery.{seen, IsInput};
 ghost use Rattle.sock_calls.specs.Outgoing.{sending, CanSend, IsSent};
 ghost use Rattle.sock_calls.specs.Questions.{bytes_queued, next_datagram, readable, socket_name};
-ghost use Rattle.sock_calls.specs.Sockets.{IsSocks, IsCalled, queue_at, queued_chains, with_sockets};
+ghost use Rattle.sock_calls.specs.Sockets.{IsSocks, IsCalled, queued_chains, with_sockets};
 
 use crate::delivery::Datagram;
-use crate::ending::{end_empty, flush_all};
+use crate::ending::flush_all;
 use crate::net::Net;
-use crate::parts::{Parts, QUEUES};
+use crate::parts::Parts;
 use crate::questions::{NextDatagram, SocketName, bytes_at, name_of, next_at, readable};
-use crate::receive::{flush_at, refusal, take_at};
+use crate::queues::ReceiveQueues;
+use crate::receive::refusal;
 use arrayvec::ArrayVec;
 use flat_model::{Addr, Counters, Errno, Opt};
 use ip_out::IpHead;
@@ -26,21 +26,18 @@ use ledger::Waiting;
 use mbuf_chain::{Chain, Pool};
 use params::{FIRST_DESCRIPTOR, IP_MAX_PACKET, MAX_SOCKETS};
 use pcb_table::{Pcbs, SOCKETS};
-use sockbuf::SockBuf;
-use std::array;
+use std::alloc::{AllocError, Global};
 use std::marker::Model;
 use udp::Outcome;
 
-/// A queue for each socket, in which nothing waits.
-fn no_queues() -> [SockBuf; QUEUES]
-    ensures empty { (fd : ℕ) → queue_at result fd ≡ no_datagrams }
-    ensures places { length result ≡ MAX_SOCKETS }
-{
-    array::from_fn(
-        |_| -> SockBuf
-            ensures { result ≡ no_datagrams }
-        { SockBuf::new() },
-    )
+/// Room for the descriptors of those who hear a datagram. `AllocError` comes if the host has no memory for it.
+// Not inlined: the room is made in this function's frame, and moved from there.
+#[inline(never)]
+fn no_hearers(alloc: Global) -> Result<Box<ArrayVec<u32, SOCKETS>>, AllocError> {
+    match Box::new(alloc, ArrayVec::new()) {
+        Ok(hearers) => Ok(hearers),
+        Err(_) => Err(AllocError),
+    }
 }
 
 /// The place of a descriptor's queue.
@@ -56,7 +53,7 @@ pub(crate) fn place_of(fd: u32) -> usize
 pub struct Socks {
     parts: Parts,
     // room for the descriptors of those who hear a datagram, so that it isn't made for each one
-    hearers: ArrayVec<u32, SOCKETS>,
+    hearers: Box<ArrayVec<u32, SOCKETS>>,
 }
 
 impl Model for Socks {
@@ -69,19 +66,19 @@ impl Model for Socks {
 }
 
 impl Socks {
-    /// No socket, of a machine with this address and broadcast address.
-    pub fn new(addr: u32, bcast: u32) -> Socks
-        ensures blocks { result.pcbs ≡ record { addr = addr; bcast = bcast; blocks = []; last_port = None } }
-        ensures ready { (p : PoolView) → IsSocks p result }
+    /// No socket, of a machine with this address and broadcast address. All host memory that sockets need is taken here,
+    /// by three requests, and no other call takes any. `AllocError` comes if one is refused, and nothing is left then.
+    pub fn boot(alloc: Global, addr: u32, bcast: u32) -> Result<Socks, AllocError>
+        ensures blocks { IfOk result (λ s. s.pcbs
+            ≡ record { addr = addr; bcast = bcast; blocks = []; last_port = None }) }
+        ensures ready { IfOk result (λ s. (p : PoolView) → IsSocks p s) }
     {
-        let parts = Parts {
-            pcbs: Pcbs::new(addr, bcast),
-            queues: no_queues(),
-        };
-        Socks {
-            parts,
-            hearers: ArrayVec::new(),
-        }
+        let pcbs = Pcbs::boot(alloc, addr, bcast)?;
+        let hearers = no_hearers(alloc)?;
+        // last, since they'd have to be spent if another request were refused
+        let queues = ReceiveQueues::boot(alloc)?;
+        let parts = Parts { pcbs, queues };
+        Ok(Socks { parts, hearers })
     }
 
     /// The machine's address.
@@ -113,7 +110,7 @@ impl Socks {
         ensures { (rest : State) → result ≡ next_datagram fd (with_sockets pool.now self.now rest) }
     {
         match self.parts.pcbs.block(fd) {
-            Some(_) => next_at(pool, &self.parts.queues, place_of(fd)),
+            Some(_) => next_at(pool, self.parts.queues.as_slice(), place_of(fd)),
             None => Err(Errno::BadDescriptor),
         }
     }
@@ -126,7 +123,7 @@ impl Socks {
             → result ≡ bytes_queued fd (with_sockets p self.now rest) }
     {
         match self.parts.pcbs.block(fd) {
-            Some(_) => Ok(bytes_at(&self.parts.queues, place_of(fd))),
+            Some(_) => Ok(bytes_at(self.parts.queues.as_slice(), place_of(fd))),
             None => Err(Errno::BadDescriptor),
         }
     }
@@ -137,7 +134,7 @@ impl Socks {
         ensures { (p : PoolView) (rest : State) → IsSocks p self.now
             → result ≡ readable (with_sockets p self.now rest) }
     {
-        readable(&self.parts.queues)
+        readable(self.parts.queues.as_slice())
     }
 
     /// Opens a socket, with the lowest free descriptor of 3 to 66 (volume 2 chapter 15). Refused, and then nothing
@@ -240,7 +237,7 @@ impl Socks {
             return Err(Errno::BadDescriptor);
         }
         // a datagram waits only where a socket is open, so that is asked only where none does
-        match take_at(pool, &mut self.parts.queues, place_of(fd), room) {
+        match self.parts.queues.take_at(pool, place_of(fd), room) {
             Some(taken) => Ok(taken),
             None => Err(refusal(&self.parts.pcbs, fd)),
         }
@@ -260,7 +257,7 @@ impl Socks {
             return Err(errno);
         }
         self.parts.pcbs.laws();
-        flush_at(pool, &mut self.parts.queues, place_of(fd));
+        self.parts.queues.flush_at(pool, place_of(fd));
         Ok(())
     }
 
@@ -287,14 +284,15 @@ impl Socks {
             (seen pool.new self.new (R.unfinished pool.new waiting.new) (R.owned pool.new waiting.new) counters.new) }
         ensures waits { R.is_ready pool.new waiting.new }
     {
-        match udp::input(pool, chain, head, &mut self.parts.pcbs, &mut self.hearers) {
+        let hearers = self.hearers.as_mut();
+        match udp::input(pool, chain, head, &mut self.parts.pcbs, hearers) {
             Outcome::Drop(why) => counters.count_ended(why),
             Outcome::Deliver { from, chain } => {
                 let datagram = Datagram {
                     sender: from,
                     chain,
                 };
-                let hearers = self.hearers.as_slice();
+                let hearers = hearers.as_slice();
                 self.parts
                     .deliver_all(pool, waiting, counters, hearers, datagram);
             }
@@ -306,12 +304,11 @@ impl Socks {
         requires { IsSocks pool.old self }
         ensures { Moves pool.old (queued_chains pool.old self.queues) pool.new [] }
     {
-        let Socks { parts, hearers: _ } = self;
-        let Parts {
-            pcbs: _,
-            mut queues,
-        } = parts;
+        let Socks { parts, hearers } = self;
+        drop(hearers);
+        let Parts { pcbs, mut queues } = parts;
+        drop(pcbs);
         flush_all(pool, &mut queues);
-        end_empty(queues);
+        queues.end_empty();
     }
 }

@@ -12,6 +12,7 @@ use ip_out::IpHead;
 use mbuf_chain::{Chain, Pool};
 use mbuf_pool::{BootFault, Sizes, Store};
 use pcb_table::Pcbs;
+use std::alloc::Global;
 use std::process::Abort;
 use std::test::Fail;
 
@@ -132,8 +133,8 @@ fn handed_over(
 }
 
 /// Two sockets: 3 is bound to port 7 of any address, and 4 isn't bound.
-fn sockets(rt: &impl Abort) -> Pcbs {
-    let mut pcbs = Pcbs::new(OUR, BROADCAST);
+fn sockets(rt: &impl Abort, alloc: Global) -> Pcbs {
+    let mut pcbs = Pcbs::boot(alloc, OUR, BROADCAST).expect(rt, "memory");
     assert_eq!(rt; pcbs.open(), Ok(3));
     assert_eq!(rt; pcbs.open(), Ok(4));
     assert_eq!(rt; pcbs.bind(3, Addr { ip: 0, port: 7 }), Ok(()));
@@ -231,7 +232,7 @@ const ROWS: [Row; 16] = [
 #[test]
 fn each_datagram_cut_at_every_byte(rt: HostRuntime) -> Result<(), Fail> {
     let mut pool = booted(&rt)?;
-    let mut pcbs = sockets(&rt);
+    let mut pcbs = sockets(&rt, rt.alloc());
     for (i, (bytes, proto, dst, want, data)) in ROWS.iter().enumerate() {
         for cut in 0..=bytes.len() {
             let (front, back) = bytes.split_at(cut);
@@ -248,7 +249,7 @@ fn each_datagram_cut_at_every_byte(rt: HostRuntime) -> Result<(), Fail> {
 #[test]
 fn a_broadcast_to_those_who_share(rt: HostRuntime) -> Result<(), Fail> {
     let mut pool = booted(&rt)?;
-    let mut pcbs = Pcbs::new(OUR, BROADCAST);
+    let mut pcbs = Pcbs::boot(rt.alloc(), OUR, BROADCAST).expect(&rt, "memory");
     for fd in 3..5 {
         assert_eq!(rt; pcbs.open(), Ok(fd));
         assert_eq!(rt; pcbs.set_option(fd, Opt::ReusePort, true), Ok(()));

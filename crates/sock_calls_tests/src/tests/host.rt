@@ -98,9 +98,10 @@ fn hear(
 impl Host {
     pub(super) fn boot(alloc: Global, mbufs: u32, clusters: u32) -> Result<Host, Fail> {
         let store = Store::boot(alloc, Sizes { mbufs, clusters })?;
+        let socks = Socks::boot(alloc, super::HERE, super::BROADCAST)?;
         Ok(Host {
             pool: Pool::over(store),
-            socks: Socks::new(super::HERE, super::BROADCAST),
+            socks,
             net: Net::new(1500, 1),
         })
     }

@@ -1,4 +1,5 @@
-use Rattle.std.proofs.Common.{◌≡◌, ◌+◌, ◌<◌, ◌^◌, ℕ, cond, true, false, sym, ap, ◌∙◌, subst, suc, arith, Bool}
+use Rattle.std.proofs.Common.{◌≡◌, ◌==◌, ◌+◌, ◌<◌, ◌^◌, ℕ, cond, length, true, false, sym, ap, ◌∙◌, subst, suc, arith, Bool}
+use Rattle.sockbuf.specs.SockBuf.{SockBufView, IsSockBuf, datagrams}
 use Rattle.sock_calls.specs.Inside.Asked.{waits_at}
 use Rattle.sock_calls.proofs.Asked.{bit_kept, one_more, set_none}
 use Rattle.sock_calls.proofs.questions.readable.Goals as goal
@@ -25,7 +26,8 @@ pub places-preserved : goal.places-preserved
 places-preserved c = record {
   set = λ p each.
       one_more p c.args.queues.now c.places.place c.places.set c.if-not-is_empty.set c.index-queues-place.result c.is_empty.result
-      (omega (arith, c.places-test.true, c.type_inv.queues)) (c.is_empty.ensures p) each (c.places.invariant.set p each) (grown c);
+      (omega (arith, c.places-test.true, c.requires))
+      (subst (λ (b : SockBufView). IsSockBuf p b → c.is_empty.result ≡ (length (datagrams p b) == 0)) c.index-queues-place.is (c.is_empty.ensures p)) each (c.places.invariant.set p each) (grown c);
   small = subst (λ (n : ℕ). c.if-not-is_empty.set < 2 ^ n) (let e : suc c.places.place ≡ c.places.place + 1 = omega arith in e)
       (small c.places.set c.if-not-is_empty.set c.places.place c.is_empty.result (grown c) c.places.invariant.small);
 }

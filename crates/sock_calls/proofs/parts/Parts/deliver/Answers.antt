@@ -9,8 +9,8 @@ use Rattle.sock_calls.proofs.Delivered.{freed, tested, joined, full_end, lacking
 use Rattle.sock_calls.proofs.Hearing.{named_at, descriptor_of}
 use Rattle.sock_calls.proofs.parts.Parts.deliver.Goals as goal
 
-pub fits_at-requires-clause-descriptor : goal.fits_at-requires-clause-descriptor
-fits_at-requires-clause-descriptor g c = descriptor_of c.args.self.now.pcbs c.args.fd c.requires.socks.apart c.requires.opened
+pub fits_at-requires : goal.fits_at-requires
+fits_at-requires g c = descriptor_of c.args.self.now.pcbs c.args.fd c.requires.socks.apart c.requires.opened
 
 pub append_at-requires-clause-descriptor : goal.append_at-requires-clause-descriptor
 append_at-requires-clause-descriptor g c = descriptor_of c.args.self.now.pcbs c.args.fd c.requires.socks.apart c.requires.opened
@@ -130,4 +130,4 @@ returns-clause-waits g c =
     let v = c.reserve.new.waiting in
     let ys = g.R.Reclaim.owned q v in
     let x = tested p q c.args.datagram.chain (g.R.Reclaim.owned p c.args.waiting.now) ys _ c.requires.owned c.requires.socks c.reserve.ensures.moves in
-    g.met.R.Reclaim.ready_same q c.append_at.new.pool v (joined q c.append_at.new.pool c.args.datagram.chain ys (from_three c.args.self.now.queues) (from_three c.append_at.new.queues) x.owned c.append_at.ensures.steps.moves).same c.reserve.ensures.ready
+    g.met.R.Reclaim.ready_same q c.append_at.new.pool v (joined q c.append_at.new.pool c.args.datagram.chain ys (from_three c.args.self.now.queues) (from_three c.append_at.new.self) x.owned c.append_at.ensures.steps.moves).same c.reserve.ensures.ready

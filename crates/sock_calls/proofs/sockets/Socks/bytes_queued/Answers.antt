@@ -1,10 +1,10 @@
-use Rattle.std.proofs.Common.{◌≡◌, ◌∙◌, sym, ap, subst}
+use Rattle.std.proofs.Common.{◌≡◌, List, ◌∙◌, sym, ap, subst}
 use Rattle.std.specs.Prelude.{Ok, Err}
 use Rattle.flat_model.specs.Sockets.Fits as queue
 use Rattle.flat_model.specs.declared.errno.Errno.TheVariants.{BadDescriptor}
-use Rattle.sockbuf.specs.SockBuf.{datagrams}
+use Rattle.sockbuf.specs.SockBuf.{SockBufView, IsSockBuf, datagrams}
 use Rattle.sock_calls.specs.Questions.{bytes_queued}
-use Rattle.sock_calls.specs.Sockets.{SocksView, IsSocks, from_three, queues_of, with_sockets}
+use Rattle.sock_calls.specs.Sockets.{SocksView, IsSocks, from_three, queue_at, queues_of, with_sockets}
 use Rattle.sock_calls.proofs.Asked.{bytes_found, bytes_refused}
 use Rattle.sock_calls.proofs.Frames.{each_from_three}
 use Rattle.sock_calls.proofs.Places.{at_three}
@@ -14,7 +14,8 @@ pub returns-in-Some : goal.returns-in-Some
 returns-in-Some c = λ p rest is.
     let now = subst (IsSocks p) (sym c.self.view_is) is in
     subst (λ (v : SocksView). Ok c.bytes_at.result ≡ bytes_queued c.args.fd (with_sockets p v rest)) c.self.view_is
-    (ap Ok (c.bytes_at.ensures p (each_from_three p c.self.inside.parts.queues now.each c.place_of.result)
+    (ap Ok (subst (λ (bs : List SockBufView). IsSockBuf p (queue_at bs c.place_of.result) → c.bytes_at.result ≡ queue.bytes_queued (queues_of p bs c.place_of.result)) c.as_slice.ensures.value (c.bytes_at.ensures p)
+    (each_from_three p c.self.inside.parts.queues now.each c.place_of.result)
     ∙ ap (λ b. queue.bytes_queued (datagrams p b)) (sym (at_three c.self.inside.parts.queues c.place_of.result c.args.fd c.place_of.ensures.value)))
     ∙ bytes_found (queues_of p (from_three c.self.inside.parts.queues)) c.self.inside.parts.pcbs c.args.fd c.in-Some.field-0 rest (sym c.block.ensures.value ∙ c.in-Some.is) c.in-Some.ensures.named)
 

@@ -24,17 +24,17 @@ returns-clause-step c = λ rest.
     let q = c.flush_at.new.pool in
     let t = c.self.inside.parts.pcbs in
     let f = queues_of p (from_three c.self.inside.parts.queues) in
-    let g = queues_of q (from_three c.flush_at.new.queues) in
-    let new : SocksView = record { pcbs = c.close.new.self; queues = from_three c.flush_at.new.queues } in
+    let g = queues_of q (from_three c.flush_at.new.self) in
+    let new : SocksView = record { pcbs = c.close.new.self; queues = from_three c.flush_at.new.self } in
     subst (λ (v : SocksView). Step (with_sockets p v rest) (Close c.args.fd) Done (with_sockets q new rest)) c.self.view_is
     (subst (λ (s : State). Step (machine rest f t) (Close c.args.fd) Done s) (closed_machine f g c.close.new.self t c.args.fd rest c.in_default.ensures.closed (steps_three c.args.fd c.place_of.ensures.value c.flush_at.ensures.takes).others)
     (c.in_default.ensures.step rest f))
 
 pub returns-clause-ready : goal.returns-clause-ready
 returns-clause-ready c =
-    keeps_closed c.args.pool.now c.flush_at.new.pool (record { pcbs = c.self.inside.parts.pcbs; queues = from_three c.self.inside.parts.queues }) c.close.new.self (from_three c.flush_at.new.queues) c.args.fd
+    keeps_closed c.args.pool.now c.flush_at.new.pool (record { pcbs = c.self.inside.parts.pcbs; queues = from_three c.self.inside.parts.queues }) c.close.new.self (from_three c.flush_at.new.self) c.args.fd
     (subst (IsSocks c.args.pool.now) (sym c.self.view_is) c.requires.ready) c.laws.ensures.apart c.in_default.ensures.closed (steps_three c.args.fd c.place_of.ensures.value c.flush_at.ensures.takes)
-    (ap (datagrams c.flush_at.new.pool) (at_three c.flush_at.new.queues c.place_of.result c.args.fd c.place_of.ensures.value) ∙ c.flush_at.ensures.empty)
+    (ap (datagrams c.flush_at.new.pool) (at_three c.flush_at.new.self c.place_of.result c.args.fd c.place_of.ensures.value) ∙ c.flush_at.ensures.empty)
 
 pub place_of-requires : goal.place_of-requires
 place_of-requires c =

@@ -35,15 +35,15 @@ returns-clause-step c = λ rest.
     let q = c.take_at.new.pool in
     let t = c.self.inside.parts.pcbs in
     let f = queues_of p (from_three c.self.inside.parts.queues) in
-    let g = queues_of q (from_three c.take_at.new.queues) in
+    let g = queues_of q (from_three c.take_at.new.self) in
     let most = length c.args.room.now in
     let old : SocksView = record { pcbs = t; queues = from_three c.self.inside.parts.queues } in
-    let new : SocksView = record { pcbs = t; queues = from_three c.take_at.new.queues } in
+    let new : SocksView = record { pcbs = t; queues = from_three c.take_at.new.self } in
     let closed = (subst (IsSocks c.args.pool.now) (sym c.self.view_is) c.requires.ready).closed c.args.fd in
     let others = (steps_three c.args.fd c.place_of.ensures.value c.take_at.ensures.takes).others in
-    let took : (found : Option (Addr × ℕ)) → c.take_at.result ≡ found → Took (queues_of c.args.pool.now (from_three c.self.inside.parts.queues)) (queues_of c.take_at.new.pool (from_three c.take_at.new.queues)) c.args.fd (length c.args.room.now) found c.take_at.new.room =
-    λ found is. subst (λ (x : Option (Addr × ℕ)). Took (queues_of c.args.pool.now (from_three c.self.inside.parts.queues)) (queues_of c.take_at.new.pool (from_three c.take_at.new.queues)) c.args.fd (length c.args.room.now) x c.take_at.new.room) is
-    (took_as (length c.args.room.now) c.take_at.result c.take_at.new.room (ap (datagrams p) (at_three c.self.inside.parts.queues c.place_of.result c.args.fd c.place_of.ensures.value)) (ap (datagrams q) (at_three c.take_at.new.queues c.place_of.result c.args.fd c.place_of.ensures.value)) c.take_at.ensures.taken) in
+    let took : (found : Option (Addr × ℕ)) → c.take_at.result ≡ found → Took (queues_of c.args.pool.now (from_three c.self.inside.parts.queues)) (queues_of c.take_at.new.pool (from_three c.take_at.new.self)) c.args.fd (length c.args.room.now) found c.take_at.new.room =
+    λ found is. subst (λ (x : Option (Addr × ℕ)). Took (queues_of c.args.pool.now (from_three c.self.inside.parts.queues)) (queues_of c.take_at.new.pool (from_three c.take_at.new.self)) c.args.fd (length c.args.room.now) x c.take_at.new.room) is
+    (took_as (length c.args.room.now) c.take_at.result c.take_at.new.room (ap (datagrams p) (at_three c.self.inside.parts.queues c.place_of.result c.args.fd c.place_of.ensures.value)) (ap (datagrams q) (at_three c.take_at.new.self c.place_of.result c.args.fd c.place_of.ensures.value)) c.take_at.ensures.taken) in
     subst (λ (v : SocksView). Step (with_sockets p v rest) (Receive c.args.fd (length c.args.room.now)) (received_reply c.match-take_at.result c.take_at.new.room) (with_sockets q new rest)) c.self.view_is
     (elim c.match-take_at.branch [
       | in-Some w ↦

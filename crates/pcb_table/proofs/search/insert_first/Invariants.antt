@@ -1,8 +1,0 @@
-use Rattle.std.proofs.Common.{◌≡◌, ◌∷◌, length}
-use Rattle.std.specs.Prelude.{insert}
-use Rattle.pcb_table.proofs.search.insert_first.Given as goal
-
-abbrev pub invariant-loop-index : goal.invariant-loop-index
-invariant-loop-index l =
-    (length l.blocks.items ≡ length l.initial.blocks.items)
-    × (insert l.blocks.items l.index l.moved ≡ l.initial.moved ∷ l.initial.blocks.items)
