@@ -21,5 +21,6 @@ mod Arriving
 mod Queues
 mod Came
 mod Distinct
+mod Holding
 mod Ranges
 pub mod Laws

@@ -1,5 +1,5 @@
 -- What an arrival has in hand while the pool is tested, and a datagram that begins.
-use Rattle.std.proofs.Common.{◌≡◌, ℕ, ◌<◌, ◌≤◌, Bool, true, false, List, [], ◌∷◌, ◌++◌, length, find, count_by, get_or, None, refl, sym, ap, ◌∙◌, subst, arith, inl, inr, length-append}
+use Rattle.std.proofs.Common.{◌≡◌, ℕ, ◌*◌, ◌<◌, ◌≤◌, Bool, true, false, List, [], ◌∷◌, ◌++◌, length, find, count_by, get_or, None, refl, sym, ap, ◌∙◌, subst, arith, inl, inr, length-append}
 use Rattle.std.proofs.lemmas.Bool.{false≢true, and_from, eq-eqb}
 use Rattle.std.proofs.lemmas.List.Sums.{count_by-le-length}
 use Rattle.flat_model.specs.Amounts.Weight.{Weight, ◌⊕◌}
@@ -19,7 +19,7 @@ use Rattle.mbuf_chain.proofs.Laws.Owners.{times_same, chain_same, moves_trans, m
 use Rattle.mbuf_chain.proofs.Laws.Accounts.{owned_at_most}
 use Rattle.ip_reass.specs.Fragments.{fragment_of}
 use Rattle.ip_reass.specs.Inside.Walks.{arrived}
-use Rattle.ip_reass.specs.Table.{held, held_all, new_datagram, IsTable, unfinished, unfinished_of}
+use Rattle.ip_reass.specs.Table.{held, held_all, new_datagram, AllUnfinished, HaveFragments, IsTable, unfinished, unfinished_of}
 use Rattle.ip_reass.specs.Same.{held_all_same, table_same, unfinished_same, queues_same}
 use Rattle.ip_reass.specs.Layouts.{queues}
 use Rattle.ip_reass.specs.Inside.Steps.{datagram_at, no_datagram}
@@ -141,10 +141,10 @@ begins_here rest held new k w p q r ds es hs c mid d n i offset more result t ts
       };
     }
 
--- there is room in the table: each datagram has an mbuf, and the chain in hand one more
-pub room : (p : PoolView) (ds : List Datagram) (c : ℕ) → IsBounded p → IsOwned p (c ∷ held_all p ds) → length ds < p.mbufs
-room p ds c b owns = omega (arith, owned_at_most p (c ∷ held_all p ds) b owns, longer ds)
+-- there is room in the table: each datagram has an mbuf for its key and a fragment, and the chain in hand one more
+pub room : (p : PoolView) (ds : List Datagram) (c : ℕ) → IsBounded p → IsTable p ds → HaveFragments ds → IsOwned p (c ∷ held_all p ds) → 2 * length ds < p.mbufs
+room p ds c b is some owns = omega (arith, owned_at_most p (c ∷ held_all p ds) b owns, twice ds is.each some)
   where
-    longer : (xs : List Datagram) → length xs ≤ length (held_all p xs)
-    longer [] = omega arith
-    longer (d ∷ xs) = omega (arith, longer xs, length-append (held p d) (held_all p xs))
+    twice : (xs : List Datagram) → AllUnfinished p xs → HaveFragments xs → 2 * length xs ≤ length (held_all p xs)
+    twice [] a f = omega arith
+    twice (d ∷ xs) a f = omega (arith, f.0, a.0.queue.held.whole, twice xs a.1 f.1, length-append (held p d) (held_all p xs))

@@ -79,6 +79,7 @@ distinct_same p q ds es same distinct = λ k. omega (arith, distinct k, ap (coun
 pub ready_same : (p q : PoolView) (r : TableView) → SameAt p q (held_all p r.datagrams) → IsReady p r → IsReady q r
 ready_same p q r s is = record {
   table = table_same p q r.datagrams s is.table;
+  fragments = is.fragments;
   room = omega (arith, s.mbufs, is.room);
   distinct = distinct_same p q r.datagrams r.datagrams (unfinished_same p q r.datagrams s) is.distinct;
 }

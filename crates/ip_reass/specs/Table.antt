@@ -1,5 +1,5 @@
 -- The table of unfinished datagrams, and what the flat machine sees of it (TCP/IP Illustrated, volume 2, chapter 10).
-use Rattle.std.specs.Prelude.{◌≡◌, ℕ, ◌-◌, ◌≤◌, nat_lt, Bool, ◌==◌, ◌&&◌, if◌then◌else◌, List, [], ◌∷◌, ◌++◌, map, count_by, None}
+use Rattle.std.specs.Prelude.{◌≡◌, ℕ, ◌-◌, ◌*◌, ◌<◌, ◌≤◌, nat_lt, Bool, ◌==◌, ◌&&◌, if◌then◌else◌, List, [], ◌∷◌, ◌++◌, map, count_by, None}
 use Rattle.std.specs.List.{AllByRecursion}
 use Rattle.params.specs.declared.TheConstants.{FRAGMENT_TICKS}
 use Rattle.flat_model.specs.Amounts.Weight.{mbuf}
@@ -61,13 +61,19 @@ pub record IsTable (p : PoolView) (ds : List Datagram) : Type 0 where
 abbrev pub AreDistinct : PoolView → List Datagram → Type 0
 AreDistinct p ds = (k : Key) → count_by (is_key k) (unfinished p ds) ≤ 1
 
+-- each datagram has a fragment, and so two mbufs or more, with that of its key
+abbrev pub HaveFragments : List Datagram → Type 0
+HaveFragments ds = AllByRecursion (λ (d : Datagram). 0 < d.fragments.len) ds
+
 -- what a contract sees of the table: its datagrams in the order of their beginning, and for how many there are places
 pub record TableView : Type 0 where
   pub datagrams : List Datagram
   pub room : ℕ
 
--- the table fits the pool, has a place for each of the pool's mbufs, and holds no key twice
+-- the table fits the pool, each datagram has a fragment, there is a place for each two of the pool's mbufs, and no key
+-- is held twice
 pub record IsReady (p : PoolView) (r : TableView) : Type 0 where
   pub table : IsTable p r.datagrams
-  pub room : p.mbufs ≤ r.room
+  pub fragments : HaveFragments r.datagrams
+  pub room : p.mbufs ≤ 2 * r.room
   pub distinct : AreDistinct p r.datagrams

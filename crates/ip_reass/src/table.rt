@@ -51,14 +51,16 @@ impl Model for Reass {
 impl Reass {
     /// A table without datagrams. `AllocError` comes where the host has no memory for it, and nothing is left then.
     ///
-    /// After this as many unfinished datagrams as the pool has mbufs can be held, with no more host memory: each has an
-    /// mbuf for its key. `mbufs` is that of the pool.
+    /// After this half as many unfinished datagrams as the pool has mbufs can be held, with no more host memory. More
+    /// there can't be, since each holds two mbufs or more: one for its key, and those of its fragments. `mbufs` is that
+    /// of the pool.
     pub fn boot(alloc: Global, mbufs: u32) -> Result<Reass, AllocError>
         ensures none { IfOk result (λ r. r.datagrams ≡ []) }
-        ensures room { IfOk result (λ r. mbufs ≤ r.room) }
+        ensures room { IfOk result (λ r. mbufs ≤ 2 * r.room) }
     {
-        let datagrams = Vec::with_capacity(alloc, mbufs as usize)?;
-        let Ok(index) = Index::boot(alloc, mbufs) else {
+        let places = mbufs.div_ceil(2);
+        let datagrams = Vec::with_capacity(alloc, places as usize)?;
+        let Ok(index) = Index::boot(alloc, places) else {
             datagrams.destroy_empty();
             return Err(AllocError);
         };

@@ -1,7 +1,7 @@
 -- How a stack starts, and what it leaves.
 use Rattle.std.proofs.lemmas.List.{length-replicate}
 use Rattle.mbuf_pool.specs.Store.{StoreView, free_store, free_cluster}
-use Rattle.std.proofs.Common.{◌≡◌, ℕ, ◌≤◌, List, [], ◌++◌, length, None, sym, ap, ◌∙◌, subst, arith}
+use Rattle.std.proofs.Common.{◌≡◌, ℕ, ◌*◌, ◌≤◌, List, [], ◌++◌, length, None, sym, ap, ◌∙◌, subst, arith}
 use Rattle.std.specs.FinMap as finmap
 use Rattle.std.specs.FinMap.{get-empty}
 use Rattle.std.specs.Ordering.{nat_cmp}
@@ -17,7 +17,7 @@ use Rattle.mbuf_chain.specs.Train.{numbers}
 use Rattle.mbuf_chain.proofs.Laws.Owners.{times-append, live_at_most, live_none, live_one, moves_beside, moves_trans, moves_nothing, same_beside, same_part}
 use Rattle.pcb_table.specs.Table.{sockets_with}
 use Rattle.ip_out.specs.Queues.{IsQueue}
-use Rattle.ip_reass.specs.Table.{AreDistinct, IsTable, held_all, unfinished}
+use Rattle.ip_reass.specs.Table.{AreDistinct, HaveFragments, IsTable, held_all, unfinished}
 use Rattle.ip_reass.specs.declared.datagram.Datagram.{Datagram}
 use Rattle.sock_calls.specs.Sockets.{IsSocks, queues_of, queued_chains}
 use Rattle.ip_reass.proofs.Laws.{none_distinct}
@@ -48,7 +48,7 @@ pub record Starts (config : Config) (s : Inside) : Type 0 where
   pub socks : (p : PoolView) → IsSocks p s.host.socks
   pub blocks : s.host.socks.pcbs ≡ record { addr = config.addr; bcast = config.bcast; blocks = []; last_port = None }
   pub none : s.host.reass.datagrams ≡ []
-  pub room : config.mbufs ≤ s.host.reass.room
+  pub room : config.mbufs ≤ 2 * s.host.reass.room
   pub mtu : s.host.net.mtu ≡ config.mtu
   pub next_id : s.host.net.next_id ≡ config.first_id
   pub counters : s.host.net.counters ≡ no_counts
@@ -89,6 +89,7 @@ started config s is h = record {
     socks = h.socks s.host.pool;
     reass = record {
       table = none_table s.host.pool s.host.reass.datagrams h.none;
+      fragments = subst HaveFragments (sym h.none) tt;
       room = omega (arith, h.room, ap (λ (p : PoolView). p.mbufs) h.pool);
       distinct = subst (AreDistinct s.host.pool) (sym h.none) (none_distinct s.host.pool);
     };

@@ -32,6 +32,7 @@ returns-then-is_bad-clause-accounts c = λ rest held acc.
 pub returns-then-is_bad-clause-ready : goal.returns-then-is_bad-clause-ready
 returns-then-is_bad-clause-ready c = record {
   table = (freed c.args.pool.now c.args.pool.now c.free_chain.new.self c.args.self.now.datagrams c.args.self.now.datagrams c.args.chain (stays c.args.pool.now c.args.pool.now c.args.self.now.datagrams c.args.self.now.datagrams c.args.chain c.requires.owned (moves_none _ _)) c.requires.ready.table c.free_chain.ensures).table;
+  fragments = c.requires.ready.fragments;
   room = omega (arith, c.requires.ready.room, ap (λ (q : PoolView). q.mbufs) c.free_chain.ensures);
   distinct = distinct_same c.args.pool.now c.free_chain.new.self c.args.self.now.datagrams c.args.self.now.datagrams
       (freed c.args.pool.now c.args.pool.now c.free_chain.new.self c.args.self.now.datagrams c.args.self.now.datagrams c.args.chain (stays c.args.pool.now c.args.pool.now c.args.self.now.datagrams c.args.self.now.datagrams c.args.chain c.requires.owned (moves_none _ _)) c.requires.ready.table c.free_chain.ensures).shows c.requires.ready.distinct;
@@ -62,6 +63,7 @@ lay_or_begin-requires-clause-ready c =
     let t = trimmed_off c.pull_up.new.pool c.trim_front.new.pool c.pull_up.new.self.datagrams c.in-Some.chain c.pull_up.ensures.ready.table (owned_after m c.requires.owned) c.trim_front.ensures in
     record {
       table = t.table;
+      fragments = c.pull_up.ensures.ready.fragments;
       room = omega (arith, c.pull_up.ensures.ready.room, t.moves.mbufs);
       distinct = distinct_same c.pull_up.new.pool c.trim_front.new.pool c.pull_up.new.self.datagrams c.pull_up.new.self.datagrams t.shows c.pull_up.ensures.ready.distinct;
     }

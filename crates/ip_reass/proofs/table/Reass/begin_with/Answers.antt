@@ -15,6 +15,7 @@ use Rattle.ip_reass.specs.Table.{TableView}
 use Rattle.ip_reass.specs.Same.{distinct_same}
 use Rattle.ip_reass.proofs.Arriving.{none_by_key}
 use Rattle.ip_reass.proofs.Distinct.{distinct_after}
+use Rattle.ip_reass.proofs.Holding.{fragments_after}
 use Rattle.ip_reass.proofs.Queues.{begins_layout, begins_cause, cause_lacking, none_reserved, wait_reserved}
 use Rattle.ip_reass.proofs.Reserved.{stays, freed, lacking, Began, began, begins_here, room}
 use Rattle.ip_reass.proofs.Followed.{followed, length_buckets, length_more, pushed}
@@ -32,6 +33,7 @@ pub returns-then-not-reserve-clause-ready : goal.returns-then-not-reserve-clause
 returns-then-not-reserve-clause-ready c = record {
   table = (freed c.args.pool.now c.reserve.new.pool c.free_chain.new.self c.args.self.now.datagrams c.reserve.new.waiting.datagrams c.args.chain
       (stays c.args.pool.now c.reserve.new.pool c.args.self.now.datagrams c.reserve.new.waiting.datagrams c.args.chain c.requires.owned c.reserve.ensures.moves) c.reserve.ensures.ready.table c.free_chain.ensures).table;
+  fragments = c.reserve.ensures.ready.fragments;
   room = omega (arith, c.reserve.ensures.ready.room, ap (λ (q : PoolView). q.mbufs) c.free_chain.ensures);
   distinct = distinct_same c.reserve.new.pool c.free_chain.new.self c.reserve.new.waiting.datagrams c.reserve.new.waiting.datagrams
       (freed c.args.pool.now c.reserve.new.pool c.free_chain.new.self c.args.self.now.datagrams c.reserve.new.waiting.datagrams c.args.chain
@@ -52,7 +54,7 @@ add-requires-clause-room c =
       ap (λ (r : TableView). length r.datagrams) c.self.view_is,
       ap (λ (r : TableView). r.room) c.self.view_is,
       c.reserve.ensures.ready.room,
-      room c.reserve.new.pool c.reserve.new.waiting.datagrams c.args.chain c.laws.ensures (stays c.args.pool.now c.reserve.new.pool c.args.self.now.datagrams c.reserve.new.waiting.datagrams c.args.chain c.requires.owned c.reserve.ensures.moves).owned,
+      room c.reserve.new.pool c.reserve.new.waiting.datagrams c.args.chain c.laws.ensures c.reserve.ensures.ready.table c.reserve.ensures.ready.fragments (stays c.args.pool.now c.reserve.new.pool c.args.self.now.datagrams c.reserve.new.waiting.datagrams c.args.chain c.requires.owned c.reserve.ensures.moves).owned,
     )
 
 pub begin-requires : goal.begin-requires
@@ -63,7 +65,7 @@ begin-requires c =
       same,
       c.reserve.ensures.ready.room,
       ap (λ (r : TableView). r.room) c.self.view_is,
-      room c.reserve.new.pool c.reserve.new.waiting.datagrams c.args.chain c.laws.ensures (stays c.args.pool.now c.reserve.new.pool c.args.self.now.datagrams c.reserve.new.waiting.datagrams c.args.chain c.requires.owned c.reserve.ensures.moves).owned,
+      room c.reserve.new.pool c.reserve.new.waiting.datagrams c.args.chain c.laws.ensures c.reserve.ensures.ready.table c.reserve.ensures.ready.fragments (stays c.args.pool.now c.reserve.new.pool c.args.self.now.datagrams c.reserve.new.waiting.datagrams c.args.chain c.requires.owned c.reserve.ensures.moves).owned,
     )
 
 begun : (c : goal.After-lay_and_count-arg-3-1) → Began c.reserve.new.pool c.reserve.new.waiting.datagrams c.args.chain (key_in c.args.head) c.new_chain.new.self c.begin.new.table.items (length c.as_slice-i.result.now)
@@ -92,7 +94,7 @@ lay_and_count-arrival-requires-clause-small c = subst (λ (v : ChainView). c.arg
 
 pub invariant_of-self : goal.invariant_of-self
 invariant_of-self c =
-    let few = room c.reserve.new.pool c.reserve.new.waiting.datagrams c.args.chain c.laws.ensures (stays c.args.pool.now c.reserve.new.pool c.args.self.now.datagrams c.reserve.new.waiting.datagrams c.args.chain c.requires.owned c.reserve.ensures.moves).owned in
+    let few = room c.reserve.new.pool c.reserve.new.waiting.datagrams c.args.chain c.laws.ensures c.reserve.ensures.ready.table c.reserve.ensures.ready.fragments (stays c.args.pool.now c.reserve.new.pool c.args.self.now.datagrams c.reserve.new.waiting.datagrams c.args.chain c.requires.owned c.reserve.ensures.moves).owned in
     let same : c.self.inside.datagrams.len ≡ length c.reserve.new.waiting.datagrams = omega (arith, c.as_slice-i.ensures.len, ap (λ (ds : List Datagram). length ds) (c.as_slice-i.ensures.value ∙ (ap (λ (r : TableView). r.datagrams) c.self.view_is))) in
     let n = c.self.inside.index.count in
     let ds = c.begin.new.table.items in
@@ -144,6 +146,7 @@ laid_in c =
 pub returns-clause-ready : goal.returns-clause-ready
 returns-clause-ready c = record {
   table = c.lay_and_count-arrival.ensures.table;
+  fragments = fragments_after c.args.pool.now c.lay_and_count-arrival.new.pool c.args.self.now.datagrams c.lay_and_count-arrival.new.table.items (key_in c.args.head) (arrived c.args.pool.now c.args.chain c.args.head.offset c.args.head.more) c.lay_and_count-arrival.result (laid_in c) c.requires.ready.table c.requires.ready.fragments c.lay_and_count-arrival.ensures.table;
   room = omega (
     arith,
     c.lay_and_count-arrival.ensures.capacity,

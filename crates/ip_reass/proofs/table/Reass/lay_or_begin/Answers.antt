@@ -8,6 +8,7 @@ use Rattle.ip_reass.specs.Table.{TableView, has_key}
 use Rattle.ip_reass.specs.declared.datagram.Datagram.{Datagram}
 use Rattle.ip_reass.proofs.Followed.{followed, once_held}
 use Rattle.ip_reass.proofs.Distinct.{distinct_after}
+use Rattle.ip_reass.proofs.Holding.{fragments_after}
 use Rattle.ip_reass.proofs.Queues.{found_layout, found_cause}
 use Rattle.ip_reass.proofs.Arriving.{joins_found, joins_none, none_found_in}
 use Rattle.ip_reass.proofs.table.Reass.lay_or_begin.Goals as goal
@@ -36,6 +37,7 @@ laid_in c =
 pub returns-in-Some-clause-ready : goal.returns-in-Some-clause-ready
 returns-in-Some-clause-ready c = record {
   table = c.lay_and_count-arrival.ensures.table;
+  fragments = fragments_after c.args.pool.now c.lay_and_count-arrival.new.pool c.args.self.now.datagrams c.lay_and_count-arrival.new.table.items (key_in c.args.head) (arrived c.args.pool.now c.args.chain c.args.head.offset c.args.head.more) c.lay_and_count-arrival.result (laid_in c) c.requires.ready.table c.requires.ready.fragments c.lay_and_count-arrival.ensures.table;
   room = omega (arith, c.lay_and_count-arrival.ensures.capacity, ap (λ (r : TableView). r.room) c.self.view_is, c.requires.ready.room, c.lay_and_count-arrival.ensures.moves.mbufs);
   distinct = distinct_after c.args.pool.now c.lay_and_count-arrival.new.pool c.args.self.now.datagrams c.lay_and_count-arrival.new.table.items (key_in c.args.head) (arrived c.args.pool.now c.args.chain c.args.head.offset c.args.head.more) c.lay_and_count-arrival.result (laid_in c) c.requires.ready.distinct;
 }

@@ -20,6 +20,7 @@ pub returns-then-not-reserve-clause-ready : goal.returns-then-not-reserve-clause
 returns-then-not-reserve-clause-ready c = record {
   table = (freed c.args.pool.now c.reserve.new.pool c.free_chain.new.self c.args.self.now.datagrams c.reserve.new.waiting.datagrams c.args.chain
       (stays c.args.pool.now c.reserve.new.pool c.args.self.now.datagrams c.reserve.new.waiting.datagrams c.args.chain c.requires.owned c.reserve.ensures.moves) c.reserve.ensures.ready.table c.free_chain.ensures).table;
+  fragments = c.reserve.ensures.ready.fragments;
   room = omega (arith, c.reserve.ensures.ready.room, ap (λ (q : PoolView). q.mbufs) c.free_chain.ensures);
   distinct = distinct_same c.reserve.new.pool c.free_chain.new.self c.reserve.new.waiting.datagrams c.reserve.new.waiting.datagrams
       (freed c.args.pool.now c.reserve.new.pool c.free_chain.new.self c.args.self.now.datagrams c.reserve.new.waiting.datagrams c.args.chain
@@ -44,6 +45,7 @@ returns-clause-ready c =
     (stays c.args.pool.now c.reserve.new.pool c.args.self.now.datagrams c.reserve.new.waiting.datagrams c.args.chain c.requires.owned c.reserve.ensures.moves) c.reserve.ensures.ready.table c.in-Ok.ensures.ok in
     record {
       table = u.table;
+      fragments = c.reserve.ensures.ready.fragments;
       room = omega (arith, c.reserve.ensures.ready.room, u.moves.mbufs, c.reserve.ensures.moves.mbufs);
       distinct = distinct_same c.reserve.new.pool c.m_pullup.new.pool c.reserve.new.waiting.datagrams c.reserve.new.waiting.datagrams u.shows c.reserve.ensures.ready.distinct;
     }

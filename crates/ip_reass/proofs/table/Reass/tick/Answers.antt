@@ -5,6 +5,7 @@ use Rattle.ip_reass.specs.Table.{aged, held_all, holds, AllUnfinished, IsTable}
 use Rattle.std.proofs.lemmas.List.{length-take-le}
 use Rattle.ip_reass.specs.Table.{TableView}
 use Rattle.ip_reass.proofs.Aging.{reordered, table_reordered, lent, tick_step, aged_distinct}
+use Rattle.ip_reass.proofs.Holding.{aged_fragments}
 use Rattle.ip_reass.specs.Inside.Index.{buckets_of}
 use Rattle.ip_reass.proofs.Followed.{aged_same, length_buckets}
 use Rattle.ip_reass.proofs.table.Reass.tick.Goals as goal
@@ -42,6 +43,7 @@ returns-clause-step c = λ rest d.
 pub returns-clause-ready : goal.returns-clause-ready
 returns-clause-ready c = record {
   table = c.free_beyond.ensures.table;
+  fragments = aged_fragments c.args.self.now.datagrams c.free_beyond.new.table.items (aged_now c) c.requires.fragments;
   room = omega (arith, c.free_beyond.ensures.capacity, ap (λ (r : TableView). r.room) c.self.view_is, c.requires.room, c.free_beyond.ensures.moves.mbufs);
   distinct = aged_distinct c.args.pool.now c.free_beyond.new.pool c.args.self.now.datagrams c.free_beyond.new.table.items (aged_now c) c.free_beyond.ensures.same c.requires.distinct;
 }
