@@ -4,6 +4,7 @@
 
 mod capture;
 mod choice;
+mod folder;
 mod form;
 mod hosts;
 mod one;

@@ -1,32 +1,40 @@
 //! Scripts of one machine, with a capture of its packets or without one.
 use crate::choice::Ahead;
+use crate::folder::HostFolder;
 use crate::hosts::{UNWRITTEN, status_of};
 use crate::{MACHINE, report};
-use play_script::{Captured, Silent, Sink, Source, Start, Style, Trace, play, play_captured};
+use play_pcap::Nowhere;
+use play_script::{
+    Captured, Played, RunFault, Silent, Sink, Source, Start, Style, Trace, play_captured,
+};
 use script_loop::Buffer;
 use std::fs;
 use std::io::{self, Read};
 
-/// Plays a script, and writes the packets that come and go to a new file.
-fn play_to<R: Source, W: Sink>(
+/// Plays a script from a folder, and writes the packets that come and go to a sink. Answers the status.
+fn play_to<R: Source, S: Sink + Drop>(
     rt: &HostRuntime,
     style: Style<'_>,
-    (name, path): (&str, &str),
+    (name, sink): (&str, S),
     reader: &mut R,
-    writer: &mut W,
 ) -> io::Result<u8> {
-    let room = Buffer::new(rt.alloc())?;
-    let Ok(file) = fs::create(rt, path) else {
-        eprintln!(rt; "bsdplay: {path}: it can't be written")?;
-        return Ok(UNWRITTEN);
+    let Ok(room) = Buffer::new(rt.alloc()) else {
+        let played = Played {
+            outcome: Err(RunFault::Memory),
+            sound: true,
+        };
+        report(rt, name, &played)?;
+        return Ok(played.status());
     };
     let start = Start {
         config: MACHINE,
-        trace: Trace::begin(Silent(file), room),
+        trace: Trace::begin(sink, room),
+        folder: HostFolder::of(rt, name),
     };
-    let Captured { played, trace } = play_captured(rt.alloc(), start, style, reader, writer);
+    let mut writer = Silent(rt.stdout());
+    let Captured { played, trace } = play_captured(rt.alloc(), start, style, reader, &mut writer);
     let kept = trace.is_whole();
-    let _file = trace.end();
+    let _sink = trace.end();
     report(rt, name, &played)?;
     status_of(rt, &played, kept)
 }
@@ -39,11 +47,12 @@ pub(crate) fn play_one<R: Read + Drop>(
     style: Style<'_>,
     capture: Option<&str>,
 ) -> io::Result<u8> {
-    let mut writer = Silent(rt.stdout());
-    if let Some(path) = capture {
-        return play_to(rt, style, (name, path), reader, &mut writer);
-    }
-    let played = play(rt.alloc(), MACHINE, style, reader, &mut writer);
-    report(rt, name, &played)?;
-    Ok(played.status())
+    let Some(path) = capture else {
+        return play_to(rt, style, (name, Nowhere), reader);
+    };
+    let Ok(file) = fs::create(rt, path) else {
+        eprintln!(rt; "bsdplay: {path}: it can't be written")?;
+        return Ok(UNWRITTEN);
+    };
+    play_to(rt, style, (name, Silent(file)), reader)
 }

@@ -89,6 +89,14 @@ places word =
 abbrev pub is_named : Scanner → Bool
 is_named s = s.begin == 3 && (s.awaits == 1 && bytes_eq s.piece (codes "udp"))
 
+-- It's `pcap`: a capture, whose name stands after it.
+abbrev pub is_capture : Scanner → Bool
+is_capture s = s.begin == 3 && (s.awaits == 1 && bytes_eq s.piece (codes "pcap"))
+
+-- it's one of both
+abbrev pub is_kind : Scanner → Bool
+is_kind s = is_named s || is_capture s
+
 abbrev pub next_awaits : Scanner → ℕ
 next_awaits s = if s.begin == 0 then places s.piece else if is_named s then 4 else s.awaits - 1
 
@@ -153,9 +161,10 @@ in_word Other byte s = put byte s
 in_word Quote byte s = failed NotJoined s.column s
 in_word At byte s = failed NotJoined s.column s
 
--- A word of bytes ends, or a piece of them. A dash is a word of no bytes, and `udp` is one of a packet by name.
+-- A word of bytes ends, or a piece of them. A dash is a word of no bytes, `udp` is one of a packet by name, and `pcap`
+-- one of a capture.
 abbrev pub end_hex : Mode → Scanner → Scanner
-end_hex now s = if bytes_eq s.piece (codes "-") || is_named s then append now s else append_hex now s
+end_hex now s = if bytes_eq s.piece (codes "-") || is_kind s then append now s else append_hex now s
 
 -- in digits, which have to be hexadecimal
 abbrev pub in_hex : Sign → ℕ → Scanner → Scanner

@@ -87,11 +87,11 @@ impl Scanner {
         }
     }
 
-    /// Ends a word of bytes. A dash is one of no bytes, and `udp` is one of a packet by name.
+    /// Ends a word of bytes. A dash is one of no bytes, `udp` one of a packet by name, and `pcap` one of a capture.
     fn end_hex(&mut self, mode: Mode)
         ensures { self.new ≡ scans.end_hex mode self.old }
     {
-        if self.piece.as_slice() == b"-".as_slice() || self.is_named() {
+        if self.piece.as_slice() == b"-".as_slice() || self.is_kind() {
             self.append(mode);
         } else {
             self.append_hex(mode);

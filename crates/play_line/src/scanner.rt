@@ -165,10 +165,24 @@ impl Scanner {
     }
 
     /// Whether the word after `rx` is `udp`, and so the line names a packet.
-    pub(crate) fn is_named(&self) -> bool
+    fn is_named(&self) -> bool
         ensures { result ≡ scans.is_named self.now }
     {
         self.begin == 3 && (self.awaits == 1 && self.piece.as_slice() == b"udp".as_slice())
+    }
+
+    /// Whether the word after `rx` is `pcap`, and so the line names a capture.
+    fn is_capture(&self) -> bool
+        ensures { result ≡ scans.is_capture self.now }
+    {
+        self.begin == 3 && (self.awaits == 1 && self.piece.as_slice() == b"pcap".as_slice())
+    }
+
+    /// Whether the word after `rx` is `udp` or `pcap`.
+    pub(crate) fn is_kind(&self) -> bool
+        ensures { result ≡ scans.is_kind self.now }
+    {
+        self.is_named() || self.is_capture()
     }
 
     /// How many words on the bytes of the line stand after this one.

@@ -4,7 +4,7 @@ use script_loop::Buffer;
 use std::process::Abort;
 
 /// Lines, and the plain lines that they stand for.
-static PLAIN: [(&str, &str); 20] = [
+static PLAIN: [(&str, &str); 23] = [
     ("", ""),
     ("  \t\r", ""),
     ("# only \"a comment", ""),
@@ -29,14 +29,24 @@ static PLAIN: [(&str, &str); 20] = [
         "rx udp 1.2.3.4:5 > 6.7.8.9:10 6162 id 7",
     ),
     ("rx udp a > b -", "rx udp a > b -"),
+    (
+        "rx  pcap ../a.pcap 3-17 ticks # c",
+        "rx pcap ../a.pcap 3-17 ticks",
+    ),
+    ("rx pcap \"a b\"", "rx pcap 612062"),
+    ("rx pcap# c", "rx pcap"),
     ("send 3 \"a\"=> ok", "send 3 61=> ok"),
     ("stat => stat ip.total=1", "stat => stat ip.total=1"),
 ];
 
 /// Lines that stand for none, with what is wrong with them, and in which column.
-static FAULTY: [(&str, &str, u64); 29] = [
+static FAULTY: [(&str, &str, u64); 33] = [
     ("rx 0g", "not a hex digit", 5),
     ("rx udq", "not a hex digit", 4),
+    ("rx pcaq", "not a hex digit", 4),
+    ("send 3 pcap", "not a hex digit", 8),
+    ("rx 00+pcap", "not a hex digit", 7),
+    ("rx pcap a+b", "odd number of hex digits", 9),
     ("send 3 hi", "not a hex digit", 8),
     ("send 3 udp", "not a hex digit", 8),
     ("rx 00+udp", "not a hex digit", 7),

@@ -1,16 +1,15 @@
 -- What was written, read and played in again.
-use Rattle.std.proofs.Common.{◌≡◌, ℕ, zero, suc, ◌+◌, ◌^◌, ◌<◌, ◌≤◌, ◌||◌, Bool, true, false, cond, List, [], ◌∷◌, ◌++◌, length, take, drop, map, ltb, Ok, Some, None, refl, sym, ap, ◌∙◌, arith, lit<}
+use Rattle.std.proofs.Common.{◌≡◌, ℕ, zero, suc, ◌≤◌, ◌||◌, Bool, true, false, cond, List, [], ◌∷◌, ◌++◌, length, take, drop, map, ltb, Ok, Some, refl, ap, arith, lit<}
 use Rattle.std.specs.List.{AllByRecursion}
 use Rattle.std.specs.Int.{w16}
 use Rattle.std.proofs.lemmas.Bool.{le-ltb}
 use Rattle.flat_model.specs.Machine.Event.{Event, Comes}
 use Rattle.pcap.specs.File.{IsHeader, header_bytes, our_header, number_of}
 use Rattle.pcap.specs.Frames.{unpadded}
-use Rattle.pcap.specs.Records.{Captured, Fits, Reads, Whole, records_bytes}
-use Rattle.pcap.specs.declared.header.Order.TheVariants.{Little, Big}
+use Rattle.pcap.specs.Records.{Fits, Reads, Whole, records_bytes}
+use Rattle.pcap.specs.declared.header.Order.TheVariants.{Big}
 use Rattle.play_pcap.specs.Events.{events_of, played, taken}
 use Rattle.play_pcap.specs.Traces.{IsPass, Pass, file_of, passes_bytes, record_of}
-use Rattle.play_pcap.specs.declared.moves.Course.{Course}
 
 our_header_is : IsHeader our_header
 our_header_is = record { time_zone = lit< tt; accuracy = lit< tt; snap_len = lit< tt; link_field = lit< tt; link = refl }

@@ -4,4 +4,5 @@ mod ScriptLines
 mod Back
 mod Moving
 mod Asking
+mod Naming
 mod Playing

@@ -1,7 +1,7 @@
 -- The first of the records that are left, and the others.
-use Rattle.std.proofs.Common.{◌≡◌, ℕ, ◌+◌, ◌-◌, ◌<◌, ◌≤◌, List, [], ◌∷◌, ◌++◌, length, get_or, take, drop, map, max, replicate, Option, Some, None, refl, sym, ap, ◌∙◌, arith}
-use Rattle.std.proofs.lemmas.List.{take_all, length-map}
-use Rattle.flat_model.specs.Machine.Event.{Event, Comes, Tick}
+use Rattle.std.proofs.Common.{◌≡◌, ℕ, ◌+◌, ◌-◌, ◌<◌, List, [], ◌∷◌, ◌++◌, length, get_or, take, drop, map, max, replicate, Some, None, refl, arith}
+use Rattle.std.proofs.lemmas.List.{take_all}
+use Rattle.flat_model.specs.Machine.Event.{Comes, Tick}
 use Rattle.pcap.specs.Seen.{captured}
 use Rattle.pcap.specs.declared.reader.Record.{Record}
 use Rattle.play_pcap.specs.Events.{due, events_of, packet_in}

@@ -1,4 +1,5 @@
 pub mod Asks
 pub mod Events
+pub mod Files
 pub mod Told
 pub mod Traces

@@ -1,5 +1,5 @@
 -- The capture of a run: the packets that came and went (this project's own).
-use Rattle.std.specs.Prelude.{◌≡◌, ℕ, ◌+◌, ◌-◌, ◌*◌, ◌/◌, ◌%◌, ◌^◌, ◌<◌, ◌≤◌, Bool, true, false, List, [], ◌∷◌, ◌++◌, length, map, min, codes, Option}
+use Rattle.std.specs.Prelude.{◌≡◌, ℕ, ◌+◌, ◌-◌, ◌*◌, ◌/◌, ◌%◌, ◌^◌, ◌<◌, ◌≤◌, Bool, true, false, List, [], ◌++◌, length, map, min, codes, Option}
 use Rattle.std.specs.Io.KnownBytes.{Appends}
 use Rattle.flat_model.specs.Machine.Event.{Event, Comes, Tick}
 use Rattle.flat_model.specs.Scripts.Texts.{hex_text}

@@ -1,9 +1,11 @@
 //! Whole files, read into memory.
-ghost use Rattle.std.specs.Prelude.{◌≤◌, length, IfOk};
+ghost use Rattle.std.specs.Prelude.{◌≡◌, ◌≤◌, ℕ, List, length, IfOk, IfErr, MatchResult};
 ghost use Rattle.std.specs.Io.KnownBytes.{Consumes, IsAtEnd};
+ghost use Rattle.params.specs.declared.TheConstants.{IP_MAX_PACKET};
+ghost use Rattle.play_pcap.specs.Files.{IsHad, IsUnread, no_folder};
 
 use crate::fault::CaptureFault;
-use script_loop::Source;
+use script_loop::{Source, bytes};
 use std::alloc::Global;
 
 /// The most bytes of a capture that is played in.
@@ -18,6 +20,7 @@ pub fn read_whole<R: Source>(alloc: Global, reader: &mut R) -> Result<Vec<u8>, C
     ensures all { IfOk result (λ v. Consumes (R.remaining reader.old) (R.remaining reader.new) v.items) }
     ensures ended { IfOk result (λ v. IsAtEnd (R.remaining reader.new)) }
     ensures most { IfOk result (λ v. length v.items ≤ LONGEST_FILE) }
+    ensures unread { IfErr result IsUnread }
 {
     let mut file = Vec::new(alloc);
     let mut chunk = [0; CHUNK];
@@ -34,5 +37,46 @@ pub fn read_whole<R: Source>(alloc: Global, reader: &mut R) -> Result<Vec<u8>, C
         if file.extend_from_slice(&chunk[..n]).is_err() {
             return Err(CaptureFault::Memory);
         }
+    }
+}
+
+/// The files that lines may name.
+pub trait Folder: Drop {
+    /// Which bytes the file of a name may have.
+    ghost may_have: { List ℕ → List ℕ → Type 0 };
+
+    /// All bytes of the file of this name. Refused with `NotOpened`, `NotRead`, `TooLong` and `Memory`, as
+    /// [`CaptureFault`] tells them.
+    fn load(&self, alloc: Global, name: &[u8]) -> Result<Vec<u8>, CaptureFault>
+        ensures { MatchResult result (λ v. may_have name.now v.items) IsUnread };
+}
+
+/// No files: none can be opened.
+#[derive(Drop)]
+pub struct NoFolder;
+
+impl Folder for NoFolder {
+    ghost may_have = { no_folder };
+
+    fn load(&self, _alloc: Global, _name: &[u8]) -> Result<Vec<u8>, CaptureFault> {
+        Err(CaptureFault::NotOpened)
+    }
+}
+
+/// All bytes of the file that a word of a plain line names: the file whose name has the bytes that the word writes as
+/// hexadecimal digits, as it does if the name was a text; or else the file of the same name as the word. Refused as
+/// [`Folder::load`] is. What the room held, which has exactly 65,535 bytes, may be lost.
+pub fn load_named<F: Folder>(
+    alloc: Global,
+    folder: &F,
+    word: &[u8],
+    room: &mut [u8],
+) -> Result<Vec<u8>, CaptureFault>
+    requires { length room.old ≡ IP_MAX_PACKET }
+    ensures { MatchResult result (λ v. IsHad F.may_have word.now v.items) IsUnread }
+{
+    match bytes(word, room) {
+        Some(len) => folder.load(alloc, &room[..len]),
+        None => folder.load(alloc, word),
     }
 }

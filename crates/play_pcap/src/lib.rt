@@ -15,7 +15,7 @@ mod wire;
 
 pub use ask::{Ask, Details, Range, ask_of, range_of};
 pub use fault::CaptureFault;
-pub use files::{LONGEST_FILE, read_whole};
+pub use files::{Folder, LONGEST_FILE, NoFolder, load_named, read_whole};
 pub use laws::{lines_law, played_back_law, read_back_law, trace_law};
 pub use lines::{LineRoom, Lines};
 pub use moves::Tally;

@@ -2,23 +2,25 @@
 use Rattle.std.proofs.Common.{◌≡◌, ℕ, ◌-◌, ◌&&◌, Bool, true, false, List, [], length, take, Option, Some, None, refl, sym, ap, ap₂, ◌∙◌, subst}
 use Rattle.std.proofs.lemmas.Bool.{false≢true}
 use Rattle.flat_model.specs.Amounts.Weight.{Item}
+use Rattle.flat_model.specs.Machine.Count.{more_by}
 use Rattle.flat_model.specs.Machine.Event.{Event, Reply}
 use Rattle.flat_model.specs.Machine.State.{State}
 use Rattle.flat_model.specs.declared.counters.Counters.{Counters}
 use Rattle.flat_model.specs.Scripts.Texts.{answer_text, reply_text}
 use Rattle.play_show.specs.Changes.{IsSnapshot}
-use Rattle.play_pcap.specs.Traces.{Traced}
 use Rattle.play_show.specs.Tells.{Shows}
 use Rattle.play_show.specs.Topics.{topic_asked}
-use Rattle.play_script.specs.Captures.{Notes}
 use Rattle.play_show.specs.declared.snapshot.Snapshot.{Snapshot}
 use Rattle.play_show.specs.declared.topic.Topic.{Topic}
 use Rattle.play_script.proofs.TextLemmas.{take-reply}
 use Rattle.play_print.specs.Forms.{is_quiet}
 use Rattle.play_print.specs.Texts.{if_there}
+use Rattle.play_settings.specs.Settings.{has_dashes}
+use Rattle.play_script.specs.Lines.{Reading, Asks, reading}
 use Rattle.play_script.specs.Moved.{IsBelow, IsMoved}
 use Rattle.play_script.specs.Outcomes.{outcome}
-use Rattle.play_script.specs.Tells.{Play, Does, IsAnswered, TellsAsked, is_sound, printed, stays_head}
+use Rattle.play_script.specs.Plays.{SceneView, scene_of}
+use Rattle.play_script.specs.Tells.{Play, Does, IsAnswered, IsTold, Tells, TellsAsked, TellsReading, is_sound, next_line, printed, stays_head}
 
 pub Answered-shown : (step : State → Event → Reply → State → Type 0) (quiet : Bool) (notes : Option Reply → Type 0) (s : State) (plain : List ℕ) (asked : Option Topic)
     (topic : Topic) (shown told below : List ℕ) → asked ≡ Some topic → told ≡ shown → Shows step s topic shown below
@@ -37,23 +39,33 @@ Answered-call step quiet notes old new plain asked told below reply before after
     (reply, before, after, does, noted, was, now, same, tells)
 
 -- a line that was asked
-pub Asked-tells : (step : State → Event → Reply → State → Type 0) (now : Play) (shown plain words : List ℕ) (wanted told : Option (List ℕ))
-    (below : List ℕ) (machine : State) (traced : Traced) (quiet head sound : Bool) → words ≡ plain → quiet ≡ is_quiet now.form
-    → IsAnswered step quiet (λ reply. Notes now.number words reply now.traced traced) now.machine (topic_asked words) words told below machine
+pub Asked-tells : (step : State → Event → Reply → State → Type 0) (has : List ℕ → List ℕ → Type 0) (now : Play) (shown plain words : List ℕ)
+    (wanted told : Option (List ℕ)) (below : List ℕ) (after : SceneView) (quiet head sound : Bool) → words ≡ plain → quiet ≡ is_quiet now.form
+    → IsTold step has quiet words (scene_of now.machine now.traced now.number) told below after
     → head ≡ (now.head && stays_head (topic_asked plain) told) → sound ≡ (now.sound && is_sound wanted told)
-    → TellsAsked step false now shown plain wanted (printed now.form now.name now.number shown wanted told below)
-    (record now { machine = machine; traced = traced; head = head; sound = sound })
-Asked-tells step now shown plain words wanted told below machine traced quiet head sound same loud answered is_head is_sound_now = (
-  machine,
-  traced,
+    → TellsAsked step has false now shown plain wanted (printed now.form now.name now.number shown wanted told below)
+    (record now { machine = after.machine; traced = after.traced; head = head; sound = sound })
+Asked-tells step has now shown plain words wanted told below after quiet head sound same loud answered is_head is_sound_now = (
+  after,
   told,
   below,
-  subst (λ (t : List ℕ). IsAnswered step (is_quiet now.form) (λ reply. Notes now.number t reply now.traced traced) now.machine (topic_asked t) t told below machine)
-      same (subst (λ (q : Bool). IsAnswered step q (λ reply. Notes now.number words reply now.traced traced) now.machine (topic_asked words) words told below machine)
-      loud answered),
+  subst (λ (t : List ℕ). IsTold step has (is_quiet now.form) t (scene_of now.machine now.traced now.number) told below after) same
+      (subst (λ (q : Bool). IsTold step has q words (scene_of now.machine now.traced now.number) told below after) loud answered),
   refl,
-  ap₂ (λ (h s : Bool). record now { machine = machine; traced = traced; head = h; sound = s }) is_head is_sound_now,
+  ap₂ (λ (h s : Bool). record now { machine = after.machine; traced = after.traced; head = h; sound = s }) is_head is_sound_now,
 )
+
+-- a line that asks for something, and has no settings
+pub Asks-tells : (step : State → Event → Reply → State → Type 0) (has : List ℕ → List ℕ → Type 0) (old new : Play) (line shown plain words text : List ℕ)
+    (wanted : Option (List ℕ)) (n : ℕ) → n ≡ more_by 1 old.number → reading line ≡ Asks shown plain wanted → words ≡ plain
+    → has_dashes words ≡ false → TellsAsked step has false (record old { number = n }) shown plain wanted text new
+    → Tells step has old line text new
+Asks-tells step has old new line shown plain words text wanted n number is same none told =
+    let dashes : has_dashes plain ≡ false = ap has_dashes (sym same) ∙ none in
+    let counted : TellsAsked step has false (next_line old) shown plain wanted text new =
+    subst (λ (k : ℕ). TellsAsked step has false (record old { number = k }) shown plain wanted text new) number told in
+    subst (λ (r : Reading). TellsReading step has (next_line old) r text new) (sym is)
+    (subst (λ (b : Bool). TellsAsked step has b (next_line old) shown plain wanted text new) (sym dashes) counted)
 
 -- ---- the lines below a reply
 

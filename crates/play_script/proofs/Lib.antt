@@ -5,4 +5,5 @@ mod FitLemmas
 mod RunLemmas
 mod AnswerLemmas
 mod SettingLemmas
+mod PlayLemmas
 mod TurnLemmas

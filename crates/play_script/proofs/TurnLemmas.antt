@@ -22,12 +22,15 @@ use Rattle.play_show.specs.declared.topic.Topic.{Topic}
 use Rattle.play_show.proofs.Laws.{begins_with_show}
 use Rattle.play_print.specs.Forms.{is_quiet}
 use Rattle.play_pcap.specs.Traces.{Traced, Keeps, passes_bytes}
+use Rattle.play_pcap.specs.Told.{outcome_text}
 use Rattle.play_script.proofs.CaptureLemmas.{Joins, Keeps-none, Captures-join}
+use Rattle.play_script.proofs.PlayLemmas.{Captures-same, Capture-ends_head, Named-turns}
 use Rattle.play_script.specs.Captures.{Captures, Notes, all_passes, turn_of}
 use Rattle.play_script.specs.Lines.{Reading, Nothing, TooLong, Faulty, Asks, IsTicks, reading}
-use Rattle.play_script.specs.Outcomes.{outcome}
+use Rattle.play_script.specs.Outcomes.{drops_text, outcome}
+use Rattle.play_script.specs.Plays.{SceneView, scene_of}
 use Rattle.play_script.specs.Runs.{AreTurns, IsRunOf, all_turns, MaySet, MaySetAll}
-use Rattle.play_script.specs.Tells.{Play, Tells, TellsReading, TellsAsked, TellsSettled, Ticks, Does, IsAnswered, IsSettled, next_line, stays_head}
+use Rattle.play_script.specs.Tells.{Play, Tells, TellsReading, TellsAsked, TellsSettled, Ticks, Does, IsAnswered, IsSettled, IsTold, next_line, stays_head}
 
 one_more : {X : Type 0} (n : ℕ) (x : X) → replicate n x ++ x ∷ [] ≡ replicate (suc n) x
 one_more zero x = refl
@@ -46,24 +49,20 @@ Leads-append old mid new [] rest same later = subst (λ s. Leads exact_ledger s 
 Leads-append old mid new (turn ∷ first) rest (range, next, step, leads) later =
     (range, next, step, Leads-append next mid new first rest leads later)
 
--- nothing is added
-Captures-same : (number : ℕ) (t u : Traced) → u ≡ t → Captures number t [] u
-Captures-same number t u same = subst (λ (s : Traced). Captures number t [] s) (sym same) (Keeps-none t, refl)
-
 -- what a line does and adds to a capture, by its turns
-Does-turns : (number : ℕ) (old new : State) (t u : Traced) (shown plain : List ℕ) (wanted : Option (List ℕ)) (answer : Option Reply)
+Does-turns : (has : List ℕ → List ℕ → Type 0) (number : ℕ) (old new : State) (t u : Traced) (shown plain : List ℕ) (wanted : Option (List ℕ)) (answer : Option Reply)
     → Does Step old plain answer new → Notes number plain answer t u
-    → (turns : List Turn) × AreTurns (Asks shown plain wanted) turns × Leads exact_ledger old turns new × Captures number t turns u
-Does-turns number old new t u shown plain wanted (Some reply) (inl (event, asks, step)) notes = (
+    → (turns : List Turn) × AreTurns has (Asks shown plain wanted) turns × Leads exact_ledger old turns new × Captures number t turns u
+Does-turns has number old new t u shown plain wanted (Some reply) (inl (event, asks, step)) notes = (
   turn_of event reply ∷ [],
   inl (event, reply, asks, refl),
   (in_range plain event asks.form, new, step, refl),
   notes.0 event asks,
 )
-Does-turns number old new t u shown plain wanted (Some reply) (inr (n, is, done, ticks)) notes =
+Does-turns has number old new t u shown plain wanted (Some reply) (inr (n, is, done, ticks)) notes =
     (replicate n (turn_of Tick Done), inr (inl (n, is, refl)), Ticks-lead n old new ticks, notes.1 n is)
-Does-turns number old new t u shown plain wanted None ((none, same), no_ticks) notes =
-    ([], inr (inr (none, no_ticks, refl)), same, Captures-same number t u notes)
+Does-turns has number old new t u shown plain wanted None ((none, same), no_ticks) notes =
+    ([], inr (inr (inr (none, no_ticks, refl))), same, Captures-same number t u notes)
 
 -- the second byte of `show` is no other word's
 no_keyword : (event : Event) → get_or (keyword event) 1 0 ≡ 104 → ⊥
@@ -127,9 +126,9 @@ Settings-no_ticks plain is n ticks =
 -- ---- a line
 
 -- A line that isn't of settings: its turns, none of them if settings may still come.
-record Asked (now : Play) (line : Reading) (new : Play) : Type 0 where
+record Asked (has : List ℕ → List ℕ → Type 0) (now : Play) (line : Reading) (new : Play) : Type 0 where
   turns : List Turn
-  are : AreTurns line turns
+  are : AreTurns has line turns
   leads : Leads exact_ledger now.machine turns new.machine
   captured : Captures now.number now.traced turns new.traced
   number : new.number ≡ now.number
@@ -137,8 +136,8 @@ record Asked (now : Play) (line : Reading) (new : Play) : Type 0 where
   head : new.head ≡ true → (now.head ≡ true) × (turns ≡ [])
 
 -- a line whose settings made a new machine
-record Settled (now : Play) (line : Reading) (new : Play) : Type 0 where
-  are : AreTurns line []
+record Settled (has : List ℕ → List ℕ → Type 0) (now : Play) (line : Reading) (new : Play) : Type 0 where
+  are : AreTurns has line []
   captured : Captures now.number now.traced [] new.traced
   number : new.number ≡ now.number
   was : now.head ≡ true
@@ -152,26 +151,43 @@ not_late : (c : Config) → Ok c ≡ Err Late → ⊥
 not_late c e = cc
 
 -- what is told of a plain line, by its turns
-Answered-turns : (number : ℕ) (old new : State) (t u : Traced) (shown plain : List ℕ) (wanted : Option (List ℕ)) (topic : Option Topic)
+Answered-turns : (has : List ℕ → List ℕ → Type 0) (number : ℕ) (old new : State) (t u : Traced) (shown plain : List ℕ) (wanted : Option (List ℕ)) (topic : Option Topic)
     → topic_asked plain ≡ topic → (told : Option (List ℕ)) (below : List ℕ) (quiet : Bool)
     → IsAnswered Step quiet (λ reply. Notes number plain reply t u) old topic plain told below new
-    → (turns : List Turn) × AreTurns (Asks shown plain wanted) turns × Leads exact_ledger old turns new × Captures number t turns u
+    → (turns : List Turn) × AreTurns has (Asks shown plain wanted) turns × Leads exact_ledger old turns new × Captures number t turns u
     × (stays_head topic told ≡ true → turns ≡ [])
-Answered-turns number old new t u shown plain wanted (Some topic) is None below quiet answered = absurd answered
-Answered-turns number old new t u shown plain wanted (Some topic) is (Some told) below quiet (shows, same, notes) = (
+Answered-turns has number old new t u shown plain wanted (Some topic) is None below quiet answered = absurd answered
+Answered-turns has number old new t u shown plain wanted (Some topic) is (Some told) below quiet (shows, same, notes) = (
   [],
-  inr (inr (Shown-no_event plain topic is, Shown-no_ticks plain topic is, refl)),
+  inr (inr (inr (Shown-no_event plain topic is, Shown-no_ticks plain topic is, refl))),
   same,
   Captures-same number t u notes,
   λ stays. refl,
 )
-Answered-turns number old new t u shown plain wanted None is (Some told) below quiet (reply, before, after, does, notes, was, now, tells, none) =
-    let made = Does-turns number old new t u shown plain wanted reply does notes in
+Answered-turns has number old new t u shown plain wanted None is (Some told) below quiet (reply, before, after, does, notes, was, now, tells, none) =
+    let made = Does-turns has number old new t u shown plain wanted reply does notes in
     (made.0, made.1, made.2, made.3, λ stays. absurd (false≢true stays))
-Answered-turns number old new t u shown plain wanted None is None below quiet (Some reply, before, after, does, notes, was, now, tells, none) =
+Answered-turns has number old new t u shown plain wanted None is None below quiet (Some reply, before, after, does, notes, was, now, tells, none) =
     absurd (not_none _ tells)
-Answered-turns number old new t u shown plain wanted None is None below quiet (None, before, after, ((none, same), no_ticks), notes, was, now, tells, no_lines) =
-    ([], inr (inr (none, no_ticks, refl)), same, Captures-same number t u notes, λ stays. refl)
+Answered-turns has number old new t u shown plain wanted None is None below quiet (None, before, after, ((none, same), no_ticks), notes, was, now, tells, no_lines) =
+    ([], inr (inr (inr (none, no_ticks, refl))), same, Captures-same number t u notes, λ stays. refl)
+
+-- what is told of a plain line, whether it asks for a capture or not
+Told-turns : Joins → (has : List ℕ → List ℕ → Type 0) (old new : SceneView) (shown plain : List ℕ) (wanted told : Option (List ℕ)) (below : List ℕ) (quiet : Bool)
+    → IsTold Step has quiet plain old told below new
+    → (turns : List Turn) × AreTurns has (Asks shown plain wanted) turns × Leads exact_ledger old.machine turns new.machine
+    × Captures old.line old.traced turns new.traced × (stays_head (topic_asked plain) told ≡ true → turns ≡ [])
+Told-turns join has old new shown plain wanted told below quiet (inr (none, answered)) =
+    Answered-turns has old.line old.machine new.machine old.traced new.traced shown plain wanted (topic_asked plain) refl told below quiet answered
+Told-turns join has old new shown plain wanted told below quiet (inl (word, d, asked, (outcome, before, after, plays, was, now, tells, lines))) =
+    let made = Named-turns join has shown plain word wanted d outcome old new asked plays in (
+      made.0,
+      made.1,
+      made.2,
+      made.3,
+      Capture-ends_head plain word d (topic_asked plain) told
+          (outcome_text outcome ++ drops_text before.counters after.counters) made.0 refl asked tells,
+    )
 
 and_first : (a b : Bool) → (a && b) ≡ true → a ≡ true
 and_first true b h = refl
@@ -181,9 +197,9 @@ and_second : (a b : Bool) → (a && b) ≡ true → b ≡ true
 and_second true b h = h
 and_second false b h = absurd (false≢true h)
 
-Idle : (now new : Play) (line : Reading) → AreTurns line [] → new.machine ≡ now.machine → new.traced ≡ now.traced → new.number ≡ now.number
-    → new.config ≡ now.config → new.head ≡ now.head → Asked now line new
-Idle now new line are machine traced number config head = record {
+Idle : (has : List ℕ → List ℕ → Type 0) (now new : Play) (line : Reading) → AreTurns has line [] → new.machine ≡ now.machine → new.traced ≡ now.traced → new.number ≡ now.number
+    → new.config ≡ now.config → new.head ≡ now.head → Asked has now line new
+Idle has now new line are machine traced number config head = record {
   turns = [];
   are = are;
   leads = machine;
@@ -193,33 +209,32 @@ Idle now new line are machine traced number config head = record {
   head = λ h. (sym head ∙ h, refl);
 }
 
-Settings-line : (now new : Play) (shown plain text : List ℕ) (wanted : Option (List ℕ)) (head : Bool) → now.head ≡ head → has_dashes plain ≡ true
+Settings-line : (has : List ℕ → List ℕ → Type 0) (now new : Play) (shown plain text : List ℕ) (wanted : Option (List ℕ)) (head : Bool) → now.head ≡ head → has_dashes plain ≡ true
     → (outcome : Result Config SettingFault) → IsSettled head now.config plain outcome → TellsSettled now shown wanted outcome text new
-    → Asked now (Asks shown plain wanted) new ⊎ Settled now (Asks shown plain wanted) new
-Settings-line now new shown plain text wanted head was is (Err fault) settled (told, same) =
-    inl (Idle now new (Asks shown plain wanted) (inr (inr (Settings-no_event plain is, Settings-no_ticks plain is, refl)))
+    → Asked has now (Asks shown plain wanted) new ⊎ Settled has now (Asks shown plain wanted) new
+Settings-line has now new shown plain text wanted head was is (Err fault) settled (told, same) =
+    inl (Idle has now new (Asks shown plain wanted) (inr (inr (inr (Settings-no_event plain is, Settings-no_ticks plain is, refl))))
     (ap (λ (p : Play). p.machine) same) (ap (λ (p : Play). p.traced) same)
     (ap (λ (p : Play). p.number) same) (ap (λ (p : Play). p.config) same) (ap (λ (p : Play). p.head) same))
-Settings-line now new shown plain text wanted true was is (Ok c) (set, right) (told, same) =
+Settings-line has now new shown plain text wanted true was is (Ok c) (set, right) (told, same) =
     inr (record {
-      are = inr (inr (Settings-no_event plain is, Settings-no_ticks plain is, refl));
+      are = inr (inr (inr (Settings-no_event plain is, Settings-no_ticks plain is, refl)));
       captured = Captures-same now.number now.traced new.traced (ap (λ (p : Play). p.traced) same);
       number = ap (λ (p : Play). p.number) same;
       was = was;
       machine = ap (λ (p : Play). p.machine) same ∙ ap boot (sym (ap (λ (p : Play). p.config) same));
       set = inr (is, subst (λ (d : Config). IsSet now.config (words plain) (Ok d)) (sym (ap (λ (p : Play). p.config) same)) set);
     })
-Settings-line now new shown plain text wanted false was is (Ok c) settled told =
+Settings-line has now new shown plain text wanted false was is (Ok c) settled told =
     absurd (not_late c settled)
 
-Asked-line : (now new : Play) (shown plain text : List ℕ) (wanted : Option (List ℕ)) (dashes : Bool) → has_dashes plain ≡ dashes
-    → TellsAsked Step dashes now shown plain wanted text new
-    → Asked now (Asks shown plain wanted) new ⊎ Settled now (Asks shown plain wanted) new
-Asked-line now new shown plain text wanted true is (outcome, settled, told) =
-    Settings-line now new shown plain text wanted now.head refl is outcome settled told
-Asked-line now new shown plain text wanted false is (machine, traced, told, below, answered, tells, same) =
-    let made = Answered-turns now.number now.machine machine now.traced traced shown plain wanted (topic_asked plain) refl told below (is_quiet now.form)
-    answered in
+Asked-line : Joins → (has : List ℕ → List ℕ → Type 0) (now new : Play) (shown plain text : List ℕ) (wanted : Option (List ℕ)) (dashes : Bool) → has_dashes plain ≡ dashes
+    → TellsAsked Step has dashes now shown plain wanted text new
+    → Asked has now (Asks shown plain wanted) new ⊎ Settled has now (Asks shown plain wanted) new
+Asked-line join has now new shown plain text wanted true is (outcome, settled, told) =
+    Settings-line has now new shown plain text wanted now.head refl is outcome settled told
+Asked-line join has now new shown plain text wanted false is (after, told, below, answered, tells, same) =
+    let made = Told-turns join has (scene_of now.machine now.traced now.number) after shown plain wanted told below (is_quiet now.form) answered in
     let stayed : new.head ≡ (now.head && stays_head (topic_asked plain) told) = ap (λ (p : Play). p.head) same in
     inl (record {
       turns = made.0;
@@ -234,17 +249,18 @@ Asked-line now new shown plain text wanted false is (machine, traced, told, belo
       );
     })
 
-Tells-line : (now new : Play) (line : Reading) (text : List ℕ) → TellsReading Step now line text new → Asked now line new ⊎ Settled now line new
-Tells-line now new Nothing text (is, same) =
-    inl (Idle now new Nothing refl (ap (λ (p : Play). p.machine) same) (ap (λ (p : Play). p.traced) same)
+Tells-line : Joins → (has : List ℕ → List ℕ → Type 0) (now new : Play) (line : Reading) (text : List ℕ) → TellsReading Step has now line text new
+    → Asked has now line new ⊎ Settled has now line new
+Tells-line join has now new Nothing text (is, same) =
+    inl (Idle has now new Nothing refl (ap (λ (p : Play). p.machine) same) (ap (λ (p : Play). p.traced) same)
     (ap (λ (p : Play). p.number) same) (ap (λ (p : Play). p.config) same) (ap (λ (p : Play). p.head) same))
-Tells-line now new TooLong text (is, same) =
-    inl (Idle now new TooLong refl (ap (λ (p : Play). p.machine) same) (ap (λ (p : Play). p.traced) same)
+Tells-line join has now new TooLong text (is, same) =
+    inl (Idle has now new TooLong refl (ap (λ (p : Play). p.machine) same) (ap (λ (p : Play). p.traced) same)
     (ap (λ (p : Play). p.number) same) (ap (λ (p : Play). p.config) same) (ap (λ (p : Play). p.head) same))
-Tells-line now new (Faulty slip) text (is, same) =
-    inl (Idle now new (Faulty slip) refl (ap (λ (p : Play). p.machine) same) (ap (λ (p : Play). p.traced) same)
+Tells-line join has now new (Faulty slip) text (is, same) =
+    inl (Idle has now new (Faulty slip) refl (ap (λ (p : Play). p.machine) same) (ap (λ (p : Play). p.traced) same)
     (ap (λ (p : Play). p.number) same) (ap (λ (p : Play). p.config) same) (ap (λ (p : Play). p.head) same))
-Tells-line now new (Asks shown plain wanted) text told = Asked-line now new shown plain text wanted (has_dashes plain) refl told
+Tells-line join has now new (Asks shown plain wanted) text told = Asked-line join has now new shown plain text wanted (has_dashes plain) refl told
 
 -- ---- all lines
 
@@ -259,20 +275,20 @@ MaySetAll-same [] c = refl
 MaySetAll-same (line ∷ lines) c = (c, MaySet-same (reading line) c, MaySetAll-same lines c)
 
 -- what a line adds to a capture, in front of what others add
-Kept-before : Joins → (now old mid new : Play) (lines : List (List ℕ)) (first : List Turn) (rest : IsRunOf mid lines new)
+Kept-before : Joins → (has : List ℕ → List ℕ → Type 0) (now old mid new : Play) (lines : List (List ℕ)) (first : List Turn) (rest : IsRunOf has mid lines new)
     → now.traced ≡ old.traced → now.number ≡ more_by 1 old.number → mid.number ≡ now.number
     → Captures now.number now.traced first mid.traced
     → Keeps old.traced new.traced (passes_bytes (all_passes old.number old.traced.ticks (first ∷ rest.turns)))
-Kept-before join now old mid new lines first rest t n m captured =
+Kept-before join has now old mid new lines first rest t n m captured =
     Captures-join join (more_by 1 old.number) mid.number old.traced mid.traced new.traced first rest.turns (m ∙ n)
     (subst (λ (k : ℕ). Captures k old.traced first mid.traced) n (subst (λ (s : Traced). Captures now.number s first mid.traced) t captured))
     rest.kept
 
 -- a line in front of a run
-Asked-before : Joins → (now old mid new : Play) (line : List ℕ) (lines : List (List ℕ)) → now.machine ≡ old.machine → now.traced ≡ old.traced
+Asked-before : Joins → (has : List ℕ → List ℕ → Type 0) (now old mid new : Play) (line : List ℕ) (lines : List (List ℕ)) → now.machine ≡ old.machine → now.traced ≡ old.traced
     → now.number ≡ more_by 1 old.number → now.config ≡ old.config → now.head ≡ old.head
-    → Asked now (reading line) mid → IsRunOf mid lines new → IsRunOf old (line ∷ lines) new
-Asked-before join now old mid new line lines m t n c h first rest =
+    → Asked has now (reading line) mid → IsRunOf has mid lines new → IsRunOf has old (line ∷ lines) new
+Asked-before join has now old mid new line lines m t n c h first rest =
     elim rest.begins [
       | inl same ↦ record {
         first = old.machine;
@@ -282,7 +298,7 @@ Asked-before join now old mid new line lines m t n c h first rest =
         leads = Leads-append old.machine mid.machine new.machine first.turns (all_turns rest.turns)
             (subst (λ s. Leads exact_ledger s first.turns mid.machine) m first.leads)
             (subst (λ s. Leads exact_ledger s (all_turns rest.turns) new.machine) same rest.leads);
-        kept = Kept-before join now old mid new lines first.turns rest t n first.number first.captured;
+        kept = Kept-before join has now old mid new lines first.turns rest t n first.number first.captured;
       }
       | inr (stays, (d, set, is)) ↦ record {
         first = rest.first;
@@ -291,19 +307,19 @@ Asked-before join now old mid new line lines m t n c h first rest =
           (d, (old.config, MaySet-same (reading line) old.config, subst (λ (e : Config). MaySetAll lines e d) (first.config ∙ c) set), is),
         );
         turns = [] ∷ rest.turns;
-        are = (subst (λ (ts : List Turn). AreTurns (reading line) ts) (first.head stays).1 first.are, rest.are);
+        are = (subst (λ (ts : List Turn). AreTurns has (reading line) ts) (first.head stays).1 first.are, rest.are);
         leads = rest.leads;
-        kept = Kept-before join now old mid new lines [] rest t n first.number
+        kept = Kept-before join has now old mid new lines [] rest t n first.number
             (subst (λ (ts : List Turn). Captures now.number now.traced ts mid.traced) (first.head stays).1 first.captured);
       }
     ]
 
-Settled-before : Joins → (now old mid new : Play) (line : List ℕ) (lines : List (List ℕ)) → now.traced ≡ old.traced
+Settled-before : Joins → (has : List ℕ → List ℕ → Type 0) (now old mid new : Play) (line : List ℕ) (lines : List (List ℕ)) → now.traced ≡ old.traced
     → now.number ≡ more_by 1 old.number → now.config ≡ old.config → now.head ≡ old.head
-    → Settled now (reading line) mid → IsRunOf mid lines new → IsRunOf old (line ∷ lines) new
-Settled-before join now old mid new line lines t n c h first rest =
+    → Settled has now (reading line) mid → IsRunOf has mid lines new → IsRunOf has old (line ∷ lines) new
+Settled-before join has now old mid new line lines t n c h first rest =
     let set : MaySet (reading line) old.config mid.config = subst (λ (e : Config). MaySet (reading line) e mid.config) c first.set in
-    let kept = Kept-before join now old mid new lines [] rest t n first.number first.captured in
+    let kept = Kept-before join has now old mid new lines [] rest t n first.number first.captured in
     elim rest.begins [
       | inl same ↦ record {
         first = rest.first;
@@ -323,8 +339,9 @@ Settled-before join now old mid new line lines t n c h first rest =
       }
     ]
 
-pub Prints-run : Joins → (old new : Play) (lines : List (List ℕ)) (printed : List ℕ) → Prints (Tells Step) old lines printed new → IsRunOf old lines new
-Prints-run join old new [] printed (same, none) = record {
+pub Prints-run : Joins → (has : List ℕ → List ℕ → Type 0) (old new : Play) (lines : List (List ℕ)) (printed : List ℕ)
+    → Prints (Tells Step has) old lines printed new → IsRunOf has old lines new
+Prints-run join has old new [] printed (same, none) = record {
   first = old.machine;
   begins = inl refl;
   turns = [];
@@ -332,9 +349,9 @@ Prints-run join old new [] printed (same, none) = record {
   leads = ap (λ (p : Play). p.machine) same;
   kept = subst (λ (t : Traced). Keeps old.traced t []) (sym (ap (λ (p : Play). p.traced) same)) (Keeps-none old.traced);
 }
-Prints-run join old new (line ∷ lines) printed (mid, text, rest, tells, later, joined) =
-    let after = Prints-run join mid new lines rest later in
-    elim (Tells-line (next_line old) mid (reading line) text tells) [
-      | inl asked ↦ Asked-before join (next_line old) old mid new line lines refl refl refl refl refl asked after
-      | inr settled ↦ Settled-before join (next_line old) old mid new line lines refl refl refl refl settled after
+Prints-run join has old new (line ∷ lines) printed (mid, text, rest, tells, later, joined) =
+    let after = Prints-run join has mid new lines rest later in
+    elim (Tells-line join has (next_line old) mid (reading line) text tells) [
+      | inl asked ↦ Asked-before join has (next_line old) old mid new line lines refl refl refl refl refl asked after
+      | inr settled ↦ Settled-before join has (next_line old) old mid new line lines refl refl refl refl settled after
     ]

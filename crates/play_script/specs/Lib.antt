@@ -2,6 +2,7 @@ pub mod Lines
 pub mod Outcomes
 pub mod Moved
 pub mod Captures
+pub mod Plays
 pub mod Tells
 pub mod Runs
 pub mod Inside

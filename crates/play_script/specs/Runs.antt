@@ -12,23 +12,27 @@ use Rattle.play_settings.specs.Settings.{has_dashes, IsSet}
 use Rattle.play_pcap.specs.Traces.{Keeps, passes_bytes}
 use Rattle.play_script.specs.Captures.{all_passes, turn_of}
 use Rattle.play_script.specs.Lines.{Reading, Nothing, TooLong, Faulty, Asks, IsTicks, reading}
+use Rattle.play_script.specs.Plays.{PlaysIn}
 use Rattle.play_script.specs.Tells.{Play}
 
--- The turns that a line makes: one for the event that it asks for, so many ticks, or none if it asks for nothing.
-abbrev pub AreTurns : Reading → List Turn → Type 0
-AreTurns Nothing turns = turns ≡ []
-AreTurns TooLong turns = turns ≡ []
-AreTurns (Faulty slip) turns = turns ≡ []
-AreTurns (Asks shown plain wanted) turns =
+-- The turns that a line makes, where `has` says which bytes the file of a name may have: one for the event that it asks
+-- for, so many ticks, or those of the capture that it plays in; none if it asks for nothing, or for a capture that isn't
+-- played in.
+abbrev pub AreTurns : (List ℕ → List ℕ → Type 0) → Reading → List Turn → Type 0
+AreTurns has Nothing turns = turns ≡ []
+AreTurns has TooLong turns = turns ≡ []
+AreTurns has (Faulty slip) turns = turns ≡ []
+AreTurns has (Asks shown plain wanted) turns =
     ((event : Event) × (reply : Reply) × script.Asks all_events plain event × (turns ≡ turn_of event reply ∷ []))
     ⊎ ((n : ℕ) × IsTicks plain n × (turns ≡ replicate n (turn_of Tick Done)))
+    ⊎ PlaysIn has plain turns
     ⊎ (((event : Event) → ¬ script.Asks all_events plain event) × ((n : ℕ) → ¬ IsTicks plain n) × (turns ≡ []))
 
 -- the turns that these lines make, a list of them for each line
-abbrev pub AreAllTurns : List (List ℕ) → List (List Turn) → Type 0
-AreAllTurns [] turns = turns ≡ []
-AreAllTurns (line ∷ lines) [] = ⊥
-AreAllTurns (line ∷ lines) (first ∷ rest) = AreTurns (reading line) first × AreAllTurns lines rest
+abbrev pub AreAllTurns : (List ℕ → List ℕ → Type 0) → List (List ℕ) → List (List Turn) → Type 0
+AreAllTurns has [] turns = turns ≡ []
+AreAllTurns has (line ∷ lines) [] = ⊥
+AreAllTurns has (line ∷ lines) (first ∷ rest) = AreTurns has (reading line) first × AreAllTurns has lines rest
 
 -- one after another
 abbrev pub all_turns : List (List Turn) → List Turn
@@ -56,10 +60,10 @@ Begins old lines first =
 
 -- The turns of these lines are a run of the machine that keeps exact accounts, and what the lines add to a capture are
 -- the packets that these turns move, in their order: each once, whole, with the number of its line.
-pub record IsRunOf (old : Play) (lines : List (List ℕ)) (new : Play) : Type 0 where
+pub record IsRunOf (has : List ℕ → List ℕ → Type 0) (old : Play) (lines : List (List ℕ)) (new : Play) : Type 0 where
   pub first : State
   pub begins : Begins old lines first
   pub turns : List (List Turn)
-  pub are : AreAllTurns lines turns
+  pub are : AreAllTurns has lines turns
   pub leads : Leads exact_ledger first (all_turns turns) new.machine
   pub kept : Keeps old.traced new.traced (passes_bytes (all_passes old.number old.traced.ticks turns))

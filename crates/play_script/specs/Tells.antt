@@ -20,11 +20,14 @@ use Rattle.play_show.specs.Tells.{Shows}
 use Rattle.play_show.specs.declared.snapshot.Snapshot.{Snapshot}
 use Rattle.play_show.specs.Topics.{topic_asked}
 use Rattle.play_show.specs.declared.topic.Topic.{Topic}
+use Rattle.play_pcap.specs.Asks.{IsAsked}
 use Rattle.play_pcap.specs.Traces.{Traced}
+use Rattle.play_pcap.specs.declared.ask.Details.{Details}
 use Rattle.play_script.specs.Captures.{Notes}
 use Rattle.play_script.specs.Lines.{Reading, Nothing, TooLong, Faulty, Asks, IsTicks, reading}
 use Rattle.play_script.specs.Moved.{IsBelow}
 use Rattle.play_script.specs.Outcomes.{outcome, meets}
+use Rattle.play_script.specs.Plays.{IsPlayed, SceneView, scene_of}
 
 -- What a player has in hand: its machine, the capture of its packets, and the configuration that the machine was booted
 -- with; whether settings may still make another one; how many lines it has seen; whether all of them could be read and
@@ -141,16 +144,26 @@ module _ (step : State → Event → Reply → State → Type 0) where
       × Does old plain reply new × notes reply × IsSnapshot step old before × IsSnapshot step new after
       × (told ≡ outcome reply before.counters after.counters) × IsBelow quiet plain reply before after new.output below
 
+-- the same, where `has` says which bytes the file of a name may have
+module _ (step : State → Event → Reply → State → Type 0) (has : List ℕ → List ℕ → Type 0) where
+  -- What may be told of a plain line, with the lines below it: of the capture that it asks for, or, if it asks for none,
+  -- what it's answered.
+  abbrev pub IsTold : Bool → List ℕ → SceneView → Option (List ℕ) → List ℕ → SceneView → Type 0
+  IsTold quiet plain old told below new =
+      ((word : List ℕ) × (d : Details) × IsAsked plain word d × IsPlayed step has quiet d word old told below new)
+      ⊎ (((word : List ℕ) (d : Details) → IsAsked plain word d → ⊥)
+      × IsAnswered step quiet (λ reply. Notes old.line plain reply old.traced new.traced) old.machine (topic_asked plain) plain told below new.machine)
+
   -- what a line may have as its text that doesn't begin with two dashes, and one that does
   abbrev pub TellsAsked : Bool → Play → List ℕ → List ℕ → Option (List ℕ) → List ℕ → Play → Type 0
   TellsAsked true now shown plain wanted text new = TellsSettings now shown plain wanted text new
   TellsAsked false now shown plain wanted text new =
-      (machine : State) × (traced : Traced) × (told : Option (List ℕ)) × (below : List ℕ)
-      × IsAnswered (is_quiet now.form) (λ reply. Notes now.number plain reply now.traced traced) now.machine (topic_asked plain) plain told below machine
+      (after : SceneView) × (told : Option (List ℕ)) × (below : List ℕ)
+      × IsTold (is_quiet now.form) plain (scene_of now.machine now.traced now.number) told below after
       × (text ≡ printed now.form now.name now.number shown wanted told below)
       × (new ≡ record now {
-        machine = machine;
-        traced = traced;
+        machine = after.machine;
+        traced = after.traced;
         head = now.head && stays_head (topic_asked plain) told;
         sound = now.sound && is_sound wanted told;
       })

@@ -6,15 +6,17 @@ ghost use Rattle.play_script.specs.Lines.{IsTicks};
 ghost use Rattle.play_script.specs.Runs.{IsRunOf};
 ghost use Rattle.play_script.specs.Tells.{Play, Tells};
 
-use play_pcap::trace_law;
+use play_pcap::{Folder, trace_law};
 
 /// A line asks for one number of ticks at most. What is told line by line is told of one run of the machine: each line
 /// has its turns, in their order, by which the machine comes from the state before the first line to that after the
-/// last. What the lines add to a capture are the packets that these turns move, in their order.
-pub fn runs_law()
+/// last. A line that plays a capture in has a turn for each packet of the records that it asks for, and for each tick
+/// between them; `F` says which bytes files may have. What the lines add to a capture are the packets that these turns
+/// move, in their order.
+pub fn runs_law<F: Folder>()
     ensures ticks { (plain : List ℕ) (m n : ℕ) → IsTicks plain m → IsTicks plain n → m ≡ n }
     ensures run { (old new : Play) (lines : List (List ℕ)) (printed : List ℕ)
-        → Prints (Tells Step) old lines printed new → IsRunOf old lines new }
+        → Prints (Tells Step F.may_have) old lines printed new → IsRunOf F.may_have old lines new }
 {
     trace_law();
 }

@@ -10,14 +10,16 @@ mod moved;
 mod outcome;
 mod player;
 mod print;
+mod replay;
 mod runs;
+mod scene;
 
 pub use fits::meets;
 pub use flat_model::Config;
 pub use laws::runs_law;
 pub use line::{Kind, read_line};
 pub use outcome::{DROPS, TOLD, put_drops};
-pub use play_pcap::{RECORD, Trace};
+pub use play_pcap::{CaptureFault, Folder, NoFolder, RECORD, Trace};
 pub use play_print::Form;
 pub use player::{tell_answer, ticks_of};
 pub use runs::{Captured, Played, Start, Style, play, play_captured};

@@ -13,7 +13,8 @@ ghost use Rattle.play_show.specs.Changes.{IsSnapshot};
 ghost use Rattle.play_show.specs.Topics.{topic_asked};
 ghost use Rattle.play_script.specs.Moved.{IsBelow};
 ghost use Rattle.link_script.specs.Boots.{IsUnbooted};
-ghost use Rattle.play_script.specs.Tells.{Play, Ticks, Does, IsAnswered, IsRefused, IsSettled, Tells, TellsAsked, TellsSettings, told_text, printed, is_sound, stays_head};
+ghost use Rattle.play_script.specs.Plays.{scene_of};
+ghost use Rattle.play_script.specs.Tells.{Play, Ticks, Does, IsAnswered, IsRefused, IsSettled, IsTold, Tells, TellsAsked, TellsSettings, told_text, printed, is_sound, stays_head};
 ghost use Rattle.play_script.specs.Inside.{expected_on, play_of};
 
 use crate::capture::{Tape, do_noted};
@@ -22,11 +23,13 @@ use crate::line::{Kind, read_line};
 use crate::moved::put_below;
 use crate::outcome::{DROPS, TOLD, put_drops, put_told};
 use crate::print::{NAME, ROOM};
+use crate::replay::{Shelf, tell_capture};
+use crate::scene::Scene;
 use flat_model::Config;
 use link_script::{Caller, Machine, TEXT};
 use play_line::LONGEST;
 use play_packet::LineReader;
-use play_pcap::Trace;
+use play_pcap::{Folder, Trace, ask_of};
 use play_print::{Form, Outcome, put_fault, put_outcome, put_slip};
 use play_settings::{SettingFault, is_settings, settings_of};
 use play_show::{Questions, SHOWN, Snapshot, snapshot_of, tell_topic, topic_of};
@@ -38,7 +41,7 @@ use std::mem;
 const MOST_TICKS: u32 = 65_535;
 
 /// The bytes of a buffer.
-fn bytes_of<const N: usize>(buffer: &Buffer<N>) -> &[u8]
+pub(crate) fn bytes_of<const N: usize>(buffer: &Buffer<N>) -> &[u8]
     ensures is { result.now ≡ buffer.now }
     ensures most { length result.now ≤ N }
 {
@@ -179,6 +182,29 @@ fn answer_line<M: Questions, T: Sink>(
     }
 }
 
+/// Does a plain line, puts what is told of it into the notes, and answers whether it asks for something. If it asks for a
+/// capture, that's played in.
+fn tell_words<M: Questions, T: Sink, F: Folder>(
+    scene: &mut Scene<M, T>,
+    shelf: &Shelf<F>,
+    words: &[u8],
+    quiet: bool,
+    notes: &mut Notes,
+) -> bool
+    ensures { IsTold M.may_step F.may_have quiet words.now
+        (scene_of (M.state scene.old.caller.machine) scene.old.tape.trace scene.old.tape.line)
+        (if_there result notes.new.told) notes.new.below
+        (scene_of (M.state scene.new.caller.machine) scene.new.tape.trace scene.new.tape.line) }
+{
+    match ask_of(words) {
+        Some(ask) => {
+            tell_capture(scene, shelf, ask, quiet, notes);
+            true
+        }
+        None => answer_line(&mut scene.caller, words, quiet, notes, &mut scene.tape),
+    }
+}
+
 /// A line as it's written, the plain line that it stands for, and the words that are expected.
 #[derive(Drop)]
 pub(crate) struct Desk {
@@ -198,11 +224,10 @@ pub(crate) struct Sheet {
 }
 
 /// What plays a script.
-pub(crate) struct Player<M, T: Sink> {
-    pub(crate) alloc: Global,
-    pub(crate) caller: Caller<M>,
-    /// The capture of the packets that come and go.
-    pub(crate) tape: Tape<T>,
+pub(crate) struct Player<M, T: Sink, F> {
+    pub(crate) shelf: Shelf<F>,
+    /// The machine, with the capture of the packets that come and go.
+    pub(crate) scene: Scene<M, T>,
     /// What the machine was booted with.
     pub(crate) config: Config,
     /// Whether settings may still make another machine.
@@ -320,15 +345,14 @@ fn both(first: bool, second: bool) -> bool
     first && second
 }
 
-impl<M: Machine, T: Sink> Player<M, T> {
+impl<M: Machine, T: Sink, F: Folder> Player<M, T, F> {
     /// Spends the player and its machine, and gives the capture back.
     pub(crate) fn end(self) -> Trace<T>
-        ensures { result ≡ self.tape.trace }
+        ensures { result ≡ self.scene.tape.trace }
     {
         let Player {
-            alloc: _alloc,
-            caller,
-            tape,
+            shelf: _shelf,
+            scene,
             config: _config,
             head: _head,
             reader: _reader,
@@ -337,6 +361,7 @@ impl<M: Machine, T: Sink> Player<M, T> {
             sheet: _sheet,
             sound: _sound,
         } = self;
+        let Scene { caller, tape } = scene;
         let Caller {
             machine,
             buffers: _buffers,
@@ -347,28 +372,28 @@ impl<M: Machine, T: Sink> Player<M, T> {
     }
 }
 
-impl<M: Questions, T: Sink> Player<M, T> {
+impl<M: Questions, T: Sink, F: Folder> Player<M, T, F> {
     /// Makes a new machine as the settings on the desk say, and prints `ok` or what is wrong with them.
     fn set_up(&mut self, text: &mut Buffer<ROOM>)
         requires { length text.old ≤ HELD }
         ensures { (added : List ℕ)
             × TellsSettings
-            (play_of (M.state self.old.caller.machine) self.old.tape.trace self.old.config self.old.head self.old.sheet
-            self.old.sound)
+            (play_of (M.state self.old.scene.caller.machine) self.old.scene.tape.trace self.old.config self.old.head
+            self.old.sheet self.old.sound)
             self.old.desk.shown self.old.desk.words (expected_on self.old.desk) added
-            (play_of (M.state self.new.caller.machine) self.new.tape.trace self.new.config self.new.head self.new.sheet
-            self.new.sound)
+            (play_of (M.state self.new.scene.caller.machine) self.new.scene.tape.trace self.new.config self.new.head
+            self.new.sheet self.new.sound)
             × (text.new ≡ text.old ++ added) }
     {
         let outcome = settled::<M>(
-            self.alloc,
+            self.shelf.alloc,
             self.head,
             self.config,
             bytes_of(&self.desk.words),
         );
         match outcome {
             Ok((machine, config)) => {
-                mem::replace(&mut self.caller.machine, machine).end();
+                mem::replace(&mut self.scene.caller.machine, machine).end();
                 self.config = config;
                 self.notes.told.clear();
                 self.notes.told.append(b"ok");
@@ -393,21 +418,21 @@ impl<M: Questions, T: Sink> Player<M, T> {
     fn ask(&mut self, text: &mut Buffer<ROOM>)
         requires { length text.old ≤ HELD }
         ensures { (added : List ℕ)
-            × TellsAsked M.may_step false
-            (play_of (M.state self.old.caller.machine) self.old.tape.trace self.old.config self.old.head self.old.sheet
-            self.old.sound)
+            × TellsAsked M.may_step F.may_have false
+            (play_of (M.state self.old.scene.caller.machine) self.old.scene.tape.trace self.old.config self.old.head
+            self.old.sheet self.old.sound)
             self.old.desk.shown self.old.desk.words (expected_on self.old.desk) added
-            (play_of (M.state self.new.caller.machine) self.new.tape.trace self.new.config self.new.head self.new.sheet
-            self.new.sound)
+            (play_of (M.state self.new.scene.caller.machine) self.new.scene.tape.trace self.new.config self.new.head
+            self.new.sheet self.new.sound)
             × (text.new ≡ text.old ++ added) }
     {
-        self.tape.line = self.sheet.number;
-        let asks = answer_line(
-            &mut self.caller,
+        self.scene.tape.line = self.sheet.number;
+        let asks = tell_words(
+            &mut self.scene,
+            &self.shelf,
             bytes_of(&self.desk.words),
             self.sheet.form.is_quiet(),
             &mut self.notes,
-            &mut self.tape,
         );
         let sound = tell_outcome(asks, &self.sheet, &self.desk, &self.notes, text);
         let stays = stays(bytes_of(&self.desk.words), asks);
@@ -416,12 +441,12 @@ impl<M: Questions, T: Sink> Player<M, T> {
     }
 }
 
-impl<M: Questions, T: Sink> Answers<ROOM> for Player<M, T> {
+impl<M: Questions, T: Sink, F: Folder> Answers<ROOM> for Player<M, T, F> {
     ghost State = { Play };
 
-    ghost state = { λ p. play_of (M.state p.caller.machine) p.tape.trace p.config p.head p.sheet p.sound };
+    ghost state = { λ p. play_of (M.state p.scene.caller.machine) p.scene.tape.trace p.config p.head p.sheet p.sound };
 
-    ghost may_answer = { Tells M.may_step };
+    ghost may_answer = { Tells M.may_step F.may_have };
 
     fn answer(&mut self, line: &[u8], text: &mut Buffer<ROOM>) {
         self.sheet.number = self.sheet.number.saturating_add(1);

@@ -7,16 +7,19 @@ ghost use Rattle.script_loop.specs.Streams.{MoreBy, reader_failures, writer_fail
 ghost use Rattle.script_loop.specs.Serves.{Serves, IsServed};
 ghost use Rattle.link_script.specs.Boots.{Boots};
 ghost use Rattle.play_script.specs.declared.print.TheConstants.{NAME};
+ghost use Rattle.play_pcap.specs.Files.{no_folder};
 ghost use Rattle.play_script.specs.Tells.{Play, Tells, started, status_of};
 
 use crate::capture::Tape;
 use crate::player::{Desk, Notes, Player, Sheet};
 use crate::print::NAME;
+use crate::replay::Shelf;
+use crate::scene::Scene;
 use flat_model::Config;
 use link_script::Caller;
 use net_stack::Stack;
 use play_packet::LineReader;
-use play_pcap::{Nowhere, Trace};
+use play_pcap::{Folder, NoFolder, Nowhere, Trace};
 use play_print::Form;
 use play_show::Questions;
 use script_loop::{Buffer, LineBuffers, RunFault, Sink, Source, serve_script};
@@ -127,11 +130,13 @@ fn parts_for(alloc: Global, style: Style<'_>) -> Result<Parts, AllocError>
 }
 
 /// What a script begins with.
-pub struct Start<T: Sink> {
+pub struct Start<T: Sink, F> {
     /// What the machine is booted with.
     pub config: Config,
     /// The capture to which the packets are added that come and go.
     pub trace: Trace<T>,
+    /// The files that its lines may name.
+    pub folder: F,
 }
 
 /// What came of a script, and its capture. This must be ended by `Trace::end`.
@@ -141,9 +146,9 @@ pub struct Captured<T: Sink> {
 }
 
 /// Plays a script on a machine of this configuration, and spends it.
-fn play_machine<M: Questions, R: Source, W: Sink, T: Sink>(
+fn play_machine<M: Questions, R: Source, W: Sink, T: Sink, F: Folder>(
     alloc: Global,
-    booted: (M, Start<T>),
+    booted: (M, Start<T, F>),
     style: Style<'_>,
     reader: &mut R,
     writer: &mut W,
@@ -152,14 +157,21 @@ fn play_machine<M: Questions, R: Source, W: Sink, T: Sink>(
     ensures read { MoreBy (reader_failures result.played.outcome) (R.failures reader.old) (R.failures reader.new) }
     ensures wrote { MoreBy (writer_failures result.played.outcome) (W.failures writer.old) (W.failures writer.new) }
     ensures served { (new : Play)
-        × Serves (Tells M.may_step)
+        × Serves (Tells M.may_step F.may_have)
         (started (M.state booted.0) booted.1.trace style.entry.form (take NAME style.entry.name.now)) new
         (R.remaining reader.old) (R.remaining reader.new)
         (W.contents writer.old) (W.contents writer.new) result.played.outcome
         × (result.played.sound ≡ new.sound) × (result.trace ≡ new.traced) }
     ensures started { IsServed result.played.outcome }
 {
-    let (machine, Start { config, trace }) = booted;
+    let (
+        machine,
+        Start {
+            config,
+            trace,
+            folder,
+        },
+    ) = booted;
     let Ok(parts) = parts_for(alloc, style) else {
         machine.end();
         let played = Played {
@@ -176,9 +188,11 @@ fn play_machine<M: Questions, R: Source, W: Sink, T: Sink>(
         sheet,
     } = parts;
     let mut player = Player {
-        alloc,
-        caller: Caller { machine, buffers },
-        tape: Tape { trace, line: 0 },
+        shelf: Shelf { alloc, folder },
+        scene: Scene {
+            caller: Caller { machine, buffers },
+            tape: Tape { trace, line: 0 },
+        },
         config,
         head: true,
         reader: lines,
@@ -197,9 +211,9 @@ fn play_machine<M: Questions, R: Source, W: Sink, T: Sink>(
 }
 
 /// Plays a script on a new machine, which is spent then.
-fn play_on<M: Questions, R: Source, W: Sink, T: Sink>(
+fn play_on<M: Questions, R: Source, W: Sink, T: Sink, F: Folder>(
     alloc: Global,
-    start: Start<T>,
+    start: Start<T, F>,
     style: Style<'_>,
     reader: &mut R,
     writer: &mut W,
@@ -208,16 +222,24 @@ fn play_on<M: Questions, R: Source, W: Sink, T: Sink>(
     ensures read { MoreBy (reader_failures result.played.outcome) (R.failures reader.old) (R.failures reader.new) }
     ensures wrote { MoreBy (writer_failures result.played.outcome) (W.failures writer.old) (W.failures writer.new) }
     ensures served { (new : Play)
-        × Serves (Tells M.may_step)
+        × Serves (Tells M.may_step F.may_have)
         (started (boot start.config) start.trace style.entry.form (take NAME style.entry.name.now)) new
         (R.remaining reader.old) (R.remaining reader.new)
         (W.contents writer.old) (W.contents writer.new) result.played.outcome
         × (result.played.sound ≡ new.sound) × (result.trace ≡ new.traced) }
 {
-    let Start { config, trace } = start;
+    let Start {
+        config,
+        trace,
+        folder,
+    } = start;
     match M::boot(alloc, config) {
         Ok(machine) => {
-            let start = Start { config, trace };
+            let start = Start {
+                config,
+                trace,
+                folder,
+            };
             play_machine(alloc, (machine, start), style, reader, writer)
         }
         Err(fault) => {
@@ -242,7 +264,7 @@ fn play_untraced<M: Questions, R: Source, W: Sink>(
     ensures read { MoreBy (reader_failures result.outcome) (R.failures reader.old) (R.failures reader.new) }
     ensures wrote { MoreBy (writer_failures result.outcome) (W.failures writer.old) (W.failures writer.new) }
     ensures served { (traced : Traced) × (new : Play)
-        × Serves (Tells M.may_step)
+        × Serves (Tells M.may_step no_folder)
         (started (M.state booted.0) traced style.entry.form (take NAME style.entry.name.now)) new
         (R.remaining reader.old) (R.remaining reader.new)
         (W.contents writer.old) (W.contents writer.new) result.outcome
@@ -260,6 +282,7 @@ fn play_untraced<M: Questions, R: Source, W: Sink>(
     let start = Start {
         config,
         trace: Trace::begin(Nowhere, room),
+        folder: NoFolder,
     };
     let Captured { played, trace } = play_machine(alloc, (machine, start), style, reader, writer);
     let _nowhere = trace.end();
@@ -278,7 +301,7 @@ fn play_plainly<M: Questions, R: Source, W: Sink>(
     ensures read { MoreBy (reader_failures result.outcome) (R.failures reader.old) (R.failures reader.new) }
     ensures wrote { MoreBy (writer_failures result.outcome) (W.failures writer.old) (W.failures writer.new) }
     ensures served { (traced : Traced) × (new : Play)
-        × Serves (Tells M.may_step)
+        × Serves (Tells M.may_step no_folder)
         (started (boot config) traced style.entry.form (take NAME style.entry.name.now)) new
         (R.remaining reader.old) (R.remaining reader.new)
         (W.contents writer.old) (W.contents writer.new) result.outcome
@@ -321,9 +344,9 @@ pub fn play<R: Source, W: Sink>(
     ensures read { MoreBy (reader_failures result.outcome) (R.failures reader.old) (R.failures reader.new) }
     ensures wrote { MoreBy (writer_failures result.outcome) (W.failures writer.old) (W.failures writer.new) }
     // What is written is told on the way of the machine with exact accounts from boot, over the lines of what is read.
-    // The capture is nobody's.
+    // The capture is nobody's, and no file can be opened.
     ensures served { (traced : Traced) × (new : Play)
-        × Serves (Tells Step)
+        × Serves (Tells Step no_folder)
         (started (boot config) traced style.entry.form (take NAME style.entry.name.now)) new
         (R.remaining reader.old) (R.remaining reader.new)
         (W.contents writer.old) (W.contents writer.new) result.outcome
@@ -340,9 +363,9 @@ pub fn play<R: Source, W: Sink>(
 /// # Errors
 ///
 /// Those of [`play`], with which nothing is added to the capture unless a line was answered.
-pub fn play_captured<R: Source, W: Sink, T: Sink>(
+pub fn play_captured<R: Source, W: Sink, T: Sink, F: Folder>(
     alloc: Global,
-    start: Start<T>,
+    start: Start<T, F>,
     style: Style<'_>,
     reader: &mut R,
     writer: &mut W,
@@ -352,11 +375,11 @@ pub fn play_captured<R: Source, W: Sink, T: Sink>(
     ensures wrote { MoreBy (writer_failures result.played.outcome) (W.failures writer.old) (W.failures writer.new) }
     // The capture has what the lines add to it that were answered: see `runs_law`.
     ensures served { (new : Play)
-        × Serves (Tells Step)
+        × Serves (Tells Step F.may_have)
         (started (boot start.config) start.trace style.entry.form (take NAME style.entry.name.now)) new
         (R.remaining reader.old) (R.remaining reader.new)
         (W.contents writer.old) (W.contents writer.new) result.played.outcome
         × (result.played.sound ≡ new.sound) × (result.trace ≡ new.traced) }
 {
-    play_on::<Stack, R, W, T>(alloc, start, style, reader, writer)
+    play_on::<Stack, R, W, T, F>(alloc, start, style, reader, writer)
 }

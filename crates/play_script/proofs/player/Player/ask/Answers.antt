@@ -2,6 +2,7 @@ use Rattle.std.proofs.Common.{◌≡◌, ℕ, Bool, ◌&&◌, List, Option, ap, 
 use Rattle.play_show.specs.Topics.{topic_asked}
 use Rattle.play_print.specs.Texts.{if_there}
 use Rattle.play_script.specs.Inside.{expected_on, play_of}
+use Rattle.play_script.specs.Plays.{scene_of}
 use Rattle.play_script.specs.Tells.{is_sound, printed, stays_head}
 use Rattle.play_script.proofs.AnswerLemmas.{Asked-tells}
 use Rattle.play_script.proofs.player.Player.ask.Goals as goal
@@ -9,16 +10,18 @@ use Rattle.play_script.proofs.player.Player.ask.Goals as goal
 pub returns : goal.returns
 returns g c =
     let now = c.args.self.now in
-    let told : Option (List ℕ) = if_there c.answer_line-asks.result c.answer_line-asks.new.notes.told in
+    let told : Option (List ℕ) = if_there c.tell_words-asks.result c.tell_words-asks.new.notes.told in
+    let after = c.tell_words-asks.new.scene in
     let sound : c.both-self.result ≡ (now.sound && is_sound (expected_on now.desk) told) =
     c.both-self.ensures ∙ ap (λ (b : Bool). now.sound && b) c.tell_outcome-sound.ensures.sound in
     let head : c.both-self-2.result ≡ (now.head && stays_head (topic_asked now.desk.words) told) =
-    c.both-self-2.ensures ∙ ap (λ (b : Bool). now.head && b) (c.stays-stays.ensures c.answer_line-asks.new.notes.told
+    c.both-self-2.ensures ∙ ap (λ (b : Bool). now.head && b) (c.stays-stays.ensures c.tell_words-asks.new.notes.told
     ∙ ap (λ (t : List ℕ). stays_head (topic_asked t) told) c.bytes_of-2.ensures.is) in (
-      printed now.sheet.form now.sheet.name now.sheet.number now.desk.shown (expected_on now.desk) told c.answer_line-asks.new.notes.below,
-      Asked-tells g.M.Machine.may_step (play_of (g.M.Machine.state now.caller.machine) now.tape.trace now.config now.head now.sheet now.sound)
-          now.desk.shown now.desk.words c.bytes_of.result.now (expected_on now.desk) told c.answer_line-asks.new.notes.below
-          (g.M.Machine.state c.answer_line-asks.new.caller.machine) c.answer_line-asks.new.tape.trace c.is_quiet.result c.both-self-2.result c.both-self.result
-          c.bytes_of.ensures.is c.is_quiet.ensures c.answer_line-asks.ensures head sound,
+      printed now.sheet.form now.sheet.name now.sheet.number now.desk.shown (expected_on now.desk) told c.tell_words-asks.new.notes.below,
+      Asked-tells g.M.Machine.may_step g.F.Folder.may_have
+          (play_of (g.M.Machine.state now.scene.caller.machine) now.scene.tape.trace now.config now.head now.sheet now.sound)
+          now.desk.shown now.desk.words c.bytes_of.result.now (expected_on now.desk) told c.tell_words-asks.new.notes.below
+          (scene_of (g.M.Machine.state after.caller.machine) after.tape.trace after.tape.line) c.is_quiet.result c.both-self-2.result c.both-self.result
+          c.bytes_of.ensures.is c.is_quiet.ensures c.tell_words-asks.ensures head sound,
       c.tell_outcome-sound.ensures.text,
     )

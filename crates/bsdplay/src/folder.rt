@@ -1,0 +1,66 @@
+//! The files that a script names.
+use play_pcap::read_whole;
+use play_script::{CaptureFault, Folder, Silent};
+use std::alloc::Global;
+use std::{fs, str};
+
+/// The folder of a script. A name that begins with `/` is that of any file of the host.
+#[derive(Drop)]
+pub(crate) struct HostFolder<'a> {
+    rt: &'a HostRuntime,
+    /// What stands in front of a name: the script's own name up to its last `/`.
+    front: &'a [u8],
+}
+
+impl<'a> HostFolder<'a> {
+    /// The folder of the script of this name. That of standard input is the one that the program was called in.
+    pub(crate) fn of(rt: &'a HostRuntime, script: &'a str) -> HostFolder<'a> {
+        HostFolder {
+            rt,
+            front: front_of(script.as_bytes()),
+        }
+    }
+}
+
+/// The front of a name up to its last `/`.
+fn front_of(name: &[u8]) -> &[u8] {
+    let mut front = &name[..0];
+    for at in 0..name.len() {
+        if name[at] == b'/' {
+            front = &name[..at + 1];
+        }
+    }
+    front
+}
+
+/// Whether a name says by itself where its file is.
+fn is_absolute(name: &[u8]) -> bool {
+    match name {
+        [first, ..] => *first == b'/',
+        [] => false,
+    }
+}
+
+impl Folder for HostFolder<'_> {
+    ghost may_have = { λ name file. Unit {0} };
+
+    fn load(&self, alloc: Global, name: &[u8]) -> Result<Vec<u8>, CaptureFault> {
+        let mut path = Vec::new(alloc);
+        if !is_absolute(name) && path.extend_from_slice(self.front).is_err() {
+            return Err(CaptureFault::Memory);
+        }
+        if path.extend_from_slice(name).is_err() {
+            return Err(CaptureFault::Memory);
+        }
+        let Ok(path) = str::from_utf8(path.as_slice()) else {
+            return Err(CaptureFault::NotOpened);
+        };
+        let Ok(file) = fs::open(self.rt, path) else {
+            return Err(CaptureFault::NotOpened);
+        };
+        match read_whole(alloc, &mut Silent(file)) {
+            Ok(file) => Ok(file),
+            Err(fault) => Err(fault),
+        }
+    }
+}

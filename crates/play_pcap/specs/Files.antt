@@ -1,0 +1,37 @@
+-- Captures by the names of their files (this project's own).
+use Rattle.std.specs.Prelude.{◌≡◌, ◌⊎◌, ℕ, List, Result, Err}
+use Rattle.flat_model.specs.Machine.Event.{Event}
+use Rattle.flat_model.specs.Scripts.Grammar.{IsHex}
+use Rattle.play_pcap.specs.Events.{PlaysFile}
+use Rattle.play_pcap.specs.declared.ask.Details.{Details}
+use Rattle.play_pcap.specs.declared.fault.CaptureFault.{CaptureFault}
+use Rattle.play_pcap.specs.declared.fault.CaptureFault.TheVariants.{NotOpened, NotRead, TooLong, Memory, TooFew, Bad}
+use Rattle.play_pcap.specs.declared.moves.Tally.{Tally}
+
+-- The name that a word of a plain line writes: the bytes whose digits it is, as those of a text, or else the word.
+abbrev pub IsName : List ℕ → List ℕ → Type 0
+IsName word name = IsHex word name ⊎ (((bytes : List ℕ) → IsHex word bytes → ⊥) × (name ≡ word))
+
+-- there is none
+abbrev pub no_folder : List ℕ → List ℕ → Type 0
+no_folder name file = ⊥
+
+-- the file that a word names may have these bytes, if `has` says which bytes the file of a name may have
+abbrev pub IsHad : (List ℕ → List ℕ → Type 0) → List ℕ → List ℕ → Type 0
+IsHad has word file = (name : List ℕ) × IsName word name × has name file
+
+-- the file can't be read into memory
+abbrev pub IsUnread : CaptureFault → Type 0
+IsUnread NotOpened = Unit {0}
+IsUnread NotRead = Unit {0}
+IsUnread TooLong = Unit {0}
+IsUnread Memory = Unit {0}
+IsUnread TooFew = ⊥
+IsUnread (Bad fault) = ⊥
+
+-- What a line does that asks for the capture in the file that a word names: what playing that file in does; or nothing
+-- at all, if it can't be read.
+abbrev pub PlaysNamed : {S : Type 0} → (List ℕ → List ℕ → Type 0) → (S → Event → S → Type 0) → Details → List ℕ → Result Tally CaptureFault → S → S → Type 0
+PlaysNamed has go d word outcome old new =
+    ((file : List ℕ) × IsHad has word file × PlaysFile go d file outcome old new)
+    ⊎ ((fault : CaptureFault) × IsUnread fault × (outcome ≡ Err fault) × (new ≡ old))

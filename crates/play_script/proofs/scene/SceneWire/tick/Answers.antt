@@ -1,0 +1,13 @@
+use Rattle.std.proofs.Common.{refl}
+use Rattle.flat_model.specs.Machine.Event.{Done}
+use Rattle.play_script.proofs.CaptureLemmas.{Captures-tick}
+use Rattle.play_script.proofs.scene.SceneWire.tick.Goals as goal
+
+pub returns : goal.returns
+returns g c = (
+  tt,
+  c.tick.ensures,
+  Captures-tick c.args.self.now.tape.line c.args.self.now.tape.trace c.tick-2.new.self Done
+      c.tick-2.ensures.ticks c.tick-2.ensures.whole c.tick-2.ensures.wrote,
+  refl,
+)
