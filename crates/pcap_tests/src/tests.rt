@@ -1,12 +1,11 @@
 //! Bytes from outside: scapy 2.5.0 wrote the files (`PcapWriter` with `linktype`, `nano` and `endianness`) and the
 //! frames. tcpdump 4.99.3 reads each of them, and `tcpdump -r FILE -w OTHER` writes `TAGGED` and `RAW_IPV4` again byte
-//! by byte. The broken files are these, with fields changed as pcap-savefile(5) has them.
+//! by byte.
 use pcap::{
-    Header, LinkType, NoPacket, Order, Packet, ReadError, Reader, Record, Resolution, Why,
-    WriteError, ipv4_packet, put_record, read, write,
+    Header, LinkType, NoPacket, Order, Packet, Reader, Record, Resolution, WriteError, ipv4_packet,
+    put_record, read, write,
 };
 use std::alloc::{AllocError, Global};
-use std::process::Abort;
 use std::test::Fail;
 
 /// Little endian, microseconds, Ethernet: a packet padded to 60 bytes, and one behind a VLAN tag.
@@ -176,86 +175,6 @@ fn refuses_a_packet_above_the_limit(rt: HostRuntime) -> Result<(), Fail> {
     Ok(())
 }
 
-/// What reading a file comes to: how many records, or its fault.
-fn outcome(rt: &impl Abort, alloc: Global, file: &[u8]) -> Result<usize, (Why, usize)> {
-    match read(alloc, file) {
-        Ok(capture) => Ok(capture.records.len()),
-        Err(ReadError::Fault(fault)) => Err((fault.why, fault.offset)),
-        Err(ReadError::Memory) => panic!(rt; "no memory"),
-    }
-}
-
-#[test]
-fn cut_at_each_byte(rt: HostRuntime) {
-    for n in 0..RAW_IPV4.len() + 1 {
-        let want = match n {
-            0..24 => Err((Why::HeaderCut, 0)),
-            24 => Ok(0),
-            25..40 => Err((Why::RecordCut, 24)),
-            40..70 => Err((Why::BytesCut, 32)),
-            70 => Ok(1),
-            71..86 => Err((Why::RecordCut, 70)),
-            _ => Ok(2),
-        };
-        assert!(rt;
-            outcome(&rt, rt.alloc(), &RAW_IPV4[..n]) == want,
-            "cut at {n}"
-        );
-    }
-}
-
-/// A byte of `RAW_IPV4`, its new value, and what reading comes to.
-static FIELDS: [(usize, u8, Result<usize, (Why, usize)>); 21] = [
-    // The magic number, and that of pcapng.
-    (0, 0xd5, Err((Why::BadMagic, 0))),
-    (0, 0x0a, Err((Why::BadMagic, 0))),
-    // Versions 1.4, 3.4, 2.3 and 2.5.
-    (4, 1, Err((Why::BadVersion, 4))),
-    (4, 3, Err((Why::BadVersion, 4))),
-    (6, 3, Err((Why::BadVersion, 4))),
-    (6, 5, Err((Why::BadVersion, 4))),
-    (7, 1, Err((Why::BadVersion, 4))),
-    // Time zone, accuracy and snapshot length mean nothing here.
-    (8, 1, Ok(2)),
-    (12, 1, Ok(2)),
-    (16, 1, Ok(2)),
-    // Link types: neighbours of 228, and one that isn't taken; the high bits mean nothing.
-    (20, 227, Err((Why::BadLinkType, 20))),
-    (20, 229, Err((Why::BadLinkType, 20))),
-    (20, 105, Err((Why::BadLinkType, 20))),
-    (23, 0x14, Ok(2)),
-    // The captured length of the first record. One byte less moves what follows, one record and one byte too many;
-    // 46 takes in all that follows.
-    (32, 29, Err((Why::RecordCut, 85))),
-    (32, 46, Ok(1)),
-    (32, 47, Err((Why::BytesCut, 32))),
-    (35, 0xff, Err((Why::BytesCut, 32))),
-    // The packet's own length may be less than what was captured, or more.
-    (36, 0, Ok(2)),
-    (39, 0xff, Ok(2)),
-    // A million microseconds and more.
-    (31, 0xff, Ok(2)),
-];
-
-/// `RAW_IPV4` with this byte at this place.
-fn with(at: usize, byte: u8) -> [u8; 86] {
-    let mut file = RAW_IPV4;
-    if let Some(place) = file.get_mut(at) {
-        *place = byte;
-    }
-    file
-}
-
-#[test]
-fn each_field_at_its_borders(rt: HostRuntime) {
-    for (at, byte, want) in FIELDS.iter() {
-        assert!(rt;
-            outcome(&rt, rt.alloc(), &with(*at, *byte)) == *want,
-            "{byte} at {at}"
-        );
-    }
-}
-
 /// A link, the header of a frame on it, and how long the packet behind it is.
 static HEADERS: [(LinkType, &[u8], Result<usize, NoPacket>); 15] = [
     (LinkType::Ethernet, &ETHERNET, Ok(30)),
@@ -331,49 +250,4 @@ fn finds_the_packet_behind_each_header(rt: HostRuntime) -> Result<(), Fail> {
         }
     }
     Ok(())
-}
-
-#[test]
-fn takes_off_padding_only_by_a_total_length_that_can_be(rt: HostRuntime) {
-    for (total, want) in [
-        (0, 36),
-        (19, 36),
-        (20, 20),
-        (35, 35),
-        (36, 36),
-        (37, 36),
-        (255, 36),
-    ] {
-        let mut bytes = [0x45; 36];
-        bytes[2] = 0;
-        bytes[3] = total;
-        assert!(rt; found_len(LinkType::Raw, &bytes) == Ok(want), "{total}");
-    }
-}
-
-#[test]
-fn takes_a_raw_packet_of_any_length_but_none(rt: HostRuntime) {
-    assert!(rt; found_len(LinkType::Raw, &[]) == Err(NoPacket::FrameCut));
-    assert!(rt; found_len(LinkType::Raw, &[0x4f]) == Ok(1));
-    assert!(rt; found_len(LinkType::Ipv4, &[]) == Ok(0));
-}
-
-#[test]
-fn knows_the_link_types(rt: HostRuntime) {
-    for (number, want) in [
-        (0, Some(LinkType::Null)),
-        (1, Some(LinkType::Ethernet)),
-        (2, None),
-        (12, Some(LinkType::Raw)),
-        (14, Some(LinkType::Raw)),
-        (101, Some(LinkType::Raw)),
-        (108, Some(LinkType::Loop)),
-        (113, Some(LinkType::LinuxCooked)),
-        (228, Some(LinkType::Ipv4)),
-        (229, None),
-        (276, Some(LinkType::LinuxCooked2)),
-        (65_535, None),
-    ] {
-        assert!(rt; LinkType::of(number) == want, "{number}");
-    }
 }

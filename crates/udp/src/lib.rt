@@ -13,6 +13,3 @@ mod sums;
 pub use arrival::{Outcome, input};
 pub use departure::build;
 pub use sums::check;
-
-#[cfg(test)]
-mod tests;

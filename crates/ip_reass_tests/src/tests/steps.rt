@@ -1,15 +1,14 @@
-//! Steps that check their own conditions, for the tests.
+//! A pool and a table, with steps that check their own conditions.
 
 ghost use Rattle.std.specs.Prelude.{◌≡◌, ◌∷◌, ◌<◌, ◌≤◌, length, true};
 ghost use Rattle.mbuf_chain.specs.Chain.{chain_of, string};
 ghost use Rattle.mbuf_chain.specs.Owners.{IsOwned};
 ghost use Rattle.ip_reass.specs.Table.{IsReady, held_all};
 
-use chain_ops::{from_wire, m_copydata};
-use flat_model::{Counter, Counters, Why};
+use chain_ops::from_wire;
+use flat_model::Counters;
 use ip_out::IpHead;
 use ip_reass::{Arrival, Reass};
-use ledger::reserve;
 use mbuf_chain::{Chain, Pool};
 use mbuf_pool::{NoBufs, Sizes, Store};
 use params::{IP_HEADER, IP_MAX_PACKET};
@@ -53,14 +52,6 @@ pub(super) const HEAD: IpHead = IpHead {
 /// A fragment: where it begins, whether more come after it, a byte, and how often.
 pub(super) type Piece = (u32, bool, u8, u32);
 
-/// What became of a fragment; of a whole datagram its length.
-#[derive(Clone, Copy, Debug, PartialEq, Eq)]
-pub(super) enum Became {
-    Kept,
-    Whole(u32),
-    Dropped(Why),
-}
-
 /// A packet received into the pool, beside a table.
 fn received(rt: &impl Abort, pool: &mut Pool, table: &Reass, bytes: &[u8]) -> Chain
     requires ready { IsReady pool.old table.now }
@@ -76,37 +67,7 @@ fn received(rt: &impl Abort, pool: &mut Pool, table: &Reass, bytes: &[u8]) -> Ch
     }
 }
 
-/// Reads a whole datagram's bytes and frees it: its length.
-pub(super) fn read_whole(
-    rt: &impl Abort,
-    pool: &mut Pool,
-    table: &Reass,
-    chain: Chain,
-    to: &mut [u8],
-) -> u32
-    requires owned { IsOwned pool.old (chain ∷ held_all pool.old table.now.datagrams) }
-    requires ready { IsReady pool.old table.now }
-    ensures { IsReady pool.new table.now }
-{
-    let len = pool.len(&chain);
-    assert!(rt; len as usize <= to.len());
-    m_copydata(pool, &chain, 0, &mut to[..len as usize]);
-    pool.free_chain(chain);
-    len
-}
-
-/// The free mbufs and clusters, the references to clusters, and the most that one has.
-pub(super) fn buffers(pool: &Pool) -> (u32, u32, u32, u32) {
-    let usage = pool.usage();
-    (
-        usage.free_mbufs,
-        usage.free_clusters,
-        usage.references,
-        usage.greatest_count,
-    )
-}
-
-/// A fragment received, in an mbuf or in a cluster, and its header.
+/// A fragment received, in an mbuf, and its header.
 fn fragment(
     rt: &impl Abort,
     pool: &mut Pool,
@@ -123,8 +84,8 @@ fn fragment(
     ensures offset { result.1.offset ≤ IP_MAX_PACKET }
 {
     let (offset, more, byte, len) = piece;
-    assert!(rt; len <= 300 && offset <= 65_528);
-    let bytes = [byte; 320];
+    assert!(rt; len <= 100 && offset <= 65_528);
+    let bytes = [byte; 120];
     let total = 20 + len;
     let chain = received(rt, pool, table, &bytes[..total as usize]);
     let head = IpHead {
@@ -137,103 +98,36 @@ fn fragment(
 }
 
 impl Host {
-    /// Lets a fragment of a datagram arrive, in an mbuf or in a cluster; `to` gets the bytes of the whole.
-    pub(super) fn arrives(
-        &mut self,
-        rt: &impl Abort,
-        head: IpHead,
-        piece: Piece,
-        to: &mut [u8],
-    ) -> Became
+    /// Lets a fragment of a datagram arrive. Answers whether it has to wait.
+    pub(super) fn waits(&mut self, rt: &impl Abort, head: IpHead, piece: Piece) -> bool
         requires { IsReady self.old.pool self.old.table }
         ensures { IsReady self.new.pool self.new.table }
     {
         let (chain, head) = fragment(rt, &mut self.pool, &self.table, head, piece);
-        match self
+        let arrival = self
             .table
-            .arrive(&mut self.pool, &mut self.counters, chain, head)
-        {
-            Arrival::Kept => Became::Kept,
-            Arrival::Dropped(why) => Became::Dropped(why),
-            Arrival::Whole(chain, _) => {
-                Became::Whole(read_whole(rt, &mut self.pool, &self.table, chain, to))
-            }
+            .arrive(&mut self.pool, &mut self.counters, chain, head);
+        match arrival {
+            Arrival::Kept => true,
+            Arrival::Dropped(_) => false,
+            Arrival::Whole(..) => panic!(rt; "no datagram of this test is whole"),
         }
     }
 
-    /// Lets the fragment arrive that makes its datagram whole: the buffers while that is in hand, before it's freed.
-    pub(super) fn arrives_last(
-        &mut self,
-        rt: &impl Abort,
-        head: IpHead,
-        piece: Piece,
-    ) -> (u32, u32, u32, u32)
+    /// So many ticks: how many datagrams they drop.
+    pub(super) fn ticks(&mut self, n: u32) -> u32
         requires { IsReady self.old.pool self.old.table }
         ensures { IsReady self.new.pool self.new.table }
     {
-        let (chain, head) = fragment(rt, &mut self.pool, &self.table, head, piece);
-        let chain = match self
-            .table
-            .arrive(&mut self.pool, &mut self.counters, chain, head)
-        {
-            Arrival::Whole(chain, _) => chain,
-            Arrival::Kept => panic!(rt; "the datagram isn't whole"),
-            Arrival::Dropped(_) => panic!(rt; "the fragment was dropped"),
-        };
-        let held = buffers(&self.pool);
-        read_whole(rt, &mut self.pool, &self.table, chain, &mut [0; 1024]);
-        held
-    }
-
-    /// The test for a packet that comes by the wire in one mbuf.
-    pub(super) fn reserve_one(&mut self) -> bool
-        requires { IsReady self.old.pool self.old.table }
-        ensures { IsReady self.new.pool self.new.table }
-    {
-        reserve(&mut self.pool, &mut self.table, &mut self.counters, 1, 0)
-    }
-
-    /// So many ticks: how many datagrams were dropped at all of them but the last, and at the last.
-    pub(super) fn ticks(&mut self, rt: &impl Abort, n: u32) -> (u32, u32)
-        requires { IsReady self.old.pool self.old.table }
-        ensures { IsReady self.new.pool self.new.table }
-    {
-        let mut before = 0;
-        let mut last = 0;
+        let mut dropped = 0u32;
         'ticks: for _ in 0..n {
-            assert!(rt; before <= 65_535 && last <= 65_535);
-            before += last;
-            last = self.table.tick(&mut self.pool);
+            dropped = dropped.saturating_add(self.table.tick(&mut self.pool));
         }
-        (before, last)
+        dropped
     }
 
-    /// Lets so many datagrams begin, with a fragment each; before each one the test of a packet that comes in one mbuf.
-    pub(super) fn flood(&mut self, rt: &impl Abort, datagrams: u16)
-        requires { IsReady self.old.pool self.old.table }
-        ensures { IsReady self.new.pool self.new.table }
-    {
-        'datagrams: for id in 0..datagrams {
-            assert!(rt; self.reserve_one());
-            let head = IpHead { id, ..HEAD };
-            let became = self.arrives(rt, head, (16, false, b'b', 8), &mut []);
-            assert!(rt; became == Became::Kept);
-        }
-    }
-
-    /// How many datagrams are unfinished, and how many mbufs are free.
-    pub(super) fn told(&self) -> (u32, u32) {
-        (self.table.len(), self.pool.free_mbufs())
-    }
-
-    /// What a counter says.
-    pub(super) fn count(&self, counter: Counter) -> u64 {
-        self.counters.value(counter)
-    }
-
-    /// Frees what is unfinished: the free mbufs and clusters then, the references to clusters, and the most that one
-    /// has.
-    pub(super) fn ended(self) -> (u32, u32, u32, u32)
+    /// Frees what is unfinished, and answers whether all of the pool is free then.
+    pub(super) fn ended(self) -> bool
         requires { IsReady self.pool self.table }
     {
         let Host {
@@ -243,6 +137,7 @@ impl Host {
         } = self;
         let mut pool = pool;
         table.end(&mut pool);
-        buffers(&pool)
+        let usage = pool.usage();
+        usage.free_mbufs == usage.mbufs && usage.references == 0
     }
 }
