@@ -79,11 +79,14 @@ impl<R: Read> Ahead<R> {
     pub(crate) fn has_hosts(&mut self) -> bool {
         for _ in 0..AHEAD {
             let len = self.len;
-            if len >= AHEAD {
+            if len > AHEAD {
                 return false;
             }
             if let Some(told) = begins_with_host(&self.front[..len]) {
                 return told;
+            }
+            if len == AHEAD {
+                return false;
             }
             match self.inner.read(&mut self.front[len..]) {
                 Ok(0) | Err(_) => return false,
