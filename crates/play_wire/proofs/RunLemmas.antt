@@ -1,15 +1,13 @@
 -- Whole scripts.
-use Rattle.std.proofs.Common.{◌≡◌, inl, inr, ℕ, true, List, [], ◌∷◌, ◌++◌, map, Option, Some, None, refl, sym, ap, subst}
+use Rattle.std.proofs.Common.{◌≡◌, inl, inr, ℕ, List, [], ◌∷◌, ◌++◌, map, Option, Some, None, refl, sym, ap, subst}
 use Rattle.play_script.specs.Lines.{Reading, Nothing, TooLong, Faulty, Asks, reading}
 use Rattle.script_loop.specs.Printed.{Prints}
 use Rattle.segment.specs.Law.{Act, Calls, Seeds, AreActs}
-use Rattle.segment.specs.Chances.{seeded}
-use Rattle.segment.specs.Segment.{SegmentView, no_hosts}
+use Rattle.segment.specs.Segment.{SegmentView}
 use Rattle.play_wire.specs.Acts.{Outcome, IsHostLine}
 use Rattle.play_wire.specs.Runs.{AreToldBy, IsLawful, IsPlayed}
 use Rattle.play_print.specs.declared.form.Form.{Form}
 use Rattle.play_wire.specs.Tells.{Play, Tells, TellsPart, IsDone, next_line, started}
-use Rattle.play_wire.specs.declared.hosts.TheConstants.{PACKETS}
 use Rattle.play_wire.proofs.ActLemmas.{acts_append, calls_are_acts}
 
 none_are : (v w : SegmentView) (acts : List Act) → acts ≡ [] → w ≡ v → AreActs v acts w
