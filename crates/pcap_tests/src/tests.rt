@@ -249,5 +249,6 @@ fn finds_the_packet_behind_each_header(rt: HostRuntime) -> Result<(), Fail> {
             assert!(rt; is_found_in_parts(*link, &frame, header.len()), "row {row}");
         }
     }
+    assert!(rt; found_len(LinkType::Raw, &[]) == Err(NoPacket::FrameCut));
     Ok(())
 }
