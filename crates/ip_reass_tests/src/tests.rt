@@ -1,13 +1,15 @@
-//! What the table answers when it's asked, worked out by hand.
+//! What the table answers when it's asked, and why fragments are dropped, worked out by hand.
 
 mod steps;
 
 ghost use Rattle.ip_reass.specs.Table.{IsReady};
 
-use flat_model::FragmentKey;
+use flat_model::{FragmentKey, Why};
 use ip_out::IpHead;
 use ip_reass::{HeldRange, UnfinishedDatagram};
-use steps::{HEAD, Host, booted};
+use std::alloc::Global;
+use std::process::Abort;
+use steps::{HEAD, Host, Piece, booted};
 
 const KEY: FragmentKey = FragmentKey {
     source: HEAD.src,
@@ -100,8 +102,9 @@ fn is_none(host: &Host, datagram: u32) -> bool
 #[test]
 fn tells_what_is_held(rt: HostRuntime) {
     let mut host = booted(&rt, rt.alloc(), 16, 0);
-    assert!(rt; is_none(&host, 0));
+    assert!(rt; host.table.is_empty() && is_none(&host, 0));
     assert!(rt; host.waits(&rt, HEAD, (16, true, b'c', 16)));
+    assert!(rt; !host.table.is_empty());
     assert!(rt; host.ticks(2) == 0);
     let other = IpHead { id: 6, ..HEAD };
     assert!(rt; host.waits(&rt, other, (64, false, b'x', 5)));
@@ -115,4 +118,71 @@ fn tells_what_is_held(rt: HostRuntime) {
     assert!(rt; has_ranges(&host, 1, &LAST));
     assert!(rt; is_none(&host, 2));
     assert!(rt; host.ended());
+}
+
+/// The mbufs of a pool with one cluster, a fragment that comes where nothing waits, and why it's dropped.
+static DROPPED: [(&str, u32, Piece, Why); 6] = [
+    ("no byte", 4, (0, true, b'x', 0), Why::BadFragment),
+    (
+        "no multiple of 8, and others after it",
+        4,
+        (0, true, b'x', 10),
+        Why::BadFragment,
+    ),
+    (
+        "past the longest datagram",
+        4,
+        (65_512, false, b'x', 4),
+        Why::BadFragment,
+    ),
+    (
+        "a plain mbuf, and none for its key",
+        1,
+        (8, false, b'x', 10),
+        Why::NoBufs,
+    ),
+    (
+        "a cluster, and no mbuf for its header",
+        1,
+        (8, false, b'x', 300),
+        Why::NoBufs,
+    ),
+    (
+        "a cluster, an mbuf for its header, and none for its key",
+        2,
+        (8, false, b'x', 300),
+        Why::NoBufs,
+    ),
+];
+
+/// Whether a fragment is dropped for this cause, and nothing is left of it.
+fn is_dropped(rt: &impl Abort, alloc: Global, mbufs: u32, piece: Piece, why: Why) -> bool {
+    let mut host = booted(rt, alloc, mbufs, 1);
+    let refusal = host.refusal(rt, HEAD, piece);
+    host.ended() && refusal == Some(why)
+}
+
+/// Fragments that wait, and others all of whose bytes these hold.
+static COVERED: [(Piece, Piece); 2] = [
+    ((0, true, b'a', 16), (8, true, b'c', 8)),
+    ((0, true, b'a', 32), (24, false, b'b', 4)),
+];
+
+/// Whether the second of two fragments is dropped since the first has all of it.
+fn is_covered(rt: &impl Abort, alloc: Global, first: Piece, second: Piece) -> bool {
+    let mut host = booted(rt, alloc, 8, 0);
+    let waits = host.waits(rt, HEAD, first);
+    let refusal = host.refusal(rt, HEAD, second);
+    host.ended() && waits && refusal == Some(Why::FragmentDropped)
+}
+
+#[test]
+fn tells_why_it_drops(rt: HostRuntime) {
+    for (case, mbufs, piece, why) in DROPPED.iter() {
+        let is_right = is_dropped(&rt, rt.alloc(), *mbufs, *piece, *why);
+        assert!(rt; is_right, "{case}");
+    }
+    for (first, second) in COVERED.iter() {
+        assert!(rt; is_covered(&rt, rt.alloc(), *first, *second));
+    }
 }

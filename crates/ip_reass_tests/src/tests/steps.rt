@@ -6,7 +6,7 @@ ghost use Rattle.mbuf_chain.specs.Owners.{IsOwned};
 ghost use Rattle.ip_reass.specs.Table.{IsReady, held_all};
 
 use chain_ops::from_wire;
-use flat_model::Counters;
+use flat_model::{Counters, Why};
 use ip_out::IpHead;
 use ip_reass::{Arrival, Reass};
 use mbuf_chain::{Chain, Pool};
@@ -67,7 +67,7 @@ fn received(rt: &impl Abort, pool: &mut Pool, table: &Reass, bytes: &[u8]) -> Ch
     }
 }
 
-/// A fragment received, in an mbuf, and its header.
+/// A fragment received, in an mbuf or in a cluster, and its header.
 fn fragment(
     rt: &impl Abort,
     pool: &mut Pool,
@@ -84,8 +84,8 @@ fn fragment(
     ensures offset { result.1.offset ≤ IP_MAX_PACKET }
 {
     let (offset, more, byte, len) = piece;
-    assert!(rt; len <= 100 && offset <= 65_528);
-    let bytes = [byte; 120];
+    assert!(rt; len <= 300 && offset <= 65_528);
+    let bytes = [byte; 320];
     let total = 20 + len;
     let chain = received(rt, pool, table, &bytes[..total as usize]);
     let head = IpHead {
@@ -98,8 +98,8 @@ fn fragment(
 }
 
 impl Host {
-    /// Lets a fragment of a datagram arrive. Answers whether it has to wait.
-    pub(super) fn waits(&mut self, rt: &impl Abort, head: IpHead, piece: Piece) -> bool
+    /// Lets a fragment of a datagram arrive. Answers why it's dropped, or `None` if it has to wait.
+    pub(super) fn refusal(&mut self, rt: &impl Abort, head: IpHead, piece: Piece) -> Option<Why>
         requires { IsReady self.old.pool self.old.table }
         ensures { IsReady self.new.pool self.new.table }
     {
@@ -108,10 +108,18 @@ impl Host {
             .table
             .arrive(&mut self.pool, &mut self.counters, chain, head);
         match arrival {
-            Arrival::Kept => true,
-            Arrival::Dropped(_) => false,
-            Arrival::Whole(..) => panic!(rt; "no datagram of this test is whole"),
+            Arrival::Kept => None,
+            Arrival::Dropped(why) => Some(why),
+            Arrival::Whole(..) => panic!(rt; "no datagram of these tests is whole"),
         }
+    }
+
+    /// Lets a fragment of a datagram arrive. Answers whether it has to wait.
+    pub(super) fn waits(&mut self, rt: &impl Abort, head: IpHead, piece: Piece) -> bool
+        requires { IsReady self.old.pool self.old.table }
+        ensures { IsReady self.new.pool self.new.table }
+    {
+        self.refusal(rt, head, piece).is_none()
     }
 
     /// So many ticks: how many datagrams they drop.
