@@ -1,6 +1,6 @@
-//! Which plain line a line stands for, and what is wrong with a line that stands for none.
+//! Which plain line a line stands for, what is wrong with a line that stands for none, and the words of a plain line.
 use play_line::{LONGEST, Scanner, put_shown};
-use script_loop::Buffer;
+use script_loop::{Buffer, first_word, is_end, one, three, two};
 use std::process::Abort;
 
 /// Lines, and the plain lines that they stand for.
@@ -170,5 +170,31 @@ fn shows_lines_as_written(rt: HostRuntime) {
     let mut text: Buffer<LONGEST> = Buffer::new(rt.alloc()).expect(&rt, "memory");
     for (line, wanted) in SHOWN.iter() {
         assert!(rt; is_shown(&mut text, line, wanted), "at {line}");
+    }
+}
+
+/// Plain lines, their first words, and whether no word, one, two or three come after these.
+static WORDS: [(&str, &str, [bool; 4]); 3] = [
+    ("cat 1 2", "cat", [false, false, true, false]),
+    ("mbstat", "mbstat", [true, false, false, false]),
+    ("mbstat ", "mbstat", [false, true, false, false]),
+];
+
+/// Whether these words are read.
+fn has_words(line: &str, first: &str, wanted: &[bool; 4]) -> bool {
+    let (word, rest) = first_word(line.as_bytes());
+    let come = [
+        is_end(rest),
+        one(rest).is_some(),
+        two(rest).is_some(),
+        three(rest).is_some(),
+    ];
+    word == first.as_bytes() && come == *wanted
+}
+
+#[test]
+fn reads_words(rt: HostRuntime) {
+    for (line, first, wanted) in WORDS.iter() {
+        assert!(rt; has_words(line, first, wanted), "at {line}");
     }
 }
