@@ -1,8 +1,13 @@
-//! Worked headers and needs.
-use chain_ops::from_wire;
-use flat_model::{Need, Why};
-use ip_out::{IpHead, MAX_OFFSET, need, need_bcast, read_head, write_head};
-use mbuf_chain::Pool;
+//! Worked headers, needs and packets.
+ghost use Rattle.std.specs.Prelude.{◌≤◌};
+ghost use Rattle.mbuf_chain.specs.Chain.{IsLive, chain_of};
+ghost use Rattle.ip_out.specs.Packets.{IsDatagram};
+ghost use Rattle.ip_out.specs.Queues.{IsQueue};
+
+use chain_ops::{from_user, from_wire, m_prepend};
+use flat_model::{Lack, Need, Why};
+use ip_out::{IpHead, MAX_OFFSET, Queue, need, need_bcast, output, read_head, write_head};
+use mbuf_chain::{Chain, Pool};
 use mbuf_pool::{Sizes, Store};
 use std::alloc::Global;
 use std::process::Abort;
@@ -27,13 +32,9 @@ const HEAD: IpHead = IpHead {
     dst: 0x0a00_0001,
 };
 
-/// A pool of four mbufs.
-fn booted(rt: &impl Abort, alloc: Global) -> Pool {
-    let sizes = Sizes {
-        mbufs: 4,
-        clusters: 0,
-    };
-    Pool::over(Store::boot(alloc, sizes).expect(rt, "a pool"))
+/// A pool of which all is free.
+fn booted(rt: &impl Abort, alloc: Global, mbufs: u32, clusters: u32) -> Pool {
+    Pool::over(Store::boot(alloc, Sizes { mbufs, clusters }).expect(rt, "a pool"))
 }
 
 /// What the header of a packet says that arrived.
@@ -47,7 +48,7 @@ fn head_of(rt: &impl Abort, pool: &mut Pool, bytes: &[u8]) -> Result<IpHead, Why
 
 #[test]
 fn a_header_read(rt: HostRuntime) {
-    let mut pool = booted(&rt, rt.alloc());
+    let mut pool = booted(&rt, rt.alloc(), 4, 0);
     assert!(rt; head_of(&rt, &mut pool, &PACKET) == Ok(HEAD));
 }
 
@@ -125,4 +126,143 @@ fn needs(rt: HostRuntime) {
 #[test]
 fn needs_of_a_broadcast(rt: HostRuntime) {
     assert!(rt; is_of(need_bcast(300), 4, 1));
+}
+
+/// The bytes of a send: as many as a socket takes at most.
+static BYTES: [u8; 9216] = [0x61; 9216];
+
+/// Stops where a chain can't be output.
+fn must_be_datagram(rt: &impl Abort, pool: &Pool, chain: &Chain)
+    requires { IsLive pool.now chain.now }
+    ensures { IsDatagram (chain_of pool.now chain.now) }
+{
+    let first = pool.segment(chain, pool.first(chain));
+    assert!(rt; pool.has_header(chain) && pool.len(chain) <= 65_535);
+    assert!(rt; first.cluster.is_none() && first.len >= 20);
+    'mbufs: for (len, _) in pool.layout(chain) {
+        assert!(rt; len > 0);
+    }
+}
+
+/// A chain of the bytes, and room for both headers in front of them.
+fn datagram(rt: &impl Abort, pool: &mut Pool) -> Chain
+    ensures live { IsLive pool.new result }
+    ensures datagram { IsDatagram (chain_of pool.new result) }
+{
+    let mut chain = from_user(pool, &BYTES).expect(rt, "the buffers are free");
+    m_prepend(pool, &mut chain, &[0; 28]).expect(rt, "an mbuf is free");
+    must_be_datagram(rt, pool, &chain);
+    chain
+}
+
+/// Puts the packets of the bytes into an empty queue.
+fn sent(rt: &impl Abort, pool: &mut Pool, mtu: u16) -> (Queue, Result<(), Lack>)
+    requires { 68 ≤ mtu }
+    ensures { IsQueue pool.new result.0 }
+{
+    let mut queue = Queue::new();
+    assert!(rt; queue.is_empty());
+    let chain = datagram(rt, pool);
+    let answer = output(pool, chain, HEAD, mtu, &mut queue);
+    (queue, answer)
+}
+
+/// The free mbufs and clusters, how many mbufs refer to clusters, and how many to the one that has the most references.
+fn buffers(pool: &Pool) -> [u32; 4] {
+    let usage = pool.usage();
+    [
+        usage.free_mbufs,
+        usage.free_clusters,
+        usage.references,
+        usage.greatest_count,
+    ]
+}
+
+/// A pool's mbufs and clusters, the MTU, the answer, how many packets wait then, and the buffers.
+type Sending = (u32, u32, u16, Result<(), Lack>, u32, [u32; 4]);
+
+static SENDINGS: [(&str, Sending); 3] = [
+    (
+        "exactly as many mbufs as needed",
+        (22, 5, 1500, Ok(()), 7, [0, 0, 15, 4]),
+    ),
+    (
+        "one mbuf fewer",
+        (21, 5, 1500, Err(Lack::Pool), 0, [21, 5, 0, 0]),
+    ),
+    (
+        "more packets than the queue takes",
+        (512, 64, 68, Err(Lack::Queue), 50, [407, 59, 55, 42]),
+    ),
+];
+
+/// Whether the packets of the bytes come out so, and all buffers are free at the end.
+fn comes_out(rt: &impl Abort, alloc: Global, sending: &Sending) -> bool {
+    let (mbufs, clusters, mtu, wanted, packets, held) = *sending;
+    assert!(rt; mtu >= 68);
+    let mut pool = booted(rt, alloc, mbufs, clusters);
+    let (queue, answer) = sent(rt, &mut pool, mtu);
+    let is_right = answer == wanted && queue.len() == packets && buffers(&pool) == held;
+    queue.end(&mut pool);
+    is_right && buffers(&pool) == [mbufs, clusters, 0, 0]
+}
+
+#[test]
+fn queues_or_refuses_packets(rt: HostRuntime) {
+    for (case, sending) in SENDINGS.iter() {
+        assert!(rt; comes_out(&rt, rt.alloc(), sending), "{case}");
+    }
+}
+
+/// The packets on a link of 1,500: offset, bytes and mbufs of each.
+static CUT: [(u32, u32, u32); 7] = [
+    (0, 1500, 6),
+    (1480, 1500, 3),
+    (2960, 1500, 3),
+    (4440, 1500, 2),
+    (5920, 1500, 3),
+    (7400, 1500, 3),
+    (8880, 364, 2),
+];
+
+/// Takes the oldest packet and frees it: what its header says, its length, and how many mbufs it had.
+fn popped(rt: &impl Abort, pool: &mut Pool, queue: &mut Queue) -> Option<(IpHead, u32, u32)>
+    requires { IsQueue pool.old queue.old }
+    ensures { IsQueue pool.new queue.new }
+{
+    let packet = queue.pop(pool)?;
+    let head = read_head(pool, &packet).expect(rt, "the header is right");
+    let counts = (pool.len(&packet), pool.mbufs(&packet));
+    pool.free_chain(packet);
+    Some((head, counts.0, counts.1))
+}
+
+/// Takes the seven packets, and no other.
+fn pops_seven(rt: &impl Abort, pool: &mut Pool, queue: &mut Queue)
+    requires { IsQueue pool.old queue.old }
+    ensures { IsQueue pool.new queue.new }
+{
+    'packets: for (offset, len, mbufs) in CUT {
+        let head = IpHead {
+            total: len as u16,
+            more: offset < 8880,
+            offset,
+            ..HEAD
+        };
+        assert!(rt;
+            popped(rt, pool, queue) == Some((head, len, mbufs)),
+            "the packet at {offset}"
+        );
+    }
+    assert!(rt; popped(rt, pool, queue) == None);
+}
+
+#[test]
+fn seven_packets(rt: HostRuntime) {
+    let mut pool = booted(&rt, rt.alloc(), 512, 64);
+    let (mut queue, answer) = sent(&rt, &mut pool, 1500);
+    assert!(rt; answer == Ok(()) && buffers(&pool) == [490, 59, 15, 4]);
+    pops_seven(&rt, &mut pool, &mut queue);
+    queue.end(&mut pool);
+    assert!(rt; buffers(&pool) == [512, 64, 0, 0]);
 }
