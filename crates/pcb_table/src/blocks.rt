@@ -18,8 +18,8 @@ const LANES: usize = 16;
 /// The noted ports: one for each place, and so many more that a whole load may begin at the last place.
 const NOTED: usize = SOCKETS + LANES;
 
-/// The blocks of at most 64 sockets, the youngest first. They have memory of their own, with room for 64 from the start,
-/// so that a table is small if it's moved.
+/// The blocks of at most 64 sockets, the youngest first. They have memory of their own, with room for 64 from the
+/// start, so that a table is small if it's moved.
 ///
 /// Beside them stand two notes, written anew by each change. `ports` has the port of the block at each place, so that
 /// sixteen blocks with another port are passed by one comparison: a datagram of 2 bytes takes 1,638 instructions beside

@@ -168,7 +168,8 @@ fn answer_line<M: Questions, T: Sink>(
     tape: &mut Tape<T>,
 ) -> bool
     ensures { IsAnswered M.may_step quiet
-        (λ reply. captures.Notes tape.old.line words.now reply tape.old.trace tape.new.trace) (M.state caller.old.machine) (topic_asked words.now) words.now
+        (λ reply. captures.Notes tape.old.line words.now reply tape.old.trace tape.new.trace)
+        (M.state caller.old.machine) (topic_asked words.now) words.now
         (if_there result notes.new.told) notes.new.below (M.state caller.new.machine) }
 {
     match topic_of(words) {
@@ -182,8 +183,8 @@ fn answer_line<M: Questions, T: Sink>(
     }
 }
 
-/// Does a plain line, puts what is told of it into the notes, and answers whether it asks for something. If it asks for a
-/// capture, that's played in.
+/// Does a plain line, puts what is told of it into the notes, and answers whether it asks for something. If it asks for
+/// a capture, that's played in.
 fn tell_words<M: Questions, T: Sink, F: Folder>(
     scene: &mut Scene<M, T>,
     shelf: &Shelf<F>,

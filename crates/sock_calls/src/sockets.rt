@@ -66,8 +66,9 @@ impl Model for Socks {
 }
 
 impl Socks {
-    /// No socket, of a machine with this address and broadcast address. All host memory that sockets need is taken here,
-    /// by three requests, and no other call takes any. `AllocError` comes if one is refused, and nothing is left then.
+    /// No socket, of a machine with this address and broadcast address. All host memory that sockets need is taken
+    /// here, by three requests, and no other call takes any. `AllocError` comes if one is refused, and nothing is left
+    /// then.
     pub fn boot(alloc: Global, addr: u32, bcast: u32) -> Result<Socks, AllocError>
         ensures blocks { IfOk result (λ s. s.pcbs
             ≡ record { addr = addr; bcast = bcast; blocks = []; last_port = None }) }
