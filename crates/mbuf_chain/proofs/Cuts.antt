@@ -87,9 +87,9 @@ pub record IsCut (s t : StoreView) (a b keep kept whole : ℕ) : Type 0 where
 pub bare_front : (h : Head) → IsFollower h → front_of h ≡ alone false
 bare_front h f = λ i. record { header = is_some (f.packet i); after = f.after i; tag = arrival_of (f.packet i) }
 
-pub cut_made : (s t : StoreView) (a b keep x kept whole : ℕ) → IsPool s → IsLive (pool_of s) a → 0 < keep → keep < length (chain_of (pool_of s) a).entries → x ≡ last_of (take keep (cells_from s (Some a))) → kept ≡ weigh (len_at s) (take keep (cells_from s (Some a))) → whole ≡ packet_len (head_of s a)
+pub cut_made : {s t : StoreView} (a : ℕ) {b keep x kept whole : ℕ} → IsPool s → IsLive (pool_of s) a → 0 < keep → keep < length (chain_of (pool_of s) a).entries → x ≡ last_of (take keep (cells_from s (Some a))) → kept ≡ weigh (len_at s) (take keep (cells_from s (Some a))) → whole ≡ packet_len (head_of s a)
     → (head_of s x).next ≡ Some b → is_out s x ≡ true → IsFit (head_of s x) → SetsHead s t x (record (head_of s x) { next = None }) → IsStore t → IsCut s t a b keep kept whole
-cut_made s t a b keep x kept whole pool live some within x_is kept_is whole_is next out fit sets store =
+cut_made {s} {t} a {b} {keep} {x} {kept} {whole} pool live some within x_is kept_is whole_is next out fit sets store =
     let o = open_on s a pool live in
     let f = o.at in
     let l = take keep f.cells in
@@ -173,8 +173,8 @@ pub record CutPlace (s : StoreView) (x : ℕ) : Type 0 where
   pub fit : IsFit (head_of s x)
   pub some : (h : Head) → h ≡ head_of s x → IsSome h.next
 
-pub cut_place : (s : StoreView) (a keep x : ℕ) → IsPool s → IsLive (pool_of s) a → 0 < keep → keep < length (chain_of (pool_of s) a).entries → x ≡ last_of (take keep (cells_from s (Some a))) → CutPlace s x
-cut_place s a keep x pool live some within x_is =
+pub cut_place : {s : StoreView} (a : ℕ) {keep x : ℕ} → IsPool s → IsLive (pool_of s) a → 0 < keep → keep < length (chain_of (pool_of s) a).entries → x ≡ last_of (take keep (cells_from s (Some a))) → CutPlace s x
+cut_place {s} a {keep} {x} pool live some within x_is =
     let o = open_on s a pool live in
     let f = o.at in
     go (Some a) keep f.cells f.linked (omega (arith, count_cells s a f, within)) some (ap (λ (cs : List ℕ). last_of (take keep cs)) (sym f.walks) ∙ sym x_is)

@@ -23,9 +23,9 @@ pub record FitsAfter (s : StoreView) (at : Place) (h : Head) (n : ℕ) : Type 0 
   pub high : h.start + h.len + n ≤ room_high (head_of s at.cell)
   pub small : room_high (head_of s at.cell) ≤ 2048
 
-pub fits_after : (s : StoreView) (c n : ℕ) (at : Place) (h : Head) → IsPool s → IsLive (pool_of s) c → IsPlace (chain_of (pool_of s) c) at → h ≡ head_of s at.cell
+pub fits_after : {s : StoreView} (c : ℕ) {n : ℕ} {at : Place} {h : Head} → IsPool s → IsLive (pool_of s) c → IsPlace (chain_of (pool_of s) c) at → h ≡ head_of s at.cell
     → (entry_of (chain_of (pool_of s) c) at.index).start + length (entry_of (chain_of (pool_of s) c) at.index).bytes + n ≤ room_end (entry_of (chain_of (pool_of s) c) at.index) → FitsAfter s at h n
-fits_after s c n at h pool live place e fits =
+fits_after {s} c {n} {at} {h} pool live place e fits =
     let k = shown_at s c at pool live place in
     record {
       out = k.out;
@@ -42,10 +42,10 @@ pub record ReadyAfter (s t : StoreView) (c n : ℕ) (at : Place) (h : Head) (ws 
   pub done : (u : StoreView) → pool_of u ≡ with_chain (pool_of t) c (with_entry (chain_of (pool_of t) c) at.index (entry_from t at.cell (with_segment (head_of t at.cell) h.start (h.len + n))))
       → pool_of u ≡ with_chain (pool_of s) c (with_entry (chain_of (pool_of s) c) at.index (with_back (entry_of (chain_of (pool_of s) c) at.index) ws))
 
-pub ready_after : (s t : StoreView) (c n : ℕ) (at : Place) (h : Head) (ws : List ℕ) → IsPool s → IsLive (pool_of s) c → IsPlace (chain_of (pool_of s) c) at → h ≡ head_of s at.cell
+pub ready_after : {s t : StoreView} (c : ℕ) {n : ℕ} {at : Place} {h : Head} {ws : List ℕ} → IsPool s → IsLive (pool_of s) c → IsPlace (chain_of (pool_of s) c) at → h ≡ head_of s at.cell
     → (entry_of (chain_of (pool_of s) c) at.index).start + length (entry_of (chain_of (pool_of s) c) at.index).bytes + n ≤ room_end (entry_of (chain_of (pool_of s) c) at.index) → n ≡ length ws → WritesPlace s t c at (h.start + h.len) ws → ReadyAfter s t c n at h ws
-ready_after s t c n at h ws pool live place e fits count w =
-    subst (λ (y : Head). ReadyAfter s t c n at y ws) (sym e) (go (subst (λ (y : Head). WritesPlace s t c at (y.start + y.len) ws) e w) (fits_after s c n at (head_of s at.cell) pool live place refl fits))
+ready_after {s} {t} c {n} {at} {h} {ws} pool live place e fits count w =
+    subst (λ (y : Head). ReadyAfter s t c n at y ws) (sym e) (go (subst (λ (y : Head). WritesPlace s t c at (y.start + y.len) ws) e w) (fits_after c pool live place refl fits))
   where
     go : WritesPlace s t c at ((head_of s at.cell).start + (head_of s at.cell).len) ws → FitsAfter s at (head_of s at.cell) n → ReadyAfter s t c n at (head_of s at.cell) ws
     go w' f =

@@ -257,12 +257,12 @@ lent_bytes s c at h b pool live place e is =
     ∙ ap (λ (xs : List ℕ). take (head_of s at.cell).len (drop (head_of s at.cell).start xs)) (place_is s at.cell (head_of s at.cell).cluster)
     ∙ ap (λ (y : Entry). y.bytes) (sym k.entry)
 
-pub copied : (s t : StoreView) (c other start skip n : ℕ) (at from : Place) (h g : Head) (b a : Buffer) → IsPool s → IsLive (pool_of s) c → IsPlace (chain_of (pool_of s) c) at → IsUnshared (pool_of s) (entry_of (chain_of (pool_of s) c) at.index)
+pub copied : {s t : StoreView} (c other : ℕ) {start : ℕ} (skip n : ℕ) {at from : Place} {h g : Head} {b a : Buffer} → IsPool s → IsLive (pool_of s) c → IsPlace (chain_of (pool_of s) c) at → IsUnshared (pool_of s) (entry_of (chain_of (pool_of s) c) at.index)
     → IsLive (pool_of s) other → IsPlace (chain_of (pool_of s) other) from → skip + n ≤ length (entry_of (chain_of (pool_of s) other) from.index).bytes
     → h ≡ head_of s at.cell → g ≡ head_of s from.cell → b ≡ buffer_of at.cell h.cluster → a ≡ buffer_of from.cell g.cluster
     → t ≡ write s (record { buffer = b; start = start; len = n }) (read s (record { buffer = a; start = g.start + skip; len = n })) → IsStore t
     → Written s t c at start (take n (drop skip (entry_of (chain_of (pool_of s) other) from.index).bytes))
-copied s t c other start skip n at from h g b a pool live place unshared live_other from_place within e e' is is' change store =
+copied {s} {t} c other {start} skip n {at} {from} {h} {g} {b} {a} pool live place unshared live_other from_place within e e' is is' change store =
     let k = shown_at s c at pool live place in
     let k' = shown_at s other from pool live_other from_place in
     let ws = take n (drop skip (entry_of (chain_of (pool_of s) other) from.index).bytes) in

@@ -49,17 +49,24 @@ all c =
     c.clear-gone.ensures.queue c.clear-gone.ensures.moves (ap (λ (n : ℕ). c.args.span.offset + n) c.len.ensures) c.new-tag.ensures.half c.new-tag.ensures.odd c.insert_after.ensures.queued_packets c.insert_after.ensures.moves
 
 pub returns-clause-queue : goal.returns-clause-queue
-returns-clause-queue c = (all c).queue_is ∙ ap (λ (n : ℕ). take (after c.args.before.front) (queued c.args.pool.now c.args.train.now) ++ cut n (arrived c.args.pool.now c.args.chain c.args.span.offset c.args.span.more) ∷ cut_to (queued_end (arrived c.args.pool.now c.args.chain c.args.span.offset c.args.span.more)) (drop (after c.args.before.front) (queued c.args.pool.now c.args.train.now))) c.saturating_sub-skip.ensures
+returns-clause-queue c =
+    let here = arrived c.args.pool.now c.args.chain c.args.span.offset c.args.span.more in
+    let i = after c.args.before.front in
+    let were = queued c.args.pool.now c.args.train.now in
+    (all c).queue_is ∙ ap (λ (n : ℕ). take i were ++ cut n here ∷ cut_to (queued_end here) (drop i were)) c.saturating_sub-skip.ensures
 
 pub returns-clause-moves : goal.returns-clause-moves
 returns-clause-moves c = (all c).moves
 
 counted : (c : goal.After-insert_after) → bytes_held (fragments c.insert_after.new.pool c.insert_after.new.train) ≡ bytes_held (fragments c.clear-gone.new.pool c.clear-gone.new.train) + (length (flat_bytes (chain_of c.args.pool.now c.args.chain).entries) - c.saturating_sub-skip.result)
 counted c =
+    let here = arrived c.args.pool.now c.args.chain c.args.span.offset c.args.span.more in
+    let i = after c.args.before.front in
+    let were = queued c.args.pool.now c.args.train.now in
     let is : queued c.trim_front.new.pool c.args.train.now ≡ queued c.args.pool.now c.args.train.now = ap (map queued_of) (changed c.args.pool.now c.trim_front.new.pool c.args.train.now c.args.chain _ c.requires.live c.requires.apart c.requires.held c.trim_front.ensures).queued_packets_are in
-    held_between c.clear-gone.new.pool c.insert_after.new.pool c.clear-gone.new.train c.insert_after.new.train c.saturating_sub-skip.result (take (after c.args.before.front) (queued c.args.pool.now c.args.train.now)) (cut_to (c.args.span.offset + c.len.result) (drop (after c.args.before.front) (queued c.args.pool.now c.args.train.now)))
-    (arrived c.args.pool.now c.args.chain c.args.span.offset c.args.span.more) (c.clear-gone.ensures.queue ∙ λ j. take (after c.args.before.front) (is j) ++ cut_to (c.args.span.offset + c.len.result) (drop (after c.args.before.front) (is j)))
-    ((all c).queue_is ∙ ap (λ (n : ℕ). take (after c.args.before.front) (queued c.args.pool.now c.args.train.now) ++ cut c.saturating_sub-skip.result (arrived c.args.pool.now c.args.chain c.args.span.offset c.args.span.more) ∷ cut_to (c.args.span.offset + n) (drop (after c.args.before.front) (queued c.args.pool.now c.args.train.now))) (sym c.len.ensures))
+    held_between c.clear-gone.new.pool c.insert_after.new.pool c.clear-gone.new.train c.insert_after.new.train c.saturating_sub-skip.result (take i were) (cut_to (c.args.span.offset + c.len.result) (drop i were))
+    here (c.clear-gone.ensures.queue ∙ λ j. take i (is j) ++ cut_to (c.args.span.offset + c.len.result) (drop i (is j)))
+    ((all c).queue_is ∙ ap (λ (n : ℕ). take i were ++ cut c.saturating_sub-skip.result here ∷ cut_to (c.args.span.offset + n) (drop i were)) (sym c.len.ensures))
 
 -- the fragments held weren't touched when the chain was trimmed
 kept : (c : goal.After-clear-arg-2-1) → bytes_held (fragments c.trim_front.new.pool c.args.train.now) ≡ bytes_held (fragments c.args.pool.now c.args.train.now)

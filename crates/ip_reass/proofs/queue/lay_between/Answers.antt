@@ -27,7 +27,14 @@ pub lay_after-gone-requires-clause-few : goal.lay_after-gone-requires-clause-few
 lay_after-gone-requires-clause-few c = held_within (fragments c.args.pool.now c.args.datagram.now.fragments) c.requires.queue.apart c.requires.queue.small
 
 done : (c : goal.After-lay_after-gone) → Settled c.args.pool.now c.args.datagram.now.fragments (after c.walk_to-before.result.front) c.saturating_sub-lost.result c.args.chain (arrived c.args.pool.now c.args.chain c.args.span.offset c.args.span.more) c.lay_after-gone.new.pool c.lay_after-gone.new.train
-done c = record { queue_is = c.lay_after-gone.ensures.queue ∙ ap (λ (n : ℕ). take (after c.walk_to-before.result.front) (queued c.args.pool.now c.args.datagram.now.fragments) ++ cut n (arrived c.args.pool.now c.args.chain c.args.span.offset c.args.span.more) ∷ cut_to (queued_end (arrived c.args.pool.now c.args.chain c.args.span.offset c.args.span.more)) (drop (after c.walk_to-before.result.front) (queued c.args.pool.now c.args.datagram.now.fragments))) (sym c.saturating_sub-lost.ensures); moves = c.lay_after-gone.ensures.moves }
+done c =
+    let here = arrived c.args.pool.now c.args.chain c.args.span.offset c.args.span.more in
+    let i = after c.walk_to-before.result.front in
+    let were = queued c.args.pool.now c.args.datagram.now.fragments in
+    record {
+      queue_is = c.lay_after-gone.ensures.queue ∙ ap (λ (n : ℕ). take i were ++ cut n here ∷ cut_to (queued_end here) (drop i were)) (sym c.saturating_sub-lost.ensures);
+      moves = c.lay_after-gone.ensures.moves;
+    }
 
 some : (c : goal.After-lay_after-gone) → Laid c.args.pool.now c.args.datagram.now.fragments (arrived c.args.pool.now c.args.chain c.args.span.offset c.args.span.more) c.lay_after-gone.new.pool c.lay_after-gone.new.train
 some c =
@@ -55,4 +62,4 @@ returns-then-len-lost-clause-reach c =
     omega (arith, ap (reach 0) same)
 
 pub returns-clause-reach : goal.returns-clause-reach
-returns-clause-reach c = reaches c.args.pool.now c.lay_after-gone.new.pool c.args.datagram.now.fragments c.lay_after-gone.new.train (after c.walk_to-before.result.front) c.saturating_sub-lost.result c.args.chain (arrived c.args.pool.now c.args.chain c.args.span.offset c.args.span.more) (omega (arith, c.saturating_sub-lost.ensures, c.walk_to-before.ensures.end)) (omega (arith, c.len-len.ensures)) (done c.before)
+returns-clause-reach c = reaches _ _ _ _ _ _ _ _ (omega (arith, c.saturating_sub-lost.ensures, c.walk_to-before.ensures.end)) (omega (arith, c.len-len.ensures)) (done c.before)

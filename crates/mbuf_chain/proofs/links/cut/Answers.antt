@@ -19,35 +19,43 @@ end_of-last-requires-clause-within c =
     omega (arith, ap (weigh one) o.at.walks, count_cells c.args.store.now c.args.first o.at, c.requires.within)
 
 pub head-head-requires : goal.head-head-requires
-head-head-requires c = (cut_place c.args.store.now c.args.first c.args.keep c.end_of-last.result.0 c.requires.pool c.requires.live c.requires.some c.requires.within c.end_of-last.ensures.cell).out
+head-head-requires c = (cut_place c.args.first c.requires.pool c.requires.live c.requires.some c.requires.within c.end_of-last.ensures.cell).out
 
 pub set_next-requires-clause-out : goal.set_next-requires-clause-out
-set_next-requires-clause-out c = (cut_place c.args.store.now c.args.first c.args.keep c.end_of-last.result.0 c.requires.pool c.requires.live c.requires.some c.requires.within c.end_of-last.ensures.cell).out
+set_next-requires-clause-out c = (cut_place c.args.first c.requires.pool c.requires.live c.requires.some c.requires.within c.end_of-last.ensures.cell).out
 
 pub unwrap-rest-requires : goal.unwrap-rest-requires
-unwrap-rest-requires c = (cut_place c.args.store.now c.args.first c.args.keep c.end_of-last.result.0 c.requires.pool c.requires.live c.requires.some c.requires.within c.end_of-last.ensures.cell).some c.head-head.result c.head-head.ensures.value
+unwrap-rest-requires c = (cut_place c.args.first c.requires.pool c.requires.live c.requires.some c.requires.within c.end_of-last.ensures.cell).some c.head-head.result c.head-head.ensures.value
 
 pub set_total-requires-clause-off : goal.set_total-requires-clause-off
-set_total-requires-clause-off c = (cut_made c.args.store.now c.set_next.new.self c.args.first c.unwrap-rest.result c.args.keep c.end_of-last.result.0 c.end_of-last.result.1 c.packet_len-whole.result c.requires.pool c.requires.live c.requires.some c.requires.within c.end_of-last.ensures.cell c.end_of-last.ensures.bytes c.packet_len-whole.ensures
-    (ap (λ (h : Head). h.next) (sym c.head-head.ensures.value) ∙ c.unwrap-rest.ensures) (cut_place c.args.store.now c.args.first c.args.keep c.end_of-last.result.0 c.requires.pool c.requires.live c.requires.some c.requires.within c.end_of-last.ensures.cell).out (cut_place c.args.store.now c.args.first c.args.keep c.end_of-last.result.0 c.requires.pool c.requires.live c.requires.some c.requires.within c.end_of-last.ensures.cell).fit
-    c.set_next.ensures.change c.set_next.ensures.store).off
+set_total-requires-clause-off c =
+    let place = cut_place c.args.first c.requires.pool c.requires.live c.requires.some c.requires.within c.end_of-last.ensures.cell in
+    let next = ap (λ (h : Head). h.next) (sym c.head-head.ensures.value) ∙ c.unwrap-rest.ensures in
+    let made = cut_made c.args.first c.requires.pool c.requires.live c.requires.some c.requires.within c.end_of-last.ensures.cell c.end_of-last.ensures.bytes
+    c.packet_len-whole.ensures next place.out place.fit c.set_next.ensures.change c.set_next.ensures.store in
+    made.off
 
 pub set_total-requires-clause-live : goal.set_total-requires-clause-live
-set_total-requires-clause-live c = (cut_made c.args.store.now c.set_next.new.self c.args.first c.unwrap-rest.result c.args.keep c.end_of-last.result.0 c.end_of-last.result.1 c.packet_len-whole.result c.requires.pool c.requires.live c.requires.some c.requires.within c.end_of-last.ensures.cell c.end_of-last.ensures.bytes c.packet_len-whole.ensures
-    (ap (λ (h : Head). h.next) (sym c.head-head.ensures.value) ∙ c.unwrap-rest.ensures) (cut_place c.args.store.now c.args.first c.args.keep c.end_of-last.result.0 c.requires.pool c.requires.live c.requires.some c.requires.within c.end_of-last.ensures.cell).out (cut_place c.args.store.now c.args.first c.args.keep c.end_of-last.result.0 c.requires.pool c.requires.live c.requires.some c.requires.within c.end_of-last.ensures.cell).fit
-    c.set_next.ensures.change c.set_next.ensures.store).live
+set_total-requires-clause-live c =
+    let place = cut_place c.args.first c.requires.pool c.requires.live c.requires.some c.requires.within c.end_of-last.ensures.cell in
+    let next = ap (λ (h : Head). h.next) (sym c.head-head.ensures.value) ∙ c.unwrap-rest.ensures in
+    let made = cut_made c.args.first c.requires.pool c.requires.live c.requires.some c.requires.within c.end_of-last.ensures.cell c.end_of-last.ensures.bytes
+    c.packet_len-whole.ensures next place.out place.fit c.set_next.ensures.change c.set_next.ensures.store in
+    made.live
 
 pub set_total-requires-clause-few : goal.set_total-requires-clause-few
-set_total-requires-clause-few c = omega (
-  arith,
-  (cut_made c.args.store.now c.set_next.new.self c.args.first c.unwrap-rest.result c.args.keep c.end_of-last.result.0 c.end_of-last.result.1 c.packet_len-whole.result c.requires.pool c.requires.live c.requires.some c.requires.within c.end_of-last.ensures.cell c.end_of-last.ensures.bytes c.packet_len-whole.ensures
-      (ap (λ (h : Head). h.next) (sym c.head-head.ensures.value) ∙ c.unwrap-rest.ensures) (cut_place c.args.store.now c.args.first c.args.keep c.end_of-last.result.0 c.requires.pool c.requires.live c.requires.some c.requires.within c.end_of-last.ensures.cell).out (cut_place c.args.store.now c.args.first c.args.keep c.end_of-last.result.0 c.requires.pool c.requires.live c.requires.some c.requires.within c.end_of-last.ensures.cell).fit
-      c.set_next.ensures.change c.set_next.ensures.store).few,
-)
+set_total-requires-clause-few c =
+    let place = cut_place c.args.first c.requires.pool c.requires.live c.requires.some c.requires.within c.end_of-last.ensures.cell in
+    let next = ap (λ (h : Head). h.next) (sym c.head-head.ensures.value) ∙ c.unwrap-rest.ensures in
+    let made = cut_made c.args.first c.requires.pool c.requires.live c.requires.some c.requires.within c.end_of-last.ensures.cell c.end_of-last.ensures.bytes
+    c.packet_len-whole.ensures next place.out place.fit c.set_next.ensures.change c.set_next.ensures.store in
+    omega (arith, made.few)
 
 pub returns-clause-change : goal.returns-clause-change
 returns-clause-change c =
+    let place = cut_place c.args.first c.requires.pool c.requires.live c.requires.some c.requires.within c.end_of-last.ensures.cell in
+    let next = ap (λ (h : Head). h.next) (sym c.head-head.ensures.value) ∙ c.unwrap-rest.ensures in
+    let made = cut_made c.args.first c.requires.pool c.requires.live c.requires.some c.requires.within c.end_of-last.ensures.cell c.end_of-last.ensures.bytes
+    c.packet_len-whole.ensures next place.out place.fit c.set_next.ensures.change c.set_next.ensures.store in
     subst (λ (p : PoolView). Adds (with_chain (pool_of c.args.store.now) c.args.first (first_part c.args.keep (chain_of (pool_of c.args.store.now) c.args.first))) p c.unwrap-rest.result (second_part c.args.keep (chain_of (pool_of c.args.store.now) c.args.first))) (sym c.set_total.ensures.same)
-    (cut_made c.args.store.now c.set_next.new.self c.args.first c.unwrap-rest.result c.args.keep c.end_of-last.result.0 c.end_of-last.result.1 c.packet_len-whole.result c.requires.pool c.requires.live c.requires.some c.requires.within c.end_of-last.ensures.cell c.end_of-last.ensures.bytes c.packet_len-whole.ensures
-    (ap (λ (h : Head). h.next) (sym c.head-head.ensures.value) ∙ c.unwrap-rest.ensures) (cut_place c.args.store.now c.args.first c.args.keep c.end_of-last.result.0 c.requires.pool c.requires.live c.requires.some c.requires.within c.end_of-last.ensures.cell).out (cut_place c.args.store.now c.args.first c.args.keep c.end_of-last.result.0 c.requires.pool c.requires.live c.requires.some c.requires.within c.end_of-last.ensures.cell).fit
-    c.set_next.ensures.change c.set_next.ensures.store).adds
+    made.adds

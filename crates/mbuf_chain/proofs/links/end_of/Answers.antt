@@ -8,25 +8,26 @@ pub unwrap-at-requires : goal.unwrap-at-requires
 unwrap-at-requires c =
     let s = c.args.store.now in
     let i = c.mbufs.invariant in
-    has_next s (cells_from s (Some c.args.first)) c.mbufs.counter c.mbufs.at c.mbufs.head (on_way s (cells_from s (Some c.args.first)) c.mbufs.counter c.mbufs.at i.some i.whole i.rest) i.head (omega (arith, c.mbufs-test.true, c.requires.within))
+    has_next s _ _ _ _ (on_way s _ _ _ i.some i.whole i.rest) i.head (omega (arith, c.mbufs-test.true, c.requires.within))
 
 pub head-head-requires-in-mbufs : goal.head-head-requires-in-mbufs
 head-head-requires-in-mbufs c =
     let s = c.args.store.now in
     let i = c.mbufs.invariant in
-    (next_on s (cells_from s (Some c.args.first)) c.mbufs.counter c.mbufs.at c.unwrap-at.result c.mbufs.head (on_way s (cells_from s (Some c.args.first)) c.mbufs.counter c.mbufs.at i.some i.whole i.rest) i.head c.unwrap-at.ensures).out
+    (next_on s _ _ _ _ _ (on_way s _ _ _ i.some i.whole i.rest) i.head c.unwrap-at.ensures).out
 
 pub overflow_add-bytes : goal.overflow_add-bytes
 overflow_add-bytes c =
     let s = c.args.store.now in
     let i = c.mbufs.invariant in
-    omega (arith, (next_on s (cells_from s (Some c.args.first)) c.mbufs.counter c.mbufs.at c.unwrap-at.result c.mbufs.head (on_way s (cells_from s (Some c.args.first)) c.mbufs.counter c.mbufs.at i.some i.whole i.rest) i.head c.unwrap-at.ensures).sum (len_at s), i.sum, ap (λ (h : Head). h.len) c.head-head-in-mbufs.ensures.value, all_bytes s c.args.first c.requires.whole c.requires.store)
+    let n = next_on s _ _ _ _ _ (on_way s _ _ _ i.some i.whole i.rest) i.head c.unwrap-at.ensures in
+    omega (arith, n.sum (len_at s), i.sum, ap (λ (h : Head). h.len) c.head-head-in-mbufs.ensures.value, all_bytes s c.args.first c.requires.whole c.requires.store)
 
 pub mbufs-preserved : goal.mbufs-preserved
 mbufs-preserved c =
     let s = c.args.store.now in
     let i = c.mbufs.invariant in
-    let n = next_on s (cells_from s (Some c.args.first)) c.mbufs.counter c.mbufs.at c.unwrap-at.result c.mbufs.head (on_way s (cells_from s (Some c.args.first)) c.mbufs.counter c.mbufs.at i.some i.whole i.rest) i.head c.unwrap-at.ensures in
+    let n = next_on s _ _ _ _ _ (on_way s _ _ _ i.some i.whole i.rest) i.head c.unwrap-at.ensures in
     record {
       some = omega arith;
       head = c.head-head-in-mbufs.ensures.value;

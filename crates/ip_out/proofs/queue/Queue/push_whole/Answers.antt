@@ -9,12 +9,14 @@ use Rattle.ip_out.proofs.queue.Queue.push_whole.Goals as goal
 pub returns-then-len-ge-OUTPUT_QUEUE_PACKETS-clause-packets : goal.returns-then-len-ge-OUTPUT_QUEUE_PACKETS-clause-packets
 returns-then-len-ge-OUTPUT_QUEUE_PACKETS-clause-packets c mtu fits =
     let a = aside c.args.chain c.args.self.now (moves_without c.args.pool.now c.free_chain.new.self c.args.chain c.requires.live c.free_chain.ensures) c.requires.live c.requires.queue.held c.requires.apart in
-    (no_room c.args.pool.now c.free_chain.new.self c.args.self.now (packets_of (chain_of c.args.pool.now c.args.chain) c.args.head mtu) c.requires.queue (omega (arith, c.len.ensures, c.if-len-ge-OUTPUT_QUEUE_PACKETS.true)) (one_packet (chain_of c.args.pool.now c.args.chain) c.args.head c.args.len mtu c.requires.datagram c.requires.len fits) a.same_packets).items
+    let one = one_packet (chain_of c.args.pool.now c.args.chain) c.args.head c.args.len mtu c.requires.datagram c.requires.len fits in
+    (no_room c.args.pool.now c.free_chain.new.self c.args.self.now _ c.requires.queue (omega (arith, c.len.ensures, c.if-len-ge-OUTPUT_QUEUE_PACKETS.true)) one a.same_packets).items
 
 pub returns-then-len-ge-OUTPUT_QUEUE_PACKETS-clause-lost : goal.returns-then-len-ge-OUTPUT_QUEUE_PACKETS-clause-lost
 returns-then-len-ge-OUTPUT_QUEUE_PACKETS-clause-lost c mtu fits =
     let a = aside c.args.chain c.args.self.now (moves_without c.args.pool.now c.free_chain.new.self c.args.chain c.requires.live c.free_chain.ensures) c.requires.live c.requires.queue.held c.requires.apart in
-    (no_room c.args.pool.now c.free_chain.new.self c.args.self.now (packets_of (chain_of c.args.pool.now c.args.chain) c.args.head mtu) c.requires.queue (omega (arith, c.len.ensures, c.if-len-ge-OUTPUT_QUEUE_PACKETS.true)) (one_packet (chain_of c.args.pool.now c.args.chain) c.args.head c.args.len mtu c.requires.datagram c.requires.len fits) a.same_packets).is_lost
+    let one = one_packet (chain_of c.args.pool.now c.args.chain) c.args.head c.args.len mtu c.requires.datagram c.requires.len fits in
+    (no_room c.args.pool.now c.free_chain.new.self c.args.self.now _ c.requires.queue (omega (arith, c.len.ensures, c.if-len-ge-OUTPUT_QUEUE_PACKETS.true)) one a.same_packets).is_lost
 
 pub returns-then-len-ge-OUTPUT_QUEUE_PACKETS-clause-plain : goal.returns-then-len-ge-OUTPUT_QUEUE_PACKETS-clause-plain
 returns-then-len-ge-OUTPUT_QUEUE_PACKETS-clause-plain c = λ before.
@@ -32,4 +34,7 @@ returns-then-len-ge-OUTPUT_QUEUE_PACKETS-clause-moves c = (aside_gone c.args.cha
 
 pub returns-clause-packets : goal.returns-clause-packets
 returns-clause-packets c mtu fits =
-    (room c.args.pool.now c.add_whole.new.pool c.args.self.now c.add_whole.new.train (packets_of (chain_of c.args.pool.now c.args.chain) c.args.head mtu) c.requires.queue (omega (arith, c.len.ensures, c.if-len-ge-OUTPUT_QUEUE_PACKETS.false)) (one_packet (chain_of c.args.pool.now c.args.chain) c.args.head c.args.len mtu c.requires.datagram c.requires.len fits) (c.add_whole.ensures.packets mtu fits ∙ ap (λ (t : TrainView). packets c.args.pool.now t ++ packets_of (chain_of c.args.pool.now c.args.chain) c.args.head mtu) c.self.view_is)).items
+    let some = packets_of (chain_of c.args.pool.now c.args.chain) c.args.head mtu in
+    let one = one_packet (chain_of c.args.pool.now c.args.chain) c.args.head c.args.len mtu c.requires.datagram c.requires.len fits in
+    let added = c.add_whole.ensures.packets mtu fits ∙ ap (λ (t : TrainView). packets c.args.pool.now t ++ some) c.self.view_is in
+    (room c.args.pool.now c.add_whole.new.pool c.args.self.now c.add_whole.new.train some c.requires.queue (omega (arith, c.len.ensures, c.if-len-ge-OUTPUT_QUEUE_PACKETS.false)) one added).items

@@ -26,7 +26,8 @@ returns-then-not-reserve-clause-step c = λ rest held new acc is.
     let r = c.reserve.ensures.reserves (machine c.args.pool.now c.args.self.now.datagrams c.args.counters.now rest) (held ⊕ weight_at c.args.pool.now c.args.chain) refl refl acc in
     let fr = freed c.args.pool.now c.reserve.new.pool c.free_chain.new.self c.args.self.now.datagrams c.reserve.new.waiting.datagrams c.args.chain
     (stays c.args.pool.now c.reserve.new.pool c.args.self.now.datagrams c.reserve.new.waiting.datagrams c.args.chain c.requires.owned c.reserve.ensures.moves) c.reserve.ensures.ready.table c.free_chain.ensures in
-    lacking rest held new (key_in c.args.head) (fragment_of (arrived c.args.pool.now c.args.chain c.args.head.offset c.args.head.more)) (weight_at c.args.pool.now c.args.chain) c.args.pool.now c.reserve.new.pool c.free_chain.new.self c.args.self.now.datagrams c.reserve.new.waiting.datagrams c.args.counters.now c.reserve.new.counters c.count_ended.new.self _ c.reserve.result c.if-not-reserve.true
+    lacking rest held new (key_in c.args.head) (fragment_of (arrived c.args.pool.now c.args.chain c.args.head.offset c.args.head.more)) (weight_at c.args.pool.now c.args.chain)
+    c.args.pool.now c.reserve.new.pool c.free_chain.new.self c.args.self.now.datagrams c.reserve.new.waiting.datagrams c.args.counters.now c.reserve.new.counters c.count_ended.new.self _ c.reserve.result c.if-not-reserve.true
     r.has_buffers fr.shows c.count_ended.ensures is
 
 pub returns-then-not-reserve-clause-ready : goal.returns-then-not-reserve-clause-ready
@@ -47,6 +48,7 @@ returns-then-not-reserve-clause-moves c =
 
 pub add-requires-clause-room : goal.add-requires-clause-room
 add-requires-clause-room c =
+    let st = stays c.args.pool.now c.reserve.new.pool c.args.self.now.datagrams c.reserve.new.waiting.datagrams c.args.chain c.requires.owned c.reserve.ensures.moves in
     omega (
       arith,
       ap (λ (bs : List ℕ). length bs) c.self.invariant.2.rows,
@@ -54,18 +56,19 @@ add-requires-clause-room c =
       ap (λ (r : TableView). length r.datagrams) c.self.view_is,
       ap (λ (r : TableView). r.room) c.self.view_is,
       c.reserve.ensures.ready.room,
-      room c.reserve.new.pool c.reserve.new.waiting.datagrams c.args.chain c.laws.ensures c.reserve.ensures.ready.table c.reserve.ensures.ready.fragments (stays c.args.pool.now c.reserve.new.pool c.args.self.now.datagrams c.reserve.new.waiting.datagrams c.args.chain c.requires.owned c.reserve.ensures.moves).owned,
+      room c.reserve.new.pool c.reserve.new.waiting.datagrams c.args.chain c.laws.ensures c.reserve.ensures.ready.table c.reserve.ensures.ready.fragments st.owned,
     )
 
 pub begin-requires : goal.begin-requires
 begin-requires c =
+    let st = stays c.args.pool.now c.reserve.new.pool c.args.self.now.datagrams c.reserve.new.waiting.datagrams c.args.chain c.requires.owned c.reserve.ensures.moves in
     let same : c.self.inside.datagrams.len ≡ length c.reserve.new.waiting.datagrams = omega (arith, c.as_slice-i.ensures.len, ap (λ (ds : List Datagram). length ds) (c.as_slice-i.ensures.value ∙ (ap (λ (r : TableView). r.datagrams) c.self.view_is))) in
     omega (
       arith,
       same,
       c.reserve.ensures.ready.room,
       ap (λ (r : TableView). r.room) c.self.view_is,
-      room c.reserve.new.pool c.reserve.new.waiting.datagrams c.args.chain c.laws.ensures c.reserve.ensures.ready.table c.reserve.ensures.ready.fragments (stays c.args.pool.now c.reserve.new.pool c.args.self.now.datagrams c.reserve.new.waiting.datagrams c.args.chain c.requires.owned c.reserve.ensures.moves).owned,
+      room c.reserve.new.pool c.reserve.new.waiting.datagrams c.args.chain c.laws.ensures c.reserve.ensures.ready.table c.reserve.ensures.ready.fragments st.owned,
     )
 
 begun : (c : goal.After-lay_and_count-arg-3-1) → Began c.reserve.new.pool c.reserve.new.waiting.datagrams c.args.chain (key_in c.args.head) c.new_chain.new.self c.begin.new.table.items (length c.as_slice-i.result.now)
@@ -94,7 +97,8 @@ lay_and_count-arrival-requires-clause-small c = subst (λ (v : ChainView). c.arg
 
 pub invariant_of-self : goal.invariant_of-self
 invariant_of-self c =
-    let few = room c.reserve.new.pool c.reserve.new.waiting.datagrams c.args.chain c.laws.ensures c.reserve.ensures.ready.table c.reserve.ensures.ready.fragments (stays c.args.pool.now c.reserve.new.pool c.args.self.now.datagrams c.reserve.new.waiting.datagrams c.args.chain c.requires.owned c.reserve.ensures.moves).owned in
+    let st = stays c.args.pool.now c.reserve.new.pool c.args.self.now.datagrams c.reserve.new.waiting.datagrams c.args.chain c.requires.owned c.reserve.ensures.moves in
+    let few = room c.reserve.new.pool c.reserve.new.waiting.datagrams c.args.chain c.laws.ensures c.reserve.ensures.ready.table c.reserve.ensures.ready.fragments st.owned in
     let same : c.self.inside.datagrams.len ≡ length c.reserve.new.waiting.datagrams = omega (arith, c.as_slice-i.ensures.len, ap (λ (ds : List Datagram). length ds) (c.as_slice-i.ensures.value ∙ (ap (λ (r : TableView). r.datagrams) c.self.view_is))) in
     let n = c.self.inside.index.count in
     let ds = c.begin.new.table.items in
@@ -121,7 +125,9 @@ returns-clause-step c = λ rest held new acc goes.
     let st = stays c.args.pool.now c.reserve.new.pool c.args.self.now.datagrams c.reserve.new.waiting.datagrams c.args.chain c.requires.owned c.reserve.ensures.moves in
     let b = began c.reserve.new.pool c.new_chain.new.self c.reserve.new.waiting.datagrams c.begin.new.table.items c.args.chain c.in-Ok.holder (length c.as_slice-i.result.now) (key_in c.args.head) c.reserve.ensures.ready.table st.owned c.in-Ok.ensures.ok
     (c.begin.ensures.items ∙ (λ j. ((ap (λ (r : TableView). r.datagrams) c.self.view_is) j) ++ new_datagram (c.key_of-key.ensures j) c.in-Ok.holder ∷ [])) (ap (λ (ds : List Datagram). length ds) (c.as_slice-i.ensures.value ∙ (ap (λ (r : TableView). r.datagrams) c.self.view_is))) in
-    begins_here rest held new (key_in c.args.head) (weight_at c.args.pool.now c.args.chain) c.args.pool.now c.reserve.new.pool c.new_chain.new.self c.args.self.now.datagrams c.reserve.new.waiting.datagrams c.begin.new.table.items c.args.counters.now c.reserve.new.counters c.lay_and_count-arrival.new.counters c.args.chain (length c.as_slice-i.result.now) c.args.head.offset c.args.head.more c.lay_and_count-arrival.result c.lay_and_count-arrival.new.pool c.lay_and_count-arrival.new.table.items c.reserve.result c.if-not-reserve.false
+    begins_here rest held new (key_in c.args.head) (weight_at c.args.pool.now c.args.chain)
+    c.args.pool.now c.reserve.new.pool c.new_chain.new.self c.args.self.now.datagrams c.reserve.new.waiting.datagrams c.begin.new.table.items c.args.counters.now c.reserve.new.counters c.lay_and_count-arrival.new.counters
+    c.args.chain (length c.as_slice-i.result.now) c.args.head.offset c.args.head.more c.lay_and_count-arrival.result c.lay_and_count-arrival.new.pool c.lay_and_count-arrival.new.table.items c.reserve.result c.if-not-reserve.false
     (none_by_key c.args.pool.now (key_in c.args.head) c.args.self.now.datagrams c.requires.fresh) r.has_buffers (b.stays.chain ∙ st.chain) b (λ here most. c.lay_and_count-arrival.ensures.step rest held new here most goes)
 
 moved : (c : goal.After-follow) → Moves c.args.pool.now (c.args.chain ∷ held_all c.args.pool.now c.args.self.now.datagrams) c.lay_and_count-arrival.new.pool (in_hand c.lay_and_count-arrival.result ++ held_all c.lay_and_count-arrival.new.pool c.lay_and_count-arrival.new.table.items)
@@ -139,14 +145,16 @@ laid_in c =
     let st = stays c.args.pool.now c.reserve.new.pool c.args.self.now.datagrams c.reserve.new.waiting.datagrams c.args.chain c.requires.owned c.reserve.ensures.moves in
     let b = began c.reserve.new.pool c.new_chain.new.self c.reserve.new.waiting.datagrams c.begin.new.table.items c.args.chain c.in-Ok.holder (length c.as_slice-i.result.now) (key_in c.args.head) c.reserve.ensures.ready.table st.owned c.in-Ok.ensures.ok
     (c.begin.ensures.items ∙ (λ j. ((ap (λ (r : TableView). r.datagrams) c.self.view_is) j) ++ new_datagram (c.key_of-key.ensures j) c.in-Ok.holder ∷ [])) (ap (λ (ds : List Datagram). length ds) (c.as_slice-i.ensures.value ∙ (ap (λ (r : TableView). r.datagrams) c.self.view_is))) in
-    begins_layout c.args.pool.now c.reserve.new.pool c.new_chain.new.self c.lay_and_count-arrival.new.pool c.args.self.now.datagrams c.reserve.new.waiting.datagrams c.begin.new.table.items c.lay_and_count-arrival.new.table.items (key_in c.args.head) c.args.chain (length c.as_slice-i.result.now) c.args.head.offset c.args.head.more c.lay_and_count-arrival.result
+    begins_layout c.args.pool.now c.reserve.new.pool c.new_chain.new.self c.lay_and_count-arrival.new.pool
+    c.args.self.now.datagrams c.reserve.new.waiting.datagrams c.begin.new.table.items c.lay_and_count-arrival.new.table.items (key_in c.args.head) c.args.chain (length c.as_slice-i.result.now) c.args.head.offset c.args.head.more c.lay_and_count-arrival.result
     (wait_reserved c.args.pool.now c.reserve.new.pool c.args.self.now c.reserve.new.waiting c.args.counters.now c.reserve.new.counters _ c.reserve.ensures.kept c.reserve.ensures.none)
     c.requires.fresh c.requires.some (b.stays.chain ∙ st.chain) b.rows (ap (λ (ds : List Datagram). length ds) (c.as_slice-i.ensures.value ∙ (ap (λ (r : TableView). r.datagrams) c.self.view_is))) c.lay_and_count-arrival.ensures.layout
 
 pub returns-clause-ready : goal.returns-clause-ready
 returns-clause-ready c = record {
   table = c.lay_and_count-arrival.ensures.table;
-  fragments = fragments_after c.args.pool.now c.lay_and_count-arrival.new.pool c.args.self.now.datagrams c.lay_and_count-arrival.new.table.items (key_in c.args.head) (arrived c.args.pool.now c.args.chain c.args.head.offset c.args.head.more) c.lay_and_count-arrival.result (laid_in c) c.requires.ready.table c.requires.ready.fragments c.lay_and_count-arrival.ensures.table;
+  fragments = fragments_after c.args.pool.now c.lay_and_count-arrival.new.pool c.args.self.now.datagrams c.lay_and_count-arrival.new.table.items (key_in c.args.head) (arrived c.args.pool.now c.args.chain c.args.head.offset c.args.head.more) c.lay_and_count-arrival.result (laid_in c)
+      c.requires.ready.table c.requires.ready.fragments c.lay_and_count-arrival.ensures.table;
   room = omega (
     arith,
     c.lay_and_count-arrival.ensures.capacity,
@@ -158,7 +166,8 @@ returns-clause-ready c = record {
     c.reserve.ensures.moves.mbufs,
     (moved c).mbufs,
   );
-  distinct = distinct_after c.args.pool.now c.lay_and_count-arrival.new.pool c.args.self.now.datagrams c.lay_and_count-arrival.new.table.items (key_in c.args.head) (arrived c.args.pool.now c.args.chain c.args.head.offset c.args.head.more) c.lay_and_count-arrival.result (laid_in c) c.requires.ready.distinct;
+  distinct = distinct_after c.args.pool.now c.lay_and_count-arrival.new.pool c.args.self.now.datagrams c.lay_and_count-arrival.new.table.items (key_in c.args.head) (arrived c.args.pool.now c.args.chain c.args.head.offset c.args.head.more) c.lay_and_count-arrival.result (laid_in c)
+      c.requires.ready.distinct;
 }
 
 pub returns-clause-whole : goal.returns-clause-whole

@@ -1,7 +1,6 @@
 use Rattle.std.proofs.Common.{◌∷◌, [], arith}
 use Rattle.mbuf_chain.proofs.Laws.Owners.{times-append, owned_after}
 use Rattle.ip_reass.specs.Table.{held_all}
-use Rattle.ip_reass.specs.Arrivals.{machine}
 use Rattle.ip_reass.proofs.Laws.{fragment_arrives}
 use Rattle.sock_calls.specs.Sockets.{queued_chains}
 use Rattle.net_stack.proofs.Aside.{beside_socks}
@@ -21,12 +20,24 @@ input-requires-clause-owned c =
 
 pub returns-in-Whole-clause-taken : goal.returns-in-Whole-clause-taken
 returns-in-Whole-clause-taken c =
-    completes {ds = c.args.self.now.reass} {es = c.arrive.new.self} c.in-Whole.head c.requires.owned c.requires.socks (record { step = λ rest held origin new apart came acc goes. fragment_arrives held origin c.args.head c.args.self.now.pool c.args.chain (machine c.args.self.now.pool c.args.self.now.reass.datagrams c.args.self.now.net.counters rest) new came c.requires.total c.requires.header (c.in-Whole.ensures.step rest held new acc goes); accounts = c.in-Whole.ensures.accounts; moves = c.in-Whole.ensures.moves }) c.input.ensures.input
+    completes {ds = c.args.self.now.reass} {es = c.arrive.new.self} c.in-Whole.head c.requires.owned c.requires.socks (record {
+      step = λ rest held origin new apart came acc goes. fragment_arrives held origin c.args.head c.args.self.now.pool c.args.chain _ new came c.requires.total c.requires.header (c.in-Whole.ensures.step rest held new acc goes);
+      accounts = c.in-Whole.ensures.accounts;
+      moves = c.in-Whole.ensures.moves;
+    }) c.input.ensures.input
 
 pub returns-in-Kept-clause-taken : goal.returns-in-Kept-clause-taken
 returns-in-Kept-clause-taken c =
-    waits {ds = c.args.self.now.reass} {es = c.arrive.new.self} c.requires.owned c.requires.socks (record { step = λ rest held origin new apart came acc goes. fragment_arrives held origin c.args.head c.args.self.now.pool c.args.chain (machine c.args.self.now.pool c.args.self.now.reass.datagrams c.args.self.now.net.counters rest) new came c.requires.total c.requires.header (c.in-Kept.ensures.step rest held new acc goes); accounts = c.in-Kept.ensures.accounts; moves = c.in-Kept.ensures.moves })
+    waits {ds = c.args.self.now.reass} {es = c.arrive.new.self} c.requires.owned c.requires.socks (record {
+      step = λ rest held origin new apart came acc goes. fragment_arrives held origin c.args.head c.args.self.now.pool c.args.chain _ new came c.requires.total c.requires.header (c.in-Kept.ensures.step rest held new acc goes);
+      accounts = c.in-Kept.ensures.accounts;
+      moves = c.in-Kept.ensures.moves;
+    })
 
 pub returns-in-Dropped-clause-taken : goal.returns-in-Dropped-clause-taken
 returns-in-Dropped-clause-taken c =
-    waits {ds = c.args.self.now.reass} {es = c.arrive.new.self} c.requires.owned c.requires.socks (record { step = λ rest held origin new apart came acc goes. fragment_arrives held origin c.args.head c.args.self.now.pool c.args.chain (machine c.args.self.now.pool c.args.self.now.reass.datagrams c.args.self.now.net.counters rest) new came c.requires.total c.requires.header (c.in-Dropped.ensures.step rest held new acc goes); accounts = c.in-Dropped.ensures.accounts; moves = c.in-Dropped.ensures.moves })
+    waits {ds = c.args.self.now.reass} {es = c.arrive.new.self} c.requires.owned c.requires.socks (record {
+      step = λ rest held origin new apart came acc goes. fragment_arrives held origin c.args.head c.args.self.now.pool c.args.chain _ new came c.requires.total c.requires.header (c.in-Dropped.ensures.step rest held new acc goes);
+      accounts = c.in-Dropped.ensures.accounts;
+      moves = c.in-Dropped.ensures.moves;
+    })
