@@ -4,7 +4,7 @@ use Rattle.mbuf_chain.specs.Chain.{PoolView, Adds, with_chain, chain_of}
 use Rattle.mbuf_chain.specs.Steps.{first_part, second_part}
 use Rattle.mbuf_chain.specs.Inside.Cells.{pool_of, weigh, one}
 use Rattle.mbuf_chain.proofs.Focused.{open_on, first_out, whole_of, count_cells}
-use Rattle.mbuf_chain.proofs.Cuts.{cut_made, cut_place}
+use Rattle.mbuf_chain.proofs.Cuts.{IsCut, cut_made, cut_place}
 use Rattle.mbuf_chain.proofs.links.cut.Goals as goal
 
 pub packet_len-whole-requires : goal.packet_len-whole-requires
@@ -27,35 +27,24 @@ set_next-requires-clause-out c = (cut_place c.args.first c.requires.pool c.requi
 pub unwrap-rest-requires : goal.unwrap-rest-requires
 unwrap-rest-requires c = (cut_place c.args.first c.requires.pool c.requires.live c.requires.some c.requires.within c.end_of-last.ensures.cell).some c.head-head.result c.head-head.ensures.value
 
-pub set_total-requires-clause-off : goal.set_total-requires-clause-off
-set_total-requires-clause-off c =
+-- both chains, once the first one's last mbuf is its end
+made : (c : goal.After-set_total-arg-1) → IsCut c.args.store.now c.set_next.new.self c.args.first c.unwrap-rest.result c.args.keep c.end_of-last.result.1 c.packet_len-whole.result
+made c =
     let place = cut_place c.args.first c.requires.pool c.requires.live c.requires.some c.requires.within c.end_of-last.ensures.cell in
     let next = ap (λ (h : Head). h.next) (sym c.head-head.ensures.value) ∙ c.unwrap-rest.ensures in
-    let made = cut_made c.args.first c.requires.pool c.requires.live c.requires.some c.requires.within c.end_of-last.ensures.cell c.end_of-last.ensures.bytes
-    c.packet_len-whole.ensures next place.out place.fit c.set_next.ensures.change c.set_next.ensures.store in
-    made.off
+    cut_made c.args.first c.requires.pool c.requires.live c.requires.some c.requires.within c.end_of-last.ensures.cell c.end_of-last.ensures.bytes
+    c.packet_len-whole.ensures next place.out place.fit c.set_next.ensures.change c.set_next.ensures.store
+
+pub set_total-requires-clause-off : goal.set_total-requires-clause-off
+set_total-requires-clause-off c = (made c).off
 
 pub set_total-requires-clause-live : goal.set_total-requires-clause-live
-set_total-requires-clause-live c =
-    let place = cut_place c.args.first c.requires.pool c.requires.live c.requires.some c.requires.within c.end_of-last.ensures.cell in
-    let next = ap (λ (h : Head). h.next) (sym c.head-head.ensures.value) ∙ c.unwrap-rest.ensures in
-    let made = cut_made c.args.first c.requires.pool c.requires.live c.requires.some c.requires.within c.end_of-last.ensures.cell c.end_of-last.ensures.bytes
-    c.packet_len-whole.ensures next place.out place.fit c.set_next.ensures.change c.set_next.ensures.store in
-    made.live
+set_total-requires-clause-live c = (made c).live
 
 pub set_total-requires-clause-few : goal.set_total-requires-clause-few
-set_total-requires-clause-few c =
-    let place = cut_place c.args.first c.requires.pool c.requires.live c.requires.some c.requires.within c.end_of-last.ensures.cell in
-    let next = ap (λ (h : Head). h.next) (sym c.head-head.ensures.value) ∙ c.unwrap-rest.ensures in
-    let made = cut_made c.args.first c.requires.pool c.requires.live c.requires.some c.requires.within c.end_of-last.ensures.cell c.end_of-last.ensures.bytes
-    c.packet_len-whole.ensures next place.out place.fit c.set_next.ensures.change c.set_next.ensures.store in
-    omega (arith, made.few)
+set_total-requires-clause-few c = omega (arith, (made c).few)
 
 pub returns-clause-change : goal.returns-clause-change
 returns-clause-change c =
-    let place = cut_place c.args.first c.requires.pool c.requires.live c.requires.some c.requires.within c.end_of-last.ensures.cell in
-    let next = ap (λ (h : Head). h.next) (sym c.head-head.ensures.value) ∙ c.unwrap-rest.ensures in
-    let made = cut_made c.args.first c.requires.pool c.requires.live c.requires.some c.requires.within c.end_of-last.ensures.cell c.end_of-last.ensures.bytes
-    c.packet_len-whole.ensures next place.out place.fit c.set_next.ensures.change c.set_next.ensures.store in
     subst (λ (p : PoolView). Adds (with_chain (pool_of c.args.store.now) c.args.first (first_part c.args.keep (chain_of (pool_of c.args.store.now) c.args.first))) p c.unwrap-rest.result (second_part c.args.keep (chain_of (pool_of c.args.store.now) c.args.first))) (sym c.set_total.ensures.same)
-    made.adds
+    (made c.before).adds
