@@ -19,6 +19,6 @@ mod Trains
 mod Grows
 mod Cuts
 mod Drops
-mod Ends
+mod Along
 mod Reading
 mod Filled

@@ -90,19 +90,23 @@ times_twice [] i c e f = absurd (none-some c e)
 times_twice (x ∷ xs) zero c e f = subst (λ (j : ℕ). 1 < times c (j ∷ xs)) (sym (same_Some x c e)) (omega (arith, times_same c xs, times_get xs zero c f))
 times_twice (x ∷ xs) (suc i) c e f = omega (arith, times_twice xs i c e f)
 
--- a run passes a place: the chain there, and what is after it
-pub record Passing (p : PoolView) (at : Option ℕ) (xs : List ℕ) (i : ℕ) : Type 0 where
-  pub number : ℕ
-  pub stands : slice_get xs i ≡ Some number
-  pub is : at ≡ Some number
-  pub rest : IsRun p (chain_of p number).front.after (drop (suc i) xs)
+-- a run passes a chain: the place where it stands, and what is after it
+pub record Passing (p : PoolView) (c : ℕ) (xs : List ℕ) (i : ℕ) : Type 0 where
+  pub stands : slice_get xs i ≡ Some c
+  pub rest : IsRun p (chain_of p c).front.after (drop (suc i) xs)
 
-pub passing : (p : PoolView) (at : Option ℕ) (xs : List ℕ) (i : ℕ) → i < length xs → IsRun p at (drop i xs) → Passing p at xs i
-passing p at [] i h r = absurd (omega arith)
-passing p at (x ∷ xs) zero h r = record { number = x; stands = refl; is = r.0; rest = r.1 }
-passing p at (x ∷ xs) (suc i) h r =
-    let below = passing p at xs i (omega arith) r in
-    record { number = below.number; stands = below.stands; is = below.is; rest = below.rest }
+pub passing : (p : PoolView) (c : ℕ) (xs : List ℕ) (i : ℕ) → i < length xs → IsRun p (Some c) (drop i xs) → Passing p c xs i
+passing p c [] i h r = absurd (omega arith)
+passing p c (x ∷ xs) zero h r = record { stands = sym r.0; rest = subst (λ (k : ℕ). IsRun p (chain_of p k).front.after xs) (same_Some x c (sym r.0)) r.1 }
+passing p c (x ∷ xs) (suc i) h r =
+    let below = passing p c xs i (omega arith) r in
+    record { stands = below.stands; rest = below.rest }
+
+-- a run that isn't at its end has a chain there
+pub run_there : {A : Type 0} (p : PoolView) (at : Option ℕ) (xs : List ℕ) (i : ℕ) → i < length xs → IsRun p at (drop i xs) → at ≡ None → A
+run_there p at [] i h r e = absurd (omega arith)
+run_there p at (x ∷ xs) zero h r e = absurd (none-some x (sym e ∙ r.0))
+run_there p at (x ∷ xs) (suc i) h r e = run_there p at xs i (omega arith) r e
 
 pub record Split (xs : List ℕ) (i b : ℕ) : Type 0 where
   pub front : List ℕ

@@ -2,6 +2,8 @@
 use Rattle.std.proofs.Common.{◌≡◌, ◌≢◌, ℕ, zero, suc, ◌+◌, ◌<◌, Bool, true, List, [], ◌∷◌, ◌++◌, length, map, Option, Some, None, get_or, slice_get, refl, sym, ap, ◌∙◌, subst, arith, inl, inr, length-append}
 use Rattle.std.specs.List.{insert, remove}
 use Rattle.std.specs.Option.{IfSome}
+use Rattle.std.specs.Prelude.{◌==◌, if◌then◌else◌, unwrap_or}
+use Rattle.std.proofs.Math.Dec.{eqb-suc-zero}
 use Rattle.std.proofs.lemmas.Bool.{cases_eq}
 use Rattle.std.proofs.lemmas.List.{map-append, length-map, append-nil}
 use Rattle.std.proofs.lemmas.Option.{same_Some, none-some}
@@ -10,7 +12,7 @@ use Rattle.mbuf_chain.specs.Chain.{ChainView, PoolView, IsLive, chain_of, with_c
 use Rattle.mbuf_chain.specs.Owners.{times, IsOwned, Moves}
 use Rattle.mbuf_chain.specs.Steps.{placed}
 use Rattle.mbuf_chain.specs.Frames.{SameAt, IsBounded}
-use Rattle.mbuf_chain.specs.Train.{TrainView, QueuedPacket, no_queued_packet, follow, numbers, queued_packet_of, queued_packets, queued_packet_at, last_number, IsHeld, Inserts, Takes}
+use Rattle.mbuf_chain.specs.Train.{TrainView, QueuedPacket, no_queued_packet, follow, numbers, queued_packet_of, queued_packets, queued_packet_at, last_number, IsHeld, Inserts, Takes, ends_of, train_of}
 pub use Rattle.mbuf_chain.specs.Kept.{numbers_same, queued_packets_same, held_same, none_left}
 use Rattle.mbuf_chain.specs.Kept.{queued_packets_of_same}
 use Rattle.mbuf_chain.proofs.Laws.Owners.{times_same, times_other, times-append, owned_more, owned_after, live_owned, apart_first, same_without, same_with, same_adds, same_after, apart_new, moves_none, then_adds, then_without, shown_with, kept_with, live_with, moves_within, moves_trans, moves_reordered, live_at_most}
@@ -41,6 +43,29 @@ held_of p t xs l =
       ends = ap (λ (n : ℕ). follow p (suc n) t.first) l.whole ∙ (run_ends p t.first xs l.run ∙ sym e);
       last = l.last ∙ ap last_number (sym e);
     }
+
+-- ---- the ends of a train by its fields, which are numbers
+pub end_there : (n k : ℕ) → 0 < n → (if n == 0 then None else Some k) ≡ Some k
+end_there zero k h = absurd (omega arith)
+end_there (suc n) k h = rw (eqb-suc-zero n) refl
+
+pub no_end : (n k : ℕ) → n ≡ 0 → (if n == 0 then None else Some k) ≡ None
+no_end n k e = rw e refl
+
+run_head : (p : PoolView) (at : Option ℕ) (xs : List ℕ) (n k : ℕ) → IsRun p at xs → n ≡ length xs → k ≡ unwrap_or at 0 → (if n == 0 then None else Some k) ≡ at
+run_head p at [] n k r e is = rw (e, r) refl
+run_head p at (x ∷ xs) n k r e is = rw (e, is, r.0, eqb-suc-zero (length xs)) refl
+
+-- k tells what stands after the first chain, where n others do
+pub first_after : (p : PoolView) (t : TrainView) (c n k : ℕ) → IsHeld p t → t.first ≡ Some c → n + 1 ≡ t.len → k ≡ unwrap_or (chain_of p c).front.after 0 → (if n == 0 then None else Some k) ≡ (chain_of p c).front.after
+first_after p t c n k h first len is = go (numbers p t) refl
+  where
+    go : (xs : List ℕ) → numbers p t ≡ xs → (if n == 0 then None else Some k) ≡ (chain_of p c).front.after
+    go [] e = absurd (omega (arith, len, h.whole, ap length e))
+    go (x ∷ xs) e =
+        let run : IsRun p t.first (x ∷ xs) = subst (IsRun p t.first) e (linked_of p t h).run in
+        let rest : IsRun p (chain_of p c).front.after xs = subst (λ (j : ℕ). IsRun p (chain_of p j).front.after xs) (same_Some x c (sym run.0 ∙ first)) run.1 in
+        run_head p (chain_of p c).front.after xs n k rest (omega (arith, len, h.whole, ap length e)) is
 
 -- ---- a train while others take their steps
 pub record Beside (p q : PoolView) (t : TrainView) : Type 0 where
@@ -92,6 +117,28 @@ freed_packet {p} {q} {r} {t} {u} {c} held now m is_r =
 pub held_none : (p : PoolView) (t : TrainView) → t ≡ record { first = None; last = None; len = 0 } → IsHeld p t
 held_none p t e =
     subst (IsHeld p) (sym e) (held_of p (record { first = None; last = None; len = 0 }) [] (record { run = refl; whole = refl; last = refl; owned = λ k. omega arith; headed = λ k h. absurd (omega arith) }))
+
+-- a train is that of its ends
+last_there : (x : ℕ) (xs : List ℕ) → (y : ℕ) × (last_number (x ∷ xs) ≡ Some y)
+last_there x [] = (x, refl)
+last_there x (y ∷ ys) = last_there y ys
+
+pub ends_back : (p : PoolView) (t : TrainView) → IsHeld p t → train_of (ends_of t) ≡ t
+ends_back p t h = go t.len t.first refl refl
+  where
+    some : (c : ℕ) (xs : List ℕ) (n : ℕ) → t.first ≡ Some c → t.len ≡ suc n → numbers p t ≡ c ∷ xs → train_of (ends_of t) ≡ t
+    some c xs n first len is =
+        let y = last_there c xs in
+        let last : t.last ≡ Some y.0 = h.last ∙ ap last_number is ∙ y.1 in
+        rw (first, last, len, eqb-suc-zero n) refl
+
+    go : (n : ℕ) (at : Option ℕ) → t.len ≡ n → t.first ≡ at → train_of (ends_of t) ≡ t
+    go zero None len first =
+        let last : t.last ≡ None = h.last ∙ ap last_number (none_left p t len) in
+        rw (first, last, len) refl
+    go zero (Some c) len first = absurd (omega (arith, ap length (sym (λ i. follow p (suc (len i)) (first i)) ∙ h.ends ∙ none_left p t len)))
+    go (suc n) None len first = absurd (omega (arith, len, h.whole, ap length (λ i. follow p (len i) (first i))))
+    go (suc n) (Some c) len first = some c (follow p n (chain_of p c).front.after) n first len (λ i. follow p (len i) (first i))
 
 pub length-queued_packets : (p : PoolView) (t : TrainView) → IsHeld p t → length (queued_packets p t) ≡ t.len
 length-queued_packets p t h = length-map (numbers p t) (queued_packet_of p) ∙ h.whole

@@ -6,9 +6,10 @@ ghost use Rattle.mbuf_chain.specs.Owners.{times, Moves};
 ghost use Rattle.mbuf_chain.specs.Steps.{placed};
 ghost use Rattle.mbuf_chain.specs.Frames.{IsBounded};
 ghost use Rattle.mbuf_chain.specs.Pieces.{pieces_of};
-ghost use Rattle.mbuf_chain.specs.Train.{queued_packets, queued_packet_at, numbers, IsQueuedPlace, IsHeld, Inserts, Takes};
+ghost use Rattle.mbuf_chain.specs.Train.{queued_packets, queued_packet_at, numbers, IsQueuedPlace, IsHeld, Inserts, Takes, ends_of, train_of};
 
 use crate::chain::Chain;
+use crate::ends::Ends;
 use crate::pieces::Pieces;
 use crate::pool::Pool;
 use crate::queued_place::QueuedPlace;
@@ -19,18 +20,23 @@ use std::marker::Model;
 /// `end_empty` where no chain is left.
 ///
 /// The chains stay in the pool that each call is given, which is the one that they came from.
+// As few bytes as hold it, since each socket and each unfinished datagram has one.
 pub struct Train {
-    first: Option<u32>,
-    last: Option<u32>,
+    /// The numbers of the first chain and of the last, each 0 where there is no chain.
+    first: u32,
+    last: u32,
     len: u32,
 }
 
 impl Model for Train {
-    ghost use Rattle.mbuf_chain.specs.Train.{TrainView};
+    ghost use Rattle.std.specs.Prelude.{◌≡◌};
+    ghost use Rattle.mbuf_chain.specs.Train.{TrainView, train_of};
 
     ghost Value = { TrainView };
 
-    ghost view = { λ t. record { first = t.first; last = t.last; len = t.len } };
+    ghost view = { λ t. train_of (record { first = t.first; last = t.last; len = t.len }) };
+
+    ghost invariant = { λ t. t.len ≡ 0 → (t.first ≡ 0) × (t.last ≡ 0) };
 }
 
 impl Train {
@@ -39,8 +45,8 @@ impl Train {
         ensures { result ≡ record { first = None; last = None; len = 0 } }
     {
         Train {
-            first: None,
-            last: None,
+            first: 0,
+            last: 0,
             len: 0,
         }
     }
@@ -84,7 +90,7 @@ impl Train {
         } else {
             let before = QueuedPlace {
                 index: i - 1,
-                number: self.number_at(pool, i - 1),
+                number: self.number(pool, i - 1),
             };
             let _ = self.insert_next(pool, before, number, tag);
         }
@@ -143,7 +149,7 @@ impl Train {
         } else {
             let before = QueuedPlace {
                 index: i - 1,
-                number: self.number_at(pool, i - 1),
+                number: self.number(pool, i - 1),
             };
             self.take_next(pool, before)
         };
@@ -186,10 +192,10 @@ impl Train {
         if self.is_empty() {
             return None;
         }
-        match self.first {
-            Some(number) => Some(QueuedPlace { index: 0, number }),
-            None => unreachable!(),
-        }
+        Some(QueuedPlace {
+            index: 0,
+            number: self.first,
+        })
     }
 
     /// The place after one: none after the last.
@@ -244,7 +250,7 @@ impl Train {
         requires held { IsHeld pool.now self.now }
         ensures { result ≡ (queued_packet_at pool.now self.now i).tag }
     {
-        tag_of(pool, self.number_at(pool, i))
+        tag_of(pool, self.number(pool, i))
     }
 
     /// How many bytes the chain at a place has. The place must be below the number of chains.
@@ -253,7 +259,7 @@ impl Train {
         requires held { IsHeld pool.now self.now }
         ensures { result ≡ length (flat_bytes (queued_packet_at pool.now self.now i).entries) }
     {
-        len_of(pool, self.number_at(pool, i))
+        len_of(pool, self.number(pool, i))
     }
 
     /// Ends a train without chains, for which no pool has to be at hand.
@@ -265,6 +271,31 @@ impl Train {
             last: _,
             len: _,
         } = self;
+    }
+
+    /// The ends of the train, by which `from_ends` gives it back. Its chains stay linked, in the pool.
+    // Inlined, with `from_ends`, so that one who keeps the ends takes these few steps alone.
+    #[inline(always)]
+    pub fn into_ends(self) -> Ends
+        ensures { result ≡ ends_of self }
+    {
+        let Train { first, last, len } = self;
+        Ends { first, last, len }
+    }
+
+    /// The train with these ends. Any ends are taken, but the other calls ask that the pool holds the train, so one
+    /// out of other ends than a train had can't be used. Whoever makes a train out of its ends sees to it that each
+    /// train is spent once.
+    #[inline(always)]
+    pub fn from_ends(ends: Ends) -> Train
+        ensures { result ≡ train_of ends }
+    {
+        let Ends { first, last, len } = ends;
+        if len == 0 {
+            Train::new()
+        } else {
+            Train { first, last, len }
+        }
     }
 
     /// Frees the chains, with all their mbufs and references.
@@ -292,10 +323,11 @@ impl Train {
         ensures { Inserts pool.old self.old 0 number tag pool.new self.new }
     {
         let is_only = self.is_empty();
-        place(pool, number, self.first, tag);
-        self.first = Some(number);
+        let first = self.first_number();
+        place(pool, number, first, tag);
+        self.first = number;
         if is_only {
-            self.last = Some(number);
+            self.last = number;
         }
         self.len += 1;
     }
@@ -321,7 +353,7 @@ impl Train {
         let kept = tag_of(pool, before.number);
         place(pool, before.number, Some(number), kept);
         if self.len == before.index + 1 {
-            self.last = Some(number);
+            self.last = number;
         }
         self.len += 1;
         QueuedPlace {
@@ -336,15 +368,13 @@ impl Train {
         requires held { IsHeld pool.old self.old }
         ensures { Takes pool.old self.old 0 result.0 result.1 pool.new self.new }
     {
-        let Some(number) = self.first else {
-            unreachable!()
-        };
+        let number = self.first;
         let after = after(pool, number);
         let tag = tag_of(pool, number);
         place(pool, number, None, 0);
-        self.first = after;
+        self.first = after.unwrap_or(0);
         if self.len == 1 {
-            self.last = None;
+            self.last = 0;
         }
         self.len -= 1;
         (number, tag)
@@ -366,33 +396,41 @@ impl Train {
         place(pool, before.number, rest, kept);
         place(pool, number, None, 0);
         if self.len == before.index + 2 {
-            self.last = Some(before.number);
+            self.last = before.number;
         }
         self.len -= 1;
         (number, tag)
     }
 
-    /// The number of the chain at a place. Only the last is known at once.
-    fn number_at(&self, pool: &Pool, i: u32) -> u32
+    /// The number of the chain at a place, which must be below the number of chains. Only the last is known at once; to
+    /// another place this takes a step for each chain in front.
+    pub fn number(&self, pool: &Pool, i: u32) -> u32
         requires place { i < self.now.len }
         requires held { IsHeld pool.now self.now }
         ensures { slice_get (numbers pool.now self.now) i ≡ Some result }
     {
         if self.len == i + 1 {
-            if let Some(last) = self.last {
-                return last;
-            }
+            return self.last;
         }
         let mut at = self.first;
         'chains: for _passed in 0..i {
-            at = match at {
-                Some(number) => after(pool, number),
-                None => unreachable!(),
+            let Some(next) = after(pool, at) else {
+                unreachable!()
             };
+            at = next;
         }
-        match at {
-            Some(number) => number,
-            None => unreachable!(),
+        at
+    }
+
+    /// The number of the first chain, where there is one.
+    #[inline(always)]
+    fn first_number(&self) -> Option<u32>
+        ensures { result ≡ self.now.first }
+    {
+        if self.len == 0 {
+            None
+        } else {
+            Some(self.first)
         }
     }
 }

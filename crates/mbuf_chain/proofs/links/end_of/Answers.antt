@@ -1,7 +1,7 @@
 use Rattle.std.proofs.Common.{◌≡◌, ◌+◌, ◌-◌, ℕ, Some, arith, sym, ap, ◌∙◌, take, drop, suc}
 use Rattle.mbuf_pool.specs.Cells.{Head}
 use Rattle.mbuf_chain.specs.Inside.Cells.{cells_from, len_at, weigh, last_of}
-use Rattle.mbuf_chain.proofs.Ends.{on_way, has_next, next_on, all_bytes, last_take, weigh_cut}
+use Rattle.mbuf_chain.proofs.Along.{on_way, has_next, next_on, all_bytes, last_take, weigh_cut}
 use Rattle.mbuf_chain.proofs.links.end_of.Goals as goal
 
 pub unwrap-at-requires : goal.unwrap-at-requires

@@ -1,11 +1,11 @@
-use Rattle.std.proofs.Common.{◌+◌, ◌∙◌, sym, ap, arith, subst}
+use Rattle.std.proofs.Common.{◌+◌, ◌<◌, Some, ◌∙◌, sym, ap, arith, subst}
 use Rattle.std.specs.Option.{IfSome}
 use Rattle.mbuf_chain.specs.Chain.{ChainView, IsLive, chain_of}
 use Rattle.mbuf_chain.specs.Steps.{placed}
 use Rattle.mbuf_chain.specs.Train.{TrainView}
 use Rattle.mbuf_chain.specs.declared.train.Train.TheInside.{Inside}
 use Rattle.mbuf_chain.proofs.Laws.Owners.{live_with, kept_with}
-use Rattle.mbuf_chain.proofs.Trains.{inserted_after, room_for, live_queued, headed_packet, apart_queued, live_after}
+use Rattle.mbuf_chain.proofs.Trains.{inserted_after, room_for, live_queued, headed_packet, apart_queued, live_after, end_there}
 use Rattle.mbuf_chain.proofs.train.Train.insert_next.Goals as goal
 use Rattle.mbuf_chain.proofs.train.Train.insert_next.Goals.{then-self-before, else-self-before}
 
@@ -41,16 +41,18 @@ overflow_add-self c =
 pub returns-clause-change : goal.returns-clause-change
 returns-clause-change c =
     let len = ap (λ (t : TrainView). t.len) c.self.view_is in
-    let first = ap (λ (t : TrainView). t.first) c.self.view_is in
+    let some : 0 < c.self.inside.len = omega (arith, len, c.requires.before.within) in
+    let first = sym (end_there c.self.inside.len c.self.inside.first some) ∙ ap (λ (t : TrainView). t.first) c.self.view_is in
+    let last = sym (end_there c.self.inside.len c.self.inside.last some) ∙ ap (λ (t : TrainView). t.last) c.self.view_is in
     elim c.if-self-before.branch [
       | then-self-before w ↦
           inserted_after c.args.pool.now c.args.self.now c.args.before.number c.args.before.index (c.args.before.index + 1) c.args.number c.args.tag c.tag_of-kept.result c.after-after.result c.place.new.pool c.place-2.new.pool _ c.requires.held c.requires.live
-          c.requires.headed c.requires.apart c.requires.before.number (omega arith) c.after-after.ensures c.tag_of-kept.ensures c.place.ensures.placed c.place-2.ensures.placed (ap (λ (s : Inside). s.first) w.self-inside-is ∙ first)
-          (ap (λ (s : Inside). s.len + 1) w.self-inside-is ∙ ap (λ n. n + 1) len) (λ _. ap (λ (s : Inside). s.last) w.self-inside-is) (λ h. absurd (omega (arith, h, len, w.if-self-before.true)))
+          c.requires.headed c.requires.apart c.requires.before.number (omega arith) c.after-after.ensures c.tag_of-kept.ensures c.place.ensures.placed c.place-2.ensures.placed (end_there _ _ (omega arith) ∙ ap (λ (s : Inside). Some s.first) w.self-inside-is ∙ first)
+          (ap (λ (s : Inside). s.len + 1) w.self-inside-is ∙ ap (λ n. n + 1) len) (λ _. end_there _ _ (omega arith) ∙ ap (λ (s : Inside). Some s.last) w.self-inside-is) (λ h. absurd (omega (arith, h, len, w.if-self-before.true)))
       | else-self-before w ↦
           inserted_after c.args.pool.now c.args.self.now c.args.before.number c.args.before.index (c.args.before.index + 1) c.args.number c.args.tag c.tag_of-kept.result c.after-after.result c.place.new.pool c.place-2.new.pool _ c.requires.held c.requires.live
-          c.requires.headed c.requires.apart c.requires.before.number (omega arith) c.after-after.ensures c.tag_of-kept.ensures c.place.ensures.placed c.place-2.ensures.placed (ap (λ (s : Inside). s.first) w.self-inside-is ∙ first)
-          (ap (λ (s : Inside). s.len + 1) w.self-inside-is ∙ ap (λ n. n + 1) len) (λ h. absurd (omega (arith, h, len, w.if-self-before.false))) (λ _. ap (λ (s : Inside). s.last) w.self-inside-is ∙ ap (λ (t : TrainView). t.last) c.self.view_is)
+          c.requires.headed c.requires.apart c.requires.before.number (omega arith) c.after-after.ensures c.tag_of-kept.ensures c.place.ensures.placed c.place-2.ensures.placed (end_there _ _ (omega arith) ∙ ap (λ (s : Inside). Some s.first) w.self-inside-is ∙ first)
+          (ap (λ (s : Inside). s.len + 1) w.self-inside-is ∙ ap (λ n. n + 1) len) (λ h. absurd (omega (arith, h, len, w.if-self-before.false))) (λ _. end_there _ _ (omega arith) ∙ ap (λ (s : Inside). Some s.last) w.self-inside-is ∙ last)
     ]
 
 pub place-requires-clause-link : goal.place-requires-clause-link

@@ -1,11 +1,11 @@
-use Rattle.std.proofs.Common.{◌+◌, suc, ◌∙◌, sym, ap, arith, subst}
+use Rattle.std.proofs.Common.{◌+◌, suc, ◌<◌, Some, ◌∙◌, sym, ap, arith, subst}
 use Rattle.std.specs.Option.{IfSome}
 use Rattle.mbuf_chain.specs.Chain.{ChainView, IsLive, chain_of}
 use Rattle.mbuf_chain.specs.Steps.{placed}
 use Rattle.mbuf_chain.specs.Train.{TrainView}
 use Rattle.mbuf_chain.specs.declared.train.Train.TheInside.{Inside}
 use Rattle.mbuf_chain.proofs.Laws.Owners.{live_with, kept_with}
-use Rattle.mbuf_chain.proofs.Trains.{taken_after, live_queued, headed_packet, after_queued, next_queued, next_apart, live_after}
+use Rattle.mbuf_chain.proofs.Trains.{taken_after, live_queued, headed_packet, after_queued, next_queued, next_apart, live_after, end_there}
 use Rattle.mbuf_chain.proofs.train.Train.take_next.Goals as goal
 use Rattle.mbuf_chain.proofs.train.Train.take_next.Goals.{then-self-before, else-self-before}
 
@@ -46,18 +46,20 @@ overflow_add-before c = omega (arith, c.requires.more, ap (λ (t : TrainView). t
 pub returns : goal.returns
 returns c =
     let len = ap (λ (t : TrainView). t.len) c.self.view_is in
-    let first = ap (λ (t : TrainView). t.first) c.self.view_is in
+    let some : 0 < c.self.inside.len = omega (arith, len, c.requires.more) in
+    let first = sym (end_there c.self.inside.len c.self.inside.first some) ∙ ap (λ (t : TrainView). t.first) c.self.view_is in
+    let last = sym (end_there c.self.inside.len c.self.inside.last some) ∙ ap (λ (t : TrainView). t.last) c.self.view_is in
     elim c.if-self-before.branch [
       | then-self-before w ↦
           taken_after c.args.pool.now c.args.self.now c.args.before.number c.args.before.index (c.args.before.index + 1) c.in-Some.number c.tag_of-tag.result c.tag_of-kept.result c.after-rest.result c.place.new.pool c.place-2.new.pool _ c.requires.held
           c.requires.before.number (omega arith) c.requires.more (sym c.after.ensures ∙ c.in-Some.is) c.after-rest.ensures c.tag_of-tag.ensures c.tag_of-kept.ensures c.place.ensures.placed c.place-2.ensures.placed
-          (ap (λ (s : Inside). s.first) w.self-inside-is ∙ first) (omega (arith, ap (λ (s : Inside). s.len) w.self-inside-is, len, c.requires.more)) (λ _. ap (λ (s : Inside). s.last) w.self-inside-is)
+          (end_there _ _ (omega (arith, ap (λ (s : Inside). s.len) w.self-inside-is, len, c.requires.more)) ∙ ap (λ (s : Inside). Some s.first) w.self-inside-is ∙ first) (omega (arith, ap (λ (s : Inside). s.len) w.self-inside-is, len, c.requires.more)) (λ _. end_there _ _ (omega (arith, ap (λ (s : Inside). s.len) w.self-inside-is, len, c.requires.more)) ∙ ap (λ (s : Inside). Some s.last) w.self-inside-is)
           (λ h. absurd (omega (arith, h, len, w.if-self-before.true)))
       | else-self-before w ↦
           taken_after c.args.pool.now c.args.self.now c.args.before.number c.args.before.index (c.args.before.index + 1) c.in-Some.number c.tag_of-tag.result c.tag_of-kept.result c.after-rest.result c.place.new.pool c.place-2.new.pool _ c.requires.held
           c.requires.before.number (omega arith) c.requires.more (sym c.after.ensures ∙ c.in-Some.is) c.after-rest.ensures c.tag_of-tag.ensures c.tag_of-kept.ensures c.place.ensures.placed c.place-2.ensures.placed
-          (ap (λ (s : Inside). s.first) w.self-inside-is ∙ first) (omega (arith, ap (λ (s : Inside). s.len) w.self-inside-is, len, c.requires.more)) (λ h. absurd (omega (arith, h, len, w.if-self-before.false)))
-          (λ _. ap (λ (s : Inside). s.last) w.self-inside-is ∙ ap (λ (t : TrainView). t.last) c.self.view_is)
+          (end_there _ _ (omega (arith, ap (λ (s : Inside). s.len) w.self-inside-is, len, c.requires.more)) ∙ ap (λ (s : Inside). Some s.first) w.self-inside-is ∙ first) (omega (arith, ap (λ (s : Inside). s.len) w.self-inside-is, len, c.requires.more)) (λ h. absurd (omega (arith, h, len, w.if-self-before.false)))
+          (λ _. end_there _ _ (omega (arith, ap (λ (s : Inside). s.len) w.self-inside-is, len, c.requires.more)) ∙ ap (λ (s : Inside). Some s.last) w.self-inside-is ∙ last)
     ]
 
 pub place-requires-clause-link : goal.place-requires-clause-link
