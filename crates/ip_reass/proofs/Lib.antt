@@ -7,13 +7,21 @@ mod Lays
 mod Counted
 mod Whole
 mod Joined
-mod Linked
-mod Indexed
-mod Followed
+mod Records
 mod Tables
+mod Standing
+mod Rows
+mod Linking
 mod Aging
+mod Parted
+mod Sifting
 mod Places
 mod Entered
+mod Stored
+mod Begun
+mod Taken
+mod Laying
+mod Holding
 mod Settled
 mod Fitting
 mod Reserved
@@ -21,6 +29,6 @@ mod Arriving
 mod Queues
 mod Came
 mod Distinct
-mod Holding
+mod Ticking
 mod Ranges
 pub mod Laws

@@ -4,3 +4,4 @@ pub mod Known
 pub mod Weighs
 pub mod Steps
 pub mod Index
+pub mod Record

@@ -1,4 +1,5 @@
 pub mod Fragments
+pub mod Record
 pub mod Table
 pub mod Same
 pub mod Arrivals
