@@ -8,15 +8,15 @@ use Rattle.ip_reass.specs.Same.{held_all_same, ready_same}
 
 pub record Came (p q : PoolView) (n : ℕ) (r : TableView) : Type 0 where
   pub ready : IsReady q r
-  pub owned : IsOwned q (n ∷ held_all q r)
+  pub owned : IsOwned q (n ∷ held_all q r.datagrams)
 
 pub came : (p q : PoolView) (n : ℕ) (v : ChainView) (r : TableView) → IsReady p r → Adds p q n v → Came p q n r
 came p q n v r is adds =
-    let same = same_adds (held_all p r) adds is.table.owned in
+    let same = same_adds (held_all p r.datagrams) adds is.table.owned in
     record {
       ready = ready_same p q r same is;
-      owned = subst (λ (xs : List ℕ). IsOwned q (n ∷ xs)) (sym (held_all_same p q r same)) (owned_after (then_adds (moves_none p (held_all p r)) adds) is.table.owned);
+      owned = subst (λ (xs : List ℕ). IsOwned q (n ∷ xs)) (sym (held_all_same p q r.datagrams same)) (owned_after (then_adds (moves_none p (held_all p r.datagrams)) adds) is.table.owned);
     }
 
-pub freed : (p q : PoolView) (n : ℕ) (r : TableView) → IsReady p r → IsOwned p (n ∷ held_all p r) → q ≡ without p n → IsReady q r
-freed p q n r is owned gone = ready_same p q r (same_without p q n (held_all p r) (apart_first p n (held_all p r) owned) gone) is
+pub freed : (p q : PoolView) (n : ℕ) (r : TableView) → IsReady p r → IsOwned p (n ∷ held_all p r.datagrams) → q ≡ without p n → IsReady q r
+freed p q n r is owned gone = ready_same p q r (same_without p q n (held_all p r.datagrams) (apart_first p n (held_all p r.datagrams) owned) gone) is

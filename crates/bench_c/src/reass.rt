@@ -37,7 +37,7 @@ fn received(pool: &mut Pool, table: &Reass, packet: &[u8]) -> Option<Chain>
     requires ready { IsReady pool.old table.now }
     requires short { length packet.now ≤ IP_MAX_PACKET }
     ensures ready { IsReady pool.new table.now }
-    ensures owned { IfSome result (λ chain. IsOwned pool.new (chain ∷ held_all pool.new table.now)) }
+    ensures owned { IfSome result (λ chain. IsOwned pool.new (chain ∷ held_all pool.new table.now.datagrams)) }
     ensures headed { IfSome result (λ chain. (chain_of pool.new chain).front.header ≡ true) }
 {
     let _ = table;
@@ -53,7 +53,7 @@ fn stored(pool: &mut Pool, table: &Reass, packet: &[u8]) -> Option<(Chain, IpHea
     requires ready { IsReady pool.old table.now }
     requires short { length packet.now ≤ IP_MAX_PACKET }
     ensures ready { IsReady pool.new table.now }
-    ensures owned { IfSome result (λ r. IsOwned pool.new (r.0 ∷ held_all pool.new table.now)) }
+    ensures owned { IfSome result (λ r. IsOwned pool.new (r.0 ∷ held_all pool.new table.now.datagrams)) }
     ensures headed { IfSome result (λ r. (chain_of pool.new r.0).front.header ≡ true) }
     ensures total { IfSome result (λ r. length (string (chain_of pool.new r.0)) ≡ r.1.total) }
     ensures header { IfSome result (λ r. IP_HEADER ≤ r.1.total) }

@@ -19,7 +19,7 @@ pub fn is_whole(
     head: IpHead,
 ) -> bool
     requires ready { IsReady pool.old reass.old }
-    requires owned { IsOwned pool.old (chain ∷ held_all pool.old reass.old) }
+    requires owned { IsOwned pool.old (chain ∷ held_all pool.old reass.old.datagrams) }
     requires headed { (chain_of pool.old chain).front.header ≡ true }
     requires total { length (string (chain_of pool.old chain)) ≡ head.total }
     requires header { IP_HEADER ≤ head.total }

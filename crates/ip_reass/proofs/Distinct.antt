@@ -7,21 +7,20 @@ use Rattle.flat_model.specs.Machine.State.{Key, is_key, begun}
 use Rattle.flat_model.proofs.Laws.{count_cons, whole_key}
 use Rattle.mbuf_chain.specs.Chain.{PoolView}
 use Rattle.ip_reass.specs.Fragments.{QueuedFragment}
-use Rattle.ip_reass.specs.Table.{TableView, AreDistinct, datagrams, unfinished_in, unfinished_of}
-use Rattle.ip_reass.specs.Same.{none_unfinished}
-use Rattle.ip_reass.specs.Layouts.{KeyedQueue, HasLayout, Leaves, goes_by, laid_under, queue_of, queues, queues_in, with_laid, without_key}
+use Rattle.ip_reass.specs.Table.{AreDistinct, unfinished, unfinished_of}
+use Rattle.ip_reass.specs.Layouts.{KeyedQueue, HasLayout, Leaves, goes_by, laid_under, queue_of, queues, with_laid, without_key}
 use Rattle.ip_reass.specs.declared.datagram.Datagram.{Datagram}
 use Rattle.ip_reass.specs.declared.arrival.Arrival.{Arrival}
 use Rattle.ip_reass.specs.declared.arrival.Arrival.TheVariants.{Kept, Whole, Dropped}
 
 -- where nothing waits
-pub none_distinct : (p : PoolView) (r : TableView) → r.holders.len ≡ 0 → AreDistinct p r
-none_distinct p r e = λ k. omega (arith, ap (count_by (is_key k)) (none_unfinished p r e))
+pub none_distinct : (p : PoolView) → AreDistinct p []
+none_distinct p = λ k. omega arith
 
 -- the queues have the keys of the datagrams
-keys_are : (p : PoolView) (k : Key) (ds : List Datagram) → count_by (goes_by k) (queues_in p ds) ≡ count_by (is_key k) (unfinished_in p ds)
+keys_are : (p : PoolView) (k : Key) (ds : List Datagram) → count_by (goes_by k) (queues p ds) ≡ count_by (is_key k) (unfinished p ds)
 keys_are p k [] = refl
-keys_are p k (d ∷ ds) = omega (arith, keys_are p k ds, count_cons (goes_by k) (queue_of p d) (queues_in p ds), count_cons (is_key k) (unfinished_of p d) (unfinished_in p ds))
+keys_are p k (d ∷ ds) = omega (arith, keys_are p k ds, count_cons (goes_by k) (queue_of p d) (queues p ds), count_cons (is_key k) (unfinished_of p d) (unfinished p ds))
 
 one_of : (b : Bool) → b ≡ true → cond {A = ℕ} b 1 0 ≡ 1
 one_of b e = ap {B = ℕ} (λ x. cond x 1 0) e
@@ -75,11 +74,11 @@ module _ (k : Key) (f : QueuedFragment) where
   left_once qs now q (Dropped why) left once j = omega (arith, ap (count_by (goes_by j)) left, once j)
 
 -- **no key is held twice after an arrival**
-pub distinct_after : (p q : PoolView) (ds es : TableView) (k : Key) (f : QueuedFragment) (result : Arrival) → HasLayout p ds k f result q es → AreDistinct p ds → AreDistinct q es
-distinct_after p q ds es k f result l distinct = λ j. omega (arith, keys_are q j (datagrams q es), left_once k f l.waited (queues q es) q result l.leaves waited j)
+pub distinct_after : (p q : PoolView) (ds es : List Datagram) (k : Key) (f : QueuedFragment) (result : Arrival) → HasLayout p ds k f result q es → AreDistinct p ds → AreDistinct q es
+distinct_after p q ds es k f result l distinct = λ j. omega (arith, keys_are q j es, left_once k f l.waited (queues q es) q result l.leaves waited j)
   where
     waited : HoldOnce l.waited
     waited = elim l.before [
-      | inl e ↦ λ j. omega (arith, ap (count_by (goes_by j)) e, keys_are p j (datagrams p ds), distinct j)
+      | inl e ↦ λ j. omega (arith, ap (count_by (goes_by j)) e, keys_are p j ds, distinct j)
       | inr e ↦ λ j. omega (arith, ap (count_by (goes_by j)) e)
     ]

@@ -5,8 +5,8 @@ use Rattle.std.specs.List.{AllByRecursion}
 use Rattle.flat_model.specs.Machine.State.{Key}
 use Rattle.mbuf_chain.specs.Chain.{PoolView}
 use Rattle.ip_reass.specs.Fragments.{QueuedFragment, cut, cut_to, laid, laid_after, queued_end}
-use Rattle.ip_reass.specs.Layouts.{KeyedQueue, HasLayout, Leaves, goes_by, laid_under, queues, queues_in, with_laid, without_key}
-use Rattle.ip_reass.specs.Table.{AllUnfinished, HaveFragments, IsTable, TableView, aged, datagrams}
+use Rattle.ip_reass.specs.Layouts.{KeyedQueue, HasLayout, Leaves, goes_by, laid_under, queues, with_laid, without_key}
+use Rattle.ip_reass.specs.Table.{AllUnfinished, HaveFragments, IsTable, aged}
 use Rattle.ip_reass.specs.declared.arrival.Arrival.{Arrival}
 use Rattle.ip_reass.specs.declared.arrival.Arrival.TheVariants.{Kept, Whole, Dropped}
 use Rattle.ip_reass.specs.declared.datagram.Datagram.{Datagram}
@@ -16,11 +16,11 @@ use Rattle.ip_reass.proofs.Steps.{length-queued}
 abbrev HoldSome : List KeyedQueue → Type 0
 HoldSome qs = AllByRecursion (λ (q : KeyedQueue). 0 < length q.fragments) qs
 
-queues_some : (p : PoolView) (ds : List Datagram) → AllUnfinished p ds → HaveFragments ds → HoldSome (queues_in p ds)
+queues_some : (p : PoolView) (ds : List Datagram) → AllUnfinished p ds → HaveFragments ds → HoldSome (queues p ds)
 queues_some p [] a f = tt
 queues_some p (d ∷ ds) a f = (omega (arith, f.0, length-queued p d.fragments a.0.queue.held), queues_some p ds a.1 f.1)
 
-datagrams_some : (p : PoolView) (ds : List Datagram) → AllUnfinished p ds → HoldSome (queues_in p ds) → HaveFragments ds
+datagrams_some : (p : PoolView) (ds : List Datagram) → AllUnfinished p ds → HoldSome (queues p ds) → HaveFragments ds
 datagrams_some p [] a h = tt
 datagrams_some p (d ∷ ds) a h = (omega (arith, h.0, length-queued p d.fragments a.0.queue.held), datagrams_some p ds a.1 h.1)
 
@@ -29,7 +29,7 @@ either_some : (b : Bool) (x y : QueuedFragment) (xs ys : List QueuedFragment) �
 either_some true x y xs ys = omega arith
 either_some false x y xs ys = omega arith
 
-pub laid_some : (f : QueuedFragment) (qs : List QueuedFragment) → 0 < length (laid f qs)
+laid_some : (f : QueuedFragment) (qs : List QueuedFragment) → 0 < length (laid f qs)
 laid_some f [] = omega arith
 laid_some f (q ∷ qs) = either_some (nat_le q.offset f.offset) q (cut (0 - f.offset) f) (laid_after (queued_end q) f qs) (cut_to (queued_end f) (q ∷ qs))
 
@@ -52,12 +52,12 @@ module _ (k : Key) (f : QueuedFragment) where
   left_hold qs now q (Dropped why) left h = subst HoldSome (sym left) h
 
 -- **each datagram has a fragment after an arrival**
-pub fragments_after : (p q : PoolView) (ds es : TableView) (k : Key) (f : QueuedFragment) (result : Arrival) → HasLayout p ds k f result q es → IsTable p ds → HaveFragments (datagrams p ds) → IsTable q es → HaveFragments (datagrams q es)
-fragments_after p q ds es k f result l is some now = datagrams_some q (datagrams q es) now.each (left_hold k f l.waited (queues q es) q result l.leaves waited)
+pub fragments_after : (p q : PoolView) (ds es : List Datagram) (k : Key) (f : QueuedFragment) (result : Arrival) → HasLayout p ds k f result q es → IsTable p ds → HaveFragments ds → IsTable q es → HaveFragments es
+fragments_after p q ds es k f result l is some now = datagrams_some q es now.each (left_hold k f l.waited (queues q es) q result l.leaves waited)
   where
     waited : HoldSome l.waited
     waited = elim l.before [
-      | inl e ↦ subst HoldSome (sym e) (queues_some p (datagrams p ds) is.each some)
+      | inl e ↦ subst HoldSome (sym e) (queues_some p ds is.each some)
       | inr e ↦ subst HoldSome (sym e) tt
     ]
 

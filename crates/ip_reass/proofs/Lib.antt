@@ -7,21 +7,13 @@ mod Lays
 mod Counted
 mod Whole
 mod Joined
-mod Records
+mod Linked
+mod Indexed
+mod Followed
 mod Tables
-mod Standing
-mod Rows
-mod Linking
 mod Aging
-mod Parted
-mod Sifting
 mod Places
 mod Entered
-mod Stored
-mod Begun
-mod Taken
-mod Laying
-mod Holding
 mod Settled
 mod Fitting
 mod Reserved
@@ -29,6 +21,6 @@ mod Arriving
 mod Queues
 mod Came
 mod Distinct
-mod Ticking
+mod Holding
 mod Ranges
 pub mod Laws

@@ -8,22 +8,22 @@ use Rattle.mbuf_chain.specs.Chain.{PoolView}
 use Rattle.mbuf_chain.specs.Owners.{times, IsOwned, Moves}
 use Rattle.mbuf_chain.specs.Frames.{SameAt}
 use Rattle.mbuf_chain.proofs.Laws.Owners.{times-append, same_beside, moves_beside, live_at_most}
-use Rattle.ip_reass.specs.Table.{held, held_in, IsUnfinished, AllUnfinished, AreHeld, unfinished_of, unfinished_in}
-use Rattle.ip_reass.specs.Same.{held_in_same, each_same, unfinished_in_same, queues_in_same}
-use Rattle.ip_reass.specs.Layouts.{KeyedQueue, queue_of, queues_in}
+use Rattle.ip_reass.specs.Table.{held, held_all, IsUnfinished, AllUnfinished, IsTable, unfinished_of, unfinished}
+use Rattle.ip_reass.specs.Same.{held_all_same, each_same, unfinished_same, queues_same}
+use Rattle.ip_reass.specs.Layouts.{KeyedQueue, queue_of, queues}
 use Rattle.ip_reass.specs.declared.datagram.Datagram.{Datagram}
 use Rattle.ip_reass.proofs.Edits.{insert_remove, map-remove, map-insert}
 
 -- ---- a table by place
-pub held_at : (p : PoolView) (k : ℕ) (ds : List Datagram) (i : ℕ) (x : Datagram) → i < length ds → times k (held_in p ds) ≡ times k (held p (get_or ds i x)) + times k (held_in p (remove ds i))
+pub held_at : (p : PoolView) (k : ℕ) (ds : List Datagram) (i : ℕ) (x : Datagram) → i < length ds → times k (held_all p ds) ≡ times k (held p (get_or ds i x)) + times k (held_all p (remove ds i))
 held_at p k [] i x l = absurd (omega arith)
-held_at p k (d ∷ ds) zero x l = times-append k (held p d) (held_in p ds)
-held_at p k (d ∷ ds) (suc i) x l = omega (arith, times-append k (held p d) (held_in p ds), held_at p k ds i x (omega arith), times-append k (held p d) (held_in p (remove ds i)))
+held_at p k (d ∷ ds) zero x l = times-append k (held p d) (held_all p ds)
+held_at p k (d ∷ ds) (suc i) x l = omega (arith, times-append k (held p d) (held_all p ds), held_at p k ds i x (omega arith), times-append k (held p d) (held_all p (remove ds i)))
 
-pub held_put : (p : PoolView) (k : ℕ) (ds : List Datagram) (i : ℕ) (y : Datagram) → i < length ds → times k (held_in p (set ds i y)) ≡ times k (held p y) + times k (held_in p (remove ds i))
+pub held_put : (p : PoolView) (k : ℕ) (ds : List Datagram) (i : ℕ) (y : Datagram) → i < length ds → times k (held_all p (set ds i y)) ≡ times k (held p y) + times k (held_all p (remove ds i))
 held_put p k [] i y l = absurd (omega arith)
-held_put p k (d ∷ ds) zero y l = times-append k (held p y) (held_in p ds)
-held_put p k (d ∷ ds) (suc i) y l = omega (arith, times-append k (held p d) (held_in p (set ds i y)), held_put p k ds i y (omega arith), times-append k (held p d) (held_in p (remove ds i)))
+held_put p k (d ∷ ds) zero y l = times-append k (held p y) (held_all p ds)
+held_put p k (d ∷ ds) (suc i) y l = omega (arith, times-append k (held p d) (held_all p (set ds i y)), held_put p k ds i y (omega arith), times-append k (held p d) (held_all p (remove ds i)))
 
 pub each_at : (p : PoolView) (ds : List Datagram) (i : ℕ) (x : Datagram) → i < length ds → AllUnfinished p ds → IsUnfinished p (get_or ds i x) × AllUnfinished p (remove ds i)
 each_at p [] i x l a = absurd (omega arith)
@@ -36,49 +36,49 @@ each_put p (d ∷ ds) zero y l a h = (h, a)
 each_put p (d ∷ ds) (suc i) y l a h = (a.0, each_put p ds i y (omega arith) a.1 h)
 
 -- ---- a step of one datagram, with the chains xs beside it before
-module _ (p q : PoolView) (ds : List Datagram) (i : ℕ) (x : Datagram) (xs zs : List ℕ) (l : i < length ds) (owns : IsOwned p (xs ++ held_in p ds)) (is : AreHeld p ds) (m : Moves p (xs ++ held p (get_or ds i x)) q zs) where
-  split : (k : ℕ) → times k (xs ++ held_in p ds) ≡ times k (held_in p (remove ds i)) + times k (xs ++ held p (get_or ds i x))
-  split k = omega (arith, times-append k xs (held_in p ds), times-append k xs (held p (get_or ds i x)), held_at p k ds i x l)
+module _ (p q : PoolView) (ds : List Datagram) (i : ℕ) (x : Datagram) (xs zs : List ℕ) (l : i < length ds) (owns : IsOwned p (xs ++ held_all p ds)) (is : IsTable p ds) (m : Moves p (xs ++ held p (get_or ds i x)) q zs) where
+  split : (k : ℕ) → times k (xs ++ held_all p ds) ≡ times k (held_all p (remove ds i)) + times k (xs ++ held p (get_or ds i x))
+  split k = omega (arith, times-append k xs (held_all p ds), times-append k xs (held p (get_or ds i x)), held_at p k ds i x l)
 
   -- the others are as they were
-  pub others_same : SameAt p q (held_in p (remove ds i))
-  others_same = same_beside (held_in p (remove ds i)) m (λ k. omega (arith, owns k, split k)) (λ k h. omega (arith, owns k, split k, live_at_most p k))
+  pub others_same : SameAt p q (held_all p (remove ds i))
+  others_same = same_beside (held_all p (remove ds i)) m (λ k. omega (arith, owns k, split k)) (λ k h. omega (arith, owns k, split k, live_at_most p k))
 
-  pub others_held : held_in q (remove ds i) ≡ held_in p (remove ds i)
-  others_held = held_in_same p q (remove ds i) others_same
+  pub others_held : held_all q (remove ds i) ≡ held_all p (remove ds i)
+  others_held = held_all_same p q (remove ds i) others_same
 
   pub others_each : AllUnfinished q (remove ds i)
   others_each = each_same p q (remove ds i) others_same (each_at p ds i x l is.each).1
 
   -- it stands in its place again, as y, and ys came out
-  pub put_moves : (y : Datagram) (ys : List ℕ) → ((k : ℕ) → times k zs ≡ times k ys + times k (held q y)) → Moves p (xs ++ held_in p ds) q (ys ++ held_in q (set ds i y))
+  pub put_moves : (y : Datagram) (ys : List ℕ) → ((k : ℕ) → times k zs ≡ times k ys + times k (held q y)) → Moves p (xs ++ held_all p ds) q (ys ++ held_all q (set ds i y))
   put_moves y ys is_zs =
-      moves_beside (xs ++ held_in p ds) (ys ++ held_in q (set ds i y)) (held_in p (remove ds i)) m split
-      (λ k. omega (arith, times-append k ys (held_in q (set ds i y)), held_put q k ds i y l, is_zs k, ap (times k) others_held))
+      moves_beside (xs ++ held_all p ds) (ys ++ held_all q (set ds i y)) (held_all p (remove ds i)) m split
+      (λ k. omega (arith, times-append k ys (held_all q (set ds i y)), held_put q k ds i y l, is_zs k, ap (times k) others_held))
 
-  pub put_shows : (y : Datagram) → unfinished_in q (set ds i y) ≡ set (unfinished_in p ds) i (unfinished_of q y)
+  pub put_shows : (y : Datagram) → unfinished q (set ds i y) ≡ set (unfinished p ds) i (unfinished_of q y)
   put_shows y =
-      ap (unfinished_in q) (sym (insert_remove ds i y l)) ∙ (map-insert (unfinished_of q) (remove ds i) i y
-      ∙ (ap (λ (us : List Unfinished). insert us i (unfinished_of q y)) (unfinished_in_same p q (remove ds i) others_same ∙ map-remove (unfinished_of p) ds i)
-      ∙ insert_remove (unfinished_in p ds) i (unfinished_of q y) (omega (arith, Rattle.std.proofs.lemmas.List.length-map ds (unfinished_of p)))))
+      ap (unfinished q) (sym (insert_remove ds i y l)) ∙ (map-insert (unfinished_of q) (remove ds i) i y
+      ∙ (ap (λ (us : List Unfinished). insert us i (unfinished_of q y)) (unfinished_same p q (remove ds i) others_same ∙ map-remove (unfinished_of p) ds i)
+      ∙ insert_remove (unfinished p ds) i (unfinished_of q y) (omega (arith, Rattle.std.proofs.lemmas.List.length-map ds (unfinished_of p)))))
 
-  pub put_queues : (y : Datagram) → queues_in q (set ds i y) ≡ set (queues_in p ds) i (queue_of q y)
+  pub put_queues : (y : Datagram) → queues q (set ds i y) ≡ set (queues p ds) i (queue_of q y)
   put_queues y =
-      ap (queues_in q) (sym (insert_remove ds i y l)) ∙ (map-insert (queue_of q) (remove ds i) i y
-      ∙ (ap (λ (us : List KeyedQueue). insert us i (queue_of q y)) (queues_in_same p q (remove ds i) others_same ∙ map-remove (queue_of p) ds i)
-      ∙ insert_remove (queues_in p ds) i (queue_of q y) (omega (arith, Rattle.std.proofs.lemmas.List.length-map ds (queue_of p)))))
+      ap (queues q) (sym (insert_remove ds i y l)) ∙ (map-insert (queue_of q) (remove ds i) i y
+      ∙ (ap (λ (us : List KeyedQueue). insert us i (queue_of q y)) (queues_same p q (remove ds i) others_same ∙ map-remove (queue_of p) ds i)
+      ∙ insert_remove (queues p ds) i (queue_of q y) (omega (arith, Rattle.std.proofs.lemmas.List.length-map ds (queue_of p)))))
 
   -- it is gone from the table
-  pub gone_moves : Moves p (xs ++ held_in p ds) q (zs ++ held_in q (remove ds i))
+  pub gone_moves : Moves p (xs ++ held_all p ds) q (zs ++ held_all q (remove ds i))
   gone_moves =
-      moves_beside (xs ++ held_in p ds) (zs ++ held_in q (remove ds i)) (held_in p (remove ds i)) m split
-      (λ k. omega (arith, times-append k zs (held_in q (remove ds i)), ap (times k) others_held))
+      moves_beside (xs ++ held_all p ds) (zs ++ held_all q (remove ds i)) (held_all p (remove ds i)) m split
+      (λ k. omega (arith, times-append k zs (held_all q (remove ds i)), ap (times k) others_held))
 
-  pub gone_shows : unfinished_in q (remove ds i) ≡ remove (unfinished_in p ds) i
-  gone_shows = unfinished_in_same p q (remove ds i) others_same ∙ map-remove (unfinished_of p) ds i
+  pub gone_shows : unfinished q (remove ds i) ≡ remove (unfinished p ds) i
+  gone_shows = unfinished_same p q (remove ds i) others_same ∙ map-remove (unfinished_of p) ds i
 
-  pub gone_queues : queues_in q (remove ds i) ≡ remove (queues_in p ds) i
-  gone_queues = queues_in_same p q (remove ds i) others_same ∙ map-remove (queue_of p) ds i
+  pub gone_queues : queues q (remove ds i) ≡ remove (queues p ds) i
+  gone_queues = queues_same p q (remove ds i) others_same ∙ map-remove (queue_of p) ds i
 
 -- ---- what is found by a test that no two pass
 module _ {X : Type 0} (t : X → Bool) where

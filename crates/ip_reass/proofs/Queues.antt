@@ -1,8 +1,8 @@
--- The queues_in of the table's fragments, with their mbufs, at an arrival.
-use Rattle.std.proofs.Common.{◌≡◌, ℕ, zero, suc, ◌-◌, ◌<◌, Bool, true, false, List, [], ◌∷◌, ◌++◌, length, map, reverse, find, get_or, set, remove, take, None, refl, sym, ap, ◌∙◌, subst, arith, inl, inr}
+-- The queues of the table's fragments, with their mbufs, at an arrival.
+use Rattle.std.proofs.Common.{◌≡◌, ℕ, zero, suc, ◌-◌, ◌<◌, Bool, true, false, List, [], ◌∷◌, ◌++◌, length, map, find, get_or, set, remove, take, drop, None, refl, sym, ap, ◌∙◌, subst, arith, inl, inr}
 use Rattle.std.specs.Prelude.{slice_get}
 use Rattle.std.proofs.lemmas.Bool.{false≢true, cond-true, cond-false, cases_Bool}
-use Rattle.std.proofs.lemmas.List.{get_or-map, length-map, take-map}
+use Rattle.std.proofs.lemmas.List.{get_or-map, length-map, length-set, take-map}
 use Rattle.std.proofs.lemmas.Option.{none-some}
 use Rattle.flat_model.specs.Fragments.Overlay.{Fragment, is_covered}
 use Rattle.flat_model.specs.Machine.State.{Key}
@@ -11,26 +11,25 @@ use Rattle.flat_model.specs.declared.counters.Counters.{Counters}
 use Rattle.flat_model.specs.declared.counters.Why.{Why}
 use Rattle.flat_model.specs.declared.counters.Why.TheVariants.{FragmentDropped, NoBufs}
 use Rattle.mbuf_chain.specs.Chain.{Entry, ChainView, PoolView, chain_of, string}
-use Rattle.mbuf_chain.specs.Kept.{none_left}
-use Rattle.mbuf_chain.specs.Train.{queued_packet_of}
 use Rattle.ip_out.specs.declared.head.IpHead.{IpHead}
 use Rattle.ledger.specs.Reserve.{are_free}
 use Rattle.ip_reass.specs.Arrivals.{carried_entries, flat_head, key_in}
 use Rattle.ip_reass.specs.Fragments.{QueuedFragment, laid, joined, fragment_of, fragments, map_of}
 use Rattle.ip_reass.specs.Inside.Walks.{arrived}
-use Rattle.ip_reass.specs.Table.{TableView, datagram_of, datagrams, has_key}
+use Rattle.ip_reass.specs.Table.{TableView, has_key}
 use Rattle.ip_reass.specs.Inside.Steps.{datagram_at, no_datagram, LaysIn}
-use Rattle.ip_reass.specs.Layouts.{KeyedQueue, queue_of, queues, queues_in, goes_by, with_laid, laid_under, under, without_key, Leaves, WaitOrNone, HasLayout, HasCause, cause_among, cause_of, fragment_carried, no_queue, queue_at, LeavesAt}
+use Rattle.ip_reass.specs.Layouts.{KeyedQueue, queue_of, queues, goes_by, with_laid, laid_under, under, without_key, Leaves, WaitOrNone, HasLayout, HasCause, cause_among, cause_of, fragment_carried, no_queue, queue_at, LeavesAt}
 use Rattle.ip_reass.specs.declared.datagram.Datagram.{Datagram}
 use Rattle.ip_reass.specs.declared.arrival.Arrival.{Arrival}
 use Rattle.ip_reass.specs.declared.arrival.Arrival.TheVariants.{Kept, Whole, Dropped}
 use Rattle.ip_reass.proofs.Laid.{covered_no}
 use Rattle.ip_reass.proofs.Places.{found_passes}
 use Rattle.ip_reass.proofs.Steps.{fragments_are}
+use Rattle.ip_reass.proofs.Aging.{lent}
 use Rattle.ip_reass.proofs.Arriving.{slice_at}
 
 -- ---- by key and by place
-none_in : (p : PoolView) (k : Key) (ds : List Datagram) → find (has_key k) ds ≡ None → find (goes_by k) (queues_in p ds) ≡ None
+none_in : (p : PoolView) (k : Key) (ds : List Datagram) → find (has_key k) ds ≡ None → find (goes_by k) (queues p ds) ≡ None
 none_in p k [] e = refl
 none_in p k (d ∷ ds) e = elim (cases_Bool (has_key k d)) [
   | inl is ↦ absurd (none-some d (sym e ∙ cond-true _ _ _ is))
@@ -145,22 +144,23 @@ wait_trans : (qs rs ts : List KeyedQueue) → WaitOrNone qs rs → WaitOrNone rs
 wait_trans qs rs ts w (inl a) = wait_then qs rs ts w a
 wait_trans qs rs ts w (inr a) = inr a
 
-no_queues : (q : PoolView) (es : TableView) → es.holders.len ≡ 0 → queues q es ≡ []
-no_queues q es e = ap (λ (ns : List ℕ). queues_in q (reverse (map datagram_of (map (queued_packet_of q) ns)))) (none_left q es.holders e)
+no_queues : (q : PoolView) (es : List Datagram) → length es ≡ 0 → queues q es ≡ []
+no_queues q [] e = refl
+no_queues q (d ∷ es) e = absurd (omega arith)
 
 -- the test of the pool
-pub wait_tested : (p q : PoolView) (ds es : TableView) (b : Bool) → (b ≡ true → queues q es ≡ queues p ds) → (b ≡ false → es.holders.len ≡ 0) → WaitOrNone (queues p ds) (queues q es)
+pub wait_tested : (p q : PoolView) (ds es : List Datagram) (b : Bool) → (b ≡ true → queues q es ≡ queues p ds) → (b ≡ false → length es ≡ 0) → WaitOrNone (queues p ds) (queues q es)
 wait_tested p q ds es true a n = inl (a refl)
 wait_tested p q ds es false a n = inr (no_queues q es (n refl))
 
-pub wait_reserved : (p q : PoolView) (r s : TableView) (c d : Counters) (b : Bool) → (b ≡ true → (q ≡ p) × (s ≡ r) × (d ≡ c)) → (b ≡ false → s.holders.len ≡ 0) → WaitOrNone (queues p r) (queues q s)
-wait_reserved p q r s c d b kept none = wait_tested p q r s b (λ e. let a = kept e in λ j. queues (a.0 j) (a.1 j)) none
+pub wait_reserved : (p q : PoolView) (r s : TableView) (c d : Counters) (b : Bool) → (b ≡ true → (q ≡ p) × (s ≡ r) × (d ≡ c)) → (b ≡ false → length s.datagrams ≡ 0) → WaitOrNone (queues p r.datagrams) (queues q s.datagrams)
+wait_reserved p q r s c d b kept none = wait_tested p q r.datagrams s.datagrams b (λ e. let a = kept e in λ j. queues (a.0 j) (a.1 j).datagrams) none
 
 -- **nothing waits where the pool had no mbuf**
-pub none_reserved : (p q : PoolView) (r s : TableView) (c d : Counters) (answer : Bool) → (are_free p 1 0 ≡ true → (q ≡ p) × (s ≡ r) × (d ≡ c)) → (are_free p 1 0 ≡ false → s.holders.len ≡ 0) → answer ≡ are_free q 1 0 → answer ≡ false → queues q s ≡ []
+pub none_reserved : (p q : PoolView) (r s : TableView) (c d : Counters) (answer : Bool) → (are_free p 1 0 ≡ true → (q ≡ p) × (s ≡ r) × (d ≡ c)) → (are_free p 1 0 ≡ false → length s.datagrams ≡ 0) → answer ≡ are_free q 1 0 → answer ≡ false → queues q s.datagrams ≡ []
 none_reserved p q r s c d answer kept none is refused = elim (cases_Bool (are_free p 1 0)) [
   | inl free ↦ absurd (false≢true (sym refused ∙ is ∙ ap (λ (o : PoolView). are_free o 1 0) (kept free).0 ∙ free))
-  | inr lacks ↦ no_queues q s (none lacks)
+  | inr lacks ↦ no_queues q s.datagrams (none lacks)
 ]
 
 none_then : (k : Key) (qs rs : List KeyedQueue) → WaitOrNone qs rs → find (goes_by k) qs ≡ None → find (goes_by k) rs ≡ None
@@ -168,7 +168,7 @@ none_then k qs rs (inl a) n = ap (find (goes_by k)) a ∙ n
 none_then k qs rs (inr a) n = ap (find (goes_by k)) a
 
 -- what is left where the queue is a new one
-new_place : (p r t : PoolView) (hs : TableView) (qs now : List KeyedQueue) (k : Key) (n i offset : ℕ) (more : Bool) (result : Arrival) → chain_of r n ≡ chain_of p n → queues r hs ≡ qs ++ record { key = k; fragments = [] } ∷ [] → i ≡ length qs
+new_place : (p r t : PoolView) (hs : List Datagram) (qs now : List KeyedQueue) (k : Key) (n i offset : ℕ) (more : Bool) (result : Arrival) → chain_of r n ≡ chain_of p n → queues r hs ≡ qs ++ record { key = k; fragments = [] } ∷ [] → i ≡ length qs
     → LeavesAt i (arrived r n offset more) (queues r hs) t result now → LeavesAt (length qs) (arrived p n offset more) (qs ++ record { key = k; fragments = [] } ∷ []) t result now
 new_place p r t hs qs now k n i offset more result chain rows size leaves =
     subst (λ (v : ChainView). LeavesAt (length qs) (record { offset = offset; more = more; entries = v.entries }) (qs ++ record { key = k; fragments = [] } ∷ []) t result now) chain
@@ -176,58 +176,60 @@ new_place p r t hs qs now k n i offset more result chain rows size leaves =
     (subst (λ (j : ℕ). LeavesAt j (arrived r n offset more) (queues r hs) t result now) size leaves))
 
 -- **a fragment that begins its datagram**
-pub begins_layout : (p q r t : PoolView) (ds es hs ts : TableView) (k : Key) (n i offset : ℕ) (more : Bool) (result : Arrival) → WaitOrNone (queues p ds) (queues q es) → find (has_key k) (datagrams p ds) ≡ None → 0 < length (string (chain_of p n)) → chain_of r n ≡ chain_of p n
-    → queues r hs ≡ queues q es ++ record { key = k; fragments = [] } ∷ [] → i ≡ length (datagrams q es) → LeavesAt i (arrived r n offset more) (queues r hs) t result (queues t ts) → HasLayout p ds k (arrived p n offset more) result t ts
+pub begins_layout : (p q r t : PoolView) (ds es hs ts : List Datagram) (k : Key) (n i offset : ℕ) (more : Bool) (result : Arrival) → WaitOrNone (queues p ds) (queues q es) → find (has_key k) ds ≡ None → 0 < length (string (chain_of p n)) → chain_of r n ≡ chain_of p n
+    → queues r hs ≡ queues q es ++ record { key = k; fragments = [] } ∷ [] → i ≡ length es → LeavesAt i (arrived r n offset more) (queues r hs) t result (queues t ts) → HasLayout p ds k (arrived p n offset more) result t ts
 begins_layout p q r t ds es hs ts k n i offset more result wait none some chain rows i_is leaves =
-    let here = new_place p r t hs (queues q es) (queues t ts) k n i offset more result chain rows (omega (arith, i_is, length-map (datagrams q es) (queue_of q))) leaves in
+    let here = new_place p r t hs (queues q es) (queues t ts) k n i offset more result chain rows (omega (arith, i_is, length-map es (queue_of q))) leaves in
     record {
       waited = queues q es;
       before = wait;
-      leaves = leaves_new k (arrived p n offset more) (queues q es) t result (queues t ts) some (none_then k (queues p ds) (queues q es) wait (none_in p k (datagrams p ds) none)) here;
+      leaves = leaves_new k (arrived p n offset more) (queues q es) t result (queues t ts) some (none_then k (queues p ds) (queues q es) wait (none_in p k ds none)) here;
     }
 
-pub begins_cause : (cause : Why) (p q r t : PoolView) (es hs ts : TableView) (k : Key) (n i offset : ℕ) (more : Bool) (result : Arrival) → 0 < length (string (chain_of p n)) → chain_of r n ≡ chain_of p n
-    → queues r hs ≡ queues q es ++ record { key = k; fragments = [] } ∷ [] → i ≡ length (datagrams q es) → LeavesAt i (arrived r n offset more) (queues r hs) t result (queues t ts) → HasCause cause result
+pub begins_cause : (cause : Why) (p q r t : PoolView) (es hs ts : List Datagram) (k : Key) (n i offset : ℕ) (more : Bool) (result : Arrival) → 0 < length (string (chain_of p n)) → chain_of r n ≡ chain_of p n
+    → queues r hs ≡ queues q es ++ record { key = k; fragments = [] } ∷ [] → i ≡ length es → LeavesAt i (arrived r n offset more) (queues r hs) t result (queues t ts) → HasCause cause result
 begins_cause cause p q r t es hs ts k n i offset more result some chain rows i_is leaves =
     cause_new cause k (arrived p n offset more) (queues q es) t result (queues t ts) some
-    (new_place p r t hs (queues q es) (queues t ts) k n i offset more result chain rows (omega (arith, i_is, length-map (datagrams q es) (queue_of q))) leaves)
+    (new_place p r t hs (queues q es) (queues t ts) k n i offset more result chain rows (omega (arith, i_is, length-map es (queue_of q))) leaves)
 
 -- the first datagram with the key stands at a place
 record Found (p : PoolView) (ds : List Datagram) (k : Key) (i : ℕ) : Type 0 where
-  within : i < length (queues_in p ds)
-  front : find (goes_by k) (take i (queues_in p ds)) ≡ None
-  here : goes_by k (queue_at (queues_in p ds) i) ≡ true
+  within : i < length (queues p ds)
+  front : find (goes_by k) (take i (queues p ds)) ≡ None
+  here : goes_by k (queue_at (queues p ds) i) ≡ true
 
-found : (p : PoolView) (ds : List Datagram) (k k' : Key) (i : ℕ) → k' ≡ k → i < length ds → find (has_key k') ds ≡ slice_get ds i → find (has_key k') (take i ds) ≡ None → Found p ds k i
-found p ds k k' i e l at_is none_is =
-    let at : find (has_key k) ds ≡ slice_get ds i = subst (λ (j : Key). find (has_key j) ds ≡ slice_get ds i) e at_is in
-    let front : find (has_key k) (take i ds) ≡ None = subst (λ (j : Key). find (has_key j) (take i ds) ≡ None) e none_is in
-    let passes : has_key k (datagram_at ds i) ≡ true = found_passes (has_key k) ds (datagram_at ds i) (at ∙ slice_at ds i l) in
+found : (p : PoolView) (slice items ds : List Datagram) (k k' : Key) (i : ℕ) → slice ≡ items → items ≡ ds → k' ≡ k → i < length slice → find (has_key k') slice ≡ slice_get slice i → find (has_key k') (take i slice) ≡ None → Found p ds k i
+found p slice items ds k k' i a b e l at_is none_is =
+    let same : slice ≡ ds = a ∙ b in
+    let at : find (has_key k) ds ≡ slice_get ds i = subst (λ (zs : List Datagram). find (has_key k) zs ≡ slice_get zs i) same (subst (λ (j : Key). find (has_key j) slice ≡ slice_get slice i) e at_is) in
+    let front : find (has_key k) (take i ds) ≡ None = subst (λ (zs : List Datagram). find (has_key k) (take i zs) ≡ None) same (subst (λ (j : Key). find (has_key j) (take i slice) ≡ None) e none_is) in
+    let within : i < length ds = omega (arith, ap (λ (zs : List Datagram). length zs) same) in
+    let passes : has_key k (datagram_at ds i) ≡ true = found_passes (has_key k) ds (datagram_at ds i) (at ∙ slice_at ds i within) in
     record {
-      within = omega (arith, l, length-map ds (queue_of p));
+      within = omega (arith, within, length-map ds (queue_of p));
       front = ap (find (goes_by k)) (take-map (queue_of p) i ds) ∙ none_in p k (take i ds) front;
-      here = ap (goes_by k) (get_or-map (queue_of p) ds i no_datagram no_queue l) ∙ passes;
+      here = ap (goes_by k) (get_or-map (queue_of p) ds i no_datagram no_queue within) ∙ passes;
     }
 
 -- **a fragment that joins the others of its datagram**
-pub found_layout : (p t : PoolView) (ds ts : TableView) (k k' : Key) (f : QueuedFragment) (i : ℕ) (result : Arrival) → k' ≡ k → i < length (datagrams p ds) → find (has_key k') (datagrams p ds) ≡ slice_get (datagrams p ds) i → find (has_key k') (take i (datagrams p ds)) ≡ None
-    → LeavesAt i f (queues p ds) t result (queues t ts) → HasLayout p ds k f result t ts
-found_layout p t ds ts k k' f i result e l at_is none_is leaves =
-    let o = found p (datagrams p ds) k k' i e l at_is none_is in
+pub found_layout : (p t : PoolView) (slice items ds ts : List Datagram) (k k' : Key) (f : QueuedFragment) (i : ℕ) (result : Arrival) → slice ≡ items → items ≡ ds → k' ≡ k → i < length slice → find (has_key k') slice ≡ slice_get slice i → find (has_key k') (take i slice) ≡ None
+    → LeavesAt i f (queues p items) t result (queues t ts) → HasLayout p ds k f result t ts
+found_layout p t slice items ds ts k k' f i result a b e l at_is none_is leaves =
+    let o = found p slice items ds k k' i a b e l at_is none_is in
     record {
       waited = queues p ds;
       before = inl refl;
-      leaves = leaves_here k f (queues p ds) i t result (queues t ts) o.within o.front o.here leaves;
+      leaves = leaves_here k f (queues p ds) i t result (queues t ts) o.within o.front o.here (subst (λ (zs : List Datagram). LeavesAt i f (queues p zs) t result (queues t ts)) b leaves);
     }
 
-pub found_cause : (p t : PoolView) (ds ts : TableView) (k k' : Key) (f : QueuedFragment) (i : ℕ) (result : Arrival) → k' ≡ k → i < length (datagrams p ds) → find (has_key k') (datagrams p ds) ≡ slice_get (datagrams p ds) i → find (has_key k') (take i (datagrams p ds)) ≡ None
-    → LeavesAt i f (queues p ds) t result (queues t ts) → HasCause FragmentDropped result → HasCause (cause_among (under k (queues t ts)) f) result
-found_cause p t ds ts k k' f i result e l at_is none_is leaves cause =
-    let o = found p (datagrams p ds) k k' i e l at_is none_is in
-    cause_here k f (queues p ds) i t result (queues t ts) o.within o.front o.here leaves cause
+pub found_cause : (p t : PoolView) (slice items ds ts : List Datagram) (k k' : Key) (f : QueuedFragment) (i : ℕ) (result : Arrival) → slice ≡ items → items ≡ ds → k' ≡ k → i < length slice → find (has_key k') slice ≡ slice_get slice i → find (has_key k') (take i slice) ≡ None
+    → LeavesAt i f (queues p items) t result (queues t ts) → HasCause FragmentDropped result → HasCause (cause_among (under k (queues t ts)) f) result
+found_cause p t slice items ds ts k k' f i result a b e l at_is none_is leaves cause =
+    let o = found p slice items ds k k' i a b e l at_is none_is in
+    cause_here k f (queues p ds) i t result (queues t ts) o.within o.front o.here (subst (λ (zs : List Datagram). LeavesAt i f (queues p zs) t result (queues t ts)) b leaves) cause
 
 -- **the header was pulled up and cut off before**
-pub arrived_layout : (p q r t : PoolView) (ds es ts : TableView) (n n' : ℕ) (h : IpHead) (result : Arrival) → WaitOrNone (queues p ds) (queues q es) → queues r es ≡ queues q es → (chain_of r n').entries ≡ carried_entries (chain_of p n)
+pub arrived_layout : (p q r t : PoolView) (ds es ts : List Datagram) (n n' : ℕ) (h : IpHead) (result : Arrival) → WaitOrNone (queues p ds) (queues q es) → queues r es ≡ queues q es → (chain_of r n').entries ≡ carried_entries (chain_of p n)
     → HasLayout r es (key_in h) (arrived r n' h.offset h.more) result t ts → HasLayout p ds (key_in h) (fragment_carried (chain_of p n) h) result t ts
 arrived_layout p q r t ds es ts n n' h result wait rows entries x = record {
   waited = x.waited;
@@ -242,9 +244,12 @@ arrived_cause p r n n' h held result good entries x =
     (ap (λ (xs : List Entry). cause_among held (record { offset = h.offset; more = h.more; entries = xs })) entries ∙ sym (cond-false _ _ _ good)) x
 
 -- **a fragment of which nothing is left**
-pub covered_layout : (p q : PoolView) (ds es : List Datagram) (i c : ℕ) (f : QueuedFragment) → i < length ds → LaysIn p ds i c f false q es
-    → (queues_in q es ≡ queues_in p ds) × (is_covered (map_of (map fragment_of (queue_at (queues_in p ds) i).fragments)) (fragment_of f) ≡ true)
-covered_layout p q ds es i c f l here =
-    let at : map fragment_of (queue_at (queues_in p ds) i).fragments ≡ fragments p (datagram_at ds i).fragments =
+pub covered_layout : (p q : PoolView) (ds slice es back : List Datagram) (i c n : ℕ) (f : QueuedFragment) (answer : Bool) → i < length ds → n ≡ length ds → slice ≡ ds → answer ≡ false → LaysIn p slice i c f answer q es → back ≡ take n (es ++ drop (length es) ds)
+    → (queues q back ≡ queues p ds) × (is_covered (map_of (map fragment_of (queue_at (queues p ds) i).fragments)) (fragment_of f) ≡ true)
+covered_layout p q ds slice es back i c n f answer l n_is was refused la back_is =
+    let here : LaysIn p ds i c f false q es = subst (λ (zs : List Datagram). LaysIn p zs i c f false q es) was (subst (λ (b : Bool). LaysIn p slice i c f b q es) refused la) in
+    let long : length es ≡ n = omega (arith, ap (λ (zs : List Datagram). length zs) here.change, length-set ds i (record (datagram_at ds i) { fragments = here.train; bytes = here.bytes }), n_is) in
+    let same : back ≡ es = back_is ∙ lent n ds es long in
+    let at : map fragment_of (queue_at (queues p ds) i).fragments ≡ fragments p (datagram_at ds i).fragments =
     ap (λ (q : KeyedQueue). map fragment_of q.fragments) (get_or-map (queue_of p) ds i no_datagram no_queue l) ∙ sym (fragments_are p (datagram_at ds i).fragments) in
-    (here.rows_same, ap (λ (fs : List Fragment). is_covered (map_of fs) (fragment_of f)) at ∙ here.covered)
+    (ap (queues q) same ∙ here.rows_same, ap (λ (fs : List Fragment). is_covered (map_of fs) (fragment_of f)) at ∙ here.covered)

@@ -14,7 +14,7 @@ use Rattle.ip_reass.specs.Inside.Walks.{fragment_at, no_fragment}
 use Rattle.ip_reass.specs.Inside.Known.{known_here, known_below, known_past, below, within, past, place, nothing_below}
 use Rattle.ip_reass.specs.Inside.Weighs.{pieces_are}
 use Rattle.ip_reass.specs.Questions.{is_of, owned_below, range_of, ranges, nth_of, told_of, nth_unfinished, range_in, nth_range}
-use Rattle.ip_reass.specs.Table.{IsUnfinished, AllUnfinished, unfinished_of, unfinished_in}
+use Rattle.ip_reass.specs.Table.{IsUnfinished, AllUnfinished, unfinished_of, unfinished}
 use Rattle.ip_reass.specs.declared.datagram.Datagram.{Datagram}
 use Rattle.ip_reass.specs.declared.questions.HeldRange.{HeldRange}
 use Rattle.ip_reass.specs.declared.questions.UnfinishedDatagram.{UnfinishedDatagram}
@@ -128,16 +128,16 @@ module _ (p : PoolView) (ds : List Datagram) (i : ℕ) where
   pub is_unfinished : (d : Datagram) → AllUnfinished p ds → slice_get ds i ≡ Some d → IsUnfinished p d
   is_unfinished d each is = subst (IsUnfinished p) (get_or_from_slice_get ds i d d is) (each_at p ds i d (slice_get_within ds i d is) each).0
 
-  pub unfinished_here : (d : Datagram) → AllUnfinished p ds → slice_get ds i ≡ Some d → nth_unfinished i (unfinished_in p ds) ≡ Some (told_from d)
+  pub unfinished_here : (d : Datagram) → AllUnfinished p ds → slice_get ds i ≡ Some d → nth_unfinished i (unfinished p ds) ≡ Some (told_from d)
   unfinished_here d each is =
       ap (option_map told_of) (slice_get-map (unfinished_of p) ds i ∙ ap (option_map (unfinished_of p)) is)
       ∙ ap Some (told_is p d (is_unfinished d each is))
 
-  pub unfinished_none : slice_get ds i ≡ None → nth_unfinished i (unfinished_in p ds) ≡ None
+  pub unfinished_none : slice_get ds i ≡ None → nth_unfinished i (unfinished p ds) ≡ None
   unfinished_none is = ap (option_map told_of) (slice_get-map (unfinished_of p) ds i ∙ ap (option_map (unfinished_of p)) is)
 
-  pub range_here : (k : ℕ) (d : Datagram) → slice_get ds i ≡ Some d → nth_range i k (unfinished_in p ds) ≡ nth_of (map_of (fragments p d.fragments)) k
+  pub range_here : (k : ℕ) (d : Datagram) → slice_get ds i ≡ Some d → nth_range i k (unfinished p ds) ≡ nth_of (map_of (fragments p d.fragments)) k
   range_here k d is = ap (range_in k) (slice_get-map (unfinished_of p) ds i ∙ ap (option_map (unfinished_of p)) is)
 
-  pub range_none : (k : ℕ) → slice_get ds i ≡ None → nth_range i k (unfinished_in p ds) ≡ None
+  pub range_none : (k : ℕ) → slice_get ds i ≡ None → nth_range i k (unfinished p ds) ≡ None
   range_none k is = ap (range_in k) (slice_get-map (unfinished_of p) ds i ∙ ap (option_map (unfinished_of p)) is)

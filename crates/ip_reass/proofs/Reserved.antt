@@ -1,5 +1,5 @@
 -- What an arrival has in hand while the pool is tested, and a datagram that begins.
-use Rattle.std.proofs.Common.{◌≡◌, ℕ, ◌+◌, ◌<◌, ◌≤◌, Bool, true, false, List, [], ◌∷◌, ◌++◌, length, find, count_by, get_or, None, refl, sym, ap, ◌∙◌, subst, arith, inl, inr, length-append}
+use Rattle.std.proofs.Common.{◌≡◌, ℕ, ◌*◌, ◌<◌, ◌≤◌, Bool, true, false, List, [], ◌∷◌, ◌++◌, length, find, count_by, get_or, None, refl, sym, ap, ◌∙◌, subst, arith, inl, inr, length-append}
 use Rattle.std.proofs.lemmas.Bool.{false≢true, and_from, eq-eqb}
 use Rattle.std.proofs.lemmas.List.Sums.{count_by-le-length}
 use Rattle.flat_model.specs.Amounts.Weight.{Weight, ◌⊕◌}
@@ -11,29 +11,32 @@ use Rattle.flat_model.specs.Machine.Arrival.{Lays}
 use Rattle.flat_model.specs.declared.counters.Counters.{Counters}
 use Rattle.flat_model.specs.declared.counters.Why.TheVariants.{NoBufs}
 use Rattle.flat_model.proofs.Laws.{count-append}
-use Rattle.mbuf_chain.specs.Chain.{ChainView, PoolView, IsLive, chain_of, without}
+use Rattle.mbuf_chain.specs.Chain.{ChainView, PoolView, IsLive, chain_of, without, Adds}
+use Rattle.mbuf_chain.specs.Steps.{one_mbuf, empty_entry}
 use Rattle.mbuf_chain.specs.Owners.{times, IsOwned, Moves}
-use Rattle.mbuf_chain.specs.Frames.{SameAt}
+use Rattle.mbuf_chain.specs.Frames.{IsBounded, SameAt}
 use Rattle.mbuf_chain.proofs.Laws.Owners.{times_same, chain_same, moves_trans, moves_beside, moves_without, same_beside, same_without, owned_after, live_first, apart_first, live_at_most}
+use Rattle.mbuf_chain.proofs.Laws.Accounts.{owned_at_most}
 use Rattle.ip_reass.specs.Fragments.{fragment_of}
 use Rattle.ip_reass.specs.Inside.Walks.{arrived}
-use Rattle.ip_reass.specs.Table.{TableView, datagrams, held_all, new_datagram, IsReady, IsTable, unfinished, unfinished_of}
-use Rattle.ip_reass.specs.Same.{held_all_same, ready_same, table_same, unfinished_same, queues_same}
+use Rattle.ip_reass.specs.Table.{held, held_all, new_datagram, AllUnfinished, HaveFragments, IsTable, unfinished, unfinished_of}
+use Rattle.ip_reass.specs.Same.{held_all_same, table_same, unfinished_same, queues_same}
 use Rattle.ip_reass.specs.Layouts.{queues}
-use Rattle.ip_reass.specs.Inside.Steps.{Begins, datagram_at, no_datagram, place_of}
+use Rattle.ip_reass.specs.Inside.Steps.{datagram_at, no_datagram}
 use Rattle.ip_reass.specs.Arrivals.{machine, BeginsAt}
 use Rattle.ip_reass.specs.declared.datagram.Datagram.{Datagram}
 use Rattle.ip_reass.specs.declared.arrival.Arrival.{Arrival}
 use Rattle.ip_reass.proofs.Places.{none_found}
+use Rattle.ip_reass.proofs.Tables.{Begins, begins}
 
 -- ---- chain c is in hand while the table takes a step
-pub record Stays (p : PoolView) (ds : TableView) (c : ℕ) (q : PoolView) (es : TableView) : Type 0 where
+pub record Stays (p : PoolView) (ds : List Datagram) (c : ℕ) (q : PoolView) (es : List Datagram) : Type 0 where
   pub owned : IsOwned q (c ∷ held_all q es)
   pub chain : chain_of q c ≡ chain_of p c
   pub live : IsLive q c
   pub moves : Moves p (c ∷ held_all p ds) q (c ∷ held_all q es)
 
-pub stays : (p q : PoolView) (ds es : TableView) (c : ℕ) → IsOwned p (c ∷ held_all p ds) → Moves p (held_all p ds) q (held_all q es) → Stays p ds c q es
+pub stays : (p q : PoolView) (ds es : List Datagram) (c : ℕ) → IsOwned p (c ∷ held_all p ds) → Moves p (held_all p ds) q (held_all q es) → Stays p ds c q es
 stays p q ds es c owns m =
     let same : SameAt p q (c ∷ []) = same_beside (c ∷ []) m (λ k. omega (arith, owns k)) (λ k h. omega (arith, owns k, live_at_most p k)) in
     let moves : Moves p (c ∷ held_all p ds) q (c ∷ held_all q es) = moves_beside (c ∷ held_all p ds) (c ∷ held_all q es) (c ∷ []) m (λ k. omega arith) (λ k. omega arith) in
@@ -45,19 +48,17 @@ stays p q ds es c owns m =
     }
 
 -- it was freed
-pub record Freed (p : PoolView) (ds : TableView) (c : ℕ) (q r : PoolView) (es : TableView) : Type 0 where
-  pub ready : IsReady q es → IsReady r es
+pub record Freed (p : PoolView) (ds : List Datagram) (c : ℕ) (q r : PoolView) (es : List Datagram) : Type 0 where
   pub table : IsTable r es
   pub shows : unfinished r es ≡ unfinished q es
   pub rows : queues r es ≡ queues q es
   pub moves : Moves p (c ∷ held_all p ds) r (held_all r es)
 
-pub freed : (p q r : PoolView) (ds es : TableView) (c : ℕ) → Stays p ds c q es → IsTable q es → r ≡ without q c → Freed p ds c q r es
+pub freed : (p q r : PoolView) (ds es : List Datagram) (c : ℕ) → Stays p ds c q es → IsTable q es → r ≡ without q c → Freed p ds c q r es
 freed p q r ds es c st is gone =
     let same : SameAt q r (held_all q es) = same_without q r c (held_all q es) (apart_first q c (held_all q es) st.owned) gone in
     let all : held_all r es ≡ held_all q es = held_all_same q r es same in
     record {
-      ready = ready_same q r es same;
       table = table_same q r es same is;
       shows = unfinished_same q r es same;
       rows = queues_same q r es same;
@@ -65,7 +66,7 @@ freed p q r ds es c st is gone =
     }
 
 -- ---- the two ends of the test for a key's mbuf
-pub lacking : (rest : State) (held : Weight) (new : State) (k : Key) (f : Fragment) (w : Weight) (p q r : PoolView) (ds es : TableView) (c mid d : Counters) (result : Arrival) (answer : Bool) → answer ≡ false
+pub lacking : (rest : State) (held : Weight) (new : State) (k : Key) (f : Fragment) (w : Weight) (p q r : PoolView) (ds es : List Datagram) (c mid d : Counters) (result : Arrival) (answer : Bool) → answer ≡ false
     → HasBuffers exact_ledger (machine p ds c rest) (held ⊕ w) (need_mbufs 1) answer (machine q es mid rest) → unfinished r es ≡ unfinished q es → d ≡ counted NoBufs mid → new ≡ machine r es d rest → BeginsAt p ds c k f w result r es d rest held new
 lacking rest held new k f w p q r ds es c mid d result answer refused af shows counts is = record {
   tests = record {
@@ -80,7 +81,7 @@ lacking rest held new k f w p q r ds es c mid d result answer refused af shows c
 }
 
 -- what is left of the datagrams after a test
-pub none_then : (rest : State) (w : Weight) (k : Key) (p q : PoolView) (ds es : TableView) (c mid : Counters) (answer : Bool) → find (is_key k) (unfinished p ds) ≡ None
+pub none_then : (rest : State) (w : Weight) (k : Key) (p q : PoolView) (ds es : List Datagram) (c mid : Counters) (answer : Bool) → find (is_key k) (unfinished p ds) ≡ None
     → HasBuffers exact_ledger (machine p ds c rest) w (need_mbufs 1) answer (machine q es mid rest) → count_by (is_key k) (unfinished q es) ≡ 0
 none_then rest w k p q ds es c mid true none (inl a) = ap (λ (s : State). count_by (is_key k) s.unfinished) a.1 ∙ none_found (is_key k) (unfinished p ds) none
 none_then rest w k p q ds es c mid true none (inr a) = ap (λ (s : State). count_by (is_key k) s.unfinished) a.1
@@ -93,37 +94,39 @@ get_or-end (y ∷ ys) x d = get_or-end ys x d
 same_key : (k : Key) → is_key k (begun k) ≡ true
 same_key k = and_from _ _ (and_from _ _ (and_from _ _ (eq-eqb k.source k.source refl) (eq-eqb k.destination k.destination refl)) (eq-eqb k.id k.id refl)) (eq-eqb k.protocol k.protocol refl)
 
--- a datagram that has begun, after the others
-pub record Began (p : PoolView) (ds : TableView) (n : ℕ) (k : Key) (q : PoolView) (es : TableView) (i : ℕ) : Type 0 where
+-- a datagram that has begun, at the end of the table
+pub record Began (p : PoolView) (ds : List Datagram) (n : ℕ) (k : Key) (q : PoolView) (es : List Datagram) (i : ℕ) : Type 0 where
+  pub table : IsTable q es
   pub stays : Stays p ds n q es
-  pub within : i < length (datagrams q es)
-  pub last : i ≡ length (datagrams p ds)
-  pub at : unfinished_of q (datagram_at (datagrams q es) i) ≡ begun k
+  pub at : unfinished_of q (datagram_at es i) ≡ begun k
+  pub shows : unfinished q es ≡ unfinished p ds ++ begun k ∷ []
+  pub rows : queues q es ≡ queues p ds ++ record { key = k; fragments = [] } ∷ []
 
-pub began : (p q : PoolView) (ds es : TableView) (n h : ℕ) (k : Key) → IsOwned p (n ∷ held_all p ds) → (b : Begins p ds k h q es) → Began p ds n k q es (place_of h (datagrams q es))
-began p q ds es n h k owns b =
-    let long : length (datagrams q es) ≡ length (datagrams p ds) + 1 = omega (arith, ap (λ (xs : List Datagram). length xs) b.change, length-append (datagrams p ds) (new_datagram k h ∷ [])) in
+pub began : (p q : PoolView) (ds es : List Datagram) (n h i : ℕ) (k : Key) → IsTable p ds → IsOwned p (n ∷ held_all p ds) → Adds p q h (one_mbuf true (empty_entry 28 None) h) → es ≡ ds ++ new_datagram k h ∷ [] → i ≡ length ds → Began p ds n k q es i
+began p q ds es n h i k is owns adds e i_is =
+    let b : Begins p ds q es = begins p q ds es k h is adds e in
     record {
+      table = b.table;
       stays = stays p q ds es n owns b.moves;
-      within = omega (arith, b.at, long);
-      last = b.at;
-      at = ap (λ (d : Datagram). unfinished_of q d) ((λ j. get_or (b.change j) (b.at j) no_datagram) ∙ get_or-end (datagrams p ds) (new_datagram k h) no_datagram);
+      at = ap (λ (d : Datagram). unfinished_of q d) ((λ j. get_or (e j) (i_is j) no_datagram) ∙ get_or-end ds (new_datagram k h) no_datagram);
+      shows = b.shows k h e;
+      rows = b.rows k h e;
     }
 
-pub begins_here : (rest : State) (held : Weight) (new : State) (k : Key) (w : Weight) (p q r : PoolView) (ds es hs : TableView) (c mid d : Counters) (n h i offset : ℕ) (more : Bool) (result : Arrival) (t : PoolView) (ts : TableView) (answer : Bool) → answer ≡ true
-    → find (is_key k) (unfinished p ds) ≡ None → HasBuffers exact_ledger (machine p ds c rest) (held ⊕ w) (need_mbufs 1) answer (machine q es mid rest) → chain_of r n ≡ chain_of p n → Begins q es k h r hs → Began q es n k r hs i
-    → (is_key k (unfinished_of r (datagram_at (datagrams r hs) i)) ≡ true → count_by (is_key k) (unfinished r hs) ≤ 1 → Lays exact_ledger held k (fragment_of (arrived r n offset more)) (unfinished_of r (datagram_at (datagrams r hs) i)) (machine r hs mid rest) new)
+pub begins_here : (rest : State) (held : Weight) (new : State) (k : Key) (w : Weight) (p q r : PoolView) (ds es hs : List Datagram) (c mid d : Counters) (n i offset : ℕ) (more : Bool) (result : Arrival) (t : PoolView) (ts : List Datagram) (answer : Bool) → answer ≡ true
+    → find (is_key k) (unfinished p ds) ≡ None → HasBuffers exact_ledger (machine p ds c rest) (held ⊕ w) (need_mbufs 1) answer (machine q es mid rest) → chain_of r n ≡ chain_of p n → Began q es n k r hs i
+    → (is_key k (unfinished_of r (datagram_at hs i)) ≡ true → count_by (is_key k) (unfinished r hs) ≤ 1 → Lays exact_ledger held k (fragment_of (arrived r n offset more)) (unfinished_of r (datagram_at hs i)) (machine r hs mid rest) new)
     → BeginsAt p ds c k (fragment_of (arrived p n offset more)) w result t ts d rest held new
-begins_here rest held new k w p q r ds es hs c mid d n h i offset more result t ts answer agrees none af chain b s step =
+begins_here rest held new k w p q r ds es hs c mid d n i offset more result t ts answer agrees none af chain b step =
     let zero_then : count_by (is_key k) (unfinished q es) ≡ 0 = none_then rest (held ⊕ w) k p q ds es c mid answer none af in
-    let here : is_key k (unfinished_of r (datagram_at (datagrams r hs) i)) ≡ true = ap (is_key k) s.at ∙ same_key k in
+    let here : is_key k (unfinished_of r (datagram_at hs i)) ≡ true = ap (is_key k) b.at ∙ same_key k in
     let one : count_by (is_key k) (begun k ∷ []) ≤ 1 = count_by-le-length (is_key k) (begun k ∷ []) in
     let most : count_by (is_key k) (unfinished r hs) ≤ 1 = omega (arith, ap (count_by (is_key k)) b.shows, count-append (is_key k) (unfinished q es) (begun k ∷ []), zero_then, one) in
     let lays = step here most in
-    let a : Lays exact_ledger held k (fragment_of (arrived p n offset more)) (unfinished_of r (datagram_at (datagrams r hs) i)) (machine r hs mid rest) new =
-    subst (λ (v : ChainView). Lays exact_ledger held k (fragment_of (record { offset = offset; more = more; entries = v.entries })) (unfinished_of r (datagram_at (datagrams r hs) i)) (machine r hs mid rest) new) chain lays in
+    let a : Lays exact_ledger held k (fragment_of (arrived p n offset more)) (unfinished_of r (datagram_at hs i)) (machine r hs mid rest) new =
+    subst (λ (v : ChainView). Lays exact_ledger held k (fragment_of (record { offset = offset; more = more; entries = v.entries })) (unfinished_of r (datagram_at hs i)) (machine r hs mid rest) new) chain lays in
     let b' : Lays exact_ledger held k (fragment_of (arrived p n offset more)) (begun k) (machine r hs mid rest) new =
-    subst (λ (u : Unfinished). Lays exact_ledger held k (fragment_of (arrived p n offset more)) u (machine r hs mid rest) new) s.at a in
+    subst (λ (u : Unfinished). Lays exact_ledger held k (fragment_of (arrived p n offset more)) u (machine r hs mid rest) new) b.at a in
     let c' : Lays exact_ledger held k (fragment_of (arrived p n offset more)) (begun k) (begin_unfinished k (machine q es mid rest)) new =
     subst (λ (us : List Unfinished). Lays exact_ledger held k (fragment_of (arrived p n offset more)) (begun k) (record rest { unfinished = us; counters = mid }) new) b.shows b' in
     record {
@@ -137,3 +140,11 @@ begins_here rest held new k w p q r ds es hs c mid d n h i offset more result t 
         };
       };
     }
+
+-- there is room in the table: each datagram has an mbuf for its key and a fragment, and the chain in hand one more
+pub room : (p : PoolView) (ds : List Datagram) (c : ℕ) → IsBounded p → IsTable p ds → HaveFragments ds → IsOwned p (c ∷ held_all p ds) → 2 * length ds < p.mbufs
+room p ds c b is some owns = omega (arith, owned_at_most p (c ∷ held_all p ds) b owns, twice ds is.each some)
+  where
+    twice : (xs : List Datagram) → AllUnfinished p xs → HaveFragments xs → 2 * length xs ≤ length (held_all p xs)
+    twice [] a f = omega arith
+    twice (d ∷ xs) a f = omega (arith, f.0, a.0.queue.held.whole, twice xs a.1 f.1, length-append (held p d) (held_all p xs))

@@ -1,23 +1,71 @@
--- Steps over some unfinished datagrams.
-use Rattle.std.proofs.Common.{◌≡◌, ℕ, ◌+◌, ◌<◌, List, [], ◌∷◌, ◌++◌, map, reverse, refl, sym, ap, ◌∙◌, inl, inr, arith}
-use Rattle.std.proofs.lemmas.Bool.{cases_eq, cond-false, ne_eqb}
-use Rattle.std.proofs.lemmas.List.{reverse-append}
-use Rattle.flat_model.specs.Amounts.Weight.{mbuf}
-use Rattle.mbuf_chain.specs.Chain.{PoolView, chain_of, without}
+-- Steps over the table of unfinished datagrams.
+use Rattle.std.proofs.Common.{◌≡◌, ℕ, zero, suc, ◌+◌, ◌<◌, Bool, true, false, List, [], ◌∷◌, ◌++◌, length, map, get_or, take, drop, refl, sym, ap, ◌∙◌, subst, inl, inr, arith}
+use Rattle.std.proofs.lemmas.List.{map-append}
+use Rattle.flat_model.specs.Machine.State.{Unfinished, begun}
+use Rattle.mbuf_chain.specs.Chain.{PoolView, without}
 use Rattle.mbuf_chain.specs.Owners.{times, IsOwned, Moves}
 use Rattle.mbuf_chain.specs.Frames.{SameAt}
-use Rattle.mbuf_chain.specs.Train.{TrainView, numbers, queued_packet_of, queued_packets, IsHeld}
-use Rattle.mbuf_chain.proofs.Laws.Owners.{same_beside, moves_beside, moves_without, owned_after, apart_first, live_first, live_at_most}
+use Rattle.mbuf_chain.specs.Train.{numbers, IsHeld}
+use Rattle.mbuf_chain.proofs.Laws.Owners.{times-append, same_part, same_trans, same_beside, moves_beside, moves_without, owned_after, apart_first, live_first, live_at_most}
 use Rattle.mbuf_chain.proofs.Laws.Trains.{Beside, beside_without}
-use Rattle.ledger.specs.Accounts.{weight_at}
-use Rattle.ip_reass.specs.Table.{AllRecords, AreHeld, carried_in, datagram_of, datagrams_in, held, held_in, unfinished_in}
+use Rattle.ledger.specs.Accounts.{weight_of}
+use Rattle.ip_reass.specs.Table.{held, held_all, new_datagram, IsUnfinished, AllUnfinished, IsTable, unfinished_of, unfinished}
 use Rattle.ip_reass.specs.Fragments.{queued, queued_of}
-use Rattle.ip_reass.specs.Layouts.{queues_in}
-use Rattle.ip_reass.specs.Same.{held_parts, held_in_as, each_as, unfinished_in_as, queues_in_as}
 use Rattle.ip_reass.specs.declared.datagram.Datagram.{Datagram}
-use Rattle.ip_reass.proofs.Records.{weighs_mbuf}
+use Rattle.flat_model.specs.Machine.State.{Key}
+use Rattle.std.specs.Prelude.{find, slice_get}
+use Rattle.std.proofs.Common.{None}
+use Rattle.std.proofs.lemmas.Bool.{cond-true, cond-false, cases_Bool}
+use Rattle.std.proofs.lemmas.Option.{none-some}
+use Rattle.mbuf_chain.specs.Chain.{Adds}
+use Rattle.mbuf_chain.specs.Steps.{one_mbuf, empty_entry}
+use Rattle.mbuf_chain.proofs.Laws.Owners.{same_adds, moves_adds, shown_adds}
+use Rattle.mbuf_chain.proofs.Laws.Trains.{held_none}
+use Rattle.ip_reass.specs.Same.{held_all_same, each_same, unfinished_same, queues_same}
+use Rattle.ip_reass.specs.Layouts.{KeyedQueue, queue_of, queues}
 
--- ---- one datagram
+-- ---- datagrams freed
+pub held_all-append : (p : PoolView) (k : ℕ) (xs ys : List Datagram) → times k (held_all p (xs ++ ys)) ≡ times k (held_all p xs) + times k (held_all p ys)
+held_all-append p k [] ys = omega arith
+held_all-append p k (d ∷ xs) ys = omega (arith, times-append k (held p d) (held_all p (xs ++ ys)), times-append k (held p d) (held_all p xs), held_all-append p k xs ys)
+
+all_split : (p : PoolView) (ys : List Datagram) (d : Datagram) → AllUnfinished p (ys ++ d ∷ []) → AllUnfinished p ys × IsUnfinished p d
+all_split p [] d a = (tt, a.0)
+all_split p (y ∷ ys) d a = let r = all_split p ys d a.1 in ((a.0, r.0), r.1)
+
+pub record Last (p : PoolView) (d : Datagram) : Type 0 where
+  pub owned : IsOwned p (held p d)
+  pub held : IsHeld p d.fragments
+
+pub last_of : (p : PoolView) (xs ys : List Datagram) (d : Datagram) → xs ≡ ys ++ d ∷ [] → IsTable p xs → Last p d
+last_of p xs ys d e is = record {
+  owned = λ k. omega (arith, is.owned k, ap (λ (zs : List Datagram). times k (held_all p zs)) e, held_all-append p k ys (d ∷ []), times-append k (held p d) []);
+  held = (all_split p ys d (subst (AllUnfinished p) e is.each)).1.queue.held;
+}
+
+pub record Shorter (p : PoolView) (xs : List Datagram) (r : PoolView) (ys : List Datagram) : Type 0 where
+  pub table : IsTable r ys
+  pub same : SameAt p r (held_all p ys)
+  pub moves : Moves p (held_all p xs) r (held_all r ys)
+
+-- **a table without its last datagram, which was freed**
+pub shorter : (p r : PoolView) (xs ys : List Datagram) (d : Datagram) → xs ≡ ys ++ d ∷ [] → IsTable p xs → Moves p (held p d) r [] → Shorter p xs r ys
+shorter p r xs ys d e is m =
+    let split : (k : ℕ) → times k (held_all p xs) ≡ times k (held_all p ys) + times k (held p d) = λ k. omega (arith, ap (λ (zs : List Datagram). times k (held_all p zs)) e, held_all-append p k ys (d ∷ []), times-append k (held p d) []) in
+    let owns : IsOwned p (held_all p ys) = λ k. omega (arith, is.owned k, split k) in
+    let same : SameAt p r (held_all p ys) = same_beside (held_all p ys) m owns (λ k l. omega (arith, is.owned k, split k, live_at_most p k)) in
+    let all : held_all r ys ≡ held_all p ys = held_all_same p r ys same in
+    let moves : Moves p (held_all p xs) r (held_all r ys) = moves_beside (held_all p xs) (held_all r ys) (held_all p ys) m split (λ k. omega (arith, ap (times k) all)) in
+    record {
+      table = record {
+        owned = owned_after moves is.owned;
+        each = each_same p r ys same (all_split p ys d (subst (AllUnfinished p) e is.each)).0;
+      };
+      same = same;
+      moves = moves;
+    }
+
+-- one datagram
 pub record Emptied (p : PoolView) (d : Datagram) (q : PoolView) : Type 0 where
   pub held_q : IsHeld q d.fragments
   pub queue_is : queued q d.fragments ≡ queued p d.fragments
@@ -32,64 +80,69 @@ emptied p q d owns holds is =
       moves = moves_beside (held p d) (numbers q d.fragments) (numbers p d.fragments) (moves_without p q d.holder (live_first p d.holder (numbers p d.fragments) owns) is) (λ k. omega arith) (λ k. omega (arith, ap (times k) b.numbers));
     }
 
--- ---- the mbufs of the keys linked in another way
-abbrev pub holders_of : List Datagram → List ℕ
-holders_of ds = map (λ (d : Datagram). d.holder) ds
+-- the datagrams that stay are as they were, step by step
+pub same_more : (p q r : PoolView) (xs ys : List Datagram) (d : Datagram) → xs ≡ ys ++ d ∷ [] → SameAt p q (held_all p xs) → SameAt q r (held_all q ys) → SameAt p r (held_all p ys)
+same_more p q r xs ys d e s n =
+    let here : SameAt p q (held_all p ys) = same_part p q (held_all p xs) (held_all p ys) s (λ k. omega (arith, ap (λ (zs : List Datagram). times k (held_all p zs)) e, held_all-append p k ys (d ∷ []))) in
+    same_trans p q r (held_all p ys) here (subst (SameAt q r) (held_all_same p q ys here) n)
 
-pub holders-append : (k : ℕ) (xs ys : List Datagram) → times k (holders_of (xs ++ ys)) ≡ times k (holders_of xs) + times k (holders_of ys)
-holders-append k [] ys = omega arith
-holders-append k (d ∷ xs) ys = omega (arith, holders-append k xs ys)
+pub same_none : (p : PoolView) (xs : List ℕ) → SameAt p p xs
+same_none p xs = record { mbufs = refl; same = λ k h. refl }
 
--- those of a train's datagrams are its chains
-pub holders_are : (p : PoolView) (t : TrainView) (k : ℕ) → times k (holders_of (datagrams_in p t)) ≡ times k (numbers p t)
-holders_are p t k = go (numbers p t)
+-- ---- a look-up
+pub find_at : (test : Datagram → Bool) (xs : List Datagram) (i : ℕ) (d : Datagram) → i < length xs → test (get_or xs i d) ≡ true → find test (drop i xs) ≡ slice_get xs i
+find_at test [] i d l e = absurd (omega arith)
+find_at test (x ∷ xs) zero d l e = cond-true _ _ _ e
+find_at test (x ∷ xs) (suc i) d l e = find_at test xs i d (omega arith) e
+
+pub find_past : (test : Datagram → Bool) (xs : List Datagram) (i : ℕ) (d : Datagram) → i < length xs → test (get_or xs i d) ≡ false → find test (drop (i + 1) xs) ≡ find test (drop i xs)
+find_past test xs i d l e = (let e' : i + 1 ≡ suc i = omega arith in ap (λ (n : ℕ). find test (drop n xs)) e') ∙ go xs i l e
   where
-    go : (ns : List ℕ) → times k (holders_of (reverse (map datagram_of (map (queued_packet_of p) ns)))) ≡ times k ns
-    go [] = refl
-    go (n ∷ ns) =
-        let d : Datagram = datagram_of (queued_packet_of p n) in
-        let ds : List Datagram = map datagram_of (map (queued_packet_of p) ns) in
-        omega (arith, ap (λ (es : List Datagram). times k (holders_of es)) (reverse-append (d ∷ []) ds), holders-append k (reverse ds) (d ∷ []), go ns)
+    go : (ys : List Datagram) (j : ℕ) → j < length ys → test (get_or ys j d) ≡ false → find test (drop (suc j) ys) ≡ find test (drop j ys)
+    go [] j m f = absurd (omega arith)
+    go (y ∷ ys) zero m f = sym (cond-false _ _ _ f)
+    go (y ∷ ys) (suc j) m f = go ys j (omega arith) f
 
--- an mbuf that holds a record weighs one
-pub records_weigh : (p : PoolView) (t : TrainView) (k : ℕ) → AllRecords (queued_packets p t) → 0 < times k (numbers p t) → weight_at p k ≡ mbuf
-records_weigh p t k all l = go (numbers p t) all l
+pub find_none_more : (test : Datagram → Bool) (xs : List Datagram) (i : ℕ) (d : Datagram) → i < length xs → find test (take i xs) ≡ None → test (get_or xs i d) ≡ false → find test (take (i + 1) xs) ≡ None
+find_none_more test xs i d l none e = (let e' : i + 1 ≡ suc i = omega arith in ap (λ (n : ℕ). find test (take n xs)) e') ∙ go xs i l none e
   where
-    go : (ns : List ℕ) → AllRecords (map (queued_packet_of p) ns) → 0 < times k ns → weight_at p k ≡ mbuf
-    go [] a l = absurd (omega arith)
-    go (n ∷ ns) a l = elim (cases_eq n k) [
-      | inl e ↦ ap (weight_at p) (sym e) ∙ weighs_mbuf (chain_of p n).entries a.0
-      | inr ne ↦ go ns a.1 (omega (arith, l, cond-false {A = ℕ} _ 1 0 (ne_eqb n k ne)))
+    go : (ys : List Datagram) (j : ℕ) → j < length ys → find test (take j ys) ≡ None → test (get_or ys j d) ≡ false → find test (take (suc j) ys) ≡ None
+    go [] j m n f = refl
+    go (y ∷ ys) zero m n f = cond-false _ _ _ f
+    go (y ∷ ys) (suc j) m n f = elim (cases_Bool (test y)) [
+      | inl is ↦ absurd (none-some y (sym n ∙ cond-true _ _ _ is))
+      | inr is ↦ cond-false _ _ _ is ∙ go ys j (omega arith) (sym (cond-false _ _ _ is) ∙ n) f
     ]
 
-pub record Relinked (p : PoolView) (ds : List Datagram) (q : PoolView) : Type 0 where
-  pub held : AreHeld q ds
-  pub shows : unfinished_in q ds ≡ unfinished_in p ds
-  pub rows : queues_in q ds ≡ queues_in p ds
-  pub chains : held_in q ds ≡ held_in p ds
-  pub same : SameAt p q (carried_in p ds)
-  pub moves : Moves p (held_in p ds) q (held_in q ds)
+-- ---- a new datagram
+pub record Begins (p : PoolView) (ds : List Datagram) (q : PoolView) (es : List Datagram) : Type 0 where
+  pub table : IsTable q es
+  pub same : SameAt p q (held_all p ds)
+  pub moves : Moves p (held_all p ds) q (held_all q es)
+  pub shows : (k : Key) (c : ℕ) → es ≡ ds ++ new_datagram k c ∷ [] → unfinished q es ≡ unfinished p ds ++ begun k ∷ []
+  pub rows : (k : Key) (c : ℕ) → es ≡ ds ++ new_datagram k c ∷ [] → queues q es ≡ queues p ds ++ record { key = k; fragments = [] } ∷ []
 
--- **only the mbufs of the keys changed, and each weighs one**
-pub relinked : (p q : PoolView) (ds : List Datagram) (ns ms : List ℕ) → AreHeld p ds → ((k : ℕ) → times k ns ≡ times k (holders_of ds)) → ((k : ℕ) → times k ms ≡ times k (holders_of ds)) → Moves p ns q ms
-    → ((k : ℕ) → 0 < times k (holders_of ds) → weight_at q k ≡ mbuf) → Relinked p ds q
-relinked p q ds ns ms is before after m weigh =
-    let owned : IsOwned p (carried_in p ds) = λ k. omega (arith, is.owned k, held_parts p k ds) in
-    let same : SameAt p q (carried_in p ds) = same_beside (carried_in p ds) m owned (λ k l. omega (arith, l, before k, is.owned k, held_parts p k ds, live_at_most p k)) in
-    let chains : held_in q ds ≡ held_in p ds = held_in_as p q ds same in
-    let moves : Moves p (held_in p ds) q (held_in q ds) =
-    moves_beside (held_in p ds) (held_in q ds) (carried_in p ds) m (λ k. omega (arith, before k, held_parts p k ds)) (λ k. omega (arith, after k, held_parts p k ds, ap (times k) chains)) in
+pub begins : (p q : PoolView) (ds es : List Datagram) (k : Key) (c : ℕ) → IsTable p ds → Adds p q c (one_mbuf true (empty_entry 28 None) c)
+    → es ≡ ds ++ new_datagram k c ∷ [] → Begins p ds q es
+begins p q ds es k c is a e =
+    let d : Datagram = new_datagram k c in
+    let same : SameAt p q (held_all p ds) = same_adds (held_all p ds) a is.owned in
+    let all : held_all q ds ≡ held_all p ds = held_all_same p q ds same in
+    let times_is : (j : ℕ) → times j (held_all q es) ≡ times j (held_all p ds) + times j (c ∷ []) = λ j. omega (arith, ap (λ (zs : List Datagram). times j (held_all q zs)) e, held_all-append q j ds (d ∷ []), ap (times j) all) in
+    let moves : Moves p (held_all p ds) q (held_all q es) = moves_beside (held_all p ds) (held_all q es) (held_all p ds) (moves_adds a) (λ j. omega arith) times_is in
+    let mine : IsUnfinished q d = record {
+      queue = record { held = held_none q d.fragments refl; apart = tt; small = tt };
+      counted = refl;
+      holder = ap (λ v. weight_of v.entries) (shown_adds a);
+    } in
     record {
-      held = record { owned = owned_after moves is.owned; each = each_as p q ds same weigh is.each };
-      shows = unfinished_in_as p q ds same;
-      rows = queues_in_as p q ds same;
-      chains = chains;
+      table = record { owned = owned_after moves is.owned; each = subst (AllUnfinished q) (sym e) (each_end q ds d (each_same p q ds same is.each) mine) };
       same = same;
       moves = moves;
+      shows = λ j b f. ap (unfinished q) f ∙ (map-append (unfinished_of q) ds (new_datagram j b ∷ []) ∙ ap (λ (us : List Unfinished). us ++ begun j ∷ []) (unfinished_same p q ds same));
+      rows = λ j b f. ap (queues q) f ∙ (map-append (queue_of q) ds (new_datagram j b ∷ []) ∙ ap (λ (us : List KeyedQueue). us ++ record { key = j; fragments = [] } ∷ []) (queues_same p q ds same));
     }
-
--- the same, where they stand in a train, and tell the same datagrams
-pub linked_again : (p q : PoolView) (ds : List Datagram) (ns : List ℕ) (t : TrainView) → AreHeld p ds → ((k : ℕ) → times k ns ≡ times k (holders_of ds)) → Moves p ns q (numbers q t) → AllRecords (queued_packets q t) → datagrams_in q t ≡ ds → Relinked p ds q
-linked_again p q ds ns t is before m records tells =
-    let after : (k : ℕ) → times k (numbers q t) ≡ times k (holders_of ds) = λ k. omega (arith, holders_are q t k, ap (λ (xs : List Datagram). times k (holders_of xs)) tells) in
-    relinked p q ds ns (numbers q t) is before after m (λ k l. records_weigh q t k records (omega (arith, l, after k)))
+  where
+    each_end : (q : PoolView) (xs : List Datagram) (x : Datagram) → AllUnfinished q xs → IsUnfinished q x → AllUnfinished q (xs ++ x ∷ [])
+    each_end q [] x a h = (h, tt)
+    each_end q (y ∷ ys) x a h = (a.0, each_end q ys x a.1 h)

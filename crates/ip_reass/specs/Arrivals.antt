@@ -16,18 +16,14 @@ use Rattle.chain_ops.specs.Pulls.{pulled_up}
 use Rattle.chain_ops.specs.Trims.{without_first}
 use Rattle.ledger.specs.Accounts.{item_at, weight_at}
 use Rattle.ip_out.specs.declared.head.IpHead.{IpHead}
-use Rattle.ip_reass.specs.Table.{TableView, datagrams, unfinished_in}
+use Rattle.ip_reass.specs.Table.{unfinished}
 use Rattle.ip_reass.specs.declared.datagram.Datagram.{Datagram}
 use Rattle.ip_reass.specs.declared.arrival.Arrival.{Arrival}
 use Rattle.ip_reass.specs.declared.arrival.Arrival.TheVariants.{Kept, Whole, Dropped}
 
 -- the machine with these unfinished datagrams and counters, in all else the machine `rest`
-abbrev pub machine_in : PoolView → List Datagram → Counters → State → State
-machine_in p ds c rest = record rest { unfinished = unfinished_in p ds; counters = c }
-
--- the same with those of a table
-abbrev pub machine : PoolView → TableView → Counters → State → State
-machine p r c rest = machine_in p (datagrams p r) c rest
+abbrev pub machine : PoolView → List Datagram → Counters → State → State
+machine p ds c rest = record rest { unfinished = unfinished p ds; counters = c }
 
 -- what the flat machine reads of a header, and the key that its fragment goes by
 abbrev pub flat_head : IpHead → Head
@@ -75,11 +71,11 @@ GoesOn held q (Dropped why) now new = new ≡ now
 
 -- A fragment's datagram begins, where an mbuf is to be had for its key: from p, ds and counters c on to q, es and d,
 -- chain n arrived as the fragment f, whose key isn't held yet.
-pub record BeginsAt (p : PoolView) (ds : TableView) (c : Counters) (k : Key) (f : Fragment) (w : Weight) (result : Arrival) (q : PoolView) (es : TableView) (d : Counters) (rest : State) (held : Weight) (new : State) : Type 0 where
+pub record BeginsAt (p : PoolView) (ds : List Datagram) (c : Counters) (k : Key) (f : Fragment) (w : Weight) (result : Arrival) (q : PoolView) (es : List Datagram) (d : Counters) (rest : State) (held : Weight) (new : State) : Type 0 where
   pub tests : Tests exact_ledger (machine p ds c rest) (held ⊕ w) 1 new (λ mid. Lays exact_ledger held k f (begun k) (begin_unfinished k mid) new)
 
 -- The header of chain v was pulled up: from p, ds and counters c on to q, es and d.
-pub record IsPulled (p : PoolView) (ds : TableView) (c : Counters) (w : Weight) (answer : Bool) (q : PoolView) (es : TableView) (d : Counters) (rest : State) (held : Weight) : Type 0 where
+pub record IsPulled (p : PoolView) (ds : List Datagram) (c : Counters) (w : Weight) (answer : Bool) (q : PoolView) (es : List Datagram) (d : Counters) (rest : State) (held : Weight) : Type 0 where
   pub mid : Counters
   pub has_buffers : HasBuffers exact_ledger (machine p ds c rest) (held ⊕ w) (need_mbufs 1) answer (machine q es mid rest)
   pub counts : d ≡ (if answer then mid else counted NoBufs mid)

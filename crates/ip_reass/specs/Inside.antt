@@ -4,4 +4,3 @@ pub mod Known
 pub mod Weighs
 pub mod Steps
 pub mod Index
-pub mod Record

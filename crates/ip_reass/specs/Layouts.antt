@@ -16,7 +16,6 @@ use Rattle.ledger.specs.Accounts.{weight_of}
 use Rattle.ip_out.specs.declared.head.IpHead.{IpHead}
 use Rattle.ip_reass.specs.Arrivals.{carried_entries, flat_head, key_in}
 use Rattle.ip_reass.specs.Fragments.{QueuedFragment, queued, laid, joined, fragment_of, map_of}
-use Rattle.ip_reass.specs.Table.{TableView, datagrams}
 use Rattle.ip_reass.specs.declared.datagram.Datagram.{Datagram}
 use Rattle.ip_reass.specs.declared.arrival.Arrival.{Arrival}
 use Rattle.ip_reass.specs.declared.arrival.Arrival.TheVariants.{Kept, Whole, Dropped}
@@ -30,11 +29,8 @@ abbrev pub queue_of : PoolView → Datagram → KeyedQueue
 queue_of p d = record { key = d.key; fragments = queued p d.fragments }
 
 -- those of all datagrams, in the order of their beginning
-abbrev pub queues_in : PoolView → List Datagram → List KeyedQueue
-queues_in p ds = map (queue_of p) ds
-
-abbrev pub queues : PoolView → TableView → List KeyedQueue
-queues p r = queues_in p (datagrams p r)
+abbrev pub queues : PoolView → List Datagram → List KeyedQueue
+queues p ds = map (queue_of p) ds
 
 -- the queue goes by this key
 abbrev pub goes_by : Key → KeyedQueue → Bool
@@ -75,7 +71,7 @@ WaitOrNone before now = (now ≡ before) ⊎ (now ≡ [])
 
 -- From p and ds to q and es the fragment f arrived under the key k: it was laid among what waited before, or among
 -- nothing, where all was dropped for want of an mbuf.
-pub record HasLayout (p : PoolView) (ds : TableView) (k : Key) (f : QueuedFragment) (result : Arrival) (q : PoolView) (es : TableView) : Type 0 where
+pub record HasLayout (p : PoolView) (ds : List Datagram) (k : Key) (f : QueuedFragment) (result : Arrival) (q : PoolView) (es : List Datagram) : Type 0 where
   pub waited : List KeyedQueue
   pub before : WaitOrNone (queues p ds) waited
   pub leaves : Leaves k f waited q result (queues q es)

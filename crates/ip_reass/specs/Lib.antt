@@ -1,5 +1,4 @@
 pub mod Fragments
-pub mod Record
 pub mod Table
 pub mod Same
 pub mod Arrivals

@@ -4,26 +4,24 @@ ghost use Rattle.flat_model.specs.Machine.State.{State};
 ghost use Rattle.flat_model.specs.Amounts.Weight.{Weight, ◌⊕◌};
 ghost use Rattle.flat_model.specs.Machine.Ledger.{exact_ledger};
 ghost use Rattle.flat_model.specs.Machine.Arrival.{Joins, is_bad_fragment};
-ghost use Rattle.mbuf_chain.specs.Chain.{chain_of, entry_of, held_mbufs, string};
+ghost use Rattle.mbuf_chain.specs.Chain.{chain_of, entry_of, string};
 ghost use Rattle.mbuf_chain.specs.Owners.{IsOwned, Moves};
 ghost use Rattle.ledger.specs.Accounts.{IsAccounted, weight_at, weight_owned};
 ghost use Rattle.ip_reass.specs.Arrivals.{BeginsAt, GoesOn, HasWhole, IsPulled, flat_head, in_hand, key_in, machine, pulled_entries};
 ghost use Rattle.ip_reass.specs.Fragments.{fragment_of};
 ghost use Rattle.ip_reass.specs.Layouts.{ChainArrives, HasCause, HasLayout, WaitOrNone, cause_among, cause_of, fragment_carried, queues, under};
-ghost use Rattle.ip_reass.specs.Table.{IsReady, IsTable, datagrams, has_key, held_all};
-ghost use Rattle.ip_reass.specs.Inside.Steps.{Begins};
+ghost use Rattle.ip_reass.specs.Table.{IsReady, has_key, held_all};
 ghost use Rattle.ip_reass.specs.Inside.Walks.{arrived};
 
 use crate::arrival::Arrival;
-use crate::lay::Fragment;
-use crate::record::{Record, new_record};
-use crate::table::Reass;
+use crate::lay::{Fragment, lay_and_count};
+use crate::table::{Reass, begin, find};
 use chain_ops::{m_pullup, trim_front};
 use flat_model::{Counter, Counters, FragmentKey, Why};
 use ip_out::IpHead;
 use ledger::reserve;
-use mbuf_chain::{Chain, Ends, Pool};
-use params::{FRAGMENT_TICKS, FRAGMENT_UNIT, IP_HEADER, IP_MAX_DATA, IP_MAX_PACKET};
+use mbuf_chain::{Chain, Pool};
+use params::{FRAGMENT_UNIT, IP_HEADER, IP_MAX_DATA, IP_MAX_PACKET};
 
 /// The key that a fragment goes by.
 fn key_of(head: &IpHead) -> FragmentKey
@@ -48,31 +46,6 @@ fn is_bad(head: &IpHead, len: u32) -> bool
 }
 
 impl Reass {
-    /// Begins a datagram without fragments. An mbuf must be free. The answer is the number of the mbuf of its key.
-    fn begin(&mut self, pool: &mut Pool, key: FragmentKey) -> u32
-        requires table { IsTable pool.old self.old }
-        requires free { held_mbufs pool.old < pool.old.mbufs }
-        ensures { Begins pool.old self.old key result pool.new self.new }
-    {
-        let record = Record {
-            key,
-            ticks: FRAGMENT_TICKS as u8,
-            fragments: Ends {
-                first: 0,
-                last: 0,
-                len: 0,
-            },
-            bytes: 0,
-            before: 0,
-        };
-        let Ok(chain) = new_record(pool, record) else {
-            unreachable!()
-        };
-        let number = chain.into_number();
-        self.push(pool, Chain::from_number(number), record);
-        number
-    }
-
     /// Begins the datagram of a fragment, whose key isn't held yet, and lays the fragment.
     fn begin_with(
         &mut self,
@@ -82,26 +55,26 @@ impl Reass {
         head: IpHead,
     ) -> Arrival
         requires ready { IsReady pool.old self.old }
-        requires owned { IsOwned pool.old (chain ∷ held_all pool.old self.old) }
+        requires owned { IsOwned pool.old (chain ∷ held_all pool.old self.old.datagrams) }
         requires headed { (chain_of pool.old chain).front.header ≡ true }
         requires some { 0 < length (string (chain_of pool.old chain)) }
         requires small { head.offset + length (string (chain_of pool.old chain)) ≤ IP_MAX_DATA }
-        requires fresh { find (has_key (key_in head)) (datagrams pool.old self.old) ≡ None }
+        requires fresh { find (has_key (key_in head)) self.old.datagrams ≡ None }
         ensures step { (rest : State) (held : Weight) (new : State) →
-            IsAccounted pool.old (machine pool.old self.old counters.old rest)
+            IsAccounted pool.old (machine pool.old self.old.datagrams counters.old rest)
             (held ⊕ weight_at pool.old chain) →
-            GoesOn held pool.new result (machine pool.new self.new counters.new rest) new →
-            BeginsAt pool.old self.old counters.old (key_in head)
+            GoesOn held pool.new result (machine pool.new self.new.datagrams counters.new rest) new →
+            BeginsAt pool.old self.old.datagrams counters.old (key_in head)
             (fragment_of (arrived pool.old chain head.offset head.more))
-            (weight_at pool.old chain) result pool.new self.new counters.new rest held new }
+            (weight_at pool.old chain) result pool.new self.new.datagrams counters.new rest held new }
         ensures whole { HasWhole pool.new head result }
-        ensures layout { HasLayout pool.old self.old (key_in head)
-            (arrived pool.old chain head.offset head.more) result pool.new self.new }
-        ensures cause { HasCause (cause_among (under (key_in head) (queues pool.new self.new))
+        ensures layout { HasLayout pool.old self.old.datagrams (key_in head)
+            (arrived pool.old chain head.offset head.more) result pool.new self.new.datagrams }
+        ensures cause { HasCause (cause_among (under (key_in head) (queues pool.new self.new.datagrams))
             (arrived pool.old chain head.offset head.more)) result }
         ensures ready { IsReady pool.new self.new }
-        ensures moves { Moves pool.old (chain ∷ held_all pool.old self.old) pool.new
-            (in_hand result ++ held_all pool.new self.new) }
+        ensures moves { Moves pool.old (chain ∷ held_all pool.old self.old.datagrams) pool.new
+            (in_hand result ++ held_all pool.new self.new.datagrams) }
     {
         if !reserve(pool, self, counters, 1, 0) {
             pool.free_chain(chain);
@@ -109,8 +82,24 @@ impl Reass {
             return Arrival::Dropped(Why::NoBufs);
         }
         pool.laws();
-        let holder = self.begin(pool, key_of(&head));
-        self.lay_and_count(pool, counters, holder, Fragment { chain, head })
+        let Ok(holder) = pool.new_chain() else {
+            unreachable!()
+        };
+        let i = self.datagrams.as_slice().len();
+        let key = key_of(&head);
+        let bucket = self.index.bucket(&key);
+        self.index.add(bucket);
+        begin(&mut self.datagrams, key, holder);
+        let arrival = lay_and_count(
+            pool,
+            &mut self.datagrams,
+            counters,
+            i,
+            Fragment { chain, head },
+        );
+        let rest = self.datagrams.as_slice().len();
+        self.index.follow(rest, i);
+        arrival
     }
 
     /// Lets a fragment join the others of its datagram, or begin it.
@@ -122,27 +111,38 @@ impl Reass {
         head: IpHead,
     ) -> Arrival
         requires ready { IsReady pool.old self.old }
-        requires owned { IsOwned pool.old (chain ∷ held_all pool.old self.old) }
+        requires owned { IsOwned pool.old (chain ∷ held_all pool.old self.old.datagrams) }
         requires headed { (chain_of pool.old chain).front.header ≡ true }
         requires some { 0 < length (string (chain_of pool.old chain)) }
         requires small { head.offset + length (string (chain_of pool.old chain)) ≤ IP_MAX_DATA }
         ensures step { (rest : State) (held : Weight) (new : State) →
-            IsAccounted pool.old (machine pool.old self.old counters.old rest)
+            IsAccounted pool.old (machine pool.old self.old.datagrams counters.old rest)
             (held ⊕ weight_at pool.old chain) →
-            GoesOn held pool.new result (machine pool.new self.new counters.new rest) new →
+            GoesOn held pool.new result (machine pool.new self.new.datagrams counters.new rest) new →
             Joins exact_ledger held (key_in head) (fragment_of (arrived pool.old chain head.offset head.more))
-            (machine pool.old self.old counters.old rest) new }
+            (machine pool.old self.old.datagrams counters.old rest) new }
         ensures whole { HasWhole pool.new head result }
-        ensures layout { HasLayout pool.old self.old (key_in head)
-            (arrived pool.old chain head.offset head.more) result pool.new self.new }
-        ensures cause { HasCause (cause_among (under (key_in head) (queues pool.new self.new))
+        ensures layout { HasLayout pool.old self.old.datagrams (key_in head)
+            (arrived pool.old chain head.offset head.more) result pool.new self.new.datagrams }
+        ensures cause { HasCause (cause_among (under (key_in head) (queues pool.new self.new.datagrams))
             (arrived pool.old chain head.offset head.more)) result }
         ensures ready { IsReady pool.new self.new }
-        ensures moves { Moves pool.old (chain ∷ held_all pool.old self.old) pool.new
-            (in_hand result ++ held_all pool.new self.new) }
+        ensures moves { Moves pool.old (chain ∷ held_all pool.old self.old.datagrams) pool.new
+            (in_hand result ++ held_all pool.new self.new.datagrams) }
     {
-        match self.find(pool, key_of(&head)) {
-            Some(holder) => self.lay_and_count(pool, counters, holder, Fragment { chain, head }),
+        match find(self.datagrams.as_slice(), &self.index, key_of(&head)) {
+            Some(i) => {
+                let arrival = lay_and_count(
+                    pool,
+                    &mut self.datagrams,
+                    counters,
+                    i,
+                    Fragment { chain, head },
+                );
+                let rest = self.datagrams.as_slice().len();
+                self.index.follow(rest, i);
+                arrival
+            }
             None => self.begin_with(pool, counters, chain, head),
         }
     }
@@ -156,26 +156,26 @@ impl Reass {
         mut chain: Chain,
     ) -> Option<Chain>
         requires ready { IsReady pool.old self.old }
-        requires owned { IsOwned pool.old (chain ∷ held_all pool.old self.old) }
+        requires owned { IsOwned pool.old (chain ∷ held_all pool.old self.old.datagrams) }
         requires headed { (chain_of pool.old chain).front.header ≡ true }
         requires len { IP_HEADER ≤ length (string (chain_of pool.old chain)) }
         ensures plain { is_some (entry_of (chain_of pool.old chain) 0).cluster ≡ false → (pool.new ≡ pool.old)
             × (self.new ≡ self.old) × (counters.new ≡ counters.old) × (result ≡ Some chain) }
         ensures tested { is_some (entry_of (chain_of pool.old chain) 0).cluster ≡ true →
             (rest : State) (held : Weight) →
-            IsAccounted pool.old (machine pool.old self.old counters.old rest)
+            IsAccounted pool.old (machine pool.old self.old.datagrams counters.old rest)
             (held ⊕ weight_at pool.old chain) →
-            IsPulled pool.old self.old counters.old (weight_at pool.old chain) (is_some result) pool.new
-            self.new counters.new
+            IsPulled pool.old self.old.datagrams counters.old (weight_at pool.old chain) (is_some result) pool.new
+            self.new.datagrams counters.new
             rest held }
-        ensures waits { WaitOrNone (queues pool.old self.old) (queues pool.new self.new) }
-        ensures none { is_some result ≡ false → queues pool.new self.new ≡ [] }
+        ensures waits { WaitOrNone (queues pool.old self.old.datagrams) (queues pool.new self.new.datagrams) }
+        ensures none { is_some result ≡ false → queues pool.new self.new.datagrams ≡ [] }
         ensures entries { IfSome result (λ d. (chain_of pool.new d).entries
             ≡ pulled_entries (chain_of pool.old chain)) }
         ensures headed { IfSome result (λ d. (chain_of pool.new d).front.header ≡ true) }
         ensures ready { IsReady pool.new self.new }
-        ensures moves { Moves pool.old (chain ∷ held_all pool.old self.old) pool.new
-            (option_to_list result ++ held_all pool.new self.new) }
+        ensures moves { Moves pool.old (chain ∷ held_all pool.old self.old.datagrams) pool.new
+            (option_to_list result ++ held_all pool.new self.new.datagrams) }
     {
         let first = pool.first(&chain);
         if pool.segment(&chain, first).cluster.is_none() {
@@ -212,30 +212,30 @@ impl Reass {
         head: IpHead,
     ) -> Arrival
         requires ready { IsReady pool.old self.old }
-        requires owned { IsOwned pool.old (chain ∷ held_all pool.old self.old) }
+        requires owned { IsOwned pool.old (chain ∷ held_all pool.old self.old.datagrams) }
         requires headed { (chain_of pool.old chain).front.header ≡ true }
         requires total { length (string (chain_of pool.old chain)) ≡ head.total }
         requires header { IP_HEADER ≤ head.total }
         requires offset { head.offset ≤ IP_MAX_PACKET }
         ensures step { (rest : State) (held : Weight) (new : State) →
-            IsAccounted pool.old (machine pool.old self.old counters.old rest)
+            IsAccounted pool.old (machine pool.old self.old.datagrams counters.old rest)
             (held ⊕ weight_at pool.old chain) →
-            GoesOn held pool.new result (machine pool.new self.new counters.new rest) new →
+            GoesOn held pool.new result (machine pool.new self.new.datagrams counters.new rest) new →
             ChainArrives held head (chain_of pool.old chain)
-            (machine pool.old self.old counters.old rest) new }
+            (machine pool.old self.old.datagrams counters.old rest) new }
         ensures accounts { (rest : State) (held : Weight) →
-            IsAccounted pool.old (machine pool.old self.old counters.old rest)
+            IsAccounted pool.old (machine pool.old self.old.datagrams counters.old rest)
             (held ⊕ weight_at pool.old chain) →
-            IsAccounted pool.new (machine pool.new self.new counters.new rest)
+            IsAccounted pool.new (machine pool.new self.new.datagrams counters.new rest)
             (held ⊕ weight_owned pool.new (in_hand result)) }
         ensures whole { HasWhole pool.new head result }
-        ensures layout { HasLayout pool.old self.old (key_in head)
-            (fragment_carried (chain_of pool.old chain) head) result pool.new self.new }
+        ensures layout { HasLayout pool.old self.old.datagrams (key_in head)
+            (fragment_carried (chain_of pool.old chain) head) result pool.new self.new.datagrams }
         ensures cause { HasCause (cause_of (chain_of pool.old chain) head
-            (under (key_in head) (queues pool.new self.new))) result }
+            (under (key_in head) (queues pool.new self.new.datagrams))) result }
         ensures ready { IsReady pool.new self.new }
-        ensures moves { Moves pool.old (chain ∷ held_all pool.old self.old) pool.new
-            (in_hand result ++ held_all pool.new self.new) }
+        ensures moves { Moves pool.old (chain ∷ held_all pool.old self.old.datagrams) pool.new
+            (in_hand result ++ held_all pool.new self.new.datagrams) }
     {
         let len = pool.len(&chain) - IP_HEADER;
         if is_bad(&head, len) {

@@ -17,8 +17,10 @@ pub struct Datagram {
     pub ticks: u8,
     /// Its fragments: a chain's tag is its offset times 2, plus 1 where more come after it.
     pub fragments: Train,
-    /// How many bytes they have together: this many lie below the end of the last exactly if none is missing.
-    pub bytes: u32,
+    /// How many bytes they have together, at most 65,515: this many lie below the end of the last exactly if none is
+    /// missing.
+    // of 16 bits, so that a row has 32 bytes
+    pub bytes: u16,
 }
 
 /// Frees a datagram's fragments and its key's mbuf.

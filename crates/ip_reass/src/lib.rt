@@ -13,12 +13,10 @@ mod lay;
 mod place;
 mod questions;
 mod queue;
-mod record;
 mod span;
 mod table;
 
 pub use arrival::Arrival;
 pub use datagram::Datagram;
 pub use questions::{HeldRange, UnfinishedDatagram};
-pub use record::Record;
 pub use table::Reass;

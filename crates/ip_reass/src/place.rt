@@ -1,5 +1,5 @@
-//! A place in a train, told by the chain in front of it: what stands after that one is found, taken out or put in with
-//! no further walk. The fragments of a datagram are a train, and so are the mbufs of the keys.
+//! A place among the fragments of a datagram, told by the fragment in front of it: what stands after that one is found,
+//! taken out or put in with no further walk.
 ghost use Rattle.std.specs.Prelude.{◌≡◌, ◌+◌, ◌<◌, ◌∷◌, true, length, insert, remove, MatchOption};
 ghost use Rattle.mbuf_chain.specs.Chain.{IsLive, chain_of, alone};
 ghost use Rattle.mbuf_chain.specs.Owners.{times, Moves};
@@ -8,7 +8,7 @@ ghost use Rattle.ip_reass.specs.Inside.Walks.{IsFront, after};
 
 use mbuf_chain::{Chain, Pool, QueuedPlace, Train};
 
-/// The place of the chain after this one: of the first, where none stands in front.
+/// The place of the fragment after this one: of the first, where none stands in front.
 pub(crate) fn next_after(
     pool: &Pool,
     train: &Train,
@@ -25,7 +25,7 @@ pub(crate) fn next_after(
     }
 }
 
-/// Takes the chain after this one out, with its tag.
+/// Takes the fragment after this one out: its chain and its tag.
 pub(crate) fn take_after(
     pool: &mut Pool,
     train: &mut Train,
@@ -55,7 +55,7 @@ pub(crate) fn take_after(
     }
 }
 
-/// Puts a chain in after this one, with a tag.
+/// Puts a fragment in after this one, with a tag.
 pub(crate) fn insert_after(
     pool: &mut Pool,
     train: &mut Train,

@@ -4,11 +4,11 @@ ghost use Rattle.ip_reass.specs.Fragments.{IsQueue, fragments, map_of};
 ghost use Rattle.ip_reass.specs.Questions.{nth_of, nth_range, nth_unfinished};
 ghost use Rattle.ip_reass.specs.Table.{IsTable, unfinished};
 
-use crate::record::record_of;
+use crate::datagram::Datagram;
 use crate::span::Tag;
 use crate::table::Reass;
 use flat_model::FragmentKey;
-use mbuf_chain::{Chain, Pool, Train};
+use mbuf_chain::{Pool, Train};
 
 /// A datagram some of whose fragments have come.
 #[derive(Clone, Copy, Debug, PartialEq, Eq)]
@@ -53,37 +53,52 @@ fn range_at(pool: &Pool, train: &Train, k: u32) -> Option<HeldRange>
     })
 }
 
+/// The datagram at a place.
+fn told_at(pool: &Pool, table: &[Datagram], i: usize) -> Option<UnfinishedDatagram>
+    requires { IsTable pool.now table.now }
+    ensures { result ≡ nth_unfinished i (unfinished pool.now table.now) }
+{
+    if i >= table.len() {
+        return None;
+    }
+    let datagram = &table[i];
+    let ranges = datagram.fragments.len();
+    Some(UnfinishedDatagram {
+        key: datagram.key,
+        ticks: datagram.ticks,
+        bytes: u32::from(datagram.bytes),
+        ranges,
+    })
+}
+
+/// A range of the datagram at a place.
+fn range_in(pool: &Pool, table: &[Datagram], i: usize, k: u32) -> Option<HeldRange>
+    requires { IsTable pool.now table.now }
+    ensures { result ≡ nth_range i k (unfinished pool.now table.now) }
+{
+    if i >= table.len() {
+        return None;
+    }
+    range_at(pool, &table[i].fragments, k)
+}
+
 impl Reass {
     /// The unfinished datagram at a place, in the order of their beginning: `None` exactly if no more than `i` are
-    /// unfinished. It takes a step for each datagram that began later.
+    /// unfinished.
     pub fn unfinished(&self, pool: &Pool, i: u32) -> Option<UnfinishedDatagram>
-        requires { IsTable pool.now self.now }
-        ensures { result ≡ nth_unfinished i (unfinished pool.now self.now) }
+        requires { IsTable pool.now self.now.datagrams }
+        ensures { result ≡ nth_unfinished i (unfinished pool.now self.now.datagrams) }
     {
-        let holder = Chain::from_number(self.holder_at(pool, i)?);
-        let record = record_of(pool, &holder);
-        let _ = holder.into_number();
-        Some(UnfinishedDatagram {
-            key: record.key,
-            ticks: record.ticks,
-            bytes: record.bytes,
-            ranges: record.fragments.len,
-        })
+        told_at(pool, self.datagrams.as_slice(), i as usize)
     }
 
     /// The `k`th range of bytes that the unfinished datagram at place `i` holds, in order of offset, from 0: `None`
     /// exactly if there is no such datagram, or if it has no more than `k` ranges. It takes a step for each range in
-    /// front, and for each datagram that began later.
+    /// front.
     pub fn range(&self, pool: &Pool, i: u32, k: u32) -> Option<HeldRange>
-        requires { IsTable pool.now self.now }
-        ensures { result ≡ nth_range i k (unfinished pool.now self.now) }
+        requires { IsTable pool.now self.now.datagrams }
+        ensures { result ≡ nth_range i k (unfinished pool.now self.now.datagrams) }
     {
-        let holder = Chain::from_number(self.holder_at(pool, i)?);
-        let record = record_of(pool, &holder);
-        let _ = holder.into_number();
-        let fragments = Train::from_ends(record.fragments);
-        let range = range_at(pool, &fragments, k);
-        let _ = fragments.into_ends();
-        range
+        range_in(pool, self.datagrams.as_slice(), i as usize, k)
     }
 }

@@ -220,10 +220,11 @@ fn whole(pool: &Pool, datagram: &Datagram) -> Laying
     if tag_of(pool, train, train.len() - 1).more() {
         return Laying::Waits;
     }
-    if datagram.bytes < end_of_last(pool, train) {
+    let bytes = u32::from(datagram.bytes);
+    if bytes < end_of_last(pool, train) {
         return Laying::Waits;
     }
-    Laying::Whole(datagram.bytes)
+    Laying::Whole(bytes)
 }
 
 /// Puts a fragment after all others, which end no later than it begins. Then it's the last, so that nothing has to be
@@ -245,15 +246,16 @@ fn append(pool: &mut Pool, datagram: &mut Datagram, chain: Chain, span: Span) ->
     let len = pool.len(&chain);
     let place = datagram.fragments.len();
     let tag = Tag::new(span);
-    datagram.bytes += len;
+    let bytes = u32::from(datagram.bytes) + len;
+    datagram.bytes = bytes as u16;
     datagram.fragments.insert(pool, place, chain, tag.bits);
     if span.more {
         return Laying::Waits;
     }
-    if datagram.bytes < span.offset + len {
+    if bytes < span.offset + len {
         return Laying::Waits;
     }
-    Laying::Whole(datagram.bytes)
+    Laying::Whole(bytes)
 }
 
 /// Lays a fragment at its place, to which the fragments are walked: what precedes it keeps its bytes, what follows
@@ -281,14 +283,15 @@ fn lay_between(pool: &mut Pool, datagram: &mut Datagram, chain: Chain, span: Spa
         return false;
     }
     let gone = lay_after(pool, train, chain, before, span);
-    datagram.bytes = datagram.bytes + (len - lost) - gone;
+    let bytes = u32::from(datagram.bytes) + (len - lost) - gone;
+    datagram.bytes = bytes as u16;
     true
 }
 
 /// Lays a fragment among those held. Nearly every fragment comes in order: it goes after the last, whose end is looked
 /// at first, and so it passes none of the others. If it goes elsewhere and bytes are missing below that end, the last
-/// one isn't read again. By that seven fragments in order took 7,603 instructions, stored and freed, where they had
-/// taken 8,774 with a walk to the place and on to the first gap; of a thousand each took 574 in place of 19,108.
+/// one isn't read again. Seven fragments in order take 7,603 instructions so, stored and freed, and took 8,774 with a
+/// walk to the place and on to the first gap; of a thousand each takes 574, and took 19,108.
 pub(crate) fn lay(pool: &mut Pool, datagram: &mut Datagram, chain: Chain, span: Span) -> Laying
     requires queue { IsQueue pool.old datagram.old.fragments }
     requires counted { datagram.old.bytes ≡ bytes_held (fragments pool.old datagram.old.fragments) }
@@ -308,7 +311,8 @@ pub(crate) fn lay(pool: &mut Pool, datagram: &mut Datagram, chain: Chain, span: 
     if !lay_between(pool, datagram, chain, span) {
         return Laying::Covered;
     }
-    if datagram.bytes < end {
+    let bytes = u32::from(datagram.bytes);
+    if bytes < end {
         return Laying::Waits;
     }
     whole(pool, datagram)

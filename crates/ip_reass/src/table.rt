@@ -1,280 +1,195 @@
 //! The table of unfinished datagrams.
-ghost use Rattle.std.specs.Prelude.{IfOk, ◌==◌, ◌≡◌, ◌+◌, ◌<◌, ◌≤◌, length, take, find, slice_get, MatchOption, None, Some, ◌++◌, ◌∷◌, [], true};
+ghost use Rattle.std.specs.Prelude.{IfOk, count_by, ◌==◌, ◌≡◌, ℕ, ◌+◌, ◌-◌, ◌≤◌, ◌<◌, ◌*◌, List, length, take, remove, find, sum_by, slice_get, slice_index_or, MatchOption, None, ◌++◌, ◌∷◌, [], vec_len, vec_capacity};
 ghost use Rattle.flat_model.specs.Machine.Count.{counts_more};
 ghost use Rattle.flat_model.specs.Machine.State.{State};
 ghost use Rattle.flat_model.specs.Machine.Step.{ticked};
 ghost use Rattle.flat_model.specs.declared.counter.Counter.TheVariants.{IpFragtimeout};
 ghost use Rattle.flat_model.specs.declared.counters.Counters.{Counters};
-ghost use Rattle.mbuf_chain.specs.Chain.{PoolView, IsLive, chain_of};
-ghost use Rattle.mbuf_chain.specs.Owners.{times, Moves};
+ghost use Rattle.mbuf_chain.specs.Chain.{PoolView};
+ghost use Rattle.mbuf_chain.specs.Owners.{IsOwned, Moves};
 ghost use Rattle.mbuf_chain.specs.Frames.{SameAt};
-ghost use Rattle.mbuf_chain.specs.Train.{IsHeld, numbers, queued_packets};
+ghost use Rattle.mbuf_chain.specs.Train.{IsHeld};
 ghost use Rattle.ip_reass.specs.Arrivals.{machine};
-ghost use Rattle.ip_reass.specs.Record.{IsRecord};
-ghost use Rattle.ip_reass.specs.Inside.Index.{bridged};
-ghost use Rattle.ip_reass.specs.Inside.Steps.{TakesEnded, Unlinks, place_of};
-ghost use Rattle.ip_reass.specs.Inside.Walks.{IsFront, after};
-ghost use Rattle.ip_reass.specs.Table.{AllRecords, AreHeld, IsLinked, IsReady, IsTable, aged, carried_in, datagram_at_holder, datagram_by, datagrams, datagrams_in, has_key, held_all, held_in, rows};
+ghost use Rattle.ip_reass.specs.Inside.Index.{buckets_of};
+ghost use Rattle.ip_reass.specs.Table.{aged, unfinished, has_key, new_datagram, holds, held, held_all, AllUnfinished, IsTable, IsReady};
 
-use crate::datagram::free_datagram;
+use crate::datagram::{Datagram, free_datagram};
 use crate::index::Index;
-use crate::place::{next_after, take_after};
-use crate::record::{Record, record_of, set_record};
 use flat_model::FragmentKey;
 use ledger::Waiting;
-use mbuf_chain::{Chain, Pool, QueuedPlace, Reclaim, Train};
+use mbuf_chain::{Chain, Pool, Reclaim, Train};
+use params::FRAGMENT_TICKS;
 use std::alloc::{AllocError, Global};
 use std::marker::Model;
 
-/// The unfinished datagrams: what 4.4BSD keeps in its fragment queue (TCP/IP Illustrated, volume 2, chapter 10). It
-/// must be spent, by `end`.
+/// The unfinished datagrams, in the order of their beginning: what 4.4BSD keeps in its fragment queue (TCP/IP
+/// Illustrated, volume 2, chapter 10). It must be spent, by `end`.
 ///
-/// What is known of a datagram stands in the mbuf of its key, as 4.4BSD's `struct ipq` does. So a datagram takes no
-/// memory but its mbufs. Those of the keys are linked, that of the datagram that began last in front.
-///
-/// A contract sees a list of them by the pool that they came from, in the order of their beginning, each with its key,
-/// the mbuf of its key, the ticks that it has left and its fragments. Each call is given that pool. No call but `boot`
-/// takes host memory.
+/// A contract sees the list of them, each with its key, the mbuf of its key, the ticks that it has left and its
+/// fragments, and for how many there are places. The chains stay in the pool that each call is given, which is the one
+/// that they came from. No call but `boot` takes host memory.
 pub struct Reass {
-    pub(crate) holders: Train,
+    pub(crate) datagrams: Vec<Datagram>,
     pub(crate) index: Index,
 }
 
 impl Model for Reass {
+    ghost use Rattle.std.specs.Prelude.{◌≤◌, vec_len, vec_capacity};
+    ghost use Rattle.params.specs.declared.TheConstants.{MAX_MBUFS};
     ghost use Rattle.ip_reass.specs.Table.{TableView};
 
     ghost Value = { TableView };
 
-    ghost view = { λ r. record { holders = r.holders; lasts = r.index } };
+    ghost use Rattle.ip_reass.specs.Inside.Index.{Indexes};
+
+    ghost view = { λ r. record { datagrams = r.datagrams.items; room = r.index.room } };
+
+    ghost invariant = { λ r. (vec_len r.datagrams ≤ MAX_MBUFS) × (r.index.room ≤ vec_capacity r.datagrams)
+        × Indexes r.index r.datagrams.items };
 }
 
 impl Reass {
     /// A table without datagrams. `AllocError` comes where the host has no memory for it, and nothing is left then.
     ///
-    /// After this as many unfinished datagrams can be held as the pool has mbufs for, with no more host memory. `mbufs`
-    /// is that of the pool: it tells how many buckets there are to find a datagram by.
+    /// After this half as many unfinished datagrams as the pool has mbufs can be held, with no more host memory. More
+    /// there can't be, since each holds two mbufs or more: one for its key, and those of its fragments. `mbufs` is that
+    /// of the pool.
     pub fn boot(alloc: Global, mbufs: u32) -> Result<Reass, AllocError>
-        ensures none { IfOk result (λ r. r.holders ≡ record { first = None; last = None; len = 0 }) }
-        ensures ready { IfOk result (λ r. (p : PoolView) → IsReady p r) }
+        ensures none { IfOk result (λ r. r.datagrams ≡ []) }
+        ensures room { IfOk result (λ r. mbufs ≤ 2 * r.room) }
     {
-        let index = Index::boot(alloc, mbufs)?;
-        Ok(Reass {
-            holders: Train::new(),
-            index,
-        })
+        let places = mbufs.div_ceil(2);
+        let datagrams = Vec::with_capacity(alloc, places as usize)?;
+        let Ok(index) = Index::boot(alloc, places) else {
+            datagrams.destroy_empty();
+            return Err(AllocError);
+        };
+        Ok(Reass { datagrams, index })
     }
 
     /// Frees all datagrams, with all their mbufs and references.
     pub fn end(self, pool: &mut Pool)
-        requires { IsTable pool.old self }
-        ensures { Moves pool.old (held_all pool.old self) pool.new [] }
+        requires { IsTable pool.old self.datagrams }
+        ensures { Moves pool.old (held_all pool.old self.datagrams) pool.new [] }
     {
-        let Reass { mut holders, index } = self;
+        let Reass {
+            mut datagrams,
+            index,
+        } = self;
         drop(index);
-        free_all(pool, &mut holders);
-        holders.end_empty();
+        free_beyond(pool, &mut datagrams, 0);
+        datagrams.destroy_empty();
     }
 
     /// How many datagrams are unfinished.
     pub fn len(&self) -> u32
-        ensures { result ≡ self.now.holders.len }
+        ensures { result ≡ length self.now.datagrams }
     {
-        self.holders.len()
+        self.datagrams.len() as u32
     }
 
     /// Whether no datagram is unfinished.
     pub fn is_empty(&self) -> bool
-        ensures { result ≡ (self.now.holders.len == 0) }
+        ensures { result ≡ (length self.now.datagrams == 0) }
     {
-        self.holders.is_empty()
+        self.datagrams.is_empty()
     }
 
     /// A tick of the slow timer, `ip_slowtimo` (volume 2, chapter 10): each datagram has one tick less, and those that
     /// have none left are freed with all their mbufs. The answer is how many were.
     pub fn tick(&mut self, pool: &mut Pool) -> u32
         requires { IsReady pool.old self.old }
-        ensures step { (rest : State) (c : Counters) → ticked (machine pool.old self.old c rest)
-            ≡ machine pool.new self.new (counts_more IpFragtimeout result c) rest }
-        ensures aged { datagrams pool.new self.new ≡ aged (datagrams pool.old self.old) }
-        ensures gone { result + length (aged (datagrams pool.old self.old)) ≡ length (datagrams pool.old self.old) }
+        ensures step { (rest : State) (c : Counters) → ticked (machine pool.old self.old.datagrams c rest)
+            ≡ machine pool.new self.new.datagrams (counts_more IpFragtimeout result c) rest }
+        ensures aged { self.new.datagrams ≡ aged self.old.datagrams }
+        ensures gone { result + length (aged self.old.datagrams) ≡ length self.old.datagrams }
         ensures ready { IsReady pool.new self.new }
-        ensures same { SameAt pool.old pool.new (carried_in pool.old (datagrams pool.new self.new)) }
-        ensures moves { Moves pool.old (held_all pool.old self.old) pool.new (held_all pool.new self.new) }
+        ensures same { SameAt pool.old pool.new (held_all pool.old self.new.datagrams) }
+        ensures moves { Moves pool.old (held_all pool.old self.old.datagrams) pool.new
+            (held_all pool.new self.new.datagrams) }
     {
-        let before = self.holders.len();
-        let mut rest = take_ended(pool, &mut self.holders);
-        self.index.clear();
-        'rest: while rest.len() > 0 {
-            let (holder, _) = rest.take(pool, 0);
-            let record = record_of(pool, &holder);
-            self.push(
-                pool,
-                holder,
-                Record {
-                    ticks: record.ticks - 1,
-                    ..record
-                },
-            );
-        }
-        rest.end_empty();
-        before - self.holders.len()
-    }
-
-    /// Puts the mbuf of a key in front of the others, with a record in place of that in it.
-    pub(crate) fn push(&mut self, pool: &mut Pool, holder: Chain, unfinished: Record)
-        requires linked { IsLinked pool.old self.old }
-        requires live { IsLive pool.old holder }
-        requires headed { (chain_of pool.old holder).front.header ≡ true }
-        requires holds { IsRecord (chain_of pool.old holder).entries }
-        requires apart { times holder (numbers pool.old self.old.holders) ≡ 0 }
-        ensures change { datagrams pool.new self.new
-            ≡ datagrams pool.old self.old ++ datagram_by holder unfinished ∷ [] }
-        ensures linked { IsLinked pool.new self.new }
-        ensures moves { Moves pool.old (holder ∷ numbers pool.old self.old.holders) pool.new
-            (numbers pool.new self.new.holders) }
-        ensures len { self.new.holders.len ≡ self.old.holders.len + 1 }
-    {
-        pool.laws();
-        let bucket = self.index.bucket(&unfinished.key);
-        let before = self.index.last(bucket);
-        set_record(
-            pool,
-            &holder,
-            Record {
-                before,
-                ..unfinished
-            },
-        );
-        let number = holder.into_number();
-        self.index.set_last(bucket, number + 1);
-        self.holders.insert(pool, 0, Chain::from_number(number), 0);
-    }
-
-    /// The number of the mbuf of a key, if a datagram goes by it. Those in the key's bucket are looked at, the one that
-    /// began last first.
-    pub(crate) fn find(&self, pool: &Pool, key: FragmentKey) -> Option<u32>
-        requires { IsReady pool.now self.now }
-        ensures { MatchOption result (find (has_key key) (datagrams pool.now self.now) ≡ None)
-            (λ n. let ds = datagrams pool.now self.now in
-            (place_of n ds < length ds) × (find (has_key key) ds ≡ slice_get ds (place_of n ds))
-            × (find (has_key key) (take (place_of n ds) ds) ≡ None)) }
-    {
-        let mut link = self.index.last(self.index.bucket(&key));
-        'bucket: while link > 0 {
-            let holder = Chain::from_number(link - 1);
-            let record = record_of(pool, &holder);
-            let number = holder.into_number();
-            if record.key == key {
-                return Some(number);
-            }
-            link = record.before;
-        }
-        None
-    }
-
-    /// Takes the mbuf of a key out of the table, with the record in it. It takes a step for each datagram that began
-    /// later.
-    pub(crate) fn unlink(&mut self, pool: &mut Pool, holder: u32) -> Chain
-        requires linked { IsLinked pool.old self.old }
-        requires place { 0 < times holder (numbers pool.old self.old.holders) }
-        ensures { Unlinks pool.old self.old holder result pool.new self.new }
-    {
-        pool.laws();
-        let chain = Chain::from_number(holder);
-        let record = record_of(pool, &chain);
-        let _ = chain.into_number();
-        let bucket = self.index.bucket(&record.key);
-        if self.index.last(bucket) == holder + 1 {
-            self.index.set_last(bucket, record.before);
-        }
-        let front = bridge(pool, &self.holders, holder, record.before);
-        let (chain, _) = take_after(pool, &mut self.holders, front);
-        chain
-    }
-
-    /// The mbuf of the key of the datagram at a place, in the order of their beginning: `None` if no more than `i` are
-    /// unfinished. It takes a step for each datagram that began later.
-    pub(crate) fn holder_at(&self, pool: &Pool, i: u32) -> Option<u32>
-        requires { IsHeld pool.now self.now.holders }
-        ensures { MatchOption result (length (datagrams pool.now self.now) ≤ i)
-            (λ n. (slice_get (datagrams pool.now self.now) i ≡ Some (datagram_at_holder pool.now n))
-            × (0 < times n (numbers pool.now self.now.holders))) }
-    {
-        if i >= self.holders.len() {
-            return None;
-        }
-        Some(self.holders.number(pool, self.holders.len() - 1 - i))
+        let before = self.datagrams.len();
+        let kept = age(self.datagrams.as_mut_slice());
+        free_beyond(pool, &mut self.datagrams, kept);
+        let table = self.datagrams.as_slice();
+        self.index.renew(table);
+        (before - kept) as u32
     }
 }
 
-/// Passes the mbufs in front of one. If one of them tells it, that one tells what it told from then on. The answer is
-/// the place in front of it.
-fn bridge(pool: &mut Pool, holders: &Train, holder: u32, before: u32) -> Option<QueuedPlace>
-    requires held { IsHeld pool.old holders.now }
-    requires records { AllRecords (queued_packets pool.old holders.now) }
-    requires place { 0 < times holder (numbers pool.old holders.now) }
-    ensures front { IsFront pool.new holders.now result }
-    ensures stands { slice_get (numbers pool.new holders.now) (after result) ≡ Some holder }
-    ensures numbers { numbers pool.new holders.now ≡ numbers pool.old holders.now }
-    ensures held { IsHeld pool.new holders.now }
-    ensures records { AllRecords (queued_packets pool.new holders.now) }
-    ensures datagrams { datagrams_in pool.new holders.now ≡ datagrams_in pool.old holders.now }
-    ensures rows { rows pool.new holders.now ≡ bridged (after result) holder before (rows pool.old holders.now) }
-    ensures entries { (chain_of pool.new holder).entries ≡ (chain_of pool.old holder).entries }
-    ensures moves { Moves pool.old (numbers pool.old holders.now) pool.new (numbers pool.new holders.now) }
+/// Frees all datagrams from a place on, with all their buffers.
+fn free_beyond(pool: &mut Pool, table: &mut Vec<Datagram>, kept: usize)
+    requires place { kept ≤ vec_len table.old }
+    requires table { IsTable pool.old table.old.items }
+    ensures items { table.new.items ≡ take kept table.old.items }
+    ensures len { vec_len table.new ≡ kept }
+    ensures capacity { vec_capacity table.new ≡ vec_capacity table.old }
+    ensures table { IsTable pool.new table.new.items }
+    ensures same { SameAt pool.old pool.new (held_all pool.old table.new.items) }
+    ensures moves { Moves pool.old (held_all pool.old table.old.items) pool.new
+        (held_all pool.new table.new.items) }
 {
-    pool.laws();
-    let mut front = None;
-    'younger: while let Some(at) = next_after(pool, holders, front) {
-        if at.number == holder {
-            return front;
+    'table: while table.len() > kept {
+        if let Some(datagram) = table.pop() {
+            free_datagram(pool, datagram);
         }
-        let younger = Chain::from_number(at.number);
-        let record = record_of(pool, &younger);
-        if record.before == holder + 1 {
-            set_record(pool, &younger, Record { before, ..record });
-        }
-        let _ = younger.into_number();
-        front = Some(at);
-    }
-    front
-}
-
-/// Frees all datagrams, with all their mbufs and references.
-fn free_all(pool: &mut Pool, holders: &mut Train)
-    requires held { IsHeld pool.old holders.old }
-    requires records { AllRecords (queued_packets pool.old holders.old) }
-    requires datagrams { AreHeld pool.old (datagrams_in pool.old holders.old) }
-    ensures none { holders.new.len ≡ 0 }
-    ensures held { IsHeld pool.new holders.new }
-    ensures moves { Moves pool.old (held_in pool.old (datagrams_in pool.old holders.old)) pool.new [] }
-{
-    'datagrams: while holders.len() > 0 {
-        let (holder, _) = holders.take(pool, 0);
-        let datagram = record_of(pool, &holder).datagram(holder);
-        free_datagram(pool, datagram);
     }
 }
 
-/// Takes all mbufs of keys out, and frees the datagrams that have one tick left. The answer is the mbufs of the others,
-/// that of the datagram that began first in front.
-fn take_ended(pool: &mut Pool, holders: &mut Train) -> Train
-    requires held { IsHeld pool.old holders.old }
-    requires records { AllRecords (queued_packets pool.old holders.old) }
-    requires datagrams { AreHeld pool.old (datagrams_in pool.old holders.old) }
-    ensures { TakesEnded pool.old holders.old result pool.new holders.new }
+/// Takes a tick from each, and puts those that have none left after the others. The answer is how many go on.
+fn age(table: &mut [Datagram]) -> usize
+    ensures within { result ≤ length table.new }
+    ensures kept { take result table.new ≡ aged table.old }
+    ensures holds { (p : PoolView) (k : ℕ) → sum_by (holds p k) table.new ≡ sum_by (holds p k) table.old }
+    ensures each { (p : PoolView) → AllUnfinished p table.old → AllUnfinished p table.new }
 {
-    let mut rest = Train::new();
-    'datagrams: while holders.len() > 0 {
-        let (holder, _) = holders.take(pool, 0);
-        let record = record_of(pool, &holder);
-        if record.ticks > 1 {
-            rest.insert(pool, 0, holder, 0);
-        } else {
-            free_datagram(pool, record.datagram(holder));
+    let mut kept = 0;
+    'table: for i in 0..table.len() {
+        if table[i].ticks > 1 {
+            let datagram = &mut table[i];
+            datagram.ticks -= 1;
+            table.swap(kept, i);
+            kept += 1;
         }
     }
-    rest
+    kept
+}
+
+/// The place of the datagram with a key, if there is one, by the rows of the key's bucket, the last first.
+pub(crate) fn find(table: &[Datagram], index: &Index, key: FragmentKey) -> Option<usize>
+    requires some { 0 < index.now.count }
+    requires indexed { index.now.buckets ≡ buckets_of index.now.count table.now }
+    requires once { count_by (has_key key) table.now ≤ 1 }
+    ensures { MatchOption result (find (has_key key) table.now ≡ None)
+        (λ i. (i < length table.now) × (find (has_key key) table.now ≡ slice_get table.now i)
+        × (find (has_key key) (take i table.now) ≡ None)) }
+{
+    let bucket = index.bucket(&key);
+    let mut rows = index.last(bucket);
+    'rows: while rows > 0 {
+        let place = rows - 1;
+        if table[place as usize].key == key {
+            return Some(place as usize);
+        }
+        rows = index.before(place);
+    }
+    None
+}
+
+/// A new datagram after the others, whose key has that mbuf.
+pub(crate) fn begin(table: &mut Vec<Datagram>, key: FragmentKey, holder: Chain)
+    requires { vec_len table.old < vec_capacity table.old }
+    ensures items { table.new.items ≡ table.old.items ++ new_datagram key holder ∷ [] }
+    ensures len { vec_len table.new ≡ vec_len table.old + 1 }
+    ensures capacity { vec_capacity table.new ≡ vec_capacity table.old }
+{
+    table.push_reserved(Datagram {
+        key,
+        holder,
+        ticks: FRAGMENT_TICKS as u8,
+        fragments: Train::new(),
+        bytes: 0,
+    });
 }
 
 impl Reclaim for Reass {
@@ -283,23 +198,23 @@ impl Reclaim for Reass {
 
     ghost is_ready = { λ p r. IsReady p r };
 
-    ghost owned = { λ p r. held_all p r };
+    ghost owned = { λ p r. held_all p r.datagrams };
 
-    ghost datagrams = { λ r. r.holders.len };
+    ghost datagrams = { λ r. length r.datagrams };
 
-    ghost is_owner = { λ p r ready. ready.table.owned };
+    ghost is_owner = { λ p r h. h.table.owned };
 
-    ghost owns_nothing = { λ p r ready none. none_held p r none };
+    ghost owns_nothing = { λ p r h e. none_held p r.datagrams e };
 
-    ghost owned_same = { λ p q r same. held_all_same p q r same };
+    ghost owned_same = { λ p q r h. held_all_same p q r.datagrams h };
 
-    ghost ready_same = { λ p q r same ready. ready_same p q r same ready };
+    ghost ready_same = { λ p q r h is. ready_same p q r h is };
 
     fn reclaim(&mut self, pool: &mut Pool) -> u32 {
-        let datagrams = self.holders.len();
-        free_all(pool, &mut self.holders);
+        let before = self.len();
+        free_beyond(pool, &mut self.datagrams, 0);
         self.index.clear();
-        datagrams
+        before
     }
 }
 
@@ -307,15 +222,15 @@ impl Waiting for Reass {
     ghost use Rattle.ip_reass.specs.Table.{unfinished};
     ghost use Rattle.ip_reass.specs.Same.{length-unfinished, table_weighs, unfinished_same};
 
-    ghost unfinished = { λ p r. unfinished p r };
+    ghost unfinished = { λ p r. unfinished p r.datagrams };
 
     fn count(&self) -> u32 {
         Reass::len(self)
     }
 
-    ghost counts = { λ p r ready. length-unfinished p r ready };
+    ghost counts = { λ p r h. length-unfinished p r.datagrams };
 
-    ghost weighs = { λ p r ready. table_weighs p r ready.table.each };
+    ghost weighs = { λ p r h. table_weighs p r.datagrams h.table.each };
 
-    ghost unfinished_same = { λ p q r same. unfinished_same p q r same };
+    ghost unfinished_same = { λ p q r h. unfinished_same p q r.datagrams h };
 }

@@ -12,7 +12,7 @@ use Rattle.mbuf_chain.specs.Chain.{ChainView, PoolView, IsLive, chain_of, with_c
 use Rattle.mbuf_chain.specs.Owners.{times, IsOwned, Moves}
 use Rattle.mbuf_chain.specs.Steps.{placed}
 use Rattle.mbuf_chain.specs.Frames.{SameAt, IsBounded}
-use Rattle.mbuf_chain.specs.Train.{TrainView, QueuedPacket, no_queued_packet, follow, numbers, queued_packet_of, queued_packets, queued_packet_at, last_number, IsHeld, Inserts, Takes, ends_of, train_of}
+use Rattle.mbuf_chain.specs.Train.{TrainView, QueuedPacket, no_queued_packet, follow, numbers, queued_packet_of, queued_packets, queued_packet_at, last_number, IsHeld, Inserts, Takes}
 pub use Rattle.mbuf_chain.specs.Kept.{numbers_same, queued_packets_same, held_same, none_left}
 use Rattle.mbuf_chain.specs.Kept.{queued_packets_of_same}
 use Rattle.mbuf_chain.proofs.Laws.Owners.{times_same, times_other, times-append, owned_more, owned_after, live_owned, apart_first, same_without, same_with, same_adds, same_after, apart_new, moves_none, then_adds, then_without, shown_with, kept_with, live_with, moves_within, moves_trans, moves_reordered, live_at_most}
@@ -117,28 +117,6 @@ freed_packet {p} {q} {r} {t} {u} {c} held now m is_r =
 pub held_none : (p : PoolView) (t : TrainView) → t ≡ record { first = None; last = None; len = 0 } → IsHeld p t
 held_none p t e =
     subst (IsHeld p) (sym e) (held_of p (record { first = None; last = None; len = 0 }) [] (record { run = refl; whole = refl; last = refl; owned = λ k. omega arith; headed = λ k h. absurd (omega arith) }))
-
--- a train is that of its ends
-last_there : (x : ℕ) (xs : List ℕ) → (y : ℕ) × (last_number (x ∷ xs) ≡ Some y)
-last_there x [] = (x, refl)
-last_there x (y ∷ ys) = last_there y ys
-
-pub ends_back : (p : PoolView) (t : TrainView) → IsHeld p t → train_of (ends_of t) ≡ t
-ends_back p t h = go t.len t.first refl refl
-  where
-    some : (c : ℕ) (xs : List ℕ) (n : ℕ) → t.first ≡ Some c → t.len ≡ suc n → numbers p t ≡ c ∷ xs → train_of (ends_of t) ≡ t
-    some c xs n first len is =
-        let y = last_there c xs in
-        let last : t.last ≡ Some y.0 = h.last ∙ ap last_number is ∙ y.1 in
-        rw (first, last, len, eqb-suc-zero n) refl
-
-    go : (n : ℕ) (at : Option ℕ) → t.len ≡ n → t.first ≡ at → train_of (ends_of t) ≡ t
-    go zero None len first =
-        let last : t.last ≡ None = h.last ∙ ap last_number (none_left p t len) in
-        rw (first, last, len) refl
-    go zero (Some c) len first = absurd (omega (arith, ap length (sym (λ i. follow p (suc (len i)) (first i)) ∙ h.ends ∙ none_left p t len)))
-    go (suc n) None len first = absurd (omega (arith, len, h.whole, ap length (λ i. follow p (len i) (first i))))
-    go (suc n) (Some c) len first = some c (follow p n (chain_of p c).front.after) n first len (λ i. follow p (len i) (first i))
 
 pub length-queued_packets : (p : PoolView) (t : TrainView) → IsHeld p t → length (queued_packets p t) ≡ t.len
 length-queued_packets p t h = length-map (numbers p t) (queued_packet_of p) ∙ h.whole

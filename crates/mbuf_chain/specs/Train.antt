@@ -1,8 +1,7 @@
 -- Trains: chains linked one after another through their first mbufs, each with a tag (TCP/IP Illustrated, volume 2,
 -- chapter 2: mbuf chains linked by m_nextpkt; the tag is this project's own).
-use Rattle.std.specs.Prelude.{◌≡◌, ℕ, zero, suc, ◌+◌, ◌<◌, true, List, [], ◌∷◌, length, map, insert, remove, slice_get, slice_index_or, Option, None, Some, unwrap_or, ◌==◌, if◌then◌else◌}
+use Rattle.std.specs.Prelude.{◌≡◌, ℕ, zero, suc, ◌+◌, ◌<◌, true, List, [], ◌∷◌, length, map, insert, remove, slice_get, slice_index_or, Option, None, Some}
 use Rattle.mbuf_chain.specs.Chain.{Entry, PoolView, chain_of, alone}
-use Rattle.mbuf_chain.specs.declared.ends.Ends.{Ends}
 use Rattle.mbuf_chain.specs.declared.queued_place.QueuedPlace.{QueuedPlace}
 use Rattle.mbuf_chain.specs.Owners.{times, IsOwned, Moves}
 
@@ -11,13 +10,6 @@ pub record TrainView : Type 0 where
   pub first : Option ℕ
   pub last : Option ℕ
   pub len : ℕ
-
--- the ends of a train, as numbers, and the train that has them
-abbrev pub ends_of : TrainView → Ends
-ends_of t = record { first = unwrap_or t.first 0; last = unwrap_or t.last 0; len = t.len }
-
-abbrev pub train_of : Ends → TrainView
-train_of e = record { first = if e.len == 0 then None else Some e.first; last = if e.len == 0 then None else Some e.last; len = e.len }
 
 -- a chain of a train: its number, what it shows, and its tag
 pub record QueuedPacket : Type 0 where

@@ -18,19 +18,17 @@ impl Model for Chain {
 }
 
 impl Chain {
-    /// The chain's number, for one who keeps numbers in place of chains, as a train does: `from_number` gives the
-    /// chain back.
-    pub fn into_number(self) -> u32
+    /// The chain's number, for a train, which keeps numbers in place of chains: `from_number` gives the chain
+    /// back. Both stay in this crate, so that nobody else makes a chain out of a number.
+    pub(crate) fn into_number(self) -> u32
         ensures { result ≡ self }
     {
         let Chain { first } = self;
         first
     }
 
-    /// The chain with that number. Any number is taken, but the calls of a pool ask that a chain's number is that of
-    /// one of its chains, so a chain out of another number can't be used. Whoever makes a chain out of a number sees
-    /// to it that each chain is spent once.
-    pub fn from_number(first: u32) -> Chain
+    /// The chain with that number.
+    pub(crate) fn from_number(first: u32) -> Chain
         ensures { result ≡ first }
     {
         Chain { first }

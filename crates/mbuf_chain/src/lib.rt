@@ -5,7 +5,6 @@ mod cells;
 mod chain;
 mod data;
 mod edit;
-mod ends;
 mod links;
 mod make;
 mod pieces;
@@ -17,7 +16,6 @@ mod train;
 mod usage;
 
 pub use chain::Chain;
-pub use ends::Ends;
 pub use pieces::{Entries, Pieces};
 pub use place::{Place, Segment};
 pub use pool::Pool;

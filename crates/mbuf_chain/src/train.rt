@@ -6,10 +6,9 @@ ghost use Rattle.mbuf_chain.specs.Owners.{times, Moves};
 ghost use Rattle.mbuf_chain.specs.Steps.{placed};
 ghost use Rattle.mbuf_chain.specs.Frames.{IsBounded};
 ghost use Rattle.mbuf_chain.specs.Pieces.{pieces_of};
-ghost use Rattle.mbuf_chain.specs.Train.{queued_packets, queued_packet_at, numbers, IsQueuedPlace, IsHeld, Inserts, Takes, ends_of, train_of};
+ghost use Rattle.mbuf_chain.specs.Train.{queued_packets, queued_packet_at, numbers, IsQueuedPlace, IsHeld, Inserts, Takes};
 
 use crate::chain::Chain;
-use crate::ends::Ends;
 use crate::pieces::Pieces;
 use crate::pool::Pool;
 use crate::queued_place::QueuedPlace;
@@ -20,23 +19,25 @@ use std::marker::Model;
 /// `end_empty` where no chain is left.
 ///
 /// The chains stay in the pool that each call is given, which is the one that they came from.
-// As few bytes as hold it, since each socket and each unfinished datagram has one.
+// As few bytes as hold it, since each socket and each unfinished datagram has one: its two ends are numbers, which say
+// nothing while there is no chain.
 pub struct Train {
-    /// The numbers of the first chain and of the last, each 0 where there is no chain.
     first: u32,
     last: u32,
     len: u32,
 }
 
 impl Model for Train {
-    ghost use Rattle.std.specs.Prelude.{◌≡◌};
-    ghost use Rattle.mbuf_chain.specs.Train.{TrainView, train_of};
+    ghost use Rattle.std.specs.Prelude.{◌==◌, None, Some, if◌then◌else◌};
+    ghost use Rattle.mbuf_chain.specs.Train.{TrainView};
 
     ghost Value = { TrainView };
 
-    ghost view = { λ t. train_of (record { first = t.first; last = t.last; len = t.len }) };
-
-    ghost invariant = { λ t. t.len ≡ 0 → (t.first ≡ 0) × (t.last ≡ 0) };
+    ghost view = { λ t. record {
+      first = if t.len == 0 then None else Some t.first;
+      last = if t.len == 0 then None else Some t.last;
+      len = t.len;
+    } };
 }
 
 impl Train {
@@ -273,31 +274,6 @@ impl Train {
         } = self;
     }
 
-    /// The ends of the train, by which `from_ends` gives it back. Its chains stay linked, in the pool.
-    // Inlined, with `from_ends`, so that one who keeps the ends takes these few steps alone.
-    #[inline(always)]
-    pub fn into_ends(self) -> Ends
-        ensures { result ≡ ends_of self }
-    {
-        let Train { first, last, len } = self;
-        Ends { first, last, len }
-    }
-
-    /// The train with these ends. Any ends are taken, but the other calls ask that the pool holds the train, so one
-    /// out of other ends than a train had can't be used. Whoever makes a train out of its ends sees to it that each
-    /// train is spent once.
-    #[inline(always)]
-    pub fn from_ends(ends: Ends) -> Train
-        ensures { result ≡ train_of ends }
-    {
-        let Ends { first, last, len } = ends;
-        if len == 0 {
-            Train::new()
-        } else {
-            Train { first, last, len }
-        }
-    }
-
     /// Frees the chains, with all their mbufs and references.
     pub fn free(mut self, pool: &mut Pool)
         requires { IsHeld pool.old self }
@@ -373,9 +349,6 @@ impl Train {
         let tag = tag_of(pool, number);
         place(pool, number, None, 0);
         self.first = after.unwrap_or(0);
-        if self.len == 1 {
-            self.last = 0;
-        }
         self.len -= 1;
         (number, tag)
     }
@@ -404,7 +377,7 @@ impl Train {
 
     /// The number of the chain at a place, which must be below the number of chains. Only the last is known at once; to
     /// another place this takes a step for each chain in front.
-    pub fn number(&self, pool: &Pool, i: u32) -> u32
+    fn number(&self, pool: &Pool, i: u32) -> u32
         requires place { i < self.now.len }
         requires held { IsHeld pool.now self.now }
         ensures { slice_get (numbers pool.now self.now) i ≡ Some result }

@@ -57,21 +57,21 @@ pub record IsChanged (p : PoolView) (ds : TableView) (s : SocksView) (c : ℕ) (
   pub live : IsLive q c
   pub beside : Aside p ds s (c ∷ []) q (c ∷ [])
 
-pub changed : {p q : PoolView} {ds : TableView} {s : SocksView} (c : ℕ) (es : List Entry) → IsOwned p (c ∷ (held_all p ds ++ queued_chains p s.queues)) → IsReady p ds → IsSocks p s
+pub changed : {p q : PoolView} {ds : TableView} {s : SocksView} (c : ℕ) (es : List Entry) → IsOwned p (c ∷ (held_all p ds.datagrams ++ queued_chains p s.queues)) → IsReady p ds → IsSocks p s
     → q ≡ with_chain p c (record (chain_of p c) { entries = es }) → IsChanged p ds s c q es
 changed {p} {q} {ds} {s} c es owned table socks e =
     let v : ChainView = record (chain_of p c) { entries = es } in
     let shown : chain_of q c ≡ v = shown_with p q c v e in
-    let beside = aside (c ∷ []) (c ∷ []) owned table socks (moves_with p q c v (live_first p c (held_all p ds ++ queued_chains p s.queues) owned) e) in
+    let beside = aside (c ∷ []) (c ∷ []) owned table socks (moves_with p q c v (live_first p c (held_all p ds.datagrams ++ queued_chains p s.queues) owned) e) in
     record {
       entries = ap (λ (w : ChainView). w.entries) shown;
       header = ap (λ (w : ChainView). w.front.header) shown;
-      live = live_first q c (held_all q ds ++ queued_chains q s.queues) beside.owned;
+      live = live_first q c (held_all q ds.datagrams ++ queued_chains q s.queues) beside.owned;
       beside = beside;
     }
 
-pub freed : {p q : PoolView} {ds : TableView} {s : SocksView} (c : ℕ) → IsOwned p (c ∷ (held_all p ds ++ queued_chains p s.queues)) → IsReady p ds → IsSocks p s → q ≡ without p c → Aside p ds s (c ∷ []) q []
-freed {p} {q} {ds} {s} c owned table socks e = aside (c ∷ []) [] owned table socks (moves_without p q c (live_first p c (held_all p ds ++ queued_chains p s.queues) owned) e)
+pub freed : {p q : PoolView} {ds : TableView} {s : SocksView} (c : ℕ) → IsOwned p (c ∷ (held_all p ds.datagrams ++ queued_chains p s.queues)) → IsReady p ds → IsSocks p s → q ≡ without p c → Aside p ds s (c ∷ []) q []
+freed {p} {q} {ds} {s} c owned table socks e = aside (c ∷ []) [] owned table socks (moves_without p q c (live_first p c (held_all p ds.datagrams ++ queued_chains p s.queues) owned) e)
 
 -- ---- a fragment
 
@@ -87,21 +87,21 @@ from_none {p} {t} held a = subst (λ (w : Weight). IsAccounted p t w) (both-noth
 
 -- what a call on the unfinished datagrams says of a fragment of chain c, where it has `hand` then
 pub record Arrived (p : PoolView) (ds : TableView) (a : Counters) (c : ℕ) (h : IpHead) (q : PoolView) (es : TableView) (b : Counters) (hand : List ℕ) (Then : Weight → State → State → Type 0) : Type 0 where
-  pub step : (rest : State) (held : Weight) (origin : Origin) (new : State) → AreDistinct p ds → CameBy origin (chain_of p c) → IsAccounted p (reass.machine p ds a rest) (held ⊕ weight_at p c)
-      → Then held (reass.machine q es b rest) new → FragmentArrives exact_ledger origin held (flat_head h) (carried_at p c) (reass.machine p ds a rest) new
-  pub accounts : (rest : State) (held : Weight) → IsAccounted p (reass.machine p ds a rest) (held ⊕ weight_at p c) → IsAccounted q (reass.machine q es b rest) (held ⊕ weight_owned q hand)
-  pub moves : Moves p (c ∷ held_all p ds) q (hand ++ held_all q es)
+  pub step : (rest : State) (held : Weight) (origin : Origin) (new : State) → AreDistinct p ds.datagrams → CameBy origin (chain_of p c) → IsAccounted p (reass.machine p ds.datagrams a rest) (held ⊕ weight_at p c)
+      → Then held (reass.machine q es.datagrams b rest) new → FragmentArrives exact_ledger origin held (flat_head h) (carried_at p c) (reass.machine p ds.datagrams a rest) new
+  pub accounts : (rest : State) (held : Weight) → IsAccounted p (reass.machine p ds.datagrams a rest) (held ⊕ weight_at p c) → IsAccounted q (reass.machine q es.datagrams b rest) (held ⊕ weight_owned q hand)
+  pub moves : Moves p (c ∷ held_all p ds.datagrams) q (hand ++ held_all q es.datagrams)
 
 -- it waits, or ended
-pub waits : {p q : PoolView} {ds es : TableView} {s : SocksView} {a b : Counters} {c : ℕ} {h : IpHead} → IsOwned p (c ∷ (held_all p ds ++ queued_chains p s.queues)) → IsSocks p s
+pub waits : {p q : PoolView} {ds es : TableView} {s : SocksView} {a b : Counters} {c : ℕ} {h : IpHead} → IsOwned p (c ∷ (held_all p ds.datagrams ++ queued_chains p s.queues)) → IsSocks p s
     → Arrived p ds a c h q es b [] (λ held now new. new ≡ now)
-    → IsTaken (seen p s (unfinished p ds) (held_all p ds) a) c h (seen q s (unfinished q es) (held_all q es) b)
+    → IsTaken (seen p s (unfinished p ds.datagrams) (held_all p ds.datagrams) a) c h (seen q s (unfinished q es.datagrams) (held_all q es.datagrams) b)
 waits {p} {q} {ds} {es} {s} {a} {b} {c} {h} owned socks is =
-    let beside : BesideSocks p s (c ∷ held_all p ds) q [] (held_all q es) = beside_socks (c ∷ held_all p ds) [] (held_all q es) owned socks is.moves in
-    let now : (rest : State) → with_net q s (unfinished q es) b rest ≡ reass.machine q es b (with_sockets p s rest) =
-    λ rest i. machine (record rest { unfinished = unfinished q es; counters = b }) (λ fd. beside.socks.shows fd i) s.pcbs in
+    let beside : BesideSocks p s (c ∷ held_all p ds.datagrams) q [] (held_all q es.datagrams) = beside_socks (c ∷ held_all p ds.datagrams) [] (held_all q es.datagrams) owned socks is.moves in
+    let now : (rest : State) → with_net q s (unfinished q es.datagrams) b rest ≡ reass.machine q es.datagrams b (with_sockets p s rest) =
+    λ rest i. machine (record rest { unfinished = unfinished q es.datagrams; counters = b }) (λ fd. beside.socks.shows fd i) s.pcbs in
     record {
-      step = λ rest held origin apart came acc. is.step (with_sockets p s rest) held origin (with_net q s (unfinished q es) b rest) apart came acc (now rest);
+      step = λ rest held origin apart came acc. is.step (with_sockets p s rest) held origin (with_net q s (unfinished q es.datagrams) b rest) apart came acc (now rest);
       spent = record {
         accounts = λ rest held acc. subst (λ (t : State). IsAccounted q t held) (sym (now rest)) (from_none held (is.accounts (with_sockets p s rest) held acc));
         ready = beside.socks.ready;
@@ -111,15 +111,15 @@ waits {p} {q} {ds} {es} {s} {a} {b} {c} {h} owned socks is =
     }
 
 -- its datagram is whole, and went to the sockets
-pub completes : {p q : PoolView} {ds es : TableView} {s : SocksView} {a b : Counters} {c d : ℕ} {h : IpHead} {u : NetView} (g : IpHead) → IsOwned p (c ∷ (held_all p ds ++ queued_chains p s.queues)) → IsSocks p s
+pub completes : {p q : PoolView} {ds es : TableView} {s : SocksView} {a b : Counters} {c d : ℕ} {h : IpHead} {u : NetView} (g : IpHead) → IsOwned p (c ∷ (held_all p ds.datagrams ++ queued_chains p s.queues)) → IsSocks p s
     → Arrived p ds a c h q es b (d ∷ []) (λ held now new. WholeArrives exact_ledger held g.src g.dst g.proto (item_at q d) now new)
-    → IsInput (seen q s (unfinished q es) (held_all q es) b) d g.src g.dst g.proto u
-    → IsTaken (seen p s (unfinished p ds) (held_all p ds) a) c h u
+    → IsInput (seen q s (unfinished q es.datagrams) (held_all q es.datagrams) b) d g.src g.dst g.proto u
+    → IsTaken (seen p s (unfinished p ds.datagrams) (held_all p ds.datagrams) a) c h u
 completes {p} {q} {ds} {es} {s} {a} {b} {c} {d} {h} {u} g owned socks is input =
-    let beside : BesideSocks p s (c ∷ held_all p ds) q (d ∷ []) (held_all q es) = beside_socks (c ∷ held_all p ds) (d ∷ []) (held_all q es) owned socks is.moves in
-    let now : (rest : State) → with_net q s (unfinished q es) b rest ≡ reass.machine q es b (with_sockets p s rest) =
-    λ rest i. machine (record rest { unfinished = unfinished q es; counters = b }) (λ fd. beside.socks.shows fd i) s.pcbs in
-    let mid : (rest : State) (held : Weight) → IsAccounted p (with_net p s (unfinished p ds) a rest) (held ⊕ weight_at p c) → IsAccounted q (with_net q s (unfinished q es) b rest) (held ⊕ weight_at q d) =
+    let beside : BesideSocks p s (c ∷ held_all p ds.datagrams) q (d ∷ []) (held_all q es.datagrams) = beside_socks (c ∷ held_all p ds.datagrams) (d ∷ []) (held_all q es.datagrams) owned socks is.moves in
+    let now : (rest : State) → with_net q s (unfinished q es.datagrams) b rest ≡ reass.machine q es.datagrams b (with_sockets p s rest) =
+    λ rest i. machine (record rest { unfinished = unfinished q es.datagrams; counters = b }) (λ fd. beside.socks.shows fd i) s.pcbs in
+    let mid : (rest : State) (held : Weight) → IsAccounted p (with_net p s (unfinished p ds.datagrams) a rest) (held ⊕ weight_at p c) → IsAccounted q (with_net q s (unfinished q es.datagrams) b rest) (held ⊕ weight_at q d) =
     λ rest held acc. from_one held d (subst (λ (t : State). IsAccounted q t (held ⊕ weight_owned q (d ∷ []))) (sym (now rest)) (is.accounts (with_sockets p s rest) held acc)) in
     record {
       step = λ rest held origin apart came acc.
@@ -168,17 +168,17 @@ headed bytes h none says =
 -- ---- a packet
 
 -- it ends: for a fault of its header, or since it's for another machine
-pub ends_here : {p q : PoolView} {ds : TableView} {s : SocksView} {a b e : Counters} {c : ℕ} (why : Why) → IsReady p ds → IsSocks p s → IsOwned p (c ∷ (held_all p ds ++ queued_chains p s.queues)) → q ≡ without p c
+pub ends_here : {p q : PoolView} {ds : TableView} {s : SocksView} {a b e : Counters} {c : ℕ} (why : Why) → IsReady p ds → IsSocks p s → IsOwned p (c ∷ (held_all p ds.datagrams ++ queued_chains p s.queues)) → q ≡ without p c
     → b ≡ counts_more IpTotal 1 a → e ≡ counted why b
-    → ((rest : State) (held : Weight) (origin : Origin) → Arrives exact_ledger origin held (item_at p c) (with_net p s (unfinished p ds) a rest) (ends why (counts_packet (with_net p s (unfinished p ds) a rest))))
-    → IsArrived (seen p s (unfinished p ds) (held_all p ds) a) c (seen q s (unfinished q ds) (held_all q ds) e)
+    → ((rest : State) (held : Weight) (origin : Origin) → Arrives exact_ledger origin held (item_at p c) (with_net p s (unfinished p ds.datagrams) a rest) (ends why (counts_packet (with_net p s (unfinished p ds.datagrams) a rest))))
+    → IsArrived (seen p s (unfinished p ds.datagrams) (held_all p ds.datagrams) a) c (seen q s (unfinished q ds.datagrams) (held_all q ds.datagrams) e)
 ends_here {p} {q} {ds} {s} {a} {b} {e} {c} why table socks owned gone is_b is_e ended =
     let beside : Aside p ds s (c ∷ []) q [] = freed c owned table socks gone in
     let count : e ≡ counted why (counts_more IpTotal 1 a) = is_e ∙ ap (counted why) is_b in
-    let now : (rest : State) → with_net q s (unfinished q ds) e rest ≡ ends why (counts_packet (with_net p s (unfinished p ds) a rest)) =
-    λ rest. beside.shows e rest ∙ (λ i. with_net p s (unfinished p ds) (count i) rest) in
+    let now : (rest : State) → with_net q s (unfinished q ds.datagrams) e rest ≡ ends why (counts_packet (with_net p s (unfinished p ds.datagrams) a rest)) =
+    λ rest. beside.shows e rest ∙ (λ i. with_net p s (unfinished p ds.datagrams) (count i) rest) in
     record {
-      step = λ rest held origin apart came acc. subst (λ (t : State). Arrives exact_ledger origin held (item_at p c) (with_net p s (unfinished p ds) a rest) t) (sym (now rest)) (ended rest held origin);
+      step = λ rest held origin apart came acc. subst (λ (t : State). Arrives exact_ledger origin held (item_at p c) (with_net p s (unfinished p ds.datagrams) a rest) t) (sym (now rest)) (ended rest held origin);
       spent = record {
         accounts = λ rest held acc. from_none held (beside.accounts a e rest held (with_one held c acc));
         ready = beside.socks.ready;
@@ -236,11 +236,11 @@ came_cut (By_wire received) n v w e came = record {
 
 pub record IsForUs (p : PoolView) (ds : TableView) (s : SocksView) (a : Counters) (c : ℕ) (h : IpHead) (q : PoolView) (b : Counters) : Type 0 where
   pub head : IsHeaded (string (chain_of p c)) h
-  pub ours : (rest : State) → is_for_us (with_net p s (unfinished p ds) a rest).config h.dst ≡ true
+  pub ours : (rest : State) → is_for_us (with_net p s (unfinished p ds.datagrams) a rest).config h.dst ≡ true
   pub counts : b ≡ counts_more IpTotal 1 a
   pub cut : IsChanged p ds s c q (only_first h.total (chain_of p c).entries)
 
-pub for_us : {p q : PoolView} {ds : TableView} {s : SocksView} {a b : Counters} {c : ℕ} {h : IpHead} (ours : Bool) → IsReady p ds → IsSocks p s → IsOwned p (c ∷ (held_all p ds ++ queued_chains p s.queues))
+pub for_us : {p q : PoolView} {ds : TableView} {s : SocksView} {a b : Counters} {c : ℕ} {h : IpHead} (ours : Bool) → IsReady p ds → IsSocks p s → IsOwned p (c ∷ (held_all p ds.datagrams ++ queued_chains p s.queues))
     → head_fault (string (chain_of p c)) ≡ None → h ≡ head_in (string (chain_of p c)) → ours ≡ is_ours_or_all s.pcbs.addr s.pcbs.bcast h.dst → ours ≡ true → b ≡ counts_more IpTotal 1 a
     → q ≡ with_chain p c (record (chain_of p c) { entries = only_first h.total (chain_of p c).entries }) → IsForUs p ds s a c h q b
 for_us {p} {q} {ds} {s} {a} {b} {c} {h} ours table socks owned none says is heard count cut = record {
@@ -272,20 +272,20 @@ carried_cut : {p q : PoolView} {ds : TableView} {s : SocksView} {a b : Counters}
 carried_cut is = λ i. record { bytes = drop 20 (cut_bytes is i); weight = cut_weighs is i }
 
 counted_now : {p q : PoolView} {ds : TableView} {s : SocksView} {a b : Counters} {c : ℕ} {h : IpHead} (is : IsForUs p ds s a c h q b) (rest : State)
-    → with_net q s (unfinished q ds) b rest ≡ counts_packet (with_net p s (unfinished p ds) a rest)
-counted_now {p} {q} {ds} {s} {a} {b} is rest = is.cut.beside.shows b rest ∙ (λ i. with_net p s (unfinished p ds) (is.counts i) rest)
+    → with_net q s (unfinished q ds.datagrams) b rest ≡ counts_packet (with_net p s (unfinished p ds.datagrams) a rest)
+counted_now {p} {q} {ds} {s} {a} {b} is rest = is.cut.beside.shows b rest ∙ (λ i. with_net p s (unfinished p ds.datagrams) (is.counts i) rest)
 
 cut_accounts : {p q : PoolView} {ds : TableView} {s : SocksView} {a b : Counters} {c : ℕ} {h : IpHead} → IsForUs p ds s a c h q b → (rest : State) (held : Weight)
-    → IsAccounted p (with_net p s (unfinished p ds) a rest) (held ⊕ weight_at p c) → IsAccounted q (with_net q s (unfinished q ds) b rest) (held ⊕ weight_at q c)
+    → IsAccounted p (with_net p s (unfinished p ds.datagrams) a rest) (held ⊕ weight_at p c) → IsAccounted q (with_net q s (unfinished q ds.datagrams) b rest) (held ⊕ weight_at q c)
 cut_accounts {a = a} {b = b} {c = c} is rest held acc = from_one held c (is.cut.beside.accounts a b rest held (with_one held c acc))
 
 -- it passes the tests of its header, and of its destination
 ours_pass : {p q : PoolView} {ds : TableView} {s : SocksView} {a b : Counters} {c : ℕ} {h : IpHead} (is : IsForUs p ds s a c h q b) (rest : State) (held : Weight) (origin : Origin) (new : State)
-    → (is_fragment (flat_head h) ≡ true → FragmentArrives exact_ledger origin held (flat_head h) (carried (item_at p c)) (counts_packet (with_net p s (unfinished p ds) a rest)) new)
-    → (is_fragment (flat_head h) ≡ false → WholeArrives exact_ledger held h.src h.dst h.proto (carried (item_at p c)) (counts_packet (with_net p s (unfinished p ds) a rest)) new)
-    → Arrives exact_ledger origin held (item_at p c) (with_net p s (unfinished p ds) a rest) new
+    → (is_fragment (flat_head h) ≡ true → FragmentArrives exact_ledger origin held (flat_head h) (carried (item_at p c)) (counts_packet (with_net p s (unfinished p ds.datagrams) a rest)) new)
+    → (is_fragment (flat_head h) ≡ false → WholeArrives exact_ledger held h.src h.dst h.proto (carried (item_at p c)) (counts_packet (with_net p s (unfinished p ds.datagrams) a rest)) new)
+    → Arrives exact_ledger origin held (item_at p c) (with_net p s (unfinished p ds.datagrams) a rest) new
 ours_pass {p} {q} {ds} {s} {a} {b} {c} {h} is rest held origin new part all =
-    let old : State = with_net p s (unfinished p ds) a rest in
+    let old : State = with_net p s (unfinished p ds.datagrams) a rest in
     let bytes : List ℕ = string (chain_of p c) in
     passes bytes origin held (weight_at p c) old new is.head.none (record {
       yes = λ e. subst (λ (x : IpHead). Choice (is_fragment (flat_head x))
@@ -295,10 +295,10 @@ ours_pass {p} {q} {ds} {s} {a} {b} {c} {h} is rest held origin new part all =
     })
 
 pub fragment_arrives : {p q : PoolView} {ds : TableView} {s : SocksView} {a b : Counters} {c : ℕ} {h : IpHead} {u : NetView} → IsForUs p ds s a c h q b → is_fragment (flat_head h) ≡ true
-    → IsTaken (seen q s (unfinished q ds) (held_all q ds) b) c h u → IsArrived (seen p s (unfinished p ds) (held_all p ds) a) c u
+    → IsTaken (seen q s (unfinished q ds.datagrams) (held_all q ds.datagrams) b) c h u → IsArrived (seen p s (unfinished p ds.datagrams) (held_all p ds.datagrams) a) c u
 fragment_arrives {p} {q} {ds} {s} {a} {b} {c} {h} {u} is part taken = record {
   step = λ rest held origin apart came acc. ours_pass is rest held origin (state_at u rest)
-      (λ e. subst (λ (x : Item). FragmentArrives exact_ledger origin held (flat_head h) x (counts_packet (with_net p s (unfinished p ds) a rest)) (state_at u rest)) (carried_cut is)
+      (λ e. subst (λ (x : Item). FragmentArrives exact_ledger origin held (flat_head h) x (counts_packet (with_net p s (unfinished p ds.datagrams) a rest)) (state_at u rest)) (carried_cut is)
       (subst (λ (t : State). FragmentArrives exact_ledger origin held (flat_head h) (carried_at q c) t (state_at u rest)) (counted_now is rest)
       (taken.step rest held origin (subst HaveApartKeys (sym is.cut.beside.reass.shows) apart) (came_cut origin h.total (chain_of p c) (chain_of q c) is.cut.entries came) (cut_accounts is rest held acc))))
       (λ e. absurd (true≢false (sym part ∙ e)));
@@ -311,17 +311,17 @@ fragment_arrives {p} {q} {ds} {s} {a} {b} {c} {h} {u} is part taken = record {
 }
 
 pub whole_arrives : {p q r : PoolView} {ds : TableView} {s : SocksView} {a b : Counters} {c : ℕ} {h : IpHead} {u : NetView} → IsForUs p ds s a c h q b → is_fragment (flat_head h) ≡ false
-    → IsChanged q ds s c r (without_first 20 (chain_of q c).entries) → IsInput (seen r s (unfinished r ds) (held_all r ds) b) c h.src h.dst h.proto u
-    → IsArrived (seen p s (unfinished p ds) (held_all p ds) a) c u
+    → IsChanged q ds s c r (without_first 20 (chain_of q c).entries) → IsInput (seen r s (unfinished r ds.datagrams) (held_all r ds.datagrams) b) c h.src h.dst h.proto u
+    → IsArrived (seen p s (unfinished p ds.datagrams) (held_all p ds.datagrams) a) c u
 whole_arrives {p} {q} {r} {ds} {s} {a} {b} {c} {h} {u} is all off input =
     let item : item_at r c ≡ carried (item_at p c) =
     (λ i. record { bytes = (ap flat_bytes off.entries ∙ without_first_bytes 20 (chain_of q c).entries) i; weight = (ap weight_of off.entries ∙ without_weighs 20 (chain_of q c).entries) i }) ∙ carried_cut is in
-    let accounts : (rest : State) (held : Weight) → IsAccounted p (with_net p s (unfinished p ds) a rest) (held ⊕ weight_at p c) → IsAccounted r (with_net r s (unfinished r ds) b rest) (held ⊕ weight_at r c) =
+    let accounts : (rest : State) (held : Weight) → IsAccounted p (with_net p s (unfinished p ds.datagrams) a rest) (held ⊕ weight_at p c) → IsAccounted r (with_net r s (unfinished r ds.datagrams) b rest) (held ⊕ weight_at r c) =
     λ rest held acc. from_one held c (off.beside.accounts b b rest held (with_one held c (cut_accounts is rest held acc))) in
     record {
       step = λ rest held origin apart came acc. ours_pass is rest held origin (state_at u rest)
           (λ e. absurd (true≢false (sym e ∙ all)))
-          (λ e. subst (λ (x : Item). WholeArrives exact_ledger held h.src h.dst h.proto x (counts_packet (with_net p s (unfinished p ds) a rest)) (state_at u rest)) item
+          (λ e. subst (λ (x : Item). WholeArrives exact_ledger held h.src h.dst h.proto x (counts_packet (with_net p s (unfinished p ds.datagrams) a rest)) (state_at u rest)) item
           (subst (λ (t : State). WholeArrives exact_ledger held h.src h.dst h.proto (item_at r c) t (state_at u rest)) (off.beside.shows b rest ∙ counted_now is rest)
           (input.step rest held (accounts rest held acc))));
       spent = record {

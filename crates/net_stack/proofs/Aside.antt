@@ -42,30 +42,30 @@ counters_accounts c a = record { mbufs = a.mbufs; clusters = a.clusters; total =
 pub record Aside (p : PoolView) (ds : TableView) (s : SocksView) (ins : List ℕ) (q : PoolView) (outs : List ℕ) : Type 0 where
   pub reass : ReassKept p q ds
   pub socks : Kept p q s
-  pub shows : (c : Counters) (rest : State) → with_net q s (unfinished q ds) c rest ≡ with_net p s (unfinished p ds) c rest
-  pub owned : IsOwned q (outs ++ (held_all q ds ++ queued_chains q s.queues))
-  pub moves : Moves p (ins ++ (held_all p ds ++ queued_chains p s.queues)) q (outs ++ (held_all q ds ++ queued_chains q s.queues))
-  pub accounts : (c d : Counters) (rest : State) (held : Weight) → IsAccounted p (with_net p s (unfinished p ds) c rest) (held ⊕ weight_owned p ins)
-      → IsAccounted q (with_net q s (unfinished q ds) d rest) (held ⊕ weight_owned q outs)
+  pub shows : (c : Counters) (rest : State) → with_net q s (unfinished q ds.datagrams) c rest ≡ with_net p s (unfinished p ds.datagrams) c rest
+  pub owned : IsOwned q (outs ++ (held_all q ds.datagrams ++ queued_chains q s.queues))
+  pub moves : Moves p (ins ++ (held_all p ds.datagrams ++ queued_chains p s.queues)) q (outs ++ (held_all q ds.datagrams ++ queued_chains q s.queues))
+  pub accounts : (c d : Counters) (rest : State) (held : Weight) → IsAccounted p (with_net p s (unfinished p ds.datagrams) c rest) (held ⊕ weight_owned p ins)
+      → IsAccounted q (with_net q s (unfinished q ds.datagrams) d rest) (held ⊕ weight_owned q outs)
 
-pub aside : {p q : PoolView} {ds : TableView} {s : SocksView} (ins outs : List ℕ) → IsOwned p (ins ++ (held_all p ds ++ queued_chains p s.queues)) → IsReady p ds → IsSocks p s → Moves p ins q outs → Aside p ds s ins q outs
+pub aside : {p q : PoolView} {ds : TableView} {s : SocksView} (ins outs : List ℕ) → IsOwned p (ins ++ (held_all p ds.datagrams ++ queued_chains p s.queues)) → IsReady p ds → IsSocks p s → Moves p ins q outs → Aside p ds s ins q outs
 aside {p} {q} {ds} {s} ins outs owned table socks m =
-    let xs : List ℕ = held_all p ds in
+    let xs : List ℕ = held_all p ds.datagrams in
     let ys : List ℕ = queued_chains p s.queues in
     let split : (k : ℕ) → times k (ins ++ (xs ++ ys)) ≡ times k ins + (times k xs + times k ys) = λ k. omega (arith, times-append k ins (xs ++ ys), times-append k xs ys) in
     let same : SameAt p q (xs ++ ys) =
     same_beside (xs ++ ys) m (λ k. omega (arith, owned k, split k, times-append k xs ys)) (λ k h. omega (arith, h, owned k, split k, times-append k xs ys, live_at_most p k)) in
     let r : ReassKept p q ds = reass_kept p q ds (same_part p q (xs ++ ys) xs same (λ k. omega (arith, times-append k xs ys))) table in
     let v : Kept p q s = kept p q s (same_part p q (xs ++ ys) ys same (λ k. omega (arith, times-append k xs ys))) socks in
-    let now : (c : Counters) (rest : State) → with_net q s (unfinished q ds) c rest ≡ with_net p s (unfinished p ds) c rest =
+    let now : (c : Counters) (rest : State) → with_net q s (unfinished q ds.datagrams) c rest ≡ with_net p s (unfinished p ds.datagrams) c rest =
     λ c rest i. machine (record rest { unfinished = r.shows i; counters = c }) (λ fd. v.shows fd i) s.pcbs in
-    let all : Moves p (ins ++ (xs ++ ys)) q (outs ++ (held_all q ds ++ queued_chains q s.queues)) =
-    moves_beside (ins ++ (xs ++ ys)) (outs ++ (held_all q ds ++ queued_chains q s.queues)) (xs ++ ys) m
+    let all : Moves p (ins ++ (xs ++ ys)) q (outs ++ (held_all q ds.datagrams ++ queued_chains q s.queues)) =
+    moves_beside (ins ++ (xs ++ ys)) (outs ++ (held_all q ds.datagrams ++ queued_chains q s.queues)) (xs ++ ys) m
     (λ k. omega (arith, split k, times-append k xs ys))
     (λ k. omega (
       arith,
-      times-append k outs (held_all q ds ++ queued_chains q s.queues),
-      times-append k (held_all q ds) (queued_chains q s.queues),
+      times-append k outs (held_all q ds.datagrams ++ queued_chains q s.queues),
+      times-append k (held_all q ds.datagrams) (queued_chains q s.queues),
       times-append k xs ys,
       ap (times k) r.chains,
       ap (times k) v.chains,
@@ -78,7 +78,7 @@ aside {p} {q} {ds} {s} ins outs owned table socks m =
       moves = all;
       accounts = λ c d rest held a.
           subst (λ (t : State). IsAccounted q t (held ⊕ weight_owned q outs)) (sym (now d rest))
-          (counters_accounts d (hand_accounts (with_net p s (unfinished p ds) c rest) held a (λ k. omega (arith, owned k, split k)) m));
+          (counters_accounts d (hand_accounts (with_net p s (unfinished p ds.datagrams) c rest) held a (λ k. omega (arith, owned k, split k)) m));
     }
 
 -- ---- the sockets beside a step of the unfinished datagrams and of what is in hand

@@ -86,10 +86,10 @@ output_called s v q u reply is e g =
 -- ---- the unfinished datagrams
 
 pub reass_called : (s : Inside) (v : StackView) (q : PoolView) (r : TableView) (n : ℕ) (d : Counters) → IsInside s → seen s ≡ v
-    → ((rest : State) (c : Counters) → ticked (machine s.host.pool s.host.reass c rest) ≡ machine q r (counts_more IpFragtimeout n c) rest)
-    → IsReady q r → Moves s.host.pool (held_all s.host.pool s.host.reass) q (held_all q r) → d ≡ counts_more IpFragtimeout n s.host.net.counters
+    → ((rest : State) (c : Counters) → ticked (machine s.host.pool s.host.reass.datagrams c rest) ≡ machine q r.datagrams (counts_more IpFragtimeout n c) rest)
+    → IsReady q r → Moves s.host.pool (held_all s.host.pool s.host.reass.datagrams) q (held_all q r.datagrams) → d ≡ counts_more IpFragtimeout n s.host.net.counters
     → Called v Tick Done (with_reass s q r d)
 reass_called s v q r n d is e step ready m counts =
     called s (with_reass s q r d) v Tick Done is e refl refl refl
     (reass_step (seen s) q r d Tick Done is.stack tt ready m
-    (refl, ap (λ (c : Counters). machine q r c (state_of (seen s))) counts ∙ sym (step (state_of (seen s)) s.host.net.counters)))
+    (refl, ap (λ (c : Counters). machine q r.datagrams c (state_of (seen s))) counts ∙ sym (step (state_of (seen s)) s.host.net.counters)))

@@ -135,28 +135,28 @@ came_by_wire v cs xs entries number bytes =
 
 -- the pool was asked for the packet's buffers
 pub record IsAsked (p : PoolView) (r : TableView) (a : Counters) (need : Need) (answer : Bool) (q : PoolView) (t : TableView) (b : Counters) : Type 0 where
-  pub reserves : (s : State) (held : Weight) → s.unfinished ≡ unfinished p r → s.counters ≡ a → IsAccounted p s held
-      → Reserves s held need answer (record s { unfinished = unfinished q t; counters = b }) q
-  pub moves : Moves p (held_all p r) q (held_all q t)
+  pub reserves : (s : State) (held : Weight) → s.unfinished ≡ unfinished p r.datagrams → s.counters ≡ a → IsAccounted p s held
+      → Reserves s held need answer (record s { unfinished = unfinished q t.datagrams; counters = b }) q
+  pub moves : Moves p (held_all p r.datagrams) q (held_all q t.datagrams)
 
 -- the sockets then
-pub asked_socks : {p q : PoolView} {s : SocksView} {r t : TableView} {a b : Counters} {need : Need} {answer : Bool} → IsSocks p s → IsOwned p (held_all p r ++ queued_chains p s.queues) → IsAsked p r a need answer q t b
-    → BesideSocks p s (held_all p r) q [] (held_all q t)
-asked_socks {p} {q} {s} {r} {t} socks owned is = beside_socks (held_all p r) [] (held_all q t) owned socks is.moves
+pub asked_socks : {p q : PoolView} {s : SocksView} {r t : TableView} {a b : Counters} {need : Need} {answer : Bool} → IsSocks p s → IsOwned p (held_all p r.datagrams ++ queued_chains p s.queues) → IsAsked p r a need answer q t b
+    → BesideSocks p s (held_all p r.datagrams) q [] (held_all q t.datagrams)
+asked_socks {p} {q} {s} {r} {t} socks owned is = beside_socks (held_all p r.datagrams) [] (held_all q t.datagrams) owned socks is.moves
 
-pub lost : {p q : PoolView} {s : SocksView} {r t : TableView} {a b d : Counters} {need : Need} {answer : Bool} (packet : List ℕ) → IsSocks p s → IsOwned p (held_all p r ++ queued_chains p s.queues) → IsAsked p r a need answer q t b
+pub lost : {p q : PoolView} {s : SocksView} {r t : TableView} {a b d : Counters} {need : Need} {answer : Bool} (packet : List ℕ) → IsSocks p s → IsOwned p (held_all p r.datagrams ++ queued_chains p s.queues) → IsAsked p r a need answer q t b
     → need ≡ need_of (wire (length packet)) → answer ≡ false → d ≡ counted NoBufs b
-    → HasCome (seen p s (unfinished p r) (held_all p r) a) packet (seen q s (unfinished q t) (held_all q t) d)
+    → HasCome (seen p s (unfinished p r.datagrams) (held_all p r.datagrams) a) packet (seen q s (unfinished q t.datagrams) (held_all q t.datagrams) d)
 lost {p} {q} {s} {r} {t} {a} {b} {d} {need} {answer} packet socks owned is is_need no_answer is_d =
     let beside = asked_socks socks owned is in
-    let mid : State → State = λ rest. record (with_net p s (unfinished p r) a rest) { unfinished = unfinished q t; counters = b } in
-    let now : (rest : State) → with_net q s (unfinished q t) d rest ≡ ends NoBufs (mid rest) =
-    λ rest i. machine (record rest { unfinished = unfinished q t; counters = is_d i }) (λ fd. beside.socks.shows fd i) s.pcbs in
+    let mid : State → State = λ rest. record (with_net p s (unfinished p r.datagrams) a rest) { unfinished = unfinished q t.datagrams; counters = b } in
+    let now : (rest : State) → with_net q s (unfinished q t.datagrams) d rest ≡ ends NoBufs (mid rest) =
+    λ rest i. machine (record rest { unfinished = unfinished q t.datagrams; counters = is_d i }) (λ fd. beside.socks.shows fd i) s.pcbs in
     record {
       step = λ rest keys acc. (
         answer,
         mid rest,
-        subst (λ (n : Need). HasBuffers exact_ledger (with_net p s (unfinished p r) a rest) nothing n answer (mid rest)) is_need (is.reserves (with_net p s (unfinished p r) a rest) nothing refl refl acc).has_buffers,
+        subst (λ (n : Need). HasBuffers exact_ledger (with_net p s (unfinished p r.datagrams) a rest) nothing n answer (mid rest)) is_need (is.reserves (with_net p s (unfinished p r.datagrams) a rest) nothing refl refl acc).has_buffers,
         record { yes = λ e. absurd (true≢false (sym e ∙ no_answer)); no = λ e. now rest },
       );
       ready = beside.socks.ready;
@@ -169,7 +169,7 @@ pub record IsReadyToArrive (q : PoolView) (s : SocksView) (t : TableView) (q1 : 
   pub beside : Aside q t s [] q1 (c ∷ [])
   pub header : (chain_of q1 c).front.header ≡ true
 
-pub laid_ready : {p q q1 : PoolView} {s : SocksView} {r t : TableView} {a b : Counters} {need : Need} {answer : Bool} {packet : List ℕ} {c : ℕ} → IsSocks p s → IsOwned p (held_all p r ++ queued_chains p s.queues)
+pub laid_ready : {p q q1 : PoolView} {s : SocksView} {r t : TableView} {a b : Counters} {need : Need} {answer : Bool} {packet : List ℕ} {c : ℕ} → IsSocks p s → IsOwned p (held_all p r.datagrams ++ queued_chains p s.queues)
     → IsAsked p r a need answer q t b → IsReady q t → IsLaidOut q packet q1 c → IsReadyToArrive q s t q1 c
 laid_ready {c = c} socks owned is ready laid =
     let beside = asked_socks socks owned is in
@@ -178,19 +178,19 @@ laid_ready {c = c} socks owned is ready laid =
       header = ap (λ f. f.header) laid.made.front;
     }
 
-pub came : {p q q1 : PoolView} {s : SocksView} {r t : TableView} {a b : Counters} {need : Need} {answer : Bool} {c : ℕ} {u : NetView} (packet : List ℕ) → IsSocks p s → IsOwned p (held_all p r ++ queued_chains p s.queues)
+pub came : {p q q1 : PoolView} {s : SocksView} {r t : TableView} {a b : Counters} {need : Need} {answer : Bool} {c : ℕ} {u : NetView} (packet : List ℕ) → IsSocks p s → IsOwned p (held_all p r.datagrams ++ queued_chains p s.queues)
     → IsAsked p r a need answer q t b → need ≡ need_of (wire (length packet)) → answer ≡ true → IsReady q t → IsLaidOut q packet q1 c
-    → IsArrived (seen q1 s (unfinished q1 t) (held_all q1 t) b) c u
-    → HasCome (seen p s (unfinished p r) (held_all p r) a) packet u
+    → IsArrived (seen q1 s (unfinished q1 t.datagrams) (held_all q1 t.datagrams) b) c u
+    → HasCome (seen p s (unfinished p r.datagrams) (held_all p r.datagrams) a) packet u
 came {p} {q} {q1} {s} {r} {t} {a} {b} {need} {answer} {c} {u} packet socks owned is is_need yes_answer ready laid arrived =
     let beside = asked_socks socks owned is in
     let x : Aside q t s [] q1 (c ∷ []) = (laid_ready socks owned is ready laid).beside in
-    let old : State → State = λ rest. with_net p s (unfinished p r) a rest in
-    let mid : State → State = λ rest. record (old rest) { unfinished = unfinished q t; counters = b } in
-    let now : (rest : State) → with_net q s (unfinished q t) b rest ≡ mid rest =
-    λ rest i. machine (record rest { unfinished = unfinished q t; counters = b }) (λ fd. beside.socks.shows fd i) s.pcbs in
+    let old : State → State = λ rest. with_net p s (unfinished p r.datagrams) a rest in
+    let mid : State → State = λ rest. record (old rest) { unfinished = unfinished q t.datagrams; counters = b } in
+    let now : (rest : State) → with_net q s (unfinished q t.datagrams) b rest ≡ mid rest =
+    λ rest i. machine (record rest { unfinished = unfinished q t.datagrams; counters = b }) (λ fd. beside.socks.shows fd i) s.pcbs in
     let asked : (rest : State) → IsAccounted p (old rest) nothing → Reserves (old rest) nothing need answer (mid rest) q = λ rest acc. is.reserves (old rest) nothing refl refl acc in
-    let accounts : (rest : State) → IsAccounted p (old rest) nothing → IsAccounted q1 (with_net q1 s (unfinished q1 t) b rest) (nothing ⊕ weight_at q1 c) =
+    let accounts : (rest : State) → IsAccounted p (old rest) nothing → IsAccounted q1 (with_net q1 s (unfinished q1 t.datagrams) b rest) (nothing ⊕ weight_at q1 c) =
     λ rest acc. from_one nothing c (x.accounts b b rest nothing (subst (λ (m : State). IsAccounted q m nothing) (sym (now rest)) (asked rest acc).accounted)) in
     let item : item_at q1 c ≡ record { bytes = packet; weight = flat.weight_of (laid_on laid.clusters (wire (length packet))) } =
     λ i. record { bytes = laid.bytes_are i; weight = (ap weight_of laid.made.entries ∙ sym (laid_weight _) ∙ ap flat.weight_of laid.layout) i } in

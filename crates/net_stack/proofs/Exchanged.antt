@@ -41,11 +41,11 @@ are_bytes xs fits = All-from_recursion (λ byte. byte < 256) xs (go xs fits)
 
 -- ---- a packet from the wire
 
-pub come_owned : (s : StackView) → IsStack s → IsOwned s.pool (held_all s.pool s.reass ++ queued_chains s.pool s.socks.queues)
-come_owned s is = λ k. omega (arith, is.all k, times-append k (held_all s.pool s.reass ++ queued_chains s.pool s.socks.queues) (numbers s.pool s.output))
+pub come_owned : (s : StackView) → IsStack s → IsOwned s.pool (held_all s.pool s.reass.datagrams ++ queued_chains s.pool s.socks.queues)
+come_owned s is = λ k. omega (arith, is.all k, times-append k (held_all s.pool s.reass.datagrams ++ queued_chains s.pool s.socks.queues) (numbers s.pool s.output))
 
 pub rx_step : (s : StackView) (packet : List ℕ) (q : PoolView) (w : SocksView) (es : TableView) (c : Counters) → IsStack s → IsEvent (Comes packet) → IsReady q es
-    → HasCome (seen s.pool s.socks (unfinished s.pool s.reass) (held_all s.pool s.reass) s.counters) packet (seen q w (unfinished q es) (held_all q es) c)
+    → HasCome (seen s.pool s.socks (unfinished s.pool s.reass.datagrams) (held_all s.pool s.reass.datagrams) s.counters) packet (seen q w (unfinished q es.datagrams) (held_all q es.datagrams) c)
     → Stepped s (Comes packet) Done (record s { pool = q; socks = w; reass = es; counters = c })
 rx_step s packet q w es c is can ready came = input_step s q w es c (Comes packet) Done is can came.ready ready came.moves (refl, came.step (rest_of s) is.consistent.keys (accounts s is))
 
@@ -55,22 +55,22 @@ rx_step s packet q w es c is can ready came = input_step s q w es c (Comes packe
 abbrev pub shown : Config → PoolView → SocksView → TableView → Net → StackView
 shown config p s r n = record { config = config; pool = p; socks = s; reass = r; output = n.out; next_id = n.next_id; counters = n.counters }
 
-same_chains : (config : Config) (p : PoolView) (s : SocksView) (r : TableView) (n : Net) (k : ℕ) → times k (chains_of (shown config p s r n)) ≡ times k (held_all p r ++ out_chains (sending p s n))
+same_chains : (config : Config) (p : PoolView) (s : SocksView) (r : TableView) (n : Net) (k : ℕ) → times k (chains_of (shown config p s r n)) ≡ times k (held_all p r.datagrams ++ out_chains (sending p s n))
 same_chains config p s r n k = omega (
   arith,
   split (shown config p s r n) k,
-  times-append k (held_all p r) (out_chains (sending p s n)),
+  times-append k (held_all p r.datagrams) (out_chains (sending p s n)),
   times-append k (numbers p n.out) (queued_chains p s.queues),
 )
 
-pub send_owned : (config : Config) (p : PoolView) (s : SocksView) (r : TableView) (n : Net) → IsStack (shown config p s r n) → IsOwned p (held_all p r ++ out_chains (sending p s n))
+pub send_owned : (config : Config) (p : PoolView) (s : SocksView) (r : TableView) (n : Net) → IsStack (shown config p s r n) → IsOwned p (held_all p r.datagrams ++ out_chains (sending p s n))
 send_owned config p s r n is = λ k. omega (arith, is.all k, same_chains config p s r n k)
 
 pub can_send : (config : Config) (p : PoolView) (s : SocksView) (r : TableView) (n : Net) → IsStack (shown config p s r n) → n.mtu ≡ config.mtu → n.looped ≡ no_train → CanSend (sending p s n)
 can_send config p s r n is mtu none = record {
   socks = is.socks;
   out = is.output;
-  owned = λ k. omega (arith, send_owned config p s r n is k, times-append k (held_all p r) (out_chains (sending p s n)));
+  owned = λ k. omega (arith, send_owned config p s r n is k, times-append k (held_all p r.datagrams) (out_chains (sending p s n)));
   looped = held_none p n.looped none;
   none = ap (λ (t : TrainView). t.len) none;
   mtu = omega (arith, mtu, is.consistent.config.least_mtu);

@@ -32,20 +32,20 @@ output_weighs p [] = refl
 output_weighs p (x ∷ xs) = ap (λ (w : Weight). weight_at p x ⊕ w) (output_weighs p xs)
 
 -- the pool accounts for the state of a stack
-pub accounts_of : (s : StackView) → s.config.mbufs ≡ s.pool.mbufs → s.config.clusters ≡ s.pool.clusters → IsSocks s.pool s.socks → IsTable s.pool s.reass → IsAll s.pool (chains_of s) → IsAccounted s.pool (state_of s) nothing
+pub accounts_of : (s : StackView) → s.config.mbufs ≡ s.pool.mbufs → s.config.clusters ≡ s.pool.clusters → IsSocks s.pool s.socks → IsTable s.pool s.reass.datagrams → IsAll s.pool (chains_of s) → IsAccounted s.pool (state_of s) nothing
 accounts_of s m c socks table all =
     let p = s.pool in
-    let xs : List ℕ = held_all p s.reass in
+    let xs : List ℕ = held_all p s.reass.datagrams in
     let ys : List ℕ = queued_chains p s.socks.queues in
     let zs : List ℕ = numbers p s.output in
     let x : Weight = weight_owned p xs in
     let y : Weight = weight_owned p ys in
     let z : Weight = weight_owned p zs in
     let ws : Weight = all_of (λ (socket : Socket). queue_weight socket.queue) (sockets_with (queues_of p s.socks.queues) s.socks.pcbs) in
-    let wu : Weight = all_of (λ (u : Unfinished). mbuf ⊕ weight_of_pieces u.bytes) (unfinished p s.reass) in
+    let wu : Weight = all_of (λ (u : Unfinished). mbuf ⊕ weight_of_pieces u.bytes) (unfinished p s.reass.datagrams) in
     let wo : Weight = all_of (λ (item : Item). item.weight) (packets p s.output) in
     let of_socks : SameWeight ws y = socks_weigh p s.socks socks in
-    let of_table : SameWeight x wu = table_weighs p s.reass table.each in
+    let of_table : SameWeight x wu = table_weighs p s.reass.datagrams table.each in
     let of_output : wo ≡ z = output_weighs p zs in
     let whole : weight_owned p (chains_of s) ≡ (x ⊕ y) ⊕ z = all_of-append (weight_at p) (xs ++ ys) zs ∙ ap (λ (w : Weight). w ⊕ z) (all_of-append (weight_at p) xs ys) in
     accounted_all p (state_of s) nothing (chains_of s) all m c (record {
@@ -93,11 +93,11 @@ stepped s n event reply is can same socks table output m step = record {
 
 pub record ReassKept (p q : PoolView) (r : TableView) : Type 0 where
   pub table : IsReady q r
-  pub shows : unfinished q r ≡ unfinished p r
-  pub chains : held_all q r ≡ held_all p r
+  pub shows : unfinished q r.datagrams ≡ unfinished p r.datagrams
+  pub chains : held_all q r.datagrams ≡ held_all p r.datagrams
 
-pub reass_kept : (p q : PoolView) (r : TableView) → SameAt p q (held_all p r) → IsReady p r → ReassKept p q r
-reass_kept p q r same is = record { table = ready_same p q r same is; shows = unfinished_same p q r same; chains = held_all_same p q r same }
+pub reass_kept : (p q : PoolView) (r : TableView) → SameAt p q (held_all p r.datagrams) → IsReady p r → ReassKept p q r
+reass_kept p q r same is = record { table = ready_same p q r same is; shows = unfinished_same p q r.datagrams same; chains = held_all_same p q r.datagrams same }
 
 pub record OutputKept (p q : PoolView) (t : TrainView) : Type 0 where
   pub queue : IsQueue q t
@@ -112,11 +112,11 @@ output_kept p q t same is = record {
 }
 
 -- the chains of all three parts
-pub split : (s : StackView) (k : ℕ) → times k (chains_of s) ≡ times k (held_all s.pool s.reass) + times k (queued_chains s.pool s.socks.queues) + times k (numbers s.pool s.output)
+pub split : (s : StackView) (k : ℕ) → times k (chains_of s) ≡ times k (held_all s.pool s.reass.datagrams) + times k (queued_chains s.pool s.socks.queues) + times k (numbers s.pool s.output)
 split s k = omega (
   arith,
-  times-append k (held_all s.pool s.reass ++ queued_chains s.pool s.socks.queues) (numbers s.pool s.output),
-  times-append k (held_all s.pool s.reass) (queued_chains s.pool s.socks.queues),
+  times-append k (held_all s.pool s.reass.datagrams ++ queued_chains s.pool s.socks.queues) (numbers s.pool s.output),
+  times-append k (held_all s.pool s.reass.datagrams) (queued_chains s.pool s.socks.queues),
 )
 
 -- ---- a step of the sockets alone
@@ -128,13 +128,13 @@ pub socks_step : (s : StackView) (q : PoolView) (w : SocksView) (event : Event) 
 socks_step s q w event reply is can step ready m =
     let p : PoolView = s.pool in
     let n : StackView = record s { pool = q; socks = w } in
-    let xs : List ℕ = held_all p s.reass in
+    let xs : List ℕ = held_all p s.reass.datagrams in
     let zs : List ℕ = numbers p s.output in
     let same : SameAt p q (xs ++ zs) =
     same_beside (xs ++ zs) m (λ k. omega (arith, is.all k, split s k, times-append k xs zs)) (λ k h. omega (arith, h, is.all k, split s k, times-append k xs zs, live_at_most p k)) in
     let r : ReassKept p q s.reass = reass_kept p q s.reass (same_part p q (xs ++ zs) xs same (λ k. omega (arith, times-append k xs zs))) is.reass in
     let o : OutputKept p q s.output = output_kept p q s.output (same_part p q (xs ++ zs) zs same (λ k. omega (arith, times-append k xs zs))) is.output in
-    let rest : State = record (rest_of s) { unfinished = unfinished p s.reass; counters = s.counters } in
+    let rest : State = record (rest_of s) { unfinished = unfinished p s.reass.datagrams; counters = s.counters } in
     let new : with_sockets q w rest ≡ state_of n = λ i. with_sockets q w (record (rest_of s) { unfinished = sym r.shows i; counters = s.counters; output = sym o.shows i }) in
     stepped s n event reply is can refl ready r.table o.queue
     (moves_beside (chains_of s) (chains_of n) (xs ++ zs) m
@@ -150,7 +150,7 @@ pub output_step : (s : StackView) (q : PoolView) (u : TrainView) (event : Event)
 output_step s q u event reply is can queue m step =
     let p : PoolView = s.pool in
     let n : StackView = record s { pool = q; output = u } in
-    let xs : List ℕ = held_all p s.reass in
+    let xs : List ℕ = held_all p s.reass.datagrams in
     let ys : List ℕ = queued_chains p s.socks.queues in
     let same : SameAt p q (xs ++ ys) =
     same_beside (xs ++ ys) m (λ k. omega (arith, is.all k, split s k, times-append k xs ys)) (λ k h. omega (arith, h, is.all k, split s k, times-append k xs ys, live_at_most p k)) in
@@ -166,8 +166,8 @@ output_step s q u event reply is can queue m step =
 
 -- ---- a step of the unfinished datagrams and counters alone
 
-pub reass_step : (s : StackView) (q : PoolView) (es : TableView) (c : Counters) (event : Event) (reply : Reply) → IsStack s → IsEvent event → IsReady q es → Moves s.pool (held_all s.pool s.reass) q (held_all q es)
-    → Step (state_of s) event reply (record (state_of s) { unfinished = unfinished q es; counters = c })
+pub reass_step : (s : StackView) (q : PoolView) (es : TableView) (c : Counters) (event : Event) (reply : Reply) → IsStack s → IsEvent event → IsReady q es → Moves s.pool (held_all s.pool s.reass.datagrams) q (held_all q es.datagrams)
+    → Step (state_of s) event reply (record (state_of s) { unfinished = unfinished q es.datagrams; counters = c })
     → Stepped s event reply (record s { pool = q; reass = es; counters = c })
 reass_step s q es c event reply is can table m step =
     let p : PoolView = s.pool in
@@ -178,8 +178,8 @@ reass_step s q es c event reply is can table m step =
     same_beside (ys ++ zs) m (λ k. omega (arith, is.all k, split s k, times-append k ys zs)) (λ k h. omega (arith, h, is.all k, split s k, times-append k ys zs, live_at_most p k)) in
     let v : Kept p q s.socks = kept p q s.socks (same_part p q (ys ++ zs) ys same (λ k. omega (arith, times-append k ys zs))) is.socks in
     let o : OutputKept p q s.output = output_kept p q s.output (same_part p q (ys ++ zs) zs same (λ k. omega (arith, times-append k ys zs))) is.output in
-    let new : record (state_of s) { unfinished = unfinished q es; counters = c } ≡ state_of n =
-    λ i. machine (record (rest_of s) { unfinished = unfinished q es; counters = c; output = sym o.shows i }) (λ fd. sym (v.shows fd) i) s.socks.pcbs in
+    let new : record (state_of s) { unfinished = unfinished q es.datagrams; counters = c } ≡ state_of n =
+    λ i. machine (record (rest_of s) { unfinished = unfinished q es.datagrams; counters = c; output = sym o.shows i }) (λ fd. sym (v.shows fd) i) s.socks.pcbs in
     stepped s n event reply is can refl v.ready table o.queue
     (moves_beside (chains_of s) (chains_of n) (ys ++ zs) m
     (λ k. omega (arith, split s k, times-append k ys zs))
@@ -189,20 +189,20 @@ reass_step s q es c event reply is can table m step =
 -- ---- a step of all parts but the output queue
 
 pub input_step : (s : StackView) (q : PoolView) (w : SocksView) (es : TableView) (c : Counters) (event : Event) (reply : Reply) → IsStack s → IsEvent event → IsSocks q w → IsReady q es
-    → Moves s.pool (held_all s.pool s.reass ++ queued_chains s.pool s.socks.queues) q (held_all q es ++ queued_chains q w.queues)
-    → Step (state_of s) event reply (with_net q w (unfinished q es) c (rest_of s))
+    → Moves s.pool (held_all s.pool s.reass.datagrams ++ queued_chains s.pool s.socks.queues) q (held_all q es.datagrams ++ queued_chains q w.queues)
+    → Step (state_of s) event reply (with_net q w (unfinished q es.datagrams) c (rest_of s))
     → Stepped s event reply (record s { pool = q; socks = w; reass = es; counters = c })
 input_step s q w es c event reply is can ready table m step =
     let p : PoolView = s.pool in
     let n : StackView = record s { pool = q; socks = w; reass = es; counters = c } in
-    let xs : List ℕ = held_all p s.reass ++ queued_chains p s.socks.queues in
+    let xs : List ℕ = held_all p s.reass.datagrams ++ queued_chains p s.socks.queues in
     let zs : List ℕ = numbers p s.output in
     let same : SameAt p q zs =
     same_beside zs m (λ k. omega (arith, is.all k, times-append k xs zs)) (λ k h. omega (arith, h, is.all k, times-append k xs zs, live_at_most p k)) in
     let o : OutputKept p q s.output = output_kept p q s.output same is.output in
-    let new : with_net q w (unfinished q es) c (rest_of s) ≡ state_of n = λ i. with_net q w (unfinished q es) c (record (rest_of s) { output = sym o.shows i }) in
+    let new : with_net q w (unfinished q es.datagrams) c (rest_of s) ≡ state_of n = λ i. with_net q w (unfinished q es.datagrams) c (record (rest_of s) { output = sym o.shows i }) in
     stepped s n event reply is can refl ready table o.queue
     (moves_beside (chains_of s) (chains_of n) zs m
     (λ k. omega (arith, times-append k xs zs))
-    (λ k. omega (arith, times-append k (held_all q es ++ queued_chains q w.queues) (numbers q s.output), ap (times k) o.chains)))
+    (λ k. omega (arith, times-append k (held_all q es.datagrams ++ queued_chains q w.queues) (numbers q s.output), ap (times k) o.chains)))
     (subst (λ (t : State). Step (state_of s) event reply t) new step)

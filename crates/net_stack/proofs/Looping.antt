@@ -91,50 +91,50 @@ is_later p q c u xs ys owned held plain m =
 -- ---- one packet more
 
 pub record IsOneMore (v : NetView) (t : TrainView) (q : PoolView) (s : SocksView) (ds : TableView) (b : Counters) (u : TrainView) : Type 0 where
-  pub way : AreArriving v t (seen q s (unfinished q ds) (held_all q ds) b) u
+  pub way : AreArriving v t (seen q s (unfinished q ds.datagrams) (held_all q ds.datagrams) b) u
   pub held : IsHeld q u
   pub plain : BeginPlain q u
-  pub owned : IsOwned q (numbers q u ++ (held_all q ds ++ queued_chains q s.queues))
+  pub owned : IsOwned q (numbers q u ++ (held_all q ds.datagrams ++ queued_chains q s.queues))
 
 -- what is asked for before it arrives
-pub taken : {p q : PoolView} {s : SocksView} {ds : TableView} {c : ℕ} (t u : TrainView) → IsOwned p (numbers p t ++ (held_all p ds ++ queued_chains p s.queues)) → IsReady p ds → IsSocks p s
+pub taken : {p q : PoolView} {s : SocksView} {ds : TableView} {c : ℕ} (t u : TrainView) → IsOwned p (numbers p t ++ (held_all p ds.datagrams ++ queued_chains p s.queues)) → IsReady p ds → IsSocks p s
     → Moves p (numbers p t) q (c ∷ numbers q u) → Aside p ds s (numbers p t) q (c ∷ numbers q u)
 taken {p} {q} {s} {ds} {c} t u owned table socks m = aside (numbers p t) (c ∷ numbers q u) owned table socks m
 
-pub one_owned : {p q : PoolView} {s : SocksView} {ds : TableView} {c : ℕ} (t u : TrainView) → Aside p ds s (numbers p t) q (c ∷ numbers q u) → IsOwned q (c ∷ (held_all q ds ++ queued_chains q s.queues))
-one_owned {q = q} {s = s} {ds = ds} {c = c} t u a = λ k. omega (arith, a.owned k, times-append k (numbers q u) (held_all q ds ++ queued_chains q s.queues))
+pub one_owned : {p q : PoolView} {s : SocksView} {ds : TableView} {c : ℕ} (t u : TrainView) → Aside p ds s (numbers p t) q (c ∷ numbers q u) → IsOwned q (c ∷ (held_all q ds.datagrams ++ queued_chains q s.queues))
+one_owned {q = q} {s = s} {ds = ds} {c = c} t u a = λ k. omega (arith, a.owned k, times-append k (numbers q u) (held_all q ds.datagrams ++ queued_chains q s.queues))
 
 pub one_more : {v : NetView} {t u u1 : TrainView} {q q1 q2 : PoolView} {s s2 : SocksView} {ds ds2 : TableView} {a b : Counters} {c : ℕ} (tag : ℕ)
-    → AreArriving v t (seen q s (unfinished q ds) (held_all q ds) a) u → IsHeld q u → BeginPlain q u → IsOwned q (numbers q u ++ (held_all q ds ++ queued_chains q s.queues)) → IsReady q ds
+    → AreArriving v t (seen q s (unfinished q ds.datagrams) (held_all q ds.datagrams) a) u → IsHeld q u → BeginPlain q u → IsOwned q (numbers q u ++ (held_all q ds.datagrams ++ queued_chains q s.queues)) → IsReady q ds
     → 0 < u.len → queued_packets q1 u1 ≡ remove (queued_packets q u) 0 → queued_packet_at q u 0 ≡ record { number = c; entries = (chain_of q1 c).entries; tag = tag } → IsHeld q1 u1 → Moves q (numbers q u) q1 (c ∷ numbers q1 u1)
-    → IsArrived (seen q1 s (unfinished q1 ds) (held_all q1 ds) a) c (seen q2 s2 (unfinished q2 ds2) (held_all q2 ds2) b)
+    → IsArrived (seen q1 s (unfinished q1 ds.datagrams) (held_all q1 ds.datagrams) a) c (seen q2 s2 (unfinished q2 ds2.datagrams) (held_all q2 ds2.datagrams) b)
     → IsOneMore v t q2 s2 ds2 b u1
 one_more {v} {t} {u} {u1} {q} {q1} {q2} {s} {s2} {ds} {ds2} {a} {b} {c} tag w held plain owned table some is_queued_packets is_queued_packet held1 m arrived =
     let x : Aside q ds s (numbers q u) q1 (c ∷ numbers q1 u1) = taken u u1 owned table w.ready m in
     let f : IsFirst q u q1 c u1 = is_first q q1 u u1 c tag held plain some is_queued_packets is_queued_packet in
-    let l : IsLater q1 c u1 (held_all q1 ds ++ queued_chains q1 s.queues) q2 (held_all q2 ds2 ++ queued_chains q2 s2.queues) =
-    is_later q1 q2 c u1 (held_all q1 ds ++ queued_chains q1 s.queues) (held_all q2 ds2 ++ queued_chains q2 s2.queues) x.owned held1 f.later arrived.spent.moves in
+    let l : IsLater q1 c u1 (held_all q1 ds.datagrams ++ queued_chains q1 s.queues) q2 (held_all q2 ds2.datagrams ++ queued_chains q2 s2.queues) =
+    is_later q1 q2 c u1 (held_all q1 ds.datagrams ++ queued_chains q1 s.queues) (held_all q2 ds2.datagrams ++ queued_chains q2 s2.queues) x.owned held1 f.later arrived.spent.moves in
     let wl : Weight = weight_owned q1 (numbers q1 u1) in
     let weighs : all_of (λ (item : Item). item.weight) (packets q1 u1) ≡ wl = output_weighs q1 (numbers q1 u1) in
-    let now : (rest : State) → with_net q1 s (unfinished q1 ds) a rest ≡ with_net q s (unfinished q ds) a rest = λ rest. x.shows a rest in
-    let acc1 : (rest : State) → IsAccounted v.pool (state_at v rest) (weight_owned v.pool (numbers v.pool t)) → IsAccounted q1 (with_net q1 s (unfinished q1 ds) a rest) (wl ⊕ weight_at q1 c) =
+    let now : (rest : State) → with_net q1 s (unfinished q1 ds.datagrams) a rest ≡ with_net q s (unfinished q ds.datagrams) a rest = λ rest. x.shows a rest in
+    let acc1 : (rest : State) → IsAccounted v.pool (state_at v rest) (weight_owned v.pool (numbers v.pool t)) → IsAccounted q1 (with_net q1 s (unfinished q1 ds.datagrams) a rest) (wl ⊕ weight_at q1 c) =
     λ rest acc. swapped (weight_at q1 c) wl (x.accounts a a rest nothing (from_nothing (weight_owned q (numbers q u)) (w.accounts rest acc))) in
-    let keys1 : (rest : State) → HaveApartKeys v.unfinished → IsAccounted v.pool (state_at v rest) (weight_owned v.pool (numbers v.pool t)) → HaveApartKeys (unfinished q1 ds) =
+    let keys1 : (rest : State) → HaveApartKeys v.unfinished → IsAccounted v.pool (state_at v rest) (weight_owned v.pool (numbers v.pool t)) → HaveApartKeys (unfinished q1 ds.datagrams) =
     λ rest keys acc. subst HaveApartKeys (sym x.reass.shows) (w.keys rest keys acc) in
     let step : (rest : State) → HaveApartKeys v.unfinished → IsAccounted v.pool (state_at v rest) (weight_owned v.pool (numbers v.pool t))
-    → Arrives exact_ledger Looped wl (item_at q1 c) (with_net q1 s (unfinished q1 ds) a rest) (with_net q2 s2 (unfinished q2 ds2) b rest) =
+    → Arrives exact_ledger Looped wl (item_at q1 c) (with_net q1 s (unfinished q1 ds.datagrams) a rest) (with_net q2 s2 (unfinished q2 ds2.datagrams) b rest) =
     λ rest keys acc. arrived.step rest wl Looped (keys1 rest keys acc) f.plain (acc1 rest acc) in
     record {
       way = record {
         goes = λ rest new keys acc later.
-            let mid : State = with_net q2 s2 (unfinished q2 ds2) b rest in
-            let first : Arrives exact_ledger Looped (all_of (λ (item : Item). item.weight) (packets q1 u1)) (item_at q1 c) (with_net q s (unfinished q ds) a rest) mid =
-            subst (λ (h : Weight). Arrives exact_ledger Looped h (item_at q1 c) (with_net q s (unfinished q ds) a rest) mid) (sym weighs)
+            let mid : State = with_net q2 s2 (unfinished q2 ds2.datagrams) b rest in
+            let first : Arrives exact_ledger Looped (all_of (λ (item : Item). item.weight) (packets q1 u1)) (item_at q1 c) (with_net q s (unfinished q ds.datagrams) a rest) mid =
+            subst (λ (h : Weight). Arrives exact_ledger Looped h (item_at q1 c) (with_net q s (unfinished q ds.datagrams) a rest) mid) (sym weighs)
             (subst (λ (old : State). Arrives exact_ledger Looped wl (item_at q1 c) old mid) (now rest) (step rest keys acc)) in
             let others : AllArrive exact_ledger (packets q1 u1) mid new = subst (λ (items : List Item). AllArrive exact_ledger items mid new) l.items later in
-            w.goes rest new keys acc (subst (λ (items : List Item). AllArrive exact_ledger items (with_net q s (unfinished q ds) a rest) new) (sym f.items) (mid, first, others));
-        keys = λ rest keys acc. keys_arrive Looped wl (item_at q1 c) (with_net q1 s (unfinished q1 ds) a rest) (with_net q2 s2 (unfinished q2 ds2) b rest) (step rest keys acc) (keys1 rest keys acc);
-        accounts = λ rest acc. subst (λ (h : Weight). IsAccounted q2 (with_net q2 s2 (unfinished q2 ds2) b rest) h)
+            w.goes rest new keys acc (subst (λ (items : List Item). AllArrive exact_ledger items (with_net q s (unfinished q ds.datagrams) a rest) new) (sym f.items) (mid, first, others));
+        keys = λ rest keys acc. keys_arrive Looped wl (item_at q1 c) (with_net q1 s (unfinished q1 ds.datagrams) a rest) (with_net q2 s2 (unfinished q2 ds2.datagrams) b rest) (step rest keys acc) (keys1 rest keys acc);
+        accounts = λ rest acc. subst (λ (h : Weight). IsAccounted q2 (with_net q2 s2 (unfinished q2 ds2.datagrams) b rest) h)
             (sym weighs ∙ ap (all_of (λ (item : Item). item.weight)) (sym l.items) ∙ output_weighs q2 (numbers q2 u1))
             (arrived.spent.accounts rest wl (acc1 rest acc));
         ready = arrived.spent.ready;

@@ -1,7 +1,7 @@
 -- How a stack starts, and what it leaves.
 use Rattle.std.proofs.lemmas.List.{length-replicate}
 use Rattle.mbuf_pool.specs.Store.{StoreView, free_store, free_cluster}
-use Rattle.std.proofs.Common.{◌≡◌, ℕ, List, [], ◌++◌, length, None, sym, ap, ◌∙◌, subst, arith}
+use Rattle.std.proofs.Common.{◌≡◌, ℕ, ◌*◌, ◌≤◌, List, [], ◌++◌, length, None, sym, ap, ◌∙◌, subst, arith}
 use Rattle.std.specs.FinMap as finmap
 use Rattle.std.specs.FinMap.{get-empty}
 use Rattle.std.specs.Ordering.{nat_cmp}
@@ -13,13 +13,14 @@ use Rattle.flat_model.proofs.Laws.{boot_is_consistent}
 use Rattle.mbuf_chain.specs.Chain.{PoolView}
 use Rattle.mbuf_chain.specs.Frames.{SameAt}
 use Rattle.mbuf_chain.specs.Owners.{times, live_at, IsAll, Moves}
-use Rattle.mbuf_chain.specs.Train.{TrainView, numbers}
+use Rattle.mbuf_chain.specs.Train.{numbers}
 use Rattle.mbuf_chain.proofs.Laws.Owners.{times-append, live_at_most, live_none, live_one, moves_beside, moves_trans, moves_nothing, same_beside, same_part}
 use Rattle.pcb_table.specs.Table.{sockets_with}
 use Rattle.ip_out.specs.Queues.{IsQueue}
-use Rattle.ip_reass.specs.Table.{IsReady, held_all}
-use Rattle.ip_reass.specs.Same.{none_held, none_unfinished}
+use Rattle.ip_reass.specs.Table.{AreDistinct, HaveFragments, IsTable, held_all, unfinished}
+use Rattle.ip_reass.specs.declared.datagram.Datagram.{Datagram}
 use Rattle.sock_calls.specs.Sockets.{IsSocks, queues_of, queued_chains}
+use Rattle.ip_reass.proofs.Laws.{none_distinct}
 use Rattle.ip_out.proofs.Laws.{none_wait}
 use Rattle.net_stack.specs.Boots.{free_pool}
 use Rattle.net_stack.specs.Stack.{IsStack, state_of, chains_of}
@@ -46,8 +47,8 @@ pub record Starts (config : Config) (s : Inside) : Type 0 where
   pub pool : s.host.pool ≡ free_pool config
   pub socks : (p : PoolView) → IsSocks p s.host.socks
   pub blocks : s.host.socks.pcbs ≡ record { addr = config.addr; bcast = config.bcast; blocks = []; last_port = None }
-  pub none : s.host.reass.holders ≡ record { first = None; last = None; len = 0 }
-  pub reass : (p : PoolView) → IsReady p s.host.reass
+  pub none : s.host.reass.datagrams ≡ []
+  pub room : config.mbufs ≤ 2 * s.host.reass.room
   pub mtu : s.host.net.mtu ≡ config.mtu
   pub next_id : s.host.net.next_id ≡ config.first_id
   pub counters : s.host.net.counters ≡ no_counts
@@ -59,18 +60,21 @@ pub started_state : (config : Config) (s : Inside) → Starts config s → state
 started_state config s h = λ i. record {
   config = record (h.same i) { addr = (h.blocks i).addr; bcast = (h.blocks i).bcast };
   sockets = sockets_with (queues_of s.host.pool s.host.socks.queues) (h.blocks i);
-  unfinished = none_unfinished s.host.pool s.host.reass (ap (λ (t : TrainView). t.len) h.none) i;
+  unfinished = unfinished s.host.pool (h.none i);
   output = none_wait s.host.pool s.host.net.out h.waits i;
   last_port = (h.blocks i).last_port;
   next_id = h.next_id i;
   counters = h.counters i;
 }
 
+none_table : (p : PoolView) (ds : List Datagram) → ds ≡ [] → IsTable p ds
+none_table p ds e = subst (IsTable p) (sym e) (record { owned = λ k. omega arith; each = tt })
+
 started_all : (config : Config) (s : Inside) → Starts config s → IsAll s.host.pool (chains_of (seen s))
 started_all config s h = λ k. omega (
   arith,
   split (seen s) k,
-  ap (times k) (none_held s.host.pool s.host.reass (ap (λ (t : TrainView). t.len) h.none)),
+  ap (λ (ds : List Datagram). times k (held_all s.host.pool ds)) h.none,
   (h.socks s.host.pool).owned k,
   (h.out s.host.pool).held.owned k,
   ap (λ (p : PoolView). live_at p k) h.pool,
@@ -83,7 +87,12 @@ started config s is h = record {
     mbufs = ap (λ (c : Config). c.mbufs) h.same ∙ sym (ap (λ (p : PoolView). p.mbufs) h.pool);
     clusters = ap (λ (c : Config). c.clusters) h.same ∙ sym (ap (λ (p : PoolView). p.clusters) h.pool);
     socks = h.socks s.host.pool;
-    reass = h.reass s.host.pool;
+    reass = record {
+      table = none_table s.host.pool s.host.reass.datagrams h.none;
+      fragments = subst HaveFragments (sym h.none) tt;
+      room = omega (arith, h.room, ap (λ (p : PoolView). p.mbufs) h.pool);
+      distinct = subst (AreDistinct s.host.pool) (sym h.none) (none_distinct s.host.pool);
+    };
     output = h.out s.host.pool;
     all = started_all config s h;
     consistent = subst IsConsistent (sym (started_state config s h)) (boot_is_consistent config is);
@@ -111,7 +120,7 @@ pub record SocksGone (s : Inside) (q : PoolView) : Type 0 where
 pub socks_gone : (s : Inside) (q : PoolView) → IsStack (seen s) → Moves s.host.pool (queued_chains s.host.pool s.host.socks.queues) q [] → SocksGone s q
 socks_gone s q is m =
     let p : PoolView = s.host.pool in
-    let xs : List ℕ = held_all p s.host.reass in
+    let xs : List ℕ = held_all p s.host.reass.datagrams in
     let zs : List ℕ = numbers p s.host.net.out in
     let same : SameAt p q (xs ++ zs) =
     same_beside (xs ++ zs) m (λ k. omega (arith, is.all k, split (seen s) k, times-append k xs zs)) (λ k h. omega (arith, h, is.all k, split (seen s) k, times-append k xs zs, live_at_most p k)) in
@@ -123,12 +132,12 @@ socks_gone s q is m =
 -- once the unfinished datagrams ended too
 pub record ReassGone (s : Inside) (r : PoolView) : Type 0 where
   pub output : OutputKept s.host.pool r s.host.net.out
-  pub moves : Moves s.host.pool (held_all s.host.pool s.host.reass ++ queued_chains s.host.pool s.host.socks.queues) r []
+  pub moves : Moves s.host.pool (held_all s.host.pool s.host.reass.datagrams ++ queued_chains s.host.pool s.host.socks.queues) r []
 
-pub reass_gone : (s : Inside) (q r : PoolView) → IsStack (seen s) → Moves s.host.pool (queued_chains s.host.pool s.host.socks.queues) q [] → Moves q (held_all q s.host.reass) r [] → ReassGone s r
+pub reass_gone : (s : Inside) (q r : PoolView) → IsStack (seen s) → Moves s.host.pool (queued_chains s.host.pool s.host.socks.queues) q [] → Moves q (held_all q s.host.reass.datagrams) r [] → ReassGone s r
 reass_gone s q r is m n =
     let p : PoolView = s.host.pool in
-    let xs : List ℕ = held_all p s.host.reass in
+    let xs : List ℕ = held_all p s.host.reass.datagrams in
     let ys : List ℕ = queued_chains p s.host.socks.queues in
     let zs : List ℕ = numbers p s.host.net.out in
     let first : Moves p (xs ++ ys) q xs = moves_beside (xs ++ ys) xs xs m (λ k. omega (arith, times-append k xs ys)) (λ k. omega arith) in
@@ -142,7 +151,7 @@ reass_gone s q r is m n =
 pub all_gone : (s : Inside) (r t : PoolView) → IsStack (seen s) → ReassGone s r → Moves r (numbers r s.host.net.out) t [] → t ≡ free_pool s.config
 all_gone s r t is g n =
     let p : PoolView = s.host.pool in
-    let xs : List ℕ = held_all p s.host.reass ++ queued_chains p s.host.socks.queues in
+    let xs : List ℕ = held_all p s.host.reass.datagrams ++ queued_chains p s.host.socks.queues in
     let zs : List ℕ = numbers p s.host.net.out in
     let first : Moves p (xs ++ zs) r zs = moves_beside (xs ++ zs) zs zs g.moves (λ k. omega (arith, times-append k xs zs)) (λ k. omega arith) in
     gone s.config p t (chains_of (seen s)) is.mbufs is.clusters is.all (moves_trans first (subst (λ (l : List ℕ). Moves r l t []) g.output.chains n))

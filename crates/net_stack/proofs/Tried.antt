@@ -1,5 +1,5 @@
 -- A send, tested once or twice.
-use Rattle.std.proofs.Common.{◌≡◌, ℕ, ◌+◌, Bool, true, false, List, [], ◌++◌, length, Option, refl, sym, ap, ◌∙◌, subst, arith, inl, inr}
+use Rattle.std.proofs.Common.{◌≡◌, ℕ, ◌+◌, Bool, true, false, List, [], ◌∷◌, ◌++◌, length, Option, refl, sym, ap, ◌∙◌, subst, arith, inl, inr}
 use Rattle.std.specs.Prelude.{◌⊎◌, count_by, Result, Ok, Err}
 use Rattle.std.proofs.lemmas.Bool.{true≢false}
 use Rattle.flat_model.specs.Amounts.Weight.{Weight, Item, SameWeight, nothing, all_of, mbuf, ◌⊕◌}
@@ -27,7 +27,7 @@ use Rattle.ledger.proofs.Laws.{accounted_after}
 use Rattle.pcb_table.specs.Table.{machine, sockets_with}
 use Rattle.ip_out.specs.Packets.{packets}
 use Rattle.ip_reass.specs.Table.{TableView, IsReady, held_all, unfinished}
-use Rattle.ip_reass.specs.Same.{length-unfinished, none_held, none_unfinished, table_weighs}
+use Rattle.ip_reass.specs.Same.{length-unfinished, table_weighs}
 use Rattle.sock_calls.specs.Sockets.{queues_of, queued_chains}
 use Rattle.sock_calls.specs.Sends.{SendsOnce}
 use Rattle.sock_calls.specs.Outgoing.{SendView, CanSend, IsSent, sending, state_in}
@@ -42,22 +42,22 @@ pub record IsOnce (fd : ℕ) (to : Option Addr) (bytes : List ℕ) (v : SendView
   pub step : (rest : State) → rest.config.mtu ≡ v.net.mtu → IsAccounted v.pool (all_in v r rest) nothing
       → SendsOnce exact_ledger fd to bytes (all_in v r rest) (sent_reply result) (packets u.pool u.net.looped) (all_in u r rest)
   pub accounts : (rest : State) → IsAccounted v.pool (all_in v r rest) nothing → IsAccounted u.pool (all_in u r rest) (weight_owned u.pool (numbers u.pool u.net.looped))
-  pub keys : HaveApartKeys (unfinished v.pool r) → HaveApartKeys (unfinished u.pool r)
+  pub keys : HaveApartKeys (unfinished v.pool r.datagrams) → HaveApartKeys (unfinished u.pool r.datagrams)
   pub parts : AreParts v r u r
 
-pub once : {fd : ℕ} {to : Option Addr} {bytes : List ℕ} {v u : SendView} {r : TableView} {result : Result ℕ Errno} → IsSent fd to bytes v result u → IsReady v.pool r → IsOwned v.pool (held_all v.pool r ++ out_chains v)
+pub once : {fd : ℕ} {to : Option Addr} {bytes : List ℕ} {v u : SendView} {r : TableView} {result : Result ℕ Errno} → IsSent fd to bytes v result u → IsReady v.pool r → IsOwned v.pool (held_all v.pool r.datagrams ++ out_chains v)
     → IsOnce fd to bytes v r result u
 once {fd} {to} {bytes} {v} {u} {r} {result} is ready owned =
     let p : PoolView = v.pool in
     let q : PoolView = u.pool in
-    let xs : List ℕ = held_all p r in
+    let xs : List ℕ = held_all p r.datagrams in
     let same : SameAt p q xs = same_beside xs is.moves (λ k. omega (arith, owned k, times-append k xs (out_chains v))) (λ k h. omega (arith, h, owned k, times-append k xs (out_chains v), live_at_most p k)) in
     let rk : ReassKept p q r = reass_kept p q r same ready in
-    let now : (rest : State) → state_in u (record rest { unfinished = unfinished p r }) ≡ all_in u r rest = λ rest i. state_in u (record rest { unfinished = sym rk.shows i }) in
+    let now : (rest : State) → state_in u (record rest { unfinished = unfinished p r.datagrams }) ≡ all_in u r rest = λ rest i. state_in u (record rest { unfinished = sym rk.shows i }) in
     record {
-      step = λ rest mtu acc. subst (λ (t : State). SendsOnce exact_ledger fd to bytes (all_in v r rest) (sent_reply result) (packets q u.net.looped) t) (now rest) (is.step (record rest { unfinished = unfinished p r }) mtu acc);
+      step = λ rest mtu acc. subst (λ (t : State). SendsOnce exact_ledger fd to bytes (all_in v r rest) (sent_reply result) (packets q u.net.looped) t) (now rest) (is.step (record rest { unfinished = unfinished p r.datagrams }) mtu acc);
       accounts = λ rest acc. subst (λ (t : State). IsAccounted q t (weight_owned q (numbers q u.net.looped))) (now rest)
-          (subst (λ (w : Weight). IsAccounted q (state_in u (record rest { unfinished = unfinished p r })) w) (output_weighs q (numbers q u.net.looped)) (is.accounts (record rest { unfinished = unfinished p r }) acc));
+          (subst (λ (w : Weight). IsAccounted q (state_in u (record rest { unfinished = unfinished p r.datagrams })) w) (output_weighs q (numbers q u.net.looped)) (is.accounts (record rest { unfinished = unfinished p r.datagrams }) acc));
       keys = λ keys. subst HaveApartKeys (sym rk.shows) keys;
       parts = record {
         socks = is.socks;
@@ -66,12 +66,12 @@ once {fd} {to} {bytes} {v} {u} {r} {result} is ready owned =
         plain = is.plain;
         reass = rk.table;
         mtu = is.mtu;
-        moves = moves_beside (xs ++ out_chains v) (numbers q u.net.looped ++ (held_all q r ++ out_chains u)) xs is.moves
+        moves = moves_beside (xs ++ out_chains v) (numbers q u.net.looped ++ (held_all q r.datagrams ++ out_chains u)) xs is.moves
             (λ k. omega (arith, times-append k xs (out_chains v)))
             (λ k. omega (
               arith,
-              times-append k (numbers q u.net.looped) (held_all q r ++ out_chains u),
-              times-append k (held_all q r) (out_chains u),
+              times-append k (numbers q u.net.looped) (held_all q r.datagrams ++ out_chains u),
+              times-append k (held_all q r.datagrams) (out_chains u),
               times-append k (numbers q u.net.looped) (out_chains u),
               ap (times k) rk.chains,
             ));
@@ -137,44 +137,48 @@ pub record IsReclaimed (v : SendView) (r : TableView) (q : PoolView) (t : TableV
   pub can : CanSend (sending q v.socks (record (v.net) { counters = c }))
   pub shows : (rest : State) → all_in (sending q v.socks (record (v.net) { counters = c })) t rest ≡ reclaimed (all_in v r rest)
   pub accounts : (rest : State) → IsAccounted v.pool (all_in v r rest) nothing → IsAccounted q (all_in (sending q v.socks (record (v.net) { counters = c })) t rest) nothing
-  pub keys : HaveApartKeys (unfinished q t)
-  pub owned : IsOwned q (held_all q t ++ out_chains (sending q v.socks (record (v.net) { counters = c })))
-  pub moves : Moves v.pool (held_all v.pool r ++ out_chains v) q (held_all q t ++ out_chains (sending q v.socks (record (v.net) { counters = c })))
+  pub keys : HaveApartKeys (unfinished q t.datagrams)
+  pub owned : IsOwned q (held_all q t.datagrams ++ out_chains (sending q v.socks (record (v.net) { counters = c })))
+  pub moves : Moves v.pool (held_all v.pool r.datagrams ++ out_chains v) q (held_all q t.datagrams ++ out_chains (sending q v.socks (record (v.net) { counters = c })))
 
-pub gives_back : {v : SendView} {r t : TableView} {q : PoolView} {c : Counters} (k : ℕ) → CanSend v → IsReady v.pool r → IsOwned v.pool (held_all v.pool r ++ out_chains v) → t.holders.len ≡ 0 → k ≡ r.holders.len
-    → c ≡ counts_more IpReclaimed k v.net.counters → Moves v.pool (held_all v.pool r) q [] → IsReclaimed v r q t c
+none_of : {X : Type 0} (xs : List X) → length xs ≡ 0 → xs ≡ []
+none_of [] e = refl
+none_of (x ∷ xs) e = absurd (omega arith)
+
+pub gives_back : {v : SendView} {r t : TableView} {q : PoolView} {c : Counters} (k : ℕ) → CanSend v → IsReady v.pool r → IsOwned v.pool (held_all v.pool r.datagrams ++ out_chains v) → length t.datagrams ≡ 0 → k ≡ length r.datagrams
+    → c ≡ counts_more IpReclaimed k v.net.counters → Moves v.pool (held_all v.pool r.datagrams) q [] → IsReclaimed v r q t c
 gives_back {v} {r} {t} {q} {c} k can ready owned none count is_c m =
     let p : PoolView = v.pool in
     let w : SendView = sending q v.socks (record (v.net) { counters = c }) in
-    let xs : List ℕ = held_all p r in
+    let xs : List ℕ = held_all p r.datagrams in
     let ys : List ℕ = numbers p v.net.out in
     let zs : List ℕ = queued_chains p v.socks.queues in
     let split : (j : ℕ) → times j (xs ++ out_chains v) ≡ times j xs + (times j ys + times j zs) = λ j. omega (arith, times-append j xs (ys ++ zs), times-append j ys zs) in
     let same : SameAt p q (ys ++ zs) = same_beside (ys ++ zs) m (λ j. omega (arith, owned j, split j, times-append j ys zs)) (λ j h. omega (arith, h, owned j, split j, times-append j ys zs, live_at_most p j)) in
     let o : OutputKept p q v.net.out = output_kept p q v.net.out (same_part p q (ys ++ zs) ys same (λ j. omega (arith, times-append j ys zs))) can.out in
     let s : Kept p q v.socks = kept p q v.socks (same_part p q (ys ++ zs) zs same (λ j. omega (arith, times-append j ys zs))) can.socks in
-    let empty : unfinished q t ≡ [] = none_unfinished q t none in
-    let counts : c ≡ counts_more IpReclaimed (length (unfinished p r)) v.net.counters = is_c ∙ ap (λ (n : ℕ). counts_more IpReclaimed n v.net.counters) (count ∙ sym (length-unfinished p r ready)) in
+    let empty : t.datagrams ≡ [] = none_of t.datagrams none in
+    let counts : c ≡ counts_more IpReclaimed (length (unfinished p r.datagrams)) v.net.counters = is_c ∙ ap (λ (n : ℕ). counts_more IpReclaimed n v.net.counters) (count ∙ sym (length-unfinished p r.datagrams)) in
     let now : (rest : State) → all_in w t rest ≡ reclaimed (all_in v r rest) =
-    λ rest i. machine (record rest { unfinished = empty i; output = o.shows i; next_id = v.net.next_id; counters = counts i }) (λ fd. s.shows fd i) v.socks.pcbs in
-    let all : Moves p (xs ++ out_chains v) q (held_all q t ++ out_chains w) =
-    moves_beside (xs ++ out_chains v) (held_all q t ++ out_chains w) (ys ++ zs) m
+    λ rest i. machine (record rest { unfinished = unfinished q (empty i); output = o.shows i; next_id = v.net.next_id; counters = counts i }) (λ fd. s.shows fd i) v.socks.pcbs in
+    let all : Moves p (xs ++ out_chains v) q (held_all q t.datagrams ++ out_chains w) =
+    moves_beside (xs ++ out_chains v) (held_all q t.datagrams ++ out_chains w) (ys ++ zs) m
     (λ j. omega (arith, split j, times-append j ys zs))
     (λ j. omega (
       arith,
-      times-append j (held_all q t) (out_chains w),
+      times-append j (held_all q t.datagrams) (out_chains w),
       times-append j (numbers q v.net.out) (queued_chains q v.socks.queues),
       times-append j ys zs,
       ap (times j) o.chains,
       ap (times j) s.chains,
-      ap (times j) (none_held q t none),
+      ap (λ ds. times j (held_all q ds)) empty,
     )) in
-    let left : IsOwned q (held_all q t ++ out_chains w) = owned_after all owned in
+    let left : IsOwned q (held_all q t.datagrams ++ out_chains w) = owned_after all owned in
     record {
       can = record {
         socks = s.ready;
         out = o.queue;
-        owned = λ j. omega (arith, left j, times-append j (held_all q t) (out_chains w));
+        owned = λ j. omega (arith, left j, times-append j (held_all q t.datagrams) (out_chains w));
         looped = held_same p q v.net.looped (same_part p q (ys ++ zs) (numbers p v.net.looped) same (λ j. omega (arith, ap (times j) (none_left p v.net.looped can.none)))) can.looped;
         none = can.none;
         mtu = can.mtu;
@@ -185,9 +189,9 @@ gives_back {v} {r} {t} {q} {c} k can ready owned none count is_c m =
       accounts = λ rest acc. subst (λ (x : State). IsAccounted q x nothing) (sym (now rest))
           (let old : State = all_in v r rest in
           let ws : Weight = all_of (λ (socket : Socket). all_of (λ d. d.item.weight) socket.queue) (sockets_with (queues_of p v.socks.queues) v.socks.pcbs) in
-          let wu : Weight = all_of (λ (u : Unfinished). mbuf ⊕ weight_of_pieces u.bytes) (unfinished p r) in
+          let wu : Weight = all_of (λ (u : Unfinished). mbuf ⊕ weight_of_pieces u.bytes) (unfinished p r.datagrams) in
           let wo : Weight = all_of (λ (item : Item). item.weight) (packets p v.net.out) in
-          let of_table : SameWeight (weight_owned p xs) wu = table_weighs p r ready.table.each in
+          let of_table : SameWeight (weight_owned p xs) wu = table_weighs p r.datagrams ready.table.each in
           accounted_after acc m (λ j. omega (arith, owned j, split j)) refl (record {
             mbufs = omega (arith, of_table.mbufs);
             bag = λ j. omega (
@@ -201,7 +205,7 @@ gives_back {v} {r} {t} {q} {c} k can ready owned none count is_c m =
               times-both j ws nothing,
             );
           }));
-      keys = λ key. omega (arith, ap (count_by (is_key key)) empty);
+      keys = λ key. omega (arith, ap (λ ds. count_by (is_key key) (unfinished q ds)) empty);
       owned = left;
       moves = all;
     }

@@ -29,11 +29,11 @@ rest_of s = record (boot s.config) { output = packets s.pool s.output; next_id =
 
 -- the state of the flat machine
 abbrev pub state_of : StackView → State
-state_of s = with_net s.pool s.socks (unfinished s.pool s.reass) s.counters (rest_of s)
+state_of s = with_net s.pool s.socks (unfinished s.pool s.reass.datagrams) s.counters (rest_of s)
 
 -- the numbers of all its chains
 abbrev pub chains_of : StackView → List ℕ
-chains_of s = (held_all s.pool s.reass ++ queued_chains s.pool s.socks.queues) ++ numbers s.pool s.output
+chains_of s = (held_all s.pool s.reass.datagrams ++ queued_chains s.pool s.socks.queues) ++ numbers s.pool s.output
 
 -- Parts, pool and configuration fit together, each chain of the pool has one owner among the parts, and the state is
 -- one that the flat machine may reach.

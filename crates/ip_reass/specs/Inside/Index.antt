@@ -1,35 +1,40 @@
--- How the mbufs of the keys are found by the buckets of their keys (this project's own).
-use Rattle.std.specs.Prelude.{◌≡◌, ℕ, zero, suc, ◌+◌, ◌*◌, ◌%◌, ◌<◌, ◌==◌, if◌then◌else◌, List, [], ◌∷◌, length, get_or}
+-- Where the rows of the table stand by the buckets of their keys (this project's own).
+use Rattle.std.specs.Prelude.{◌≡◌, ℕ, zero, suc, ◌+◌, ◌*◌, ◌%◌, ◌<◌, ◌≤◌, ◌==◌, if◌then◌else◌, List, map, take, length, get_or}
 use Rattle.flat_model.specs.Machine.State.{Key}
-
--- the mbuf of a key, the key, and one more than the number of the next mbuf in its bucket, or 0
-pub record Row : Type 0 where
-  pub number : ℕ
-  pub key : Key
-  pub before : ℕ
+use Rattle.ip_reass.specs.declared.datagram.Datagram.{Datagram}
+use Rattle.ip_reass.specs.declared.index.Row.{Row}
 
 -- the bucket of a key, of so many
 abbrev pub bucket_of : ℕ → Key → ℕ
 bucket_of count k = (k.id + 40503 * k.source + 10007 * k.destination + 211 * k.protocol) % count
 
--- one more than the number of the first in bucket b: 0 if none is
-abbrev pub newest : ℕ → ℕ → List Row → ℕ
-newest count b [] = 0
-newest count b (r ∷ rs) = if bucket_of count r.key == b then suc r.number else newest count b rs
+-- those of all rows
+abbrev pub buckets_of : ℕ → List Datagram → List ℕ
+buckets_of count ds = map (λ (d : Datagram). bucket_of count d.key) ds
 
--- each tells the next one in its bucket
-abbrev pub AreLinked : ℕ → List Row → Type 0
-AreLinked count [] = Unit {0}
-AreLinked count (r ∷ rs) = (r.before ≡ newest count (bucket_of count r.key) rs) × AreLinked count rs
+-- how many rows there are up to the last of the first k that is in bucket b, that one included: 0 if none is
+abbrev pub upto_last : ℕ → List ℕ → ℕ → ℕ
+upto_last b bs zero = 0
+upto_last b bs (suc k) = if get_or bs k 0 == b then suc k else upto_last b bs k
 
--- there are buckets, each tells the first one in it, and that one the next
-pub record Indexes (told : List ℕ) (rs : List Row) : Type 0 where
-  pub some : 0 < length told
-  pub befores : AreLinked (length told) rs
-  pub lasts : (b : ℕ) → b < length told → get_or told b 0 ≡ newest (length told) b rs
+-- what a contract sees of an index: the buckets of the rows, how many buckets there are, and for how many rows there is
+-- room
+pub record IndexView : Type 0 where
+  pub buckets : List ℕ
+  pub count : ℕ
+  pub room : ℕ
 
--- of the first k, those that tell mbuf n tell `before` in its place
-abbrev pub bridged : ℕ → ℕ → ℕ → List Row → List Row
-bridged zero n before rs = rs
-bridged (suc k) n before [] = []
-bridged (suc k) n before (r ∷ rs) = (if r.before == suc n then record r { before = before } else r) ∷ bridged k n before rs
+abbrev pub buckets_in : List Row → ℕ → List ℕ
+buckets_in rows n = map (λ (r : Row). r.bucket) (take n rows)
+
+-- each bucket tells its last row, and each row the one before it in its bucket
+pub record AreLinked (ends : List ℕ) (rows : List Row) (n : ℕ) : Type 0 where
+  pub within : n ≤ length rows
+  pub befores : (k : ℕ) (d : Row) → k < n → (get_or rows k d).before ≡ upto_last (get_or rows k d).bucket (buckets_in rows n) k
+  pub inside : (k : ℕ) (d : Row) → k < n → (get_or rows k d).bucket < length ends
+  pub lasts : (b : ℕ) → b < length ends → get_or ends b 0 ≡ upto_last b (buckets_in rows n) n
+
+-- the index tells the rows of the table
+pub record Indexes (x : IndexView) (ds : List Datagram) : Type 0 where
+  pub some : 0 < x.count
+  pub rows : x.buckets ≡ buckets_of x.count ds

@@ -57,7 +57,7 @@ fn received(rt: &impl Abort, pool: &mut Pool, table: &Reass, bytes: &[u8]) -> Ch
     requires ready { IsReady pool.old table.now }
     requires short { length bytes.now < 65536 }
     ensures ready { IsReady pool.new table.now }
-    ensures owned { IsOwned pool.new (result ∷ held_all pool.new table.now) }
+    ensures owned { IsOwned pool.new (result ∷ held_all pool.new table.now.datagrams) }
     ensures headed { (chain_of pool.new result).front.header ≡ true }
     ensures string { string (chain_of pool.new result) ≡ bytes.now }
 {
@@ -77,7 +77,7 @@ fn fragment(
 ) -> (Chain, IpHead)
     requires { IsReady pool.old table.now }
     ensures ready { IsReady pool.new table.now }
-    ensures owned { IsOwned pool.new (result.0 ∷ held_all pool.new table.now) }
+    ensures owned { IsOwned pool.new (result.0 ∷ held_all pool.new table.now.datagrams) }
     ensures headed { (chain_of pool.new result.0).front.header ≡ true }
     ensures total { length (string (chain_of pool.new result.0)) ≡ result.1.total }
     ensures header { IP_HEADER ≤ result.1.total }

@@ -12,8 +12,8 @@ abbrev pub arrival_view : Host → NetView
 arrival_view h = record {
   pool = h.pool;
   socks = h.socks;
-  unfinished = unfinished h.pool h.reass;
-  waiting = held_all h.pool h.reass;
+  unfinished = unfinished h.pool h.reass.datagrams;
+  waiting = held_all h.pool h.reass.datagrams;
   counters = h.net.counters;
 }
 
@@ -23,7 +23,7 @@ send_view h = record { pool = h.pool; socks = h.socks; net = h.net }
 
 -- the numbers of all chains
 abbrev pub all_chains : Host → List ℕ
-all_chains h = held_all h.pool h.reass ++ out_chains (send_view h)
+all_chains h = held_all h.pool h.reass.datagrams ++ out_chains (send_view h)
 
 -- an arrival leaves what goes out as it was, and only counts
 abbrev pub KeepsOutput : Net → Net → Type 0

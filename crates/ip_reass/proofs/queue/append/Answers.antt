@@ -8,7 +8,7 @@ use Rattle.ip_reass.specs.Inside.Walks.{AllAbove, AllUpto, arrived, reach}
 use Rattle.ip_reass.proofs.Counted.{held_after}
 use Rattle.ip_reass.proofs.Lays.{Laid, Settled, IsLast, appended, is_last, laid_in}
 use Rattle.ip_reass.proofs.Walks.{length-fragments, upto_reach}
-use Rattle.ip_reass.proofs.Whole.{held_within, open_stops, gap_stops, whole_held}
+use Rattle.ip_reass.proofs.Whole.{held_most, held_within, open_stops, gap_stops, whole_held}
 use Rattle.ip_reass.proofs.queue.append.Goals.{After-insert}
 use Rattle.ip_reass.proofs.queue.append.Goals as goal
 
@@ -33,16 +33,17 @@ whole_of c =
     is_last c.args.pool.now c.insert.new.pool c.args.datagram.now.fragments c.insert.new.self c.len-place.result c.args.chain (arrived c.args.pool.now c.args.chain c.args.span.offset c.args.span.more) c.requires.queue.held c.len-place.ensures
     (subst (λ (n : ℕ). Settled c.args.pool.now c.args.datagram.now.fragments n 0 c.args.chain (arrived c.args.pool.now c.args.chain c.args.span.offset c.args.span.more) c.insert.new.pool c.insert.new.self) (sym c.len-place.ensures) (all c))
 
-counted : (c : After-insert) → c.args.datagram.now.bytes + c.len-len.result ≡ bytes_held (fragments c.insert.new.pool c.insert.new.self)
+counted : (c : After-insert) → c.from.result + c.len-len.result ≡ bytes_held (fragments c.insert.new.pool c.insert.new.self)
 counted c =
     omega (
       arith,
+      c.from.ensures,
       c.requires.counted,
       c.len-len.ensures,
       held_after c.args.pool.now c.insert.new.pool c.args.datagram.now.fragments c.insert.new.self c.args.datagram.now.fragments.len (arrived c.args.pool.now c.args.chain c.args.span.offset c.args.span.more) c.requires.queue.held (all c).queue_is refl,
     )
 
-is_laid : (c : After-insert) → IsLaid c.args.pool.now c.args.datagram.now c.args.chain (arrived c.args.pool.now c.args.chain c.args.span.offset c.args.span.more) true c.insert.new.pool (record (c.args.datagram.now) { fragments = c.insert.new.self; bytes = c.args.datagram.now.bytes + c.len-len.result })
+is_laid : (c : After-insert) → IsLaid c.args.pool.now c.args.datagram.now c.args.chain (arrived c.args.pool.now c.args.chain c.args.span.offset c.args.span.more) true c.insert.new.pool (record (c.args.datagram.now) { fragments = c.insert.new.self; bytes = c.from.result + c.len-len.result })
 is_laid c = record {
   same = refl;
   covered = (laid c).covered;
@@ -61,12 +62,12 @@ pub returns-then-span-clause-whole : goal.returns-then-span-clause-whole
 returns-then-span-clause-whole c =
     open_stops (fragments c.insert.new.pool c.insert.new.self) c.len-place.result (laid c.before).apart (whole_of c.before).len ((whole_of c.before).more ∙ c.if-span.true)
 
-pub returns-then-datagram-span-clause-laid : goal.returns-then-datagram-span-clause-laid
-returns-then-datagram-span-clause-laid c = is_laid c.before.before.before
+pub returns-then-bytes-span-clause-laid : goal.returns-then-bytes-span-clause-laid
+returns-then-bytes-span-clause-laid c = is_laid c.before.before.before
 
-pub returns-then-datagram-span-clause-whole : goal.returns-then-datagram-span-clause-whole
-returns-then-datagram-span-clause-whole c =
-    gap_stops (fragments c.insert.new.pool c.insert.new.self) (laid c.before.before.before).apart (omega (arith, counted c.before.before.before, (whole_of c.before.before.before).end, c.len-len.ensures, c.if-datagram-span.true))
+pub returns-then-bytes-span-clause-whole : goal.returns-then-bytes-span-clause-whole
+returns-then-bytes-span-clause-whole c =
+    gap_stops (fragments c.insert.new.pool c.insert.new.self) (laid c.before.before.before).apart (omega (arith, counted c.before.before.before, (whole_of c.before.before.before).end, c.len-len.ensures, c.if-bytes-span.true))
 
 pub returns-clause-laid : goal.returns-clause-laid
 returns-clause-laid c = is_laid c.before.before.before
@@ -75,7 +76,10 @@ pub returns-clause-whole : goal.returns-clause-whole
 returns-clause-whole c =
     subst (λ (n : ℕ). IsWhole (map_of (fragments c.insert.new.pool c.insert.new.self)) n) (sym (counted c.before.before.before))
     (whole_held (fragments c.insert.new.pool c.insert.new.self) c.len-place.result (laid c.before.before.before).apart (whole_of c.before.before.before).len ((whole_of c.before.before.before).more ∙ c.if-span.false)
-    (omega (arith, counted c.before.before.before, (whole_of c.before.before.before).end, c.len-len.ensures, c.if-datagram-span.false)))
+    (omega (arith, counted c.before.before.before, (whole_of c.before.before.before).end, c.len-len.ensures, c.if-bytes-span.false)))
 
-pub overflow_add-datagram : goal.overflow_add-datagram
-overflow_add-datagram c = omega (arith, c.requires.counted, held_within (fragments c.args.pool.now c.args.datagram.now.fragments) c.requires.queue.apart c.requires.queue.small, c.len-len.ensures, c.requires.small)
+pub overflow_add-bytes : goal.overflow_add-bytes
+overflow_add-bytes c = omega (arith, c.from.ensures, c.requires.counted, held_within (fragments c.args.pool.now c.args.datagram.now.fragments) c.requires.queue.apart c.requires.queue.small, c.len-len.ensures, c.requires.small)
+
+pub overflow_cast-datagram : goal.overflow_cast-datagram
+overflow_cast-datagram c = omega (arith, c.from.ensures, c.requires.counted, held_most 0 (fragments c.args.pool.now c.args.datagram.now.fragments) c.requires.queue.apart, c.requires.past, c.len-len.ensures, c.requires.small)

@@ -1,68 +1,59 @@
-use Rattle.std.proofs.Common.{◌≡◌, ◌+◌, ◌-◌, length, ap, ◌∙◌, subst, sym, arith}
-use Rattle.ip_reass.specs.Table.{TableView, aged, datagram_by, datagrams}
-use Rattle.ip_reass.specs.Inside.Steps.{TakesEnded}
-use Rattle.ip_reass.specs.declared.record.Record.{Record}
-use Rattle.ip_reass.proofs.Aging.{gone_is, lowered, tick_step}
-use Rattle.ip_reass.proofs.Parted.{apart_lifted, lifts}
-use Rattle.ip_reass.proofs.Ticking.{HasTicked, length-datagrams, linked_beside, ticking_begins, ticking_ends, ticking_on}
+use Rattle.std.proofs.Common.{◌≡◌, ◌-◌, ℕ, List, length, take, subst, sym, ap, ◌∙◌, arith, sum_by}
+use Rattle.ip_reass.specs.declared.datagram.Datagram.{Datagram}
+use Rattle.mbuf_chain.specs.Owners.{Moves}
+use Rattle.ip_reass.specs.Table.{aged, held_all, holds, AllUnfinished, IsTable}
+use Rattle.std.proofs.lemmas.List.{length-take-le}
+use Rattle.ip_reass.specs.Table.{TableView}
+use Rattle.ip_reass.proofs.Aging.{reordered, table_reordered, lent, tick_step, aged_distinct}
+use Rattle.ip_reass.proofs.Holding.{aged_fragments}
+use Rattle.ip_reass.specs.Inside.Index.{buckets_of}
+use Rattle.ip_reass.proofs.Followed.{aged_same, length_buckets}
 use Rattle.ip_reass.proofs.table.Reass.tick.Goals as goal
 
-pub rest-init : goal.rest-init
-rest-init c =
-    let t = subst (λ (r : TableView). TakesEnded c.args.pool.now r.holders c.take_ended-rest.result c.take_ended-rest.new.pool c.take_ended-rest.new.holders) c.self.view_is c.take_ended-rest.ensures in
-    ticking_begins t (omega (arith, c.requires.table.linked.index.some, ap (λ (r : TableView). length r.lasts) c.self.view_is, c.clear.ensures.len)) c.clear.ensures.none
+pub free_beyond-requires-clause-table : goal.free_beyond-requires-clause-table
+free_beyond-requires-clause-table c =
+    let long : length c.age-kept.new.table ≡ c.self.inside.datagrams.len = omega arith in
+    let was = c.as_mut_slice.ensures.value ∙ (ap (λ (r : TableView). r.datagrams) c.self.view_is) in
+    subst (IsTable c.args.pool.now) (sym (lent c.self.inside.datagrams.len c.self.inside.datagrams.items c.age-kept.new.table long))
+    (reordered c.args.pool.now c.args.self.now.datagrams c.age-kept.new.table c.requires.table (λ k. c.age-kept.ensures.holds c.args.pool.now k ∙ ap (sum_by (holds c.args.pool.now k)) was)
+    (c.age-kept.ensures.each c.args.pool.now (subst (AllUnfinished c.args.pool.now) (sym was) c.requires.table.each)) (omega (arith, ap (λ (xs : List Datagram). length xs) was)))
 
-pub push-requires-clause-linked : goal.push-requires-clause-linked
-push-requires-clause-linked c =
-    let e = c.take-holder.ensures in
-    let l = lifts c.rest.invariant.parted (omega (arith, c.len.ensures, c.rest-test.true)) e.queued_packets e.taken e.held e.moves in
-    linked_beside l.rest.held l.rest.queued_packets c.rest.invariant.linked
+pub returns-clause-moves : goal.returns-clause-moves
+returns-clause-moves c =
+    let long : length c.age-kept.new.table ≡ c.self.inside.datagrams.len = omega arith in
+    let was = c.as_mut_slice.ensures.value ∙ (ap (λ (r : TableView). r.datagrams) c.self.view_is) in
+    table_reordered c.args.pool.now c.free_beyond.new.pool c.args.self.now.datagrams c.age-kept.new.table (held_all c.free_beyond.new.pool c.free_beyond.new.table.items)
+    (λ k. c.age-kept.ensures.holds c.args.pool.now k ∙ ap (sum_by (holds c.args.pool.now k)) was)
+    (subst (λ (ds : List Datagram). Moves c.args.pool.now (held_all c.args.pool.now ds) c.free_beyond.new.pool (held_all c.free_beyond.new.pool c.free_beyond.new.table.items)) (lent c.self.inside.datagrams.len c.self.inside.datagrams.items c.age-kept.new.table long)
+    c.free_beyond.ensures.moves)
 
-pub push-requires-clause-apart : goal.push-requires-clause-apart
-push-requires-clause-apart c =
-    let e = c.take-holder.ensures in
-    let l = lifts c.rest.invariant.parted (omega (arith, c.len.ensures, c.rest-test.true)) e.queued_packets e.taken e.held e.moves in
-    omega (arith, apart_lifted l.lifted)
-
-pub rest-preserved : goal.rest-preserved
-rest-preserved c =
-    let e = c.take-holder.ensures in
-    let n = c.push.ensures in
-    let l = lifts c.rest.invariant.parted (omega (arith, c.len.ensures, c.rest-test.true)) e.queued_packets e.taken e.held e.moves in
-    ticking_on c.rest.invariant l (ap (λ (r : Record). lowered (datagram_by c.take-holder.result.0 r)) c.record_of-record.ensures) n.change n.linked n.moves
-
-ticked : (c : goal.After-len-2) → HasTicked c.args.pool.now c.args.self.now c.rest.pool c.rest.self
-ticked c = ticking_ends c.requires c.rest.invariant (omega (arith, c.len.ensures, c.rest-test.false))
-
--- how many were there, and how many there are
-were : (c : goal.After-len-2) → length (datagrams c.args.pool.now c.args.self.now) ≡ c.len-before.result
-were c = length-datagrams c.args.pool.now c.args.self.now.holders c.requires.table.linked.holders ∙ sym (c.len-before.ensures ∙ ap (λ (r : TableView). r.holders.len) c.self.view_is)
-
-are : (c : goal.After-len-2) → length (aged (datagrams c.args.pool.now c.args.self.now)) ≡ c.len-2.result
-are c = (ticked c).len ∙ sym (c.len-2.ensures ∙ ap (λ (r : TableView). r.holders.len) c.self-2.view_is)
-
-pub overflow_sub-result : goal.overflow_sub-result
-overflow_sub-result c = omega (arith, were c, are c, gone_is c.args.pool.now (datagrams c.args.pool.now c.args.self.now))
-
-gone : (c : goal.After-len-2) → c.len-before.result - c.len-2.result + length (aged (datagrams c.args.pool.now c.args.self.now)) ≡ length (datagrams c.args.pool.now c.args.self.now)
-gone c = omega (arith, were c, are c, overflow_sub-result c)
+aged_now : (c : goal.After-renew) → c.free_beyond.new.table.items ≡ aged c.args.self.now.datagrams
+aged_now c =
+    let long : length c.age-kept.new.table ≡ c.self.inside.datagrams.len = omega arith in
+    let was = c.as_mut_slice.ensures.value ∙ (ap (λ (r : TableView). r.datagrams) c.self.view_is) in
+    c.free_beyond.ensures.items ∙ (ap (take c.age-kept.result) (lent c.self.inside.datagrams.len c.self.inside.datagrams.items c.age-kept.new.table long) ∙ (c.age-kept.ensures.kept ∙ ap aged was))
 
 pub returns-clause-step : goal.returns-clause-step
 returns-clause-step c = λ rest d.
-    let t = ticked c in
-    tick_step rest d c.args.pool.now c.rest.pool (datagrams c.args.pool.now c.args.self.now) (datagrams c.rest.pool c.rest.self) (c.len-before.result - c.len-2.result) t.shows t.same (gone c)
-
-pub returns-clause-aged : goal.returns-clause-aged
-returns-clause-aged c = (ticked c).shows
-
-pub returns-clause-gone : goal.returns-clause-gone
-returns-clause-gone c = gone c
+    let was = c.as_mut_slice.ensures.value ∙ (ap (λ (r : TableView). r.datagrams) c.self.view_is) in
+    let kept : length (aged c.args.self.now.datagrams) ≡ c.age-kept.result = ap (λ (xs : List Datagram). length xs) (sym (c.age-kept.ensures.kept ∙ ap aged was)) ∙ length-take-le c.age-kept.result c.age-kept.new.table c.age-kept.ensures.within in
+    let size : length c.args.self.now.datagrams ≡ c.self.inside.datagrams.len = omega (arith, c.as_mut_slice.ensures.len, ap (λ (xs : List Datagram). length xs) was) in
+    tick_step rest d c.args.pool.now c.free_beyond.new.pool c.args.self.now.datagrams c.free_beyond.new.table.items (c.len-before.result - c.age-kept.result) (aged_now c) c.free_beyond.ensures.same (omega (arith, kept, size, c.len-before.ensures, c.age-kept.ensures.within))
 
 pub returns-clause-ready : goal.returns-clause-ready
-returns-clause-ready c = (ticked c).ready
+returns-clause-ready c = record {
+  table = c.free_beyond.ensures.table;
+  fragments = aged_fragments c.args.self.now.datagrams c.free_beyond.new.table.items (aged_now c) c.requires.fragments;
+  room = omega (arith, c.free_beyond.ensures.capacity, ap (λ (r : TableView). r.room) c.self.view_is, c.requires.room, c.free_beyond.ensures.moves.mbufs);
+  distinct = aged_distinct c.args.pool.now c.free_beyond.new.pool c.args.self.now.datagrams c.free_beyond.new.table.items (aged_now c) c.free_beyond.ensures.same c.requires.distinct;
+}
 
-pub returns-clause-same : goal.returns-clause-same
-returns-clause-same c = (ticked c).same
-
-pub returns-clause-moves : goal.returns-clause-moves
-returns-clause-moves c = (ticked c).moves
+pub renew-requires-clause-same : goal.renew-requires-clause-same
+renew-requires-clause-same c = λ e.
+    let n = c.self.inside.index.count in
+    let was = ap (λ (r : TableView). r.datagrams) c.self.view_is in
+    let size : length c.age-kept.new.table ≡ c.self.inside.datagrams.len = omega arith in
+    let old = c.as_mut_slice.ensures.value ∙ was in
+    let now = c.as_slice-table.ensures.value ∙ c.free_beyond.ensures.items ∙ ap (take c.age-kept.result) (lent c.self.inside.datagrams.len c.self.inside.datagrams.items c.age-kept.new.table size) ∙ c.age-kept.ensures.kept ∙ ap aged old in
+    let long : length c.args.self.now.datagrams ≡ length (aged c.args.self.now.datagrams) = omega (arith, e, ap (λ (bs : List ℕ). length bs) c.self.invariant.2.rows, length_buckets n c.self.inside.datagrams.items, ap (λ (xs : List Datagram). length xs) was, ap (λ (xs : List Datagram). length xs) now) in
+    c.self.invariant.2.rows ∙ ap (buckets_of n) was ∙ aged_same n c.args.self.now.datagrams long ∙ ap (buckets_of n) (sym now)

@@ -9,14 +9,14 @@ use Rattle.ip_reass_tests.proofs.tests.steps.received.Goals as goal
 -- a chain that came leaves the table
 record Came (p q : PoolView) (n : ℕ) (r : TableView) : Type 0 where
   ready : IsReady q r
-  owned : IsOwned q (n ∷ held_all q r)
+  owned : IsOwned q (n ∷ held_all q r.datagrams)
 
 came : (p q : PoolView) (n : ℕ) (v : ChainView) (r : TableView) → IsReady p r → Adds p q n v → Came p q n r
 came p q n v r is adds =
-    let same = same_adds (held_all p r) adds is.table.owned in
+    let same = same_adds (held_all p r.datagrams) adds is.table.owned in
     record {
       ready = ready_same p q r same is;
-      owned = subst (λ (xs : List ℕ). IsOwned q (n ∷ xs)) (sym (held_all_same p q r same)) (owned_after (then_adds (moves_none p (held_all p r)) adds) is.table.owned);
+      owned = subst (λ (xs : List ℕ). IsOwned q (n ∷ xs)) (sym (held_all_same p q r.datagrams same)) (owned_after (then_adds (moves_none p (held_all p r.datagrams)) adds) is.table.owned);
     }
 
 pub returns-clause-ready : goal.returns-clause-ready

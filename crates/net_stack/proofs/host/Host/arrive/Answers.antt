@@ -16,7 +16,7 @@ pub returns-in-Err-clause-arrived : goal.returns-in-Err-clause-arrived
 returns-in-Err-clause-arrived c =
     ends_here c.in-Err.why c.requires.reass c.requires.socks c.requires.owned c.free_chain.ensures c.count.ensures c.count_ended.ensures
     (λ rest held origin. refused (string (chain_of c.args.self.now.pool c.args.chain)) origin held (weight_at c.args.self.now.pool c.args.chain)
-    (with_net c.args.self.now.pool c.args.self.now.socks (unfinished c.args.self.now.pool c.args.self.now.reass) c.args.self.now.net.counters rest) c.in-Err.why c.in-Err.ensures.err)
+    (with_net c.args.self.now.pool c.args.self.now.socks (unfinished c.args.self.now.pool c.args.self.now.reass.datagrams) c.args.self.now.net.counters rest) c.in-Err.why c.in-Err.ensures.err)
 
 pub returns-in-Err-clause-reass : goal.returns-in-Err-clause-reass
 returns-in-Err-clause-reass c = (freed c.args.chain c.requires.owned c.requires.reass c.requires.socks c.free_chain.ensures).reass.table
@@ -25,7 +25,7 @@ pub returns-then-not-is_for_us-clause-arrived : goal.returns-then-not-is_for_us-
 returns-then-not-is_for_us-clause-arrived c =
     ends_here CantForward c.requires.reass c.requires.socks c.requires.owned c.free_chain-then-not-is_for_us.ensures c.count.ensures c.count_ended-then-not-is_for_us.ensures
     (λ rest held origin. forwarded (string (chain_of c.args.self.now.pool c.args.chain)) origin held (weight_at c.args.self.now.pool c.args.chain)
-    (with_net c.args.self.now.pool c.args.self.now.socks (unfinished c.args.self.now.pool c.args.self.now.reass) c.args.self.now.net.counters rest) c.in-Ok.ensures.ok.0
+    (with_net c.args.self.now.pool c.args.self.now.socks (unfinished c.args.self.now.pool c.args.self.now.reass.datagrams) c.args.self.now.net.counters rest) c.in-Ok.ensures.ok.0
     (ap (λ (x : IpHead). is_ours_or_all c.args.self.now.socks.pcbs.addr c.args.self.now.socks.pcbs.bcast x.dst) (sym c.in-Ok.ensures.ok.1) ∙ sym c.is_for_us.ensures ∙ c.if-not-is_for_us.true))
 
 pub returns-then-not-is_for_us-clause-reass : goal.returns-then-not-is_for_us-clause-reass

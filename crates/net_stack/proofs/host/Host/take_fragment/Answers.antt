@@ -8,15 +8,15 @@ use Rattle.net_stack.proofs.Arriving.{waits, completes}
 use Rattle.net_stack.proofs.host.Host.take_fragment.Goals as goal
 
 pub arrive-requires-clause-owned : goal.arrive-requires-clause-owned
-arrive-requires-clause-owned c = λ k. omega (arith, c.requires.owned k, times-append k (held_all c.args.self.now.pool c.args.self.now.reass) (queued_chains c.args.self.now.pool c.args.self.now.socks.queues))
+arrive-requires-clause-owned c = λ k. omega (arith, c.requires.owned k, times-append k (held_all c.args.self.now.pool c.args.self.now.reass.datagrams) (queued_chains c.args.self.now.pool c.args.self.now.socks.queues))
 
 pub input-requires-clause-ready : goal.input-requires-clause-ready
 input-requires-clause-ready c =
-    (beside_socks (c.args.chain ∷ held_all c.args.self.now.pool c.args.self.now.reass) (c.in-Whole.chain ∷ []) (held_all c.arrive.new.pool c.arrive.new.self) c.requires.owned c.requires.socks c.in-Whole.ensures.moves).socks.ready
+    (beside_socks (c.args.chain ∷ held_all c.args.self.now.pool c.args.self.now.reass.datagrams) (c.in-Whole.chain ∷ []) (held_all c.arrive.new.pool c.arrive.new.self.datagrams) c.requires.owned c.requires.socks c.in-Whole.ensures.moves).socks.ready
 
 pub input-requires-clause-owned : goal.input-requires-clause-owned
 input-requires-clause-owned c =
-    owned_after (beside_socks (c.args.chain ∷ held_all c.args.self.now.pool c.args.self.now.reass) (c.in-Whole.chain ∷ []) (held_all c.arrive.new.pool c.arrive.new.self) c.requires.owned c.requires.socks c.in-Whole.ensures.moves).moves c.requires.owned
+    owned_after (beside_socks (c.args.chain ∷ held_all c.args.self.now.pool c.args.self.now.reass.datagrams) (c.in-Whole.chain ∷ []) (held_all c.arrive.new.pool c.arrive.new.self.datagrams) c.requires.owned c.requires.socks c.in-Whole.ensures.moves).moves c.requires.owned
 
 pub returns-in-Whole-clause-taken : goal.returns-in-Whole-clause-taken
 returns-in-Whole-clause-taken c =

@@ -25,7 +25,7 @@ sendto-requires c =
     let u : SendView = sending c.sendto-first.new.pool c.sendto-first.new.self c.sendto-first.new.net in
     let lack : WasLack v c.sendto-first.result u = was_lack c.sendto-first.result (sym c.lacks_pool.ensures ∙ c.if-not-lacks_pool.false) c.sendto-first.ensures in
     let ready : IsReady u.pool c.args.self.now.reass = subst (λ (x : SendView). IsReady x.pool c.args.self.now.reass) (sym lack.same) c.requires.reass in
-    let owned : IsOwned u.pool (held_all u.pool c.args.self.now.reass ++ out_chains u) = subst (λ (x : SendView). IsOwned x.pool (held_all x.pool c.args.self.now.reass ++ out_chains x)) (sym lack.same) c.requires.owned in
+    let owned : IsOwned u.pool (held_all u.pool c.args.self.now.reass.datagrams ++ out_chains u) = subst (λ (x : SendView). IsOwned x.pool (held_all x.pool c.args.self.now.reass.datagrams ++ out_chains x)) (sym lack.same) c.requires.owned in
     let back : IsReclaimed u c.args.self.now.reass c.reclaim-datagrams.new.pool c.reclaim-datagrams.new.self c.count_more.new.self =
     gives_back c.from.result (subst CanSend (sym lack.same) c.requires.send) ready owned c.reclaim-datagrams.ensures.none (c.from.ensures ∙ c.reclaim-datagrams.ensures.count) c.count_more.ensures c.reclaim-datagrams.ensures.moves in
     back.can
@@ -36,7 +36,7 @@ returns c =
     let u : SendView = sending c.sendto-first.new.pool c.sendto-first.new.self c.sendto-first.new.net in
     let lack : WasLack v c.sendto-first.result u = was_lack c.sendto-first.result (sym c.lacks_pool.ensures ∙ c.if-not-lacks_pool.false) c.sendto-first.ensures in
     let ready : IsReady u.pool c.args.self.now.reass = subst (λ (x : SendView). IsReady x.pool c.args.self.now.reass) (sym lack.same) c.requires.reass in
-    let owned : IsOwned u.pool (held_all u.pool c.args.self.now.reass ++ out_chains u) = subst (λ (x : SendView). IsOwned x.pool (held_all x.pool c.args.self.now.reass ++ out_chains x)) (sym lack.same) c.requires.owned in
+    let owned : IsOwned u.pool (held_all u.pool c.args.self.now.reass.datagrams ++ out_chains u) = subst (λ (x : SendView). IsOwned x.pool (held_all x.pool c.args.self.now.reass.datagrams ++ out_chains x)) (sym lack.same) c.requires.owned in
     let back : IsReclaimed u c.args.self.now.reass c.reclaim-datagrams.new.pool c.reclaim-datagrams.new.self c.count_more.new.self =
     gives_back c.from.result (subst CanSend (sym lack.same) c.requires.send) ready owned c.reclaim-datagrams.ensures.none (c.from.ensures ∙ c.reclaim-datagrams.ensures.count) c.count_more.ensures c.reclaim-datagrams.ensures.moves in
     let one : IsOnce c.args.fd c.args.to c.args.bytes.now u c.args.self.now.reass c.sendto-first.result u =

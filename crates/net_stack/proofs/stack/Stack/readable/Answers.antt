@@ -9,5 +9,5 @@ use Rattle.net_stack.proofs.stack.Stack.readable.Goals as goal
 pub returns : goal.returns
 returns c =
     let s : StackView = seen c.self.inside in
-    let rest : State = record (rest_of s) { unfinished = unfinished s.pool s.reass; counters = s.counters } in
+    let rest : State = record (rest_of s) { unfinished = unfinished s.pool s.reass.datagrams; counters = s.counters } in
     subst (λ (v : StackView). c.readable.result ≡ readable (state_of v)) c.self.view_is (c.readable.ensures s.pool rest c.self.invariant.stack.socks)

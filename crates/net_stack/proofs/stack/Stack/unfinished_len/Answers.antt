@@ -7,4 +7,4 @@ use Rattle.net_stack.proofs.stack.Stack.unfinished_len.Goals as goal
 pub returns : goal.returns
 returns c =
     let s : StackView = seen c.self.inside in
-    subst (λ (v : StackView). c.len.result ≡ length (state_of v).unfinished) c.self.view_is (c.len.ensures ∙ sym (length-unfinished s.pool s.reass c.self.invariant.stack.reass))
+    subst (λ (v : StackView). c.len.result ≡ length (state_of v).unfinished) c.self.view_is (c.len.ensures ∙ sym (length-unfinished s.pool s.reass.datagrams))
