@@ -2,7 +2,6 @@
 
 use flat_model::Addr;
 use pcb_table::Pcbs;
-use std::alloc::{AllocError, Global};
 
 const OUR: u32 = 0x0a00_0001;
 
@@ -18,8 +17,8 @@ const SENDER: Addr = Addr {
 const FIRST_PORT: u16 = 2000;
 
 /// A table with so many sockets, bound to any address and, if so asked, connected to the sender.
-fn table_of(alloc: Global, sockets: u16, is_connected: bool) -> Result<Pcbs, AllocError> {
-    let mut table = Pcbs::boot(alloc, OUR, BROADCAST)?;
+fn table_of(sockets: u16, is_connected: bool) -> Pcbs {
+    let mut table = Pcbs::new(OUR, BROADCAST);
     for i in 0..sockets.min(64) {
         if let Ok(fd) = table.open() {
             let _ = table.bind(
@@ -34,23 +33,19 @@ fn table_of(alloc: Global, sockets: u16, is_connected: bool) -> Result<Pcbs, All
             }
         }
     }
-    Ok(table)
+    table
 }
 
-/// Looks up a packet to each of the ports, so many times over, and answers a digest of the descriptors found, or 0 if
-/// there is no memory:
+/// Looks up a packet to each of the ports, so many times over, and answers a digest of the descriptors found:
 /// `uint64_t bsdudp_lookups(uint16_t sockets, bool is_connected, const uint16_t *ports, size_t len, uint64_t times)`.
 #[unsafe(no_mangle)]
 pub extern "C" fn bsdudp_lookups(
-    alloc: Global,
     sockets: u16,
     is_connected: bool,
     ports: &[u16],
     times: u64,
 ) -> u64 {
-    let Ok(mut table) = table_of(alloc, sockets, is_connected) else {
-        return 0;
-    };
+    let mut table = table_of(sockets, is_connected);
     let mut digest = 0u64;
     for _ in 0..times {
         for port in ports {

@@ -174,7 +174,7 @@ fn is_right(rt: &impl Abort, alloc: Global, table: &mut Pcbs, step: &Step) -> bo
 }
 
 fn play(rt: &impl Abort, alloc: Global, steps: &[Step]) {
-    let mut table = Pcbs::boot(alloc, OUR, BROADCAST).expect(rt, "memory");
+    let mut table = Pcbs::new(OUR, BROADCAST);
     for (row, step) in steps.iter().enumerate() {
         assert!(rt; is_right(rt, alloc, &mut table, step), "row {row}");
     }

@@ -1,5 +1,6 @@
 //! The blocks of a table, with notes of where they stand, so that none is looked for by a walk past the others.
-ghost use Rattle.std.specs.Prelude.{◌≡◌, ℕ, ◌+◌, ◌<◌, ◌≤◌, ◌∷◌, [], drop, length, remove, slice_set, find, vec_capacity, vec_len, IfOk, IsSome};
+ghost use Rattle.std.specs.Prelude.{◌≡◌, ℕ, ◌+◌, ◌<◌, ◌≤◌, ◌∷◌, [], drop, length, remove, slice_set, find, IsSome};
+ghost use Rattle.arrayvec.specs.ArrayVec.{array_vec_len};
 ghost use Rattle.params.specs.declared.TheConstants.{MAX_SOCKETS};
 ghost use Rattle.pcb_table.specs.Apart.{has_fd};
 ghost use Rattle.pcb_table.specs.Inside.Fields.{IsLocated, Locates, HasPorts, PassesLanes, lanes_clear};
@@ -8,7 +9,7 @@ ghost use Rattle.pcb_table.specs.Inside.Search.{from_port};
 use crate::block::Block;
 use crate::search::{Place, locate_by_walk};
 use crate::table::SOCKETS;
-use std::alloc::{AllocError, Global};
+use arrayvec::ArrayVec;
 use std::marker::Model;
 use std::simd::prelude::*;
 
@@ -18,8 +19,7 @@ const LANES: usize = 16;
 /// The noted ports: one for each place, and so many more that a whole load may begin at the last place.
 const NOTED: usize = SOCKETS + LANES;
 
-/// The blocks of at most 64 sockets, the youngest first. They have memory of their own, with room for 64 from the
-/// start, so that a table is small if it's moved.
+/// The blocks of at most 64 sockets, the youngest first.
 ///
 /// Beside them stand two notes, written anew by each change. `ports` has the port of the block at each place, so that
 /// sixteen blocks with another port are passed by one comparison: a datagram of 2 bytes takes 1,638 instructions beside
@@ -27,7 +27,7 @@ const NOTED: usize = SOCKETS + LANES;
 /// stood. It's only looked at first: a block found there is tested, and else a walk finds it.
 #[derive(Drop)]
 pub(crate) struct Blocks {
-    blocks: Vec<Block>,
+    blocks: ArrayVec<Block, SOCKETS>,
     // 0 for a block without a port
     ports: [u16; NOTED],
     // by descriptor, modulo 64
@@ -40,27 +40,23 @@ impl Model for Blocks {
 
     ghost Value = { List Block };
 
-    ghost use Rattle.std.specs.Prelude.{◌≤◌, vec_capacity, vec_len};
-    ghost use Rattle.params.specs.declared.TheConstants.{MAX_SOCKETS};
     ghost use Rattle.pcb_table.specs.Inside.Fields.{HasPorts};
 
     ghost view = { λ b. b.blocks.items };
 
-    ghost invariant = { λ b. HasPorts b.blocks.items b.ports × (vec_len b.blocks ≤ MAX_SOCKETS)
-        × (MAX_SOCKETS ≤ vec_capacity b.blocks) };
+    ghost invariant = { λ b. HasPorts b.blocks.items b.ports };
 }
 
 impl Blocks {
-    /// No block. `AllocError` comes if the host has no memory for 64.
-    pub(crate) fn boot(alloc: Global) -> Result<Blocks, AllocError>
-        ensures { IfOk result (λ b. b ≡ []) }
+    /// No block.
+    pub(crate) fn new() -> Blocks
+        ensures { result ≡ [] }
     {
-        let blocks = Vec::with_capacity(alloc, SOCKETS)?;
-        Ok(Blocks {
-            blocks,
+        Blocks {
+            blocks: ArrayVec::new(),
             ports: [0; NOTED],
             places: [0; SOCKETS],
-        })
+        }
     }
 
     /// How many there are, at most 64.
@@ -154,22 +150,18 @@ impl Blocks {
 }
 
 /// Puts a block into a place that holds one.
-fn set_block(blocks: &mut Vec<Block>, index: usize, block: Block)
-    requires { index < vec_len blocks.old }
-    ensures items { blocks.new.items ≡ slice_set blocks.old.items index block }
-    ensures len { vec_len blocks.new ≡ vec_len blocks.old }
-    ensures capacity { vec_capacity blocks.new ≡ vec_capacity blocks.old }
+fn set_block(blocks: &mut ArrayVec<Block, SOCKETS>, index: usize, block: Block)
+    requires { index < array_vec_len blocks.old }
+    ensures { blocks.new.items ≡ slice_set blocks.old.items index block }
 {
     blocks[index] = block;
 }
 
 /// Puts a block in front of the others. There has to be room for it.
-// Block by block: `Vec::insert` might ask for memory.
-pub(crate) fn insert_first(blocks: &mut Vec<Block>, block: Block)
-    requires { vec_len blocks.old < vec_capacity blocks.old }
-    ensures items { blocks.new.items ≡ block ∷ blocks.old.items }
-    ensures len { vec_len blocks.new ≡ vec_len blocks.old + 1 }
-    ensures capacity { vec_capacity blocks.new ≡ vec_capacity blocks.old }
+// Block by block: `ArrayVec::insert` turns a part of its array, which takes nine kilobytes of code.
+fn insert_first(blocks: &mut ArrayVec<Block, SOCKETS>, block: Block)
+    requires { array_vec_len blocks.old < SOCKETS }
+    ensures { blocks.new.items ≡ block ∷ blocks.old.items }
 {
     let mut moved = block;
     for index in 0..blocks.len() {
@@ -177,16 +169,14 @@ pub(crate) fn insert_first(blocks: &mut Vec<Block>, block: Block)
         blocks[index] = moved;
         moved = next;
     }
-    blocks.push_reserved(moved);
+    blocks.push(moved);
 }
 
 /// Takes out the block at a place, and moves the later ones down.
 // Block by block, as `insert_first` does.
-pub(crate) fn remove_at(blocks: &mut Vec<Block>, index: usize)
-    requires { index < vec_len blocks.old }
-    ensures items { blocks.new.items ≡ remove blocks.old.items index }
-    ensures len { vec_len blocks.new + 1 ≡ vec_len blocks.old }
-    ensures capacity { vec_capacity blocks.new ≡ vec_capacity blocks.old }
+fn remove_at(blocks: &mut ArrayVec<Block, SOCKETS>, index: usize)
+    requires { index < array_vec_len blocks.old }
+    ensures { blocks.new.items ≡ remove blocks.old.items index }
 {
     let last = blocks.len() - 1;
     for place in index..last {

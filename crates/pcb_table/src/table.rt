@@ -20,7 +20,6 @@ use crate::search::{best, exact, receivers};
 use arrayvec::ArrayVec;
 use flat_model::{Addr, Errno, LookupKey, Opt};
 use params::MAX_SOCKETS;
-use std::alloc::{AllocError, Global};
 use std::marker::Model;
 
 /// How many sockets are open at most, as the length of an array.
@@ -52,18 +51,16 @@ impl Model for Pcbs {
 }
 
 impl Pcbs {
-    /// A table with no block, of a machine with this address and this broadcast address. Memory for 64 blocks is taken
-    /// here, by one request, and no other call takes any. `AllocError` comes if the host has none.
-    pub fn boot(alloc: Global, addr: u32, bcast: u32) -> Result<Pcbs, AllocError>
-        ensures { IfOk result (λ p. p ≡ record { addr = addr; bcast = bcast; blocks = []; last_port = None }) }
+    /// A table with no block, of a machine with this address and this broadcast address. It asks for no memory.
+    pub fn new(addr: u32, bcast: u32) -> Pcbs
+        ensures { result ≡ record { addr = addr; bcast = bcast; blocks = []; last_port = None } }
     {
-        let blocks = Blocks::boot(alloc)?;
-        Ok(Pcbs {
+        Pcbs {
             interface: Interface { addr, bcast },
-            blocks,
+            blocks: Blocks::new(),
             last_port: None,
             cache: None,
-        })
+        }
     }
 
     /// The machine's address.

@@ -4,7 +4,6 @@ ghost use Rattle.pcb_table.specs.Table.{IsOpen};
 
 use flat_model::{Addr, Errno, LookupKey, Opt};
 use pcb_table::{Block, Pcbs};
-use std::alloc::Global;
 use std::process::Abort;
 
 const OUR: u32 = 0x0a00_0001;
@@ -67,14 +66,9 @@ fn answer(table: &mut Pcbs, call: Call) -> Result<u32, Errno> {
     Ok(0)
 }
 
-/// A table without a socket.
-fn booted(rt: &impl Abort, alloc: Global) -> Pcbs {
-    Pcbs::boot(alloc, OUR, BROADCAST).expect(rt, "memory")
-}
-
 /// Plays a script on a new table.
-fn played(rt: &impl Abort, alloc: Global, steps: &[Step]) -> Pcbs {
-    let mut table = booted(rt, alloc);
+fn played(rt: &impl Abort, steps: &[Step]) -> Pcbs {
+    let mut table = Pcbs::new(OUR, BROADCAST);
     for (step, (call, wanted)) in steps.iter().enumerate() {
         assert!(rt; answer(&mut table, *call) == *wanted, "step {step}");
     }
@@ -82,10 +76,10 @@ fn played(rt: &impl Abort, alloc: Global, steps: &[Step]) -> Pcbs {
 }
 
 /// A table with one socket.
-fn opened(rt: &impl Abort, alloc: Global) -> (Pcbs, u32)
+fn opened(rt: &impl Abort) -> (Pcbs, u32)
     ensures { IsOpen result.1 result.0 }
 {
-    let mut table = booted(rt, alloc);
+    let mut table = Pcbs::new(OUR, BROADCAST);
     let fd = table.open().expect(rt, "a socket");
     block_of(rt, &table, fd);
     (table, fd)
@@ -101,7 +95,7 @@ fn block_of(rt: &impl Abort, table: &Pcbs, fd: u32) -> Block
 /// 64 sockets, the lowest free descriptor, and the one that was closed again.
 #[test]
 fn gives_the_lowest_descriptor(rt: HostRuntime) {
-    let mut table = booted(&rt, rt.alloc());
+    let mut table = Pcbs::new(OUR, BROADCAST);
     for fd in 3..67 {
         assert!(rt; table.open() == Ok(fd));
     }
@@ -136,13 +130,13 @@ static REFUSALS: [Step; 18] = [
 
 #[test]
 fn refuses_in_order(rt: HostRuntime) {
-    played(&rt, rt.alloc(), &REFUSALS);
+    played(&rt, &REFUSALS);
 }
 
 /// What a refused connect leaves: disconnected, with its port.
 #[test]
 fn a_refused_connect_disconnects(rt: HostRuntime) {
-    let (mut table, fd) = opened(&rt, rt.alloc());
+    let (mut table, fd) = opened(&rt);
     let first = table.connect(fd, at(PEER, 7));
     let second = table.connect(fd, at(PEER, 0));
     assert!(rt; first == Ok(()) && second == Err(Errno::AddressNotAvailable));
@@ -174,7 +168,7 @@ static CACHE: [Step; 13] = [
 
 #[test]
 fn forgets_what_it_found(rt: HostRuntime) {
-    played(&rt, rt.alloc(), &CACHE);
+    played(&rt, &CACHE);
 }
 
 static MATCHES: [Step; 18] = [
@@ -203,7 +197,7 @@ static MATCHES: [Step; 18] = [
 
 #[test]
 fn a_better_match_wins_and_then_the_youngest(rt: HostRuntime) {
-    played(&rt, rt.alloc(), &MATCHES);
+    played(&rt, &MATCHES);
 }
 
 /// An unset value isn't 0.
@@ -221,7 +215,7 @@ static UNSET: [Step; 8] = [
 
 #[test]
 fn a_packet_from_nowhere(rt: HostRuntime) {
-    played(&rt, rt.alloc(), &UNSET);
+    played(&rt, &UNSET);
 }
 
 static SHARED: [Step; 8] = [
@@ -242,7 +236,7 @@ fn are_receivers(table: &Pcbs, port: u16, wanted: &[u32]) -> bool {
 
 #[test]
 fn shares_a_port(rt: HostRuntime) {
-    let mut table = played(&rt, rt.alloc(), &SHARED);
+    let mut table = played(&rt, &SHARED);
     assert!(rt; are_receivers(&table, 7, &[4, 3]));
     assert!(rt; table.set_option(4, Opt::ReusePort, false) == Ok(()));
     assert!(rt; are_receivers(&table, 7, &[4]) && are_receivers(&table, 8, &[]));
@@ -261,7 +255,7 @@ fn takes_port(rt: &impl Abort, table: &mut Pcbs, wanted: u16) {
 /// Once round the circle, and past the ports that are taken.
 #[test]
 fn ports_go_in_a_circle(rt: HostRuntime) {
-    let (mut table, taken) = opened(&rt, rt.alloc());
+    let (mut table, taken) = opened(&rt);
     assert!(rt; table.bind(taken, at(0, 1025)) == Ok(()));
     for port in 1024..5001 {
         if port != 1025 {
@@ -275,7 +269,7 @@ fn ports_go_in_a_circle(rt: HostRuntime) {
 
 #[test]
 fn tells_its_addresses_and_options(rt: HostRuntime) {
-    let (mut table, fd) = opened(&rt, rt.alloc());
+    let (mut table, fd) = opened(&rt);
     table.laws();
     assert!(rt; table.addr() == OUR && table.bcast() == BROADCAST);
     assert!(rt; table.set_option(fd, Opt::Broadcast, true) == Ok(()));
@@ -290,7 +284,7 @@ fn tells_its_addresses_and_options(rt: HostRuntime) {
 /// A send to 0.0.0.0 goes to our address, and one to 255.255.255.255 to the broadcast address of the link.
 #[test]
 fn where_a_send_goes(rt: HostRuntime) {
-    let (mut table, fd) = opened(&rt, rt.alloc());
+    let (mut table, fd) = opened(&rt);
     assert!(rt; table.set_option(fd, Opt::Broadcast, true) == Ok(()));
     block_of(&rt, &table, fd);
     for (to, goes) in [(0, OUR), (u32::MAX, BROADCAST)] {
@@ -303,7 +297,7 @@ fn where_a_send_goes(rt: HostRuntime) {
 
 #[test]
 fn where_a_send_comes_from(rt: HostRuntime) {
-    let (table, fd) = opened(&rt, rt.alloc());
+    let (table, fd) = opened(&rt);
     for (to, from) in [(LOOPBACK, LOOPBACK), (PEER, OUR)] {
         assert!(rt; table.source_for(fd, to) == from, "{to}");
     }
@@ -312,7 +306,7 @@ fn where_a_send_comes_from(rt: HostRuntime) {
 /// A send gets a port once. Whoever has it and is connected isn't found by it alone.
 #[test]
 fn the_port_of_a_send(rt: HostRuntime) {
-    let (mut table, fd) = opened(&rt, rt.alloc());
+    let (mut table, fd) = opened(&rt);
     let first = table.ensure_port(fd);
     block_of(&rt, &table, fd);
     assert!(rt; first == 1024 && table.ensure_port(fd) == 1024);

@@ -1,25 +1,27 @@
 //! The receive queues of all sockets.
-ghost use Rattle.std.specs.Prelude.{◌≡◌, ℕ, IfOk, length};
+ghost use Rattle.std.specs.Prelude.{◌≡◌, ℕ, length};
 ghost use Rattle.sockbuf.specs.SockBuf.{no_datagrams};
 ghost use Rattle.sock_calls.specs.Sockets.{AreEmpty, queue_at};
 
+use arrayvec::ArrayVec;
 use params::MAX_SOCKETS;
 use sockbuf::SockBuf;
-use std::alloc::{AllocError, Global};
+use std::array;
 use std::marker::Model;
+use std::mem::ManuallyDrop;
 
 /// How many receive queues there are.
 pub(crate) const QUEUES: usize = MAX_SOCKETS as usize;
 
-/// A queue for each descriptor, from 3 on. They have memory of their own, so that the sockets are small if they're
-/// moved. They must be spent, by `end_empty`.
+/// A queue for each descriptor, from 3 on. They must be spent, by `end_empty`.
 pub(crate) struct ReceiveQueues {
     // always 64
-    pub(crate) queues: Vec<SockBuf>,
+    pub(crate) queues: ArrayVec<SockBuf, QUEUES>,
 }
 
 impl Model for ReceiveQueues {
-    ghost use Rattle.std.specs.Prelude.{◌≡◌, List, vec_len};
+    ghost use Rattle.std.specs.Prelude.{◌≡◌, List};
+    ghost use Rattle.arrayvec.specs.ArrayVec.{array_vec_len};
     ghost use Rattle.params.specs.declared.TheConstants.{MAX_SOCKETS};
     ghost use Rattle.sockbuf.specs.SockBuf.{SockBufView};
 
@@ -27,20 +29,23 @@ impl Model for ReceiveQueues {
 
     ghost view = { λ q. q.queues.items };
 
-    ghost invariant = { λ q. vec_len q.queues ≡ MAX_SOCKETS };
+    ghost invariant = { λ q. array_vec_len q.queues ≡ MAX_SOCKETS };
 }
 
 impl ReceiveQueues {
-    /// Queues in which nothing waits. `AllocError` comes if the host has no memory for them.
-    pub(crate) fn boot(alloc: Global) -> Result<ReceiveQueues, AllocError>
-        ensures empty { IfOk result (λ q. (k : ℕ) → queue_at q k ≡ no_datagrams) }
-        ensures places { IfOk result (λ q. length q ≡ MAX_SOCKETS) }
+    /// Queues in which nothing waits.
+    pub(crate) fn new() -> ReceiveQueues
+        ensures empty { (k : ℕ) → queue_at result k ≡ no_datagrams }
+        ensures places { length result ≡ MAX_SOCKETS }
     {
-        let mut queues = Vec::with_capacity(alloc, QUEUES)?;
-        'queues: while queues.len() < QUEUES {
-            queues.push_reserved(SockBuf::new());
+        let queues = array::from_fn(
+            |_| -> SockBuf
+                ensures { result ≡ no_datagrams }
+            { SockBuf::new() },
+        );
+        ReceiveQueues {
+            queues: ArrayVec::from_array_in((), queues),
         }
-        Ok(ReceiveQueues { queues })
     }
 
     /// The queues, that of descriptor 3 first.
@@ -63,12 +68,9 @@ impl ReceiveQueues {
     pub(crate) fn end_empty(self)
         requires { AreEmpty self }
     {
-        let ReceiveQueues { mut queues } = self;
-        'queues: while queues.len() > 0 {
-            if let Some(queue) = queues.pop() {
-                queue.end_empty();
-            }
-        }
-        queues.destroy_empty();
+        let ReceiveQueues { queues } = self;
+        // A vector of the library gives out only what may be dropped, and a queue has to be spent. These are empty, so
+        // nothing is lost with them.
+        let _empty = unsafe { ManuallyDrop::new_unchecked(queues) };
     }
 }

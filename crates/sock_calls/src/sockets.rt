@@ -1,5 +1,5 @@
 //! Sockets: control blocks and receive queues.
-ghost use Rattle.std.specs.Prelude.{◌≡◌, ◌<◌, ◌≤◌, ◌+◌, ◌∷◌, ◌++◌, [], None, drop, length, IfOk, OnErr};
+ghost use Rattle.std.specs.Prelude.{◌≡◌, ◌<◌, ◌≤◌, ◌+◌, ◌∷◌, ◌++◌, [], None, drop, length, IfOk, IsOk, OnErr};
 ghost use Rattle.flat_model.specs.Machine.Event.{Open, Bind, Close, Connect, Receive, Set_option};
 ghost use Rattle.flat_model.specs.Machine.State.{State};
 ghost use Rattle.flat_model.specs.Machine.Step.{Step};
@@ -30,16 +30,6 @@ use std::alloc::{AllocError, Global};
 use std::marker::Model;
 use udp::Outcome;
 
-/// Room for the descriptors of those who hear a datagram. `AllocError` comes if the host has no memory for it.
-// Not inlined: the room is made in this function's frame, and moved from there.
-#[inline(never)]
-fn no_hearers(alloc: Global) -> Result<Box<ArrayVec<u32, SOCKETS>>, AllocError> {
-    match Box::new(alloc, ArrayVec::new()) {
-        Ok(hearers) => Ok(hearers),
-        Err(_) => Err(AllocError),
-    }
-}
-
 /// The place of a descriptor's queue.
 pub(crate) fn place_of(fd: u32) -> usize
     requires { IsDescriptor fd }
@@ -53,7 +43,7 @@ pub(crate) fn place_of(fd: u32) -> usize
 pub struct Socks {
     parts: Parts,
     // room for the descriptors of those who hear a datagram, so that it isn't made for each one
-    hearers: Box<ArrayVec<u32, SOCKETS>>,
+    hearers: ArrayVec<u32, SOCKETS>,
 }
 
 impl Model for Socks {
@@ -66,20 +56,22 @@ impl Model for Socks {
 }
 
 impl Socks {
-    /// No socket, of a machine with this address and broadcast address. All host memory that sockets need is taken
-    /// here, by three requests, and no other call takes any. `AllocError` comes if one is refused, and nothing is left
-    /// then.
-    pub fn boot(alloc: Global, addr: u32, bcast: u32) -> Result<Socks, AllocError>
+    /// No socket, of a machine with this address and broadcast address. Control blocks and queues are places in the
+    /// value itself, and what waits in a queue lies in the pool. So no memory is asked for, and it always answers `Ok`.
+    pub fn boot(_alloc: Global, addr: u32, bcast: u32) -> Result<Socks, AllocError>
+        ensures ok { IsOk result }
         ensures blocks { IfOk result (λ s. s.pcbs
             ≡ record { addr = addr; bcast = bcast; blocks = []; last_port = None }) }
         ensures ready { IfOk result (λ s. (p : PoolView) → IsSocks p s) }
     {
-        let pcbs = Pcbs::boot(alloc, addr, bcast)?;
-        let hearers = no_hearers(alloc)?;
-        // last, since they'd have to be spent if another request were refused
-        let queues = ReceiveQueues::boot(alloc)?;
-        let parts = Parts { pcbs, queues };
-        Ok(Socks { parts, hearers })
+        let parts = Parts {
+            pcbs: Pcbs::new(addr, bcast),
+            queues: ReceiveQueues::new(),
+        };
+        Ok(Socks {
+            parts,
+            hearers: ArrayVec::new(),
+        })
     }
 
     /// The machine's address.
@@ -285,15 +277,14 @@ impl Socks {
             (seen pool.new self.new (R.unfinished pool.new waiting.new) (R.owned pool.new waiting.new) counters.new) }
         ensures waits { R.is_ready pool.new waiting.new }
     {
-        let hearers = self.hearers.as_mut();
-        match udp::input(pool, chain, head, &mut self.parts.pcbs, hearers) {
+        match udp::input(pool, chain, head, &mut self.parts.pcbs, &mut self.hearers) {
             Outcome::Drop(why) => counters.count_ended(why),
             Outcome::Deliver { from, chain } => {
                 let datagram = Datagram {
                     sender: from,
                     chain,
                 };
-                let hearers = hearers.as_slice();
+                let hearers = self.hearers.as_slice();
                 self.parts
                     .deliver_all(pool, waiting, counters, hearers, datagram);
             }
@@ -305,10 +296,11 @@ impl Socks {
         requires { IsSocks pool.old self }
         ensures { Moves pool.old (queued_chains pool.old self.queues) pool.new [] }
     {
-        let Socks { parts, hearers } = self;
-        drop(hearers);
-        let Parts { pcbs, mut queues } = parts;
-        drop(pcbs);
+        let Socks { parts, hearers: _ } = self;
+        let Parts {
+            pcbs: _,
+            mut queues,
+        } = parts;
         flush_all(pool, &mut queues);
         queues.end_empty();
     }

@@ -1,6 +1,6 @@
 //! The queue and its calls.
 
-ghost use Rattle.std.specs.Prelude.{◌≡◌, ◌==◌, ◌<◌, ◌∷◌, [], ◌++◌, true, length, MatchOption, ℕ};
+ghost use Rattle.std.specs.Prelude.{◌≡◌, ◌==◌, ◌<◌, ◌∷◌, [], ◌++◌, true, length, MatchOption, Ok, ℕ};
 ghost use Rattle.flat_model.specs.Sockets.Fits as flat;
 ghost use Rattle.mbuf_chain.specs.Chain.{IsLive, PoolView, chain_of, held_mbufs, string};
 ghost use Rattle.mbuf_chain.specs.Owners.{times, Moves};
@@ -12,6 +12,7 @@ use crate::measure::memory_of;
 use flat_model::Addr;
 use mbuf_chain::{Chain, Pool, Reclaim, Train};
 use params::{MSIZE, SOCKADDR_BYTES, UDP_RECEIVE_MEMORY, UDP_RECEIVE_SPACE};
+use std::alloc::{AllocError, Global};
 use std::marker::Model;
 use thiserror::Error;
 
@@ -55,6 +56,14 @@ impl SockBuf {
             cc: 0,
             mbcnt: 0,
         }
+    }
+
+    /// An empty queue, as `new` makes one, for a caller who boots it as other parts of a stack. What waits lies in the
+    /// pool, so it asks for no memory, and always answers `Ok`.
+    pub fn boot(_alloc: Global) -> Result<SockBuf, AllocError>
+        ensures { result ≡ Ok no_datagrams }
+    {
+        Ok(SockBuf::new())
     }
 
     /// How many datagrams wait.

@@ -10,7 +10,6 @@ use flat_model::{Addr, Opt, Why};
 use ip_out::IpHead;
 use mbuf_chain::Pool;
 use pcb_table::{Pcbs, SOCKETS};
-use std::alloc::Global;
 use std::process::Abort;
 use udp::{Outcome, input};
 
@@ -178,8 +177,8 @@ fn comes_out(
 }
 
 /// Two sockets: 3 is bound to port 7 of any address, and 4 isn't bound.
-fn sockets(rt: &impl Abort, alloc: Global) -> Pcbs {
-    let mut pcbs = Pcbs::boot(alloc, OUR, BROADCAST).expect(rt, "memory");
+fn sockets(rt: &impl Abort) -> Pcbs {
+    let mut pcbs = Pcbs::new(OUR, BROADCAST);
     assert!(rt; pcbs.open() == Ok(3));
     assert!(rt; pcbs.open() == Ok(4));
     assert!(rt; pcbs.bind(3, Addr { ip: 0, port: 7 }).is_ok());
@@ -189,7 +188,7 @@ fn sockets(rt: &impl Abort, alloc: Global) -> Pcbs {
 #[test]
 fn each_datagram_cut_at_every_byte(rt: HostRuntime) {
     let mut pool = booted(&rt, rt.alloc());
-    let mut pcbs = sockets(&rt, rt.alloc());
+    let mut pcbs = sockets(&rt);
     for (i, row) in ROWS.iter().enumerate() {
         let bytes = row.0;
         for cut in 0..=bytes.len() {
@@ -215,8 +214,8 @@ static SHARED: [Row; 3] = [
 static UNSHARED: Row = (&UNSUMMED, 17, BROADCAST, Fate::Heard(4, 1), b"hi");
 
 /// Sockets 3 and 4, which share port 7.
-fn sharing(rt: &impl Abort, alloc: Global) -> Pcbs {
-    let mut pcbs = Pcbs::boot(alloc, OUR, BROADCAST).expect(rt, "memory");
+fn sharing(rt: &impl Abort) -> Pcbs {
+    let mut pcbs = Pcbs::new(OUR, BROADCAST);
     for fd in 3..5 {
         assert!(rt; pcbs.open() == Ok(fd));
         assert!(rt; pcbs.set_option(fd, Opt::ReusePort, true).is_ok());
@@ -228,7 +227,7 @@ fn sharing(rt: &impl Abort, alloc: Global) -> Pcbs {
 #[test]
 fn a_broadcast_to_those_who_share(rt: HostRuntime) {
     let mut pool = booted(&rt, rt.alloc());
-    let mut pcbs = sharing(&rt, rt.alloc());
+    let mut pcbs = sharing(&rt);
     for row in SHARED.iter() {
         let is_right = comes_out(&rt, &mut pool, &mut pcbs, (row.0, &[]), row);
         assert!(rt; is_right, "to {}", row.2);

@@ -1,18 +1,19 @@
-use Rattle.std.proofs.Common.{◌<◌, ◌∷◌, [], ◌++◌, suc, length, ap, sym, subst, ◌∙◌, arith}
+use Rattle.std.proofs.Common.{◌<◌, List, ◌∷◌, [], ◌++◌, suc, length, ap, sym, subst, ◌∙◌, arith}
 use Rattle.std.specs.Prelude.{slice_set}
 use Rattle.flat_model.specs.Sockets.Fits.{fits}
 use Rattle.mbuf_chain.specs.Owners.{times}
 use Rattle.mbuf_chain.proofs.Laws.Owners.{live_first, apart_first}
 use Rattle.sockbuf.specs.SockBuf.{SockBufView, IsSockBuf, chains_of, datagrams, datagram_from}
-use Rattle.sock_calls.specs.Sockets.{from_three}
+use Rattle.sock_calls.specs.Sockets.{from_three, queue_at}
 use Rattle.sock_calls.proofs.Frames.{at_set, times_at}
-use Rattle.sock_calls.proofs.Places.{at_three, named_is, steps_inside, steps_three}
+use Rattle.sock_calls.proofs.Places.{at_three, named_is, steps_inside, steps_three, written}
 use Rattle.sock_calls.proofs.queues.ReceiveQueues.append_at.Goals as goal
 
 pub append_fitting-requires-clause-ready : goal.append_fitting-requires-clause-ready
 append_fitting-requires-clause-ready c =
-    let lt : c.place_of.result < length c.self.inside.queues.items = omega (arith, c.place_of.ensures.within, c.self.invariant, c.self.inside.queues.ok.0) in
-    let here = named_is c.args.fd c.self.view_is lt c.index_mut.ensures.value c.place_of.ensures.value in
+    let is = c.deref_mut.ensures.value in
+    let lt : c.place_of.result < length c.deref_mut.result.now = omega (arith, c.place_of.ensures.within, c.self.invariant, ap length is) in
+    let here = named_is c.index-deref_mut-place_of.result c.args.fd (is ∙ c.self.view_is) lt c.place_of.ensures.value in
     subst (IsSockBuf c.args.pool.now) (sym here) (c.requires.each c.args.fd)
 
 pub append_fitting-requires-clause-live : goal.append_fitting-requires-clause-live
@@ -21,31 +22,36 @@ append_fitting-requires-clause-live c = live_first c.args.pool.now c.args.datagr
 pub append_fitting-requires-clause-apart : goal.append_fitting-requires-clause-apart
 append_fitting-requires-clause-apart c =
     let p = c.args.pool.now in
-    let lt : c.place_of.result < length c.self.inside.queues.items = omega (arith, c.place_of.ensures.within, c.self.invariant, c.self.inside.queues.ok.0) in
-    let here = named_is c.args.fd c.self.view_is lt c.index_mut.ensures.value c.place_of.ensures.value in
+    let is = c.deref_mut.ensures.value in
+    let lt : c.place_of.result < length c.deref_mut.result.now = omega (arith, c.place_of.ensures.within, c.self.invariant, ap length is) in
+    let here = named_is c.index-deref_mut-place_of.result c.args.fd (is ∙ c.self.view_is) lt c.place_of.ensures.value in
     apart_first p c.args.datagram.chain _ (λ k. omega (arith, c.requires.owned k, times_at p (from_three c.args.self.now) c.args.fd k, ap (λ (v : SockBufView). times k (chains_of p v)) here))
 
 pub append_fitting-requires-clause-fits : goal.append_fitting-requires-clause-fits
 append_fitting-requires-clause-fits c =
-    let lt : c.place_of.result < length c.self.inside.queues.items = omega (arith, c.place_of.ensures.within, c.self.invariant, c.self.inside.queues.ok.0) in
-    let here = named_is c.args.fd c.self.view_is lt c.index_mut.ensures.value c.place_of.ensures.value in
+    let is = c.deref_mut.ensures.value in
+    let lt : c.place_of.result < length c.deref_mut.result.now = omega (arith, c.place_of.ensures.within, c.self.invariant, ap length is) in
+    let here = named_is c.index-deref_mut-place_of.result c.args.fd (is ∙ c.self.view_is) lt c.place_of.ensures.value in
     ap (λ (v : SockBufView). fits (datagrams c.args.pool.now v) c.args.len) here ∙ c.requires.fits
 
 pub returns-clause-steps : goal.returns-clause-steps
 returns-clause-steps c =
-    let lt : c.place_of.result < length c.self.inside.queues.items = omega (arith, c.place_of.ensures.within, c.self.invariant, c.self.inside.queues.ok.0) in
+    let is = c.deref_mut.ensures.value in
+    let lt : c.place_of.result < length c.deref_mut.result.now = omega (arith, c.place_of.ensures.within, c.self.invariant, ap length is) in
     steps_three c.args.fd c.place_of.ensures.value
-    (steps_inside (c.args.datagram.chain ∷ []) [] c.self.view_is lt c.index_mut.ensures.value (λ k. c.requires.each (suc (suc (suc k)))) c.requires.owned c.append_fitting.ensures.ready c.append_fitting.ensures.moves)
+    (steps_inside c.self.inside.queues c.index-deref_mut-place_of.result (c.args.datagram.chain ∷ []) [] is c.self.view_is lt (λ k. c.requires.each (suc (suc (suc k)))) c.requires.owned c.append_fitting.ensures.ready c.append_fitting.ensures.moves)
 
 pub returns-clause-here : goal.returns-clause-here
 returns-clause-here c =
     let p = c.args.pool.now in
     let q = c.append_fitting.new.pool in
-    let bs = c.self.inside.queues.items in
+    let bs = c.deref_mut.result.now in
     let i = c.place_of.result in
     let y = c.append_fitting.new.self in
-    let lt : c.place_of.result < length c.self.inside.queues.items = omega (arith, c.place_of.ensures.within, c.self.invariant, c.self.inside.queues.ok.0) in
-    let here = named_is c.args.fd c.self.view_is lt c.index_mut.ensures.value c.place_of.ensures.value in
-    ap (datagrams q) (at_three (slice_set bs i y) i c.args.fd c.place_of.ensures.value ∙ at_set bs i y lt)
+    let is = c.deref_mut.ensures.value in
+    let lt : c.place_of.result < length c.deref_mut.result.now = omega (arith, c.place_of.ensures.within, c.self.invariant, ap length is) in
+    let here = named_is c.index-deref_mut-place_of.result c.args.fd (is ∙ c.self.view_is) lt c.place_of.ensures.value in
+    ap (λ (l : List SockBufView). datagrams q (queue_at (from_three l) c.args.fd)) (written c.self.inside.queues bs i y is)
+    ∙ ap (datagrams q) (at_three (slice_set bs i y) i c.args.fd c.place_of.ensures.value ∙ at_set bs i y lt)
     ∙ c.append_fitting.ensures.datagrams
     ∙ ap (λ (v : SockBufView). datagrams p v ++ datagram_from c.args.datagram.sender p c.args.datagram.chain ∷ []) here

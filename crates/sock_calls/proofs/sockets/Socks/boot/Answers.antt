@@ -4,4 +4,4 @@ use Rattle.sock_calls.proofs.Keeping.{no_sockets}
 use Rattle.sock_calls.proofs.sockets.Socks.boot.Goals as goal
 
 pub returns-clause-ready : goal.returns-clause-ready
-returns-clause-ready c = λ p. no_sockets p c.in_ok-pcbs.pcbs c.in_ok-queues.queues (ap (λ (t : Table). t.blocks) c.in_ok-pcbs.ensures) c.in_ok-queues.ensures.empty c.in_ok-queues.ensures.places
+returns-clause-ready c = λ p. no_sockets p c.new.result c.new-2.result (ap (λ (t : Table). t.blocks) c.new.ensures) c.new-2.ensures.empty c.new-2.ensures.places
