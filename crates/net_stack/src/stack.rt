@@ -91,13 +91,13 @@ impl Stack {
         let Ok(store) = Store::boot(alloc, sizes) else {
             return Err(BootFault::Memory);
         };
-        let mut pool = Pool::over(store);
-        let Ok(socks) = Socks::boot(alloc, config.addr, config.bcast) else {
+        let pool = Pool::over(store);
+        let Ok(reass) = Reass::boot(alloc, config.mbufs) else {
             return Err(BootFault::Memory);
         };
-        let Ok(reass) = Reass::boot(alloc, config.mbufs) else {
-            socks.end(&mut pool);
-            return Err(BootFault::Memory);
+        // it asks for no memory
+        let Ok(socks) = Socks::boot(alloc, config.addr, config.bcast) else {
+            unreachable!();
         };
         let host = Host {
             pool,

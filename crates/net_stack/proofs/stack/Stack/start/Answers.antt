@@ -4,13 +4,13 @@ use Rattle.net_stack.proofs.stack.Stack.start.Goals as goal
 
 pub invariant_of-result : goal.invariant_of-result
 invariant_of-result c =
-    started c.args.config (record { config = c.args.config; host = record { pool = c.over-pool.result; socks = c.in-Ok-boot.socks; reass = c.in-Ok-boot-2.reass; net = c.new.result } }) c.requires (record {
+    started c.args.config (record { config = c.args.config; host = record { pool = c.over-pool.result; socks = c.in-Ok-boot-2.socks; reass = c.in-Ok-boot.reass; net = c.new.result } }) c.requires (record {
       same = refl;
       pool = pool_of_store c.args.config c.in-Ok.store c.over-pool.result c.in-Ok.ensures.ok c.over-pool.ensures;
-      socks = c.in-Ok-boot.ensures.ready;
-      blocks = c.in-Ok-boot.ensures.blocks;
-      none = c.in-Ok-boot-2.ensures.none;
-      room = c.in-Ok-boot-2.ensures.room;
+      socks = c.in-Ok-boot-2.ensures.ready;
+      blocks = c.in-Ok-boot-2.ensures.blocks;
+      none = c.in-Ok-boot.ensures.none;
+      room = c.in-Ok-boot.ensures.room;
       mtu = c.new.ensures.mtu;
       next_id = c.new.ensures.next_id;
       counters = c.new.ensures.counters;
@@ -18,6 +18,3 @@ invariant_of-result c =
       waits = c.new.ensures.waits;
       looped = c.new.ensures.looped;
     })
-
-pub end-requires : goal.end-requires
-end-requires c = c.in-Ok-boot.ensures.ready c.over-pool.result
