@@ -4,23 +4,24 @@ ghost use Rattle.flat_model.specs.Packets.Header as header;
 ghost use Rattle.play_decode.specs.Fields as fields;
 ghost use Rattle.params.specs.declared.TheConstants.{IP_MAX_PACKET};
 
+use byteorder::{BigEndian, ByteOrder};
 use flat_model::Addr;
 use params::{IP_HEADER, IP_UDP_HEADERS};
 
 /// The number in the two bytes from a place on.
 fn u16_at(bytes: &[u8], at: usize) -> u16
-    requires { at + 1 < length bytes.now }
+    requires { at + 2 ≤ length bytes.now }
     ensures { result ≡ header.u16_at at bytes.now }
 {
-    u16::from(bytes[at]) * 256 + u16::from(bytes[at + 1])
+    BigEndian::read_u16(&bytes[at..])
 }
 
 /// The number in the four bytes from a place on.
 fn u32_at(bytes: &[u8], at: usize) -> u32
-    requires { at + 3 < length bytes.now }
+    requires { at + 4 ≤ length bytes.now }
     ensures { result ≡ header.u32_at at bytes.now }
 {
-    u32::from(u16_at(bytes, at)) * 65_536 + u32::from(u16_at(bytes, at + 2))
+    BigEndian::read_u32(&bytes[at..])
 }
 
 /// What is told of a packet's header.
