@@ -1,9 +1,10 @@
 //! The bytes of a packet, and what its header says.
-ghost use Rattle.std.specs.Prelude.{◌≡◌, ◌+◌, ◌*◌, ◌<◌, ◌≤◌, ◌++◌, length, IfOk};
+ghost use Rattle.std.specs.Prelude.{◌≡◌, ◌+◌, ◌*◌, ◌<◌, ◌≤◌, ◌++◌, length, take, drop, IfOk};
 ghost use Rattle.flat_model.specs.Packets.Header as Header;
 ghost use Rattle.flat_plain.specs.Heads.{head_for};
 
 use crate::sums::checksum;
+use byteorder::{BigEndian, ByteOrder};
 use flat_model::{Addr, Why, fold};
 use params::{IP_DEFAULT_TTL, IP_HEADER, IP_MAX_DATA, PROTOCOL_UDP, UDP_HEADER, UDP_MAX_DATA};
 use std::alloc::{AllocError, Global};
@@ -27,17 +28,18 @@ pub struct Head {
 
 /// The number in the two bytes from a place on.
 fn u16_at(bytes: &[u8], at: usize) -> u16
-    requires { at + 1 < length bytes.now }
+    requires { at + 2 ≤ length bytes.now }
     ensures { result ≡ Header.u16_at at bytes.now }
 {
-    bytes[at] as u16 * 256 + bytes[at + 1] as u16
+    BigEndian::read_u16(&bytes[at..])
 }
 
+/// The number in the four bytes from a place on.
 fn u32_at(bytes: &[u8], at: usize) -> u32
-    requires { at + 3 < length bytes.now }
+    requires { at + 4 ≤ length bytes.now }
     ensures { result ≡ Header.u32_at at bytes.now }
 {
-    u16_at(bytes, at) as u32 * 65_536 + u16_at(bytes, at + 2) as u32
+    BigEndian::read_u32(&bytes[at..])
 }
 
 /// What the header of a packet of 20 bytes or more says.
@@ -85,6 +87,22 @@ pub fn head_fault(bytes: &[u8]) -> Option<Why>
     None
 }
 
+/// Writes a number of 16 bits over the bytes from a place on.
+fn put_u16(bytes: &mut [u8], at: usize, n: u16)
+    requires { at + 2 ≤ length bytes.old }
+    ensures { bytes.new ≡ take at bytes.old ++ (Header.two_bytes n ++ drop (at + 2) bytes.old) }
+{
+    BigEndian::write_u16(&mut bytes[at..at + 2], n);
+}
+
+/// Writes a number of 32 bits over the bytes from a place on.
+fn put_u32(bytes: &mut [u8], at: usize, n: u32)
+    requires { at + 4 ≤ length bytes.old }
+    ensures { bytes.new ≡ take at bytes.old ++ (Header.four_bytes n ++ drop (at + 4) bytes.old) }
+{
+    BigEndian::write_u32(&mut bytes[at..at + 4], n);
+}
+
 /// The ten bytes in front of the checksum, of a packet that carries n bytes, the checksum, and the addresses.
 fn header(head: Head, n: u16, sum: u16) -> [u8; 20]
     requires total { n ≤ IP_MAX_DATA }
@@ -92,30 +110,18 @@ fn header(head: Head, n: u16, sum: u16) -> [u8; 20]
     ensures { result ≡ Header.front_bytes (head_for head) n
         ++ Header.two_bytes sum ++ Header.address_bytes head.source head.destination }
 {
-    let total = IP_HEADER as u16 + n;
     let flags = if head.more { 8192 } else { 0 } + (head.offset / 8) as u16;
-    [
-        69,
-        0,
-        (total / 256) as u8,
-        (total % 256) as u8,
-        (head.id / 256) as u8,
-        (head.id % 256) as u8,
-        (flags / 256) as u8,
-        (flags % 256) as u8,
-        IP_DEFAULT_TTL,
-        head.protocol,
-        (sum / 256) as u8,
-        (sum % 256) as u8,
-        (head.source / 65_536 / 256) as u8,
-        (head.source / 65_536 % 256) as u8,
-        (head.source % 65_536 / 256) as u8,
-        (head.source % 65_536 % 256) as u8,
-        (head.destination / 65_536 / 256) as u8,
-        (head.destination / 65_536 % 256) as u8,
-        (head.destination % 65_536 / 256) as u8,
-        (head.destination % 65_536 % 256) as u8,
-    ]
+    let mut bytes = [0; 20];
+    bytes[0] = 69;
+    put_u16(&mut bytes, 2, IP_HEADER as u16 + n);
+    put_u16(&mut bytes, 4, head.id);
+    put_u16(&mut bytes, 6, flags);
+    bytes[8] = IP_DEFAULT_TTL;
+    bytes[9] = head.protocol;
+    put_u16(&mut bytes, 10, sum);
+    put_u32(&mut bytes, 12, head.source);
+    put_u32(&mut bytes, 16, head.destination);
+    bytes
 }
 
 /// A packet that carries at most 65,515 bytes, at an offset of at most 65,528. `AllocError` where the host refuses
@@ -137,20 +143,12 @@ pub fn packet(alloc: Global, head: Head, carried: &[u8]) -> Result<Vec<u8>, Allo
 fn pseudo_header(source: u32, destination: u32, n: u16) -> [u8; 12]
     ensures { result ≡ Header.pseudo_header source destination n }
 {
-    [
-        (source / 65_536 / 256) as u8,
-        (source / 65_536 % 256) as u8,
-        (source % 65_536 / 256) as u8,
-        (source % 65_536 % 256) as u8,
-        (destination / 65_536 / 256) as u8,
-        (destination / 65_536 % 256) as u8,
-        (destination % 65_536 / 256) as u8,
-        (destination % 65_536 % 256) as u8,
-        0,
-        PROTOCOL_UDP,
-        (n / 256) as u8,
-        (n % 256) as u8,
-    ]
+    let mut bytes = [0; 12];
+    put_u32(&mut bytes, 0, source);
+    put_u32(&mut bytes, 4, destination);
+    bytes[9] = PROTOCOL_UDP;
+    put_u16(&mut bytes, 10, n);
+    bytes
 }
 
 /// The UDP header of a datagram of n bytes, header and all.
@@ -158,16 +156,12 @@ fn udp_header(source_port: u16, destination_port: u16, n: u16, sum: u16) -> [u8;
     ensures { result ≡ Header.two_bytes source_port ++ Header.two_bytes destination_port
         ++ Header.two_bytes n ++ Header.two_bytes sum }
 {
-    [
-        (source_port / 256) as u8,
-        (source_port % 256) as u8,
-        (destination_port / 256) as u8,
-        (destination_port % 256) as u8,
-        (n / 256) as u8,
-        (n % 256) as u8,
-        (sum / 256) as u8,
-        (sum % 256) as u8,
-    ]
+    let mut bytes = [0; 8];
+    put_u16(&mut bytes, 0, source_port);
+    put_u16(&mut bytes, 2, destination_port);
+    put_u16(&mut bytes, 4, n);
+    put_u16(&mut bytes, 6, sum);
+    bytes
 }
 
 /// A computed checksum of 0 is written as 65,535.
