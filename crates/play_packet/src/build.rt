@@ -10,6 +10,7 @@ ghost use Rattle.play_packet.specs.Reads.{put_or};
 
 use crate::form::{Form, Misfit, Sum, Told};
 use crate::numbers::bytes_in;
+use byteorder::{BigEndian, ByteOrder};
 use flat_model::fold;
 use params::{IP_DEFAULT_TTL, IP_HEADER, IP_MAX_DATA, PROTOCOL_UDP, UDP_HEADER};
 use play_line::{Fault, LONGEST};
@@ -35,29 +36,39 @@ pub(crate) struct Builder {
     second: Buffer<ROOM>,
 }
 
+/// Writes a number of 16 bits over the bytes from a place on.
+fn put_u16(bytes: &mut [u8], at: usize, n: u16)
+    requires { at + 2 ≤ length bytes.old }
+    ensures { bytes.new ≡ take at bytes.old ++ (header.two_bytes n ++ drop (at + 2) bytes.old) }
+{
+    BigEndian::write_u16(&mut bytes[at..at + 2], n);
+}
+
+/// Writes a number of 32 bits over the bytes from a place on.
+fn put_u32(bytes: &mut [u8], at: usize, n: u32)
+    requires { at + 4 ≤ length bytes.old }
+    ensures { bytes.new ≡ take at bytes.old ++ (header.four_bytes n ++ drop (at + 4) bytes.old) }
+{
+    BigEndian::write_u32(&mut bytes[at..at + 4], n);
+}
+
 /// A number of 16 bits as bytes.
 fn two_bytes(n: u16) -> [u8; 2]
     ensures { result ≡ header.two_bytes n }
 {
-    [(n / 256) as u8, (n % 256) as u8]
+    let mut bytes = [0; 2];
+    put_u16(&mut bytes, 0, n);
+    bytes
 }
 
 /// The addresses of both ends.
 fn address_bytes(form: &Form) -> [u8; 8]
     ensures { result ≡ header.address_bytes form.now.source.ip form.now.destination.ip }
 {
-    let source = form.source.ip;
-    let destination = form.destination.ip;
-    [
-        (source / 65_536 / 256) as u8,
-        (source / 65_536 % 256) as u8,
-        (source % 65_536 / 256) as u8,
-        (source % 65_536 % 256) as u8,
-        (destination / 65_536 / 256) as u8,
-        (destination / 65_536 % 256) as u8,
-        (destination % 65_536 / 256) as u8,
-        (destination % 65_536 % 256) as u8,
-    ]
+    let mut bytes = [0; 8];
+    put_u32(&mut bytes, 0, form.source.ip);
+    put_u32(&mut bytes, 4, form.destination.ip);
+    bytes
 }
 
 /// The checksum of bytes with 0 in its place.
@@ -137,7 +148,7 @@ fn put_checksum(sum: Sum, datagram: &[u8], out: &mut Buffer<ROOM>)
         }
         Sum::Missing => put_changed(datagram, 6, &[0, 0], out),
         Sum::Wrong => {
-            let right = 256 * u16::from(datagram[6]) + u16::from(datagram[7]);
+            let right = BigEndian::read_u16(&datagram[6..]);
             put_changed(datagram, 6, &two_bytes(wrong(right)), out);
         }
     }
@@ -190,21 +201,15 @@ fn front_bytes(form: &Form, offset: usize, n: usize) -> [u8; 10]
     requires carried { n ≤ IP_MAX_DATA }
     ensures { result ≡ header.front_bytes (builds.head_of_form form.now) n }
 {
-    let total = IP_HEADER as u16 + n as u16;
-    let id = id_of(form);
     let flags = if form.more { 8192 } else { 0 } + (offset / 8) as u16;
-    [
-        69,
-        0,
-        (total / 256) as u8,
-        (total % 256) as u8,
-        (id / 256) as u8,
-        (id % 256) as u8,
-        (flags / 256) as u8,
-        (flags % 256) as u8,
-        IP_DEFAULT_TTL,
-        PROTOCOL_UDP,
-    ]
+    let mut bytes = [0; 10];
+    bytes[0] = 69;
+    put_u16(&mut bytes, 2, IP_HEADER as u16 + n as u16);
+    put_u16(&mut bytes, 4, id_of(form));
+    put_u16(&mut bytes, 6, flags);
+    bytes[8] = IP_DEFAULT_TTL;
+    bytes[9] = PROTOCOL_UDP;
+    bytes
 }
 
 /// Puts a packet into a buffer that carries some bytes.

@@ -3,6 +3,7 @@ ghost use Rattle.std.specs.Prelude.{◌≡◌, ◌<◌, ◌≤◌};
 ghost use Rattle.play_packet.specs.Ends as ends;
 
 use crate::numbers::is_decimal;
+use byteorder::{BigEndian, ByteOrder};
 use flat_model::Addr;
 use play_line::Fault;
 
@@ -102,12 +103,9 @@ impl End {
         if self.bad || (!self.begun || 65_535 < self.value) {
             return Err(Fault::NoPort);
         }
-        let ip = 16_777_216 * u32::from(self.first)
-            + 65_536 * u32::from(self.second)
-            + 256 * u32::from(self.third)
-            + u32::from(self.fourth);
+        let octets = [self.first, self.second, self.third, self.fourth];
         Ok(Addr {
-            ip,
+            ip: BigEndian::read_u32(&octets),
             port: self.value as u16,
         })
     }
