@@ -1,5 +1,6 @@
 //! What the table answers when it's asked, and why fragments are dropped, worked out by hand.
 
+mod arrivals;
 mod steps;
 
 ghost use Rattle.ip_reass.specs.Table.{IsReady};

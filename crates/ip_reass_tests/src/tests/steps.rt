@@ -53,7 +53,7 @@ pub(super) const HEAD: IpHead = IpHead {
 pub(super) type Piece = (u32, bool, u8, u32);
 
 /// A packet received into the pool, beside a table.
-fn received(rt: &impl Abort, pool: &mut Pool, table: &Reass, bytes: &[u8]) -> Chain
+pub(super) fn received(rt: &impl Abort, pool: &mut Pool, table: &Reass, bytes: &[u8]) -> Chain
     requires ready { IsReady pool.old table.now }
     requires short { length bytes.now < 65536 }
     ensures ready { IsReady pool.new table.now }

@@ -1,0 +1,245 @@
+//! Packets that arrive, and ticks: what becomes of each fragment, by 4.4BSD's rules and worked out by hand.
+
+ghost use Rattle.std.specs.Prelude.{◌≡◌, ◌∷◌, ◌≤◌, length, true};
+ghost use Rattle.mbuf_chain.specs.Chain.{chain_of, string};
+ghost use Rattle.mbuf_chain.specs.Owners.{IsOwned};
+ghost use Rattle.ip_reass.specs.Table.{IsReady, held_all};
+
+use super::steps::{Host, booted, received};
+use chain_ops::m_copydata;
+use flat_model::{Counter, Why};
+use ip_out::{IpHead, read_head};
+use ip_reass::{Arrival, Reass};
+use mbuf_chain::{Chain, Pool};
+use params::{IP_HEADER, IP_MAX_PACKET};
+use std::alloc::Global;
+use std::process::Abort;
+
+/// What becomes of a fragment; of a whole datagram the bytes behind its IP header.
+#[derive(Clone, Copy, PartialEq, Eq)]
+enum Became {
+    Kept,
+    Dropped(Why),
+    Whole(&'static [u8]),
+}
+
+/// What happens, and what is to be seen of it.
+enum Event {
+    /// A packet arrives.
+    Arrives(&'static [u8], Became),
+    /// So many ticks, and how many datagrams they end.
+    Ticks(u32, u32),
+    /// How many of 512 mbufs are free.
+    Free(u32),
+    /// What a counter says.
+    Counted(Counter, u64),
+}
+
+use Became::{Dropped, Kept, Whole};
+use Event::{Arrives, Counted, Free, Ticks};
+
+/// The IP header of each packet stands in a line of its own. They're of 10.0.0.2, for 10.0.0.1; the bytes after the
+/// header are a UDP header where they aren't letters.
+static CASES: [(&str, &[Event]); 5] = [
+    // Each overlaps the one before and begins earlier, so those of the queue lose their front.
+    (
+        "later ones lose their front",
+        &[
+            Arrives(
+                b"\x45\x00\x00\x24\x00\x05\x00\x02\x40\x11\x66\xc0\x0a\x00\x00\x02\x0a\x00\x00\x01\
+                  cccccccccccccccc",
+                Kept,
+            ),
+            Arrives(
+                b"\x45\x00\x00\x24\x00\x05\x20\x01\x40\x11\x46\xc1\x0a\x00\x00\x02\x0a\x00\x00\x01\
+                  dddddddddddddddd",
+                Kept,
+            ),
+            Free(509),
+            Arrives(
+                b"\x45\x00\x00\x24\x00\x05\x20\x00\x40\x11\x46\xc2\x0a\x00\x00\x02\x0a\x00\x00\x01\
+                  \x13\x88\x00\x07\x00\x20\x00\x00eeeeeeee",
+                Whole(b"\x13\x88\x00\x07\x00\x20\x00\x00eeeeeeeeddddddddcccccccc"),
+            ),
+            Free(512),
+            Counted(Counter::IpReassembled, 1),
+        ],
+    ),
+    // 8 to 32 loses its front to 0 to 16, and 24 to 40 loses its front to it.
+    (
+        "cut both ways",
+        &[
+            Arrives(
+                b"\x45\x00\x00\x24\x00\x07\x20\x00\x40\x11\x46\xc0\x0a\x00\x00\x02\x0a\x00\x00\x01\
+                  aaaaaaaaaaaaaaaa",
+                Kept,
+            ),
+            Arrives(
+                b"\x45\x00\x00\x24\x00\x07\x00\x03\x40\x11\x66\xbd\x0a\x00\x00\x02\x0a\x00\x00\x01\
+                  cccccccccccccccc",
+                Kept,
+            ),
+            Arrives(
+                b"\x45\x00\x00\x2c\x00\x07\x20\x01\x40\x11\x46\xb7\x0a\x00\x00\x02\x0a\x00\x00\x01\
+                  bbbbbbbbbbbbbbbbbbbbbbbb",
+                Whole(b"aaaaaaaaaaaaaaaabbbbbbbbbbbbbbbbcccccccc"),
+            ),
+            Free(512),
+            Counted(Counter::IpFragdropped, 0),
+        ],
+    ),
+    // The first fragment has all of the second.
+    (
+        "held by a predecessor",
+        &[
+            Arrives(
+                b"\x45\x00\x00\x24\x00\x06\x20\x00\x40\x11\x46\xc1\x0a\x00\x00\x02\x0a\x00\x00\x01\
+                  \x13\x88\x00\x07\x00\x18\x00\x00aaaaaaaa",
+                Kept,
+            ),
+            Arrives(
+                b"\x45\x00\x00\x1c\x00\x06\x20\x01\x40\x11\x46\xc8\x0a\x00\x00\x02\x0a\x00\x00\x01\
+                  cccccccc",
+                Dropped(Why::FragmentDropped),
+            ),
+            Counted(Counter::IpFragments, 2),
+            Counted(Counter::IpFragdropped, 1),
+            Arrives(
+                b"\x45\x00\x00\x1c\x00\x06\x00\x02\x40\x11\x66\xc7\x0a\x00\x00\x02\x0a\x00\x00\x01\
+                  bbbbbbbb",
+                Whole(b"\x13\x88\x00\x07\x00\x18\x00\x00aaaaaaaabbbbbbbb"),
+            ),
+            Free(512),
+        ],
+    ),
+    // A datagram ends at its 60th tick. A fragment that comes after 30 of them doesn't renew its time.
+    (
+        "times out",
+        &[
+            Arrives(
+                b"\x45\x00\x00\x1c\x00\x06\x00\x02\x40\x11\x66\xc7\x0a\x00\x00\x02\x0a\x00\x00\x01\
+                  bbbbbbbb",
+                Kept,
+            ),
+            Ticks(30, 0),
+            Arrives(
+                b"\x45\x00\x00\x1c\x00\x06\x20\x01\x40\x11\x46\xc8\x0a\x00\x00\x02\x0a\x00\x00\x01\
+                  cccccccc",
+                Kept,
+            ),
+            Ticks(29, 0),
+            Free(509),
+            Ticks(1, 1),
+            Free(512),
+            Ticks(60, 0),
+        ],
+    ),
+    // A fragment with others after it lies behind the last one: the datagram is never whole.
+    (
+        "more behind the last",
+        &[
+            Arrives(
+                b"\x45\x00\x00\x1c\x00\x07\x00\x01\x40\x11\x66\xc7\x0a\x00\x00\x02\x0a\x00\x00\x01\
+                  bbbbbbbb",
+                Kept,
+            ),
+            Arrives(
+                b"\x45\x00\x00\x1c\x00\x07\x20\x02\x40\x11\x46\xc6\x0a\x00\x00\x02\x0a\x00\x00\x01\
+                  cccccccc",
+                Kept,
+            ),
+            Arrives(
+                b"\x45\x00\x00\x1c\x00\x07\x20\x00\x40\x11\x46\xc8\x0a\x00\x00\x02\x0a\x00\x00\x01\
+                  aaaaaaaa",
+                Kept,
+            ),
+            Free(508),
+            Ticks(60, 1),
+            Free(512),
+        ],
+    ),
+];
+
+/// A packet received into the pool, beside a table, and what its header says.
+fn fragment_in(rt: &impl Abort, pool: &mut Pool, table: &Reass, packet: &[u8]) -> (Chain, IpHead)
+    requires { IsReady pool.old table.now }
+    ensures ready { IsReady pool.new table.now }
+    ensures owned { IsOwned pool.new (result.0 ∷ held_all pool.new table.now) }
+    ensures headed { (chain_of pool.new result.0).front.header ≡ true }
+    ensures total { length (string (chain_of pool.new result.0)) ≡ result.1.total }
+    ensures header { IP_HEADER ≤ result.1.total }
+    ensures offset { result.1.offset ≤ IP_MAX_PACKET }
+{
+    assert!(rt; packet.len() <= 64);
+    let chain = received(rt, pool, table, packet);
+    let Ok(head) = read_head(pool, &chain) else {
+        panic!(rt; "no packet")
+    };
+    let total = u32::from(head.total);
+    assert!(rt; total == pool.len(&chain) && total >= IP_HEADER && head.offset <= IP_MAX_PACKET);
+    (chain, head)
+}
+
+/// Whether a whole datagram has these bytes. It's freed.
+fn has_bytes(rt: &impl Abort, pool: &mut Pool, table: &Reass, chain: Chain, bytes: &[u8]) -> bool
+    requires owned { IsOwned pool.old (chain ∷ held_all pool.old table.now) }
+    requires ready { IsReady pool.old table.now }
+    ensures { IsReady pool.new table.now }
+{
+    let mut room = [0; 64];
+    let len = pool.len(&chain) as usize;
+    assert!(rt; len <= 64);
+    m_copydata(pool, &chain, 0, &mut room[..len]);
+    pool.free_chain(chain);
+    room.get(..len) == Some(bytes)
+}
+
+/// Whether this becomes of a packet that arrives.
+fn becomes(rt: &impl Abort, host: &mut Host, packet: &[u8], want: Became) -> bool
+    requires { IsReady host.old.pool host.old.table }
+    ensures { IsReady host.new.pool host.new.table }
+{
+    let (chain, head) = fragment_in(rt, &mut host.pool, &host.table, packet);
+    let arrival = host
+        .table
+        .arrive(&mut host.pool, &mut host.counters, chain, head);
+    match arrival {
+        Arrival::Kept => want == Kept,
+        Arrival::Dropped(why) => want == Dropped(why),
+        Arrival::Whole(chain, _) => {
+            let Whole(bytes) = want else {
+                panic!(rt; "the datagram is whole")
+            };
+            has_bytes(rt, &mut host.pool, &host.table, chain, bytes)
+        }
+    }
+}
+
+/// Whether an event comes out as it should.
+fn comes_out(rt: &impl Abort, host: &mut Host, event: &Event) -> bool
+    requires { IsReady host.old.pool host.old.table }
+    ensures { IsReady host.new.pool host.new.table }
+{
+    match event {
+        Arrives(packet, want) => becomes(rt, host, packet, *want),
+        Ticks(n, ended) => host.ticks(*n) == *ended,
+        Free(mbufs) => host.pool.free_mbufs() == *mbufs,
+        Counted(counter, value) => host.counters.value(*counter) == *value,
+    }
+}
+
+/// Whether all comes out as it should at a table of its own, and nothing is left in the pool when that ends.
+fn all_comes_out(rt: &impl Abort, alloc: Global, case: &str, events: &[Event]) -> bool {
+    let mut host = booted(rt, alloc, 512, 64);
+    'events: for (row, event) in events.iter().enumerate() {
+        assert!(rt; comes_out(rt, &mut host, event), "{case}: row {row}");
+    }
+    host.ended()
+}
+
+#[test]
+fn what_becomes_of_fragments(rt: HostRuntime) {
+    for (case, events) in CASES.iter() {
+        assert!(rt; all_comes_out(&rt, rt.alloc(), case, events), "{case}");
+    }
+}
