@@ -1,12 +1,12 @@
 -- Chains that come into slots and go out of them.
-use Rattle.std.proofs.Common.{◌≡◌, ◌≢◌, ℕ, zero, suc, ◌+◌, ◌<◌, List, [], ◌∷◌, ◌++◌, length, take, drop, map, set, get_or, sum_by, Option, Some, None, unwrap_or, refl, sym, ap, ◌∙◌, arith}
+use Rattle.std.proofs.Common.{◌≡◌, ◌≢◌, ℕ, zero, suc, ◌+◌, ◌<◌, List, [], ◌∷◌, ◌++◌, length, take, drop, map, replicate, set, get_or, sum_by, Option, Some, None, unwrap_or, refl, sym, ap, ◌∙◌, arith}
 use Rattle.std.specs.FinMap as finmap
 use Rattle.std.proofs.lemmas.Grind.{common_steps}
 use Rattle.std.proofs.lemmas.List.{map-set, set-get_or, get_or-set_other, get_or_default, length-set}
 use Rattle.std.proofs.lemmas.List.Sums.{sum_by-set, sum_by-cons}
-use Rattle.mbuf_chain.specs.Chain.{ChainView, PoolView, IsLive, chain_of, no_chain, without}
+use Rattle.mbuf_chain.specs.Chain.{ChainView, PoolView, IsLive, chain_of, no_chain}
 use Rattle.mbuf_chain.specs.Owners.{times, live_at, Moves}
-use Rattle.mbuf_chain.proofs.Laws.Owners.{times_same, live_at_most, live_from, moves_without}
+use Rattle.mbuf_chain.proofs.Laws.Owners.{times_same, live_at_most, live_from}
 use Rattle.chain_script.specs.Machines.{Slot, put, emptied}
 use Rattle.chain_script.specs.Inside.Slots.{number_in, numbers, slot_of, machine_of, Fits}
 
@@ -170,29 +170,19 @@ parted p q slots i j c d fits wi wj first second m =
 pub slot_is : (slots : List (Option ℕ)) (i : ℕ) (other : Option ℕ) (slot : Option ℕ) → i < length slots → get_or slots i other ≡ slot → get_or slots i None ≡ slot
 slot_is slots i other slot within is = get_or_default slots i None other within ∙ is
 
--- ---- the last slot taken off
-numbers_last : (k : ℕ) (rest : List (Option ℕ)) (slot : Option ℕ) → times k (numbers (rest ++ slot ∷ [])) ≡ times_in k slot + times k (numbers rest)
-numbers_last k [] None = refl
-numbers_last k [] (Some c) = omega arith
-numbers_last k (None ∷ rest) slot = numbers_last k rest slot
-numbers_last k (Some c ∷ rest) slot = omega (arith, numbers_last k rest slot)
+-- ---- slots that are all empty
+pub none_left : (slots : List (Option ℕ)) → ((k : ℕ) → k < length slots → get_or slots k None ≡ None) → numbers slots ≡ []
+none_left [] empty = refl
+none_left (slot ∷ slots) empty =
+    ap (λ (s : Option ℕ). number_in s (numbers slots)) (empty 0 (omega arith))
+    ∙ none_left slots (λ k lt. empty (suc k) (omega arith))
 
--- of slots whose last one is this, what the others have
-last_hand : (p : PoolView) (slots rest : List (Option ℕ)) (slot : Option ℕ) → slots ≡ rest ++ slot ∷ [] → Fits p slots
-    → (k : ℕ) → times_in k slot + times k (numbers rest) ≡ live_at p k
-last_hand p slots rest slot e fits k = sym (ap (λ (ss : List (Option ℕ)). times k (numbers ss)) e ∙ numbers_last k rest slot) ∙ fits k
-
-pub last_live : (p : PoolView) (slots rest : List (Option ℕ)) (slot : Option ℕ) (c : ℕ) → slots ≡ rest ++ slot ∷ [] → slot ≡ Some c → Fits p slots → IsLive p c
-last_live p slots rest slot c e is fits =
-    live_from p c (omega (arith, last_hand p slots rest slot e fits c, ap (times_in c) is, times_same c []))
-
-pub last_freed : (p q : PoolView) (slots rest : List (Option ℕ)) (slot : Option ℕ) (c : ℕ) → slots ≡ rest ++ slot ∷ [] → slot ≡ Some c → Fits p slots → q ≡ without p c → Fits q rest
-last_freed p q slots rest slot c e is fits gone =
-    let m : Moves p (c ∷ []) q [] = moves_without p q c (last_live p slots rest slot c e is fits) gone in
-    λ k. omega (arith, last_hand p slots rest slot e fits k, ap (times_in k) is, m.owned k)
-
-pub last_empty : (p : PoolView) (slots rest : List (Option ℕ)) (slot : Option ℕ) → slots ≡ rest ++ slot ∷ [] → slot ≡ None → Fits p slots → Fits p rest
-last_empty p slots rest slot e is fits = λ k. omega (arith, last_hand p slots rest slot e fits k, ap (times_in k) is)
+pub all_none : (slots : List (Option ℕ)) (n : ℕ) → length slots ≡ n → ((k : ℕ) → k < n → get_or slots k None ≡ None) → slots ≡ replicate n None
+all_none [] zero long empty = refl
+all_none [] (suc n) long empty = absurd (omega arith)
+all_none (slot ∷ slots) zero long empty = absurd (omega arith)
+all_none (slot ∷ slots) (suc n) long empty =
+    (λ j. empty 0 (omega arith) j ∷ all_none slots n (omega arith) (λ k lt. empty (suc k) (omega arith)) j)
 
 -- ---- a list of which every place was written
 pub take-written : {A : Type 0} (n : ℕ) (new old : List A) → length new ≡ n → take n (new ++ drop (length new) old) ≡ new

@@ -1,12 +1,13 @@
 //! Slots of chains over a pool, whose calls are made by lines.
-ghost use Rattle.std.specs.Prelude.{◌≡◌, ◌≤◌, ◌<◌, ◌*◌, ◌++◌, ℕ, List, Option, Some, Err, length, vec_len, IfOk, ◌↔◌, replicate, None, [], vec_capacity};
+ghost use Rattle.std.specs.Prelude.{◌≡◌, ◌≤◌, ◌<◌, ◌*◌, ◌++◌, ℕ, List, Option, Some, Err, length, IfOk, ◌↔◌, replicate, None, []};
+ghost use Rattle.arrayvec.specs.ArrayVec.{array_vec_len};
 ghost use Rattle.mbuf_pool.specs.Store.{IsBad};
 ghost use Rattle.mbuf_pool.specs.declared.fault.BootFault.TheVariants as boot_fault;
 ghost use Rattle.mbuf_chain.specs.Owners.{IsAll};
 ghost use Rattle.params.specs.declared.TheConstants.{IP_MAX_PACKET};
 ghost use Rattle.chain_script.specs.declared.caller.TheConstants.{SLOTS};
 ghost use Rattle.chain_script.specs.Inside.Calls.{request_of, IsCall};
-ghost use Rattle.chain_script.specs.Inside.Slots.{machine_of, Fits};
+ghost use Rattle.chain_script.specs.Inside.Slots.{machine_of, numbers, Fits};
 ghost use Rattle.chain_script.specs.Drawings.{drawing};
 ghost use Rattle.chain_script.specs.Lines.{Read_out};
 ghost use Rattle.chain_script.specs.Machines.{Machine, booted};
@@ -19,10 +20,14 @@ use crate::draw::draw;
 use crate::line::{Call, call_of};
 use crate::reply::{TEXT, put_done, put_held};
 use crate::show::{show, usage};
+use crate::slots::free_all;
+use arrayvec::ArrayVec;
 use mbuf_chain::{Chain, Pool};
 use mbuf_pool::{BootFault, Sizes, Store};
 use script_loop::{Answers, Buffer, HELD, LineBuffers};
 use std::alloc::{AllocError, Global};
+use std::array;
+use std::mem::ManuallyDrop;
 
 /// How many slots there are.
 pub(crate) const SLOTS: usize = 64;
@@ -141,22 +146,31 @@ fn put_answer(
 /// A pool, 64 slots for chains of it, and the memory for the work on one line. It must be spent, by `end`.
 pub(crate) struct Caller {
     pool: Pool,
-    chains: Vec<Option<Chain>>,
+    chains: ArrayVec<Option<Chain>, SLOTS>,
     buffers: LineBuffers,
-    ghost slots: { vec_len chains ≡ SLOTS },
+    ghost slots: { array_vec_len chains ≡ SLOTS },
     ghost fits: { Fits pool chains.items },
 }
 
 /// Slots that are all empty.
-fn empty_slots(alloc: Global) -> Result<Vec<Option<Chain>>, AllocError>
-    ensures items { IfOk result (λ chains. chains.items ≡ replicate SLOTS None) }
-    ensures len { IfOk result (λ chains. vec_len chains ≡ SLOTS) }
+fn empty_slots() -> ArrayVec<Option<Chain>, SLOTS>
+    ensures items { result.items ≡ replicate SLOTS None }
+    ensures len { array_vec_len result ≡ SLOTS }
 {
-    let mut chains = Vec::with_capacity(alloc, SLOTS)?;
-    'slots: for _ in 0..SLOTS {
-        chains.push_reserved(None);
-    }
-    Ok(chains)
+    let slots = array::from_fn(
+        |_| -> Option<Chain>
+            ensures { result ≡ None }
+        { None },
+    );
+    ArrayVec::from_array_in((), slots)
+}
+
+/// Lets go slots that are all empty.
+fn end_empty(chains: ArrayVec<Option<Chain>, SLOTS>)
+    requires { numbers chains.items ≡ [] }
+{
+    // A vector of the library gives out only what may be dropped, and a chain has to be spent. There is none here.
+    let _empty = unsafe { ManuallyDrop::new_unchecked(chains) };
 }
 
 impl Caller {
@@ -170,12 +184,9 @@ impl Caller {
         let Ok(buffers) = LineBuffers::new(alloc) else {
             return Err(BootFault::Memory);
         };
-        let Ok(chains) = empty_slots(alloc) else {
-            return Err(BootFault::Memory);
-        };
         Ok(Caller {
             pool: Pool::over(store),
-            chains,
+            chains: empty_slots(),
             buffers,
         })
     }
@@ -196,12 +207,8 @@ impl Caller {
             mut chains,
             buffers: _,
         } = self;
-        'slots: while let Some(slot) = chains.pop() {
-            if let Some(chain) = slot {
-                pool.free_chain(chain);
-            }
-        }
-        chains.destroy_empty();
+        free_all(&mut pool, chains.as_mut_slice());
+        end_empty(chains);
         pool
     }
 }

@@ -1,7 +1,8 @@
 //! Slots, each with a chain or empty.
-ghost use Rattle.std.specs.Prelude.{◌≡◌, ◌<◌, ℕ, Some, None, length, slice_set, slice_index_or};
+ghost use Rattle.std.specs.Prelude.{◌≡◌, ◌<◌, ℕ, Some, None, [], length, slice_set, slice_index_or};
+ghost use Rattle.chain_script.specs.Inside.Slots.{numbers, Fits};
 
-use mbuf_chain::Chain;
+use mbuf_chain::{Chain, Pool};
 use std::mem;
 
 /// Puts a chain into an empty slot.
@@ -26,5 +27,31 @@ pub(crate) fn take(chains: &mut [Option<Chain>], slot: usize) -> Chain
     match chains[slot].take() {
         Some(chain) => chain,
         None => unreachable!(),
+    }
+}
+
+/// Frees the chain of a slot, if it has one.
+fn free_slot(pool: &mut Pool, chains: &mut [Option<Chain>], slot: usize)
+    requires within { slot < length chains.old }
+    requires fits { Fits pool.old chains.old }
+    ensures fits { Fits pool.new chains.new }
+    ensures after { chains.new ≡ slice_set chains.old slot None }
+{
+    let Some(_) = &chains[slot] else {
+        return;
+    };
+    let chain = take(chains, slot);
+    pool.free_chain(chain);
+}
+
+/// Frees the chains of all slots.
+pub(crate) fn free_all(pool: &mut Pool, chains: &mut [Option<Chain>])
+    requires { Fits pool.old chains.old }
+    ensures fits { Fits pool.new chains.new }
+    ensures empty { numbers chains.new ≡ [] }
+    ensures len { length chains.new ≡ length chains.old }
+{
+    'slots: for slot in 0..chains.len() {
+        free_slot(pool, chains, slot);
     }
 }

@@ -1,10 +1,8 @@
-use Rattle.std.proofs.Common.{◌++◌, ◌∷◌, [], List, Option, None, ℕ, ap, ◌∙◌, arith}
-use Rattle.std.proofs.lemmas.List.{replicate-append-replicate}
+use Rattle.std.proofs.Common.{None, ◌∙◌}
+use Rattle.chain_script.proofs.SlotLemmas.{all_none}
 use Rattle.chain_script.proofs.caller.empty_slots.Goals as goal
 
-pub slots-preserved : goal.slots-preserved
-slots-preserved c = record {
-  items = c.push_reserved.ensures.items ∙ ap (λ (xs : List (Option ℕ)). xs ++ None ∷ []) c.slots.invariant.items ∙ replicate-append-replicate c.slots.counter 1 None;
-  len = omega (arith, c.push_reserved.ensures.len, c.slots.invariant.len);
-  room = omega (arith, c.push_reserved.ensures.capacity, c.slots.invariant.room);
-}
+pub returns-clause-items : goal.returns-clause-items
+returns-clause-items c =
+    c.from_array_in.ensures.items
+    ∙ all_none c.from_fn-slots.result 64 c.from_fn-slots.ensures.items.long (λ k lt. (c.from_fn-slots.ensures.items.at k None lt).2.met)

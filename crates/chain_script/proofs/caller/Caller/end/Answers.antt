@@ -1,14 +1,13 @@
-use Rattle.chain_script.proofs.SlotLemmas.{last_live, last_freed, last_empty}
+use Rattle.std.proofs.Common.{List, ℕ, length, ap, subst, ◌∙◌, arith}
+use Rattle.arrayvec.proofs.ArrayVecLemmas.{items-with_items}
+use Rattle.mbuf_chain.specs.Owners.{IsAll}
+use Rattle.chain_script.specs.Inside.Slots.{numbers}
 use Rattle.chain_script.proofs.caller.Caller.end.Goals as goal
 
-pub free_chain-requires : goal.free_chain-requires
-free_chain-requires c =
-    last_live c.slots.pool c.slots.chains.items c.pop.new.self.items c.in-Some.slot c.in-Some-slot.chain c.in-Some.ensures.items c.in-Some-slot.is c.slots.invariant
+pub end_empty-requires : goal.end_empty-requires
+end_empty-requires c =
+    ap numbers (items-with_items c.args.self.chains c.free_all.new.chains (omega (arith, c.free_all.ensures.len, ap length c.as_mut_slice.ensures.value)))
+    ∙ c.free_all.ensures.empty
 
-pub slots-preserved-in-Some-slot : goal.slots-preserved-in-Some-slot
-slots-preserved-in-Some-slot c =
-    last_freed c.slots.pool c.free_chain.new.self c.slots.chains.items c.pop.new.self.items c.in-Some.slot c.in-Some-slot.chain c.in-Some.ensures.items c.in-Some-slot.is
-    c.slots.invariant c.free_chain.ensures
-
-pub slots-preserved : goal.slots-preserved
-slots-preserved c = last_empty c.slots.pool c.slots.chains.items c.pop.new.self.items c.in-Some.slot c.in-Some.ensures.items c.in_default-slot.is c.slots.invariant
+pub returns : goal.returns
+returns c = subst (λ (xs : List ℕ). IsAll c.free_all.new.pool xs) c.free_all.ensures.empty c.free_all.ensures.fits
