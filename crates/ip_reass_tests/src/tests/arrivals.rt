@@ -164,7 +164,7 @@ static CASES: [(&str, &[Event]); 5] = [
 fn fragment_in(rt: &impl Abort, pool: &mut Pool, table: &Reass, packet: &[u8]) -> (Chain, IpHead)
     requires { IsReady pool.old table.now }
     ensures ready { IsReady pool.new table.now }
-    ensures owned { IsOwned pool.new (result.0 ∷ held_all pool.new table.now) }
+    ensures owned { IsOwned pool.new (result.0 ∷ held_all pool.new table.now.datagrams) }
     ensures headed { (chain_of pool.new result.0).front.header ≡ true }
     ensures total { length (string (chain_of pool.new result.0)) ≡ result.1.total }
     ensures header { IP_HEADER ≤ result.1.total }
@@ -182,7 +182,7 @@ fn fragment_in(rt: &impl Abort, pool: &mut Pool, table: &Reass, packet: &[u8]) -
 
 /// Whether a whole datagram has these bytes. It's freed.
 fn has_bytes(rt: &impl Abort, pool: &mut Pool, table: &Reass, chain: Chain, bytes: &[u8]) -> bool
-    requires owned { IsOwned pool.old (chain ∷ held_all pool.old table.now) }
+    requires owned { IsOwned pool.old (chain ∷ held_all pool.old table.now.datagrams) }
     requires ready { IsReady pool.old table.now }
     ensures { IsReady pool.new table.now }
 {
