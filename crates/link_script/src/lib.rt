@@ -14,6 +14,7 @@ mod runs;
 mod stack;
 
 pub use caller::Caller;
+pub use chain_script::{Sizes, run_chains};
 pub use command_line::program;
 pub use flat_model::Config;
 pub use laws::{lines_law, prints_law};
