@@ -1,4 +1,4 @@
-//! The raw memory of a block. Every raw pointer of the repository stands in this file.
+//! The raw memory of a block. Every raw pointer into the pool's memory stands in this file.
 //!
 //! A pointer and the memory behind it are apart here. An `Address` is the pointer: it can be copied
 //! and owns nothing. `Bytes` owns the memory, and a `Deed` is the right to give it back: neither
