@@ -19,4 +19,6 @@ pub use laws::{frames_hold_packets, headers_are_read, one_reading, written_is_re
 pub use link::{NoPacket, ipv4_packet};
 pub use link_type::LinkType;
 pub use reader::{Capture, Reader, Record, read};
-pub use writer::{LONGEST_PACKET, Packet, put_header, put_record, write};
+pub use writer::{
+    LONGEST_PACKET, Packet, file_header, put_header, put_record, record_header, write,
+};

@@ -5,9 +5,8 @@ ghost use Rattle.pcap.specs.File.{Gives, number_of};
 ghost use Rattle.pcap.specs.declared.header.Order.TheVariants.{Big};
 ghost use Rattle.pcap.specs.Frames.{behind, by_family, by_protocol, by_version, host_family, packet_of, unpadded, untagged};
 
-use crate::header::Order;
 use crate::link_type::LinkType;
-use crate::numbers::{u16_at, u32_at};
+use byteorder::{BigEndian, ByteOrder, LittleEndian};
 use thiserror::Error;
 
 /// Why there is no IPv4 packet in a frame.
@@ -48,7 +47,7 @@ fn without_padding(bytes: &[u8]) -> &[u8]
     if bytes.len() < IP_HEADER {
         return bytes;
     }
-    let total = u16_at(Order::Big, bytes, 2) as usize;
+    let total = BigEndian::read_u16(&bytes[2..]) as usize;
     if total < IP_HEADER || total > bytes.len() {
         bytes
     } else {
@@ -66,7 +65,7 @@ fn without_tag(protocol: u16, rest: &[u8]) -> Result<(u16, &[u8]), NoPacket>
     if rest.len() < 4 {
         return Err(NoPacket::FrameCut);
     }
-    Ok((u16_at(Order::Big, rest, 2), &rest[4..]))
+    Ok((BigEndian::read_u16(&rest[2..]), &rest[4..]))
 }
 
 /// The packet behind a protocol and at most two tags.
@@ -90,7 +89,7 @@ fn in_frame(frame: &[u8], at: usize, header: usize) -> Result<&[u8], NoPacket>
     if frame.len() < header {
         return Err(NoPacket::FrameCut);
     }
-    behind_protocol(u16_at(Order::Big, frame, at), &frame[header..])
+    behind_protocol(BigEndian::read_u16(&frame[at..]), &frame[header..])
 }
 
 /// The packet behind a family that some host wrote.
@@ -100,9 +99,9 @@ fn behind_host_family(frame: &[u8]) -> Result<&[u8], NoPacket>
     if frame.len() < 4 {
         return Err(NoPacket::FrameCut);
     }
-    let mut family = u32_at(Order::Little, frame, 0);
+    let mut family = LittleEndian::read_u32(frame);
     if family >= 65_536 {
-        family = u32_at(Order::Big, frame, 0);
+        family = BigEndian::read_u32(frame);
     }
     if family != FAMILY_IPV4 {
         return Err(NoPacket::OtherFamily(family));
@@ -117,7 +116,7 @@ fn behind_family(frame: &[u8]) -> Result<&[u8], NoPacket>
     if frame.len() < 4 {
         return Err(NoPacket::FrameCut);
     }
-    let family = u32_at(Order::Big, frame, 0);
+    let family = BigEndian::read_u32(frame);
     if family != FAMILY_IPV4 {
         return Err(NoPacket::OtherFamily(family));
     }

@@ -4,16 +4,16 @@ ghost use Rattle.std.specs.Int.{w16, w32};
 ghost use Rattle.pcap.specs.File.{number, number_of};
 
 use crate::header::Order;
+use byteorder::{BigEndian, ByteOrder, LittleEndian};
 
 /// The number of 16 bits at a place.
 pub(crate) fn u16_at(order: Order, bytes: &[u8], at: usize) -> u16
     requires { at + 2 ≤ length bytes.now }
     ensures { result ≡ number_of order w16 (drop at bytes.now) }
 {
-    let parts = [bytes[at], bytes[at + 1]];
     match order {
-        Order::Little => u16::from_le_bytes(parts),
-        Order::Big => u16::from_be_bytes(parts),
+        Order::Little => LittleEndian::read_u16(&bytes[at..]),
+        Order::Big => BigEndian::read_u16(&bytes[at..]),
     }
 }
 
@@ -22,10 +22,9 @@ pub(crate) fn u32_at(order: Order, bytes: &[u8], at: usize) -> u32
     requires { at + 4 ≤ length bytes.now }
     ensures { result ≡ number_of order w32 (drop at bytes.now) }
 {
-    let parts = [bytes[at], bytes[at + 1], bytes[at + 2], bytes[at + 3]];
     match order {
-        Order::Little => u32::from_le_bytes(parts),
-        Order::Big => u32::from_be_bytes(parts),
+        Order::Little => LittleEndian::read_u32(&bytes[at..]),
+        Order::Big => BigEndian::read_u32(&bytes[at..]),
     }
 }
 

@@ -7,16 +7,20 @@ ghost use Rattle.pcap.specs.Sent.{IsShort, sent};
 ghost use Rattle.pcap.specs.declared.header.Order.TheVariants.{Little};
 
 use crate::fault::WriteError;
+use byteorder::{ByteOrder, LittleEndian};
 use std::alloc::{AllocError, Global};
 
 /// The most bytes of a packet that is written: the file's snapshot length. An IPv4 packet has no more.
 pub const LONGEST_PACKET: usize = 65_535;
 
-/// The header of each file that is written: little endian, version 2.4, microseconds, snapshot length 65,535, link type
-/// IPV4 (228).
-const FILE_HEADER: [u8; 24] = [
-    0xd4, 0xc3, 0xb2, 0xa1, 2, 0, 4, 0, 0, 0, 0, 0, 0, 0, 0, 0, 0xff, 0xff, 0, 0, 228, 0, 0, 0,
-];
+/// The magic number of a file with microseconds.
+const MAGIC: u32 = 0xa1b2_c3d4;
+
+/// The version, 2.4.
+const VERSION: [u16; 2] = [2, 4];
+
+/// The link type of IPv4 packets.
+const LINK_IPV4: u32 = 228;
 
 /// An IPv4 packet, and when it was seen.
 #[derive(Clone, Copy, Debug)]
@@ -28,25 +32,35 @@ pub struct Packet<'a> {
     pub bytes: &'a [u8],
 }
 
+/// The header of each file that is written: little endian, version 2.4, microseconds, time zone and accuracy 0,
+/// snapshot length 65,535, link type IPV4 (228).
+pub fn file_header() -> [u8; 24]
+    ensures { result ≡ header_bytes our_header }
+{
+    let mut header = [0; 24];
+    LittleEndian::write_u32(&mut header, MAGIC);
+    LittleEndian::write_u16_into(&VERSION, &mut header[4..8]);
+    LittleEndian::write_u32_into(&[0, 0, LONGEST_PACKET as u32, LINK_IPV4], &mut header[8..]);
+    header
+}
+
 /// Puts the header of a file at the end of `out`, 24 bytes. Refused if memory is lacking; `out` is then as before.
 pub fn put_header(out: &mut Vec<u8>) -> Result<(), AllocError>
     ensures written { OnOk result (out.new.items ≡ out.old.items ++ header_bytes our_header) }
     ensures refused { OnErr result (out.new.items ≡ out.old.items) }
 {
-    out.extend_from_slice(&FILE_HEADER)
+    out.extend_from_slice(&file_header())
 }
 
-/// The 16 bytes in front of a packet of `len` bytes, all of them captured.
-fn record_header(seconds: u32, microseconds: u32, len: u32) -> [u8; 16]
+/// The 16 bytes in front of a packet of `len` bytes, all of them captured, in a file with the header of
+/// [`file_header`]: seconds since 1970-01-01, 00:00 UTC, and microseconds since that second, 0 to 999,999. A larger
+/// number is written as it is.
+pub fn record_header(seconds: u32, microseconds: u32, len: u32) -> [u8; 16]
     ensures { result ≡ record_header Little seconds microseconds len len }
 {
-    let s = seconds.to_le_bytes();
-    let m = microseconds.to_le_bytes();
-    let n = len.to_le_bytes();
-    [
-        s[0], s[1], s[2], s[3], m[0], m[1], m[2], m[3], n[0], n[1], n[2], n[3], n[0], n[1], n[2],
-        n[3],
-    ]
+    let mut header = [0; 16];
+    LittleEndian::write_u32_into(&[seconds, microseconds, len, len], &mut header);
+    header
 }
 
 /// Puts a packet's record at the end of `out`, 16 bytes and the packet. Refused with `TooLong` exactly if the packet
