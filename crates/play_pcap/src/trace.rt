@@ -2,21 +2,15 @@
 ghost use Rattle.std.specs.Prelude.{◌≡◌, ◌≤◌, ◌+◌, length};
 ghost use Rattle.params.specs.declared.TheConstants.{IP_MAX_PACKET};
 ghost use Rattle.pcap.specs.File.{header_bytes, our_header};
-ghost use Rattle.pcap.specs.Records.{record_header as header_of};
-ghost use Rattle.pcap.specs.declared.header.Order.TheVariants.{Little};
 ghost use Rattle.play_pcap.specs.Traces.{Keeps, Sent, later, pass_at, pass_bytes, unwritten};
 
+use pcap::{file_header, record_header};
 use script_loop::{Buffer, Sink};
 use std::io::{self, Write};
 use std::marker::Model;
 
 /// Room for the record of a packet.
 pub const RECORD: usize = 65_551;
-
-/// The header of the file: little endian, version 2.4, microseconds, snapshot length 65,535, link type IPV4 (228).
-const FILE_HEADER: [u8; 24] = [
-    0xd4, 0xc3, 0xb2, 0xa1, 2, 0, 4, 0, 0, 0, 0, 0, 0, 0, 0, 0, 0xff, 0xff, 0, 0, 228, 0, 0, 0,
-];
 
 /// The most microseconds that a line counts.
 const MOST_LINES: u64 = 499_999;
@@ -53,19 +47,6 @@ pub(crate) fn send<W: Sink>(writer: &mut W, bytes: &[u8]) -> bool
     true
 }
 
-/// The 16 bytes in front of a packet of `len` bytes.
-fn record_header(seconds: u32, microseconds: u32, len: u32) -> [u8; 16]
-    ensures { result ≡ header_of Little seconds microseconds len len }
-{
-    let s = seconds.to_le_bytes();
-    let m = microseconds.to_le_bytes();
-    let n = len.to_le_bytes();
-    [
-        s[0], s[1], s[2], s[3], m[0], m[1], m[2], m[3], n[0], n[1], n[2], n[3], n[0], n[1], n[2],
-        n[3],
-    ]
-}
-
 /// Puts the record of a packet into a buffer.
 fn put_record(out: &mut Buffer<RECORD>, ticks: u32, line: u64, packet: &[u8])
     requires { length packet.now ≤ IP_MAX_PACKET }
@@ -84,7 +65,7 @@ impl<W: Sink> Trace<W> {
         ensures ticks { result.ticks ≡ 0 }
         ensures kept { Keeps (unwritten (W.contents sink)) result (header_bytes our_header) }
     {
-        let whole = send(&mut sink, &FILE_HEADER);
+        let whole = send(&mut sink, &file_header());
         Trace {
             sink,
             room,
