@@ -5,7 +5,7 @@ ghost use Rattle.play_line.specs.Signs as signs;
 
 use crate::fault::Fault;
 use crate::scanner::{MOST_DIGITS, Mode, Scanner};
-use crate::sign::{digit, escape_of, is_decimal, sign_of};
+use crate::sign::{digits, escape_of, is_decimal, sign_of};
 use script_loop::Buffer;
 
 /// Puts the digits of the bytes 0, 1, 2 .. into an empty buffer, so many of them.
@@ -16,8 +16,7 @@ fn put_pattern(piece: &mut Buffer<MOST_DIGITS>, count: u32)
     piece.clear();
     let mut next = 0;
     while next < count {
-        let byte = (next % 256) as u8;
-        piece.append(&[digit(byte / 16), digit(byte % 16)]);
+        piece.append(&digits((next % 256) as u8));
         next += 1;
     }
 }

@@ -4,7 +4,7 @@ ghost use Rattle.play_line.specs.Scans as scans;
 ghost use Rattle.play_line.specs.Signs.{is_hex_digit as is_hexadecimal};
 
 use crate::fault::{Fault, Slip};
-use crate::sign::{digit, is_hex_digit};
+use crate::sign::{digits, is_hex_digit};
 use script_loop::Buffer;
 use std::alloc::{AllocError, Global};
 
@@ -134,7 +134,7 @@ impl Scanner {
         if MOST_DIGITS < self.piece.len() + 2 {
             self.fail(Fault::TooManyBytes, self.start);
         } else {
-            self.piece.append(&[digit(byte / 16), digit(byte % 16)]);
+            self.piece.append(&digits(byte));
         }
     }
 

@@ -43,27 +43,23 @@ pub(crate) fn sign_of(byte: u8) -> Sign
 pub(crate) fn is_hex_digit(byte: u8) -> bool
     ensures { result ≡ signs.is_hex_digit byte }
 {
-    (byte >= b'0' && byte <= b'9')
-        || ((byte >= b'A' && byte <= b'F') || (byte >= b'a' && byte <= b'f'))
+    byte.is_ascii_hexdigit()
 }
 
 /// Whether a byte is a decimal digit.
 pub(crate) fn is_decimal(byte: u8) -> bool
     ensures { result ≡ signs.is_decimal byte }
 {
-    byte >= b'0' && byte <= b'9'
+    byte.is_ascii_digit()
 }
 
-/// A hexadecimal digit in lower case.
-pub(crate) fn digit(value: u8) -> u8
-    requires { value < 16 }
-    ensures { result ≡ signs.digit value }
+/// The two hexadecimal digits of a byte, in lower case.
+pub(crate) fn digits(byte: u8) -> [u8; 2]
+    ensures { result ≡ signs.digits byte }
 {
-    if value < 10 {
-        b'0' + value
-    } else {
-        b'a' - 10 + value
-    }
+    let mut digits = [0; 2];
+    let _ = hex::encode_to_slice(&[byte], &mut digits);
+    digits
 }
 
 /// The byte that an escape stands for, which is a backslash and this byte.
