@@ -5,6 +5,7 @@ ghost use Rattle.mbuf_chain.specs.Chain.{IsLive, chain_of, string};
 ghost use Rattle.ip_out.specs.Packets.{IsDatagram};
 
 use crate::boot::booted_of;
+use byteorder::{BigEndian, ByteOrder};
 use chain_ops::theorems::sent_layout;
 use chain_ops::{from_user, m_prepend};
 use in_cksum::{Sum, cksum_chain};
@@ -164,8 +165,10 @@ pub extern "C" fn bsdudp_cksum_chain(alloc: Global, bytes: &[u8], times: u32) ->
     let len = bytes.len() as u32;
     let mut checksum = 0u16;
     'turns: for _ in 0..times {
+        let mut before = [0; 2];
+        BigEndian::write_u16(&mut before, checksum);
         let mut start = Sum::new();
-        start.add(&checksum.to_be_bytes());
+        start.add(&before);
         checksum = cksum_chain(&pool, &chain, IP_UDP_HEADERS, len, start);
     }
     pool.free_chain(chain);

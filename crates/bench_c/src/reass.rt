@@ -6,6 +6,7 @@ ghost use Rattle.mbuf_chain.specs.Chain.{chain_of, string};
 ghost use Rattle.mbuf_chain.specs.Owners.{IsOwned};
 ghost use Rattle.ip_reass.specs.Table.{IsReady, held_all};
 
+use byteorder::{BigEndian, ByteOrder};
 use chain_ops::from_wire;
 use flat_model::Counters;
 use ip_out::{IpHead, read_head};
@@ -106,7 +107,7 @@ fn packet_in(bytes: &[u8]) -> &[u8]
     if bytes.len() < 4 {
         return bytes;
     }
-    let total = u16::from_be_bytes([bytes[2], bytes[3]]);
+    let total = BigEndian::read_u16(&bytes[2..]);
     &bytes[..bytes.len().min(total as usize)]
 }
 

@@ -1,16 +1,17 @@
 //! Strings, with each byte that can't stand in one escaped.
-ghost use Rattle.std.specs.Prelude.{◌≡◌, ◌+◌, ◌*◌, ◌<◌, ◌≤◌, ◌++◌, length};
+ghost use Rattle.std.specs.Prelude.{◌≡◌, ◌+◌, ◌*◌, ◌/◌, ◌%◌, ◌≤◌, ◌++◌, [], ◌∷◌, length};
 ghost use Rattle.std.specs.Char.{digit_char};
 ghost use Rattle.play_print.specs.Strings.{code_text, escaped_byte, string_text};
 
 use script_loop::Buffer;
 
-/// A digit of a number to the base 16, in lower case.
-fn digit(n: u8) -> u8
-    requires { n < 16 }
-    ensures { result ≡ digit_char n }
+/// The two digits of a byte to the base 16, in lower case.
+fn digits(byte: u8) -> [u8; 2]
+    ensures { result ≡ digit_char (byte / 16) ∷ digit_char (byte % 16) ∷ [] }
 {
-    if n < 10 { b'0' + n } else { b'a' + (n - 10) }
+    let mut digits = [0; 2];
+    let _ = hex::encode_to_slice(&[byte], &mut digits);
+    digits
 }
 
 /// Puts a byte's number after the text, as a string has it.
@@ -19,7 +20,8 @@ fn put_code<const N: usize>(text: &mut Buffer<N>, byte: u8)
     ensures items { text.new ≡ text.old ++ code_text byte }
     ensures len { length text.new ≤ length text.old + 6 }
 {
-    text.append(&[b'\\', b'u', b'0', b'0', digit(byte / 16), digit(byte % 16)]);
+    text.append(b"\\u00");
+    text.append(&digits(byte));
 }
 
 /// Puts what stands in a string for a byte after the text.

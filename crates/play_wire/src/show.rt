@@ -1,6 +1,8 @@
 //! What is under way, in words.
 use crate::add::{add, add_number};
 use crate::names::NAME;
+use byteorder::{BigEndian, ByteOrder};
+use params::IP_HEADER;
 use play_script::TOLD;
 use play_show::SHOWN;
 use script_loop::Buffer;
@@ -9,32 +11,30 @@ use segment::{Segment, UnderWay};
 /// The most packets that are told.
 const MOST: usize = 200;
 
-/// The byte of a packet at a place, or 0.
-fn byte_at(packet: &[u8], at: usize) -> u8 {
-    match packet.get(at) {
-        Some(byte) => *byte,
-        None => 0,
-    }
+/// An IP header without options.
+type Header = [u8; IP_HEADER as usize];
+
+/// The first 20 bytes of a packet. A byte that isn't there is 0.
+fn header_of(packet: &[u8]) -> Header {
+    let mut header = [0; IP_HEADER as usize];
+    let len = packet.len().min(header.len());
+    header[..len].copy_from_slice(&packet[..len]);
+    header
 }
 
-/// The number of 16 bits at a place.
-fn short_at(packet: &[u8], at: usize) -> u16 {
-    u16::from_be_bytes([byte_at(packet, at), byte_at(packet, at.saturating_add(1))])
-}
-
-/// Puts the address at a place after a text.
-fn add_address(text: &mut Buffer<SHOWN>, packet: &[u8], at: usize) {
-    for place in 0..4usize {
+/// Puts an address after a text.
+fn add_address(text: &mut Buffer<SHOWN>, octets: &[u8]) {
+    for (place, octet) in octets.iter().enumerate() {
         if place != 0 {
             add(text, b".");
         }
-        add_number(text, u64::from(byte_at(packet, at.saturating_add(place))));
+        add_number(text, u64::from(*octet));
     }
 }
 
 /// Puts what part of a datagram a packet has after a text, if it isn't all of it.
-fn add_part(text: &mut Buffer<SHOWN>, packet: &[u8]) {
-    let word = short_at(packet, 6);
+fn add_part(text: &mut Buffer<SHOWN>, header: &Header) {
+    let word = BigEndian::read_u16(&header[6..]);
     let more = word & 0x2000 != 0;
     let offset = u64::from(word & 0x1fff) * 8;
     if !more && offset == 0 {
@@ -49,19 +49,20 @@ fn add_part(text: &mut Buffer<SHOWN>, packet: &[u8]) {
 
 /// Puts a packet that is under way after a text, as a line.
 fn add_packet(text: &mut Buffer<SHOWN>, at: usize, name: &[u8], it: UnderWay<'_>) {
+    let header = header_of(it.packet);
     add(text, b"    ");
     add_number(text, at as u64);
     add(text, b"  ");
     add(text, name);
     add(text, b": ");
-    add_address(text, it.packet, 12);
+    add_address(text, &header[12..16]);
     add(text, b" > ");
-    add_address(text, it.packet, 16);
+    add_address(text, &header[16..]);
     add(text, b", ");
     add_number(text, it.packet.len() as u64);
     add(text, b" bytes, id ");
-    add_number(text, u64::from(short_at(it.packet, 4)));
-    add_part(text, it.packet);
+    add_number(text, u64::from(BigEndian::read_u16(&header[4..])));
+    add_part(text, &header);
     if it.wait != 0 {
         add(text, b", due after ");
         add_number(text, it.wait);
