@@ -1,7 +1,8 @@
 /* A stack without a C library: its memory is static. It gets a packet, answers it, prints how large it is by write(2)
-   of Linux, and exits. On a board leave `main` and drop the first part.
-       cc -std=c99 -Os -nostdlib -static -ffreestanding -fno-stack-protector -Wl,--gc-sections bare.c \
-           -I PREFIX/include PREFIX/lib/libbsdudp.a && ./a.out */
+   of Linux, and exits. On a board leave `main` and drop the first part. There is no thread-local storage here, so
+   memory.c stands in front of the library.
+       cc -std=c99 -Os -nostdlib -static -ffreestanding -fno-stack-protector -Wl,--gc-sections -DBSDUDP_THREADS=0 \
+           bare.c ../src/memory.c -I PREFIX/include PREFIX/lib/libbsdudp.a && ./a.out */
 #include "bsdudp.h"
 
 /* ---- what a program has to bring: start, exit, output, and the four functions that compilers call */

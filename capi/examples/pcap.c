@@ -1,25 +1,66 @@
-/* Plays a capture (raw IP or Ethernet) into a host that echoes port 7, and writes what the host sends into another one.
-   Time is the capture's own. In the end it says what the host counted.
+/* Plays a capture (Ethernet, Linux cooked, loopback or raw IP) into a host that echoes port 7, and writes what the host
+   sends into another one. Time is the capture's own. In the end it says what the host counted. It takes libpcap
+   (Debian's libpcap-dev).
        cc -std=gnu99 pcap.c -I PREFIX/include PREFIX/lib/libbsdudp.a -lpcap && ./a.out IN OUT 10.0.0.1 10.0.0.255 */
 #include "bsdudp.h"
 
 #include <arpa/inet.h>
 #include <pcap/pcap.h>
 #include <stdio.h>
+#include <string.h>
 
-enum { FD = BSDUDP_FIRST_FD, HALF_SECOND = 500000, ETHERNET_HEADER = 14, ETHERTYPE = 12 };
+enum { FD = BSDUDP_FIRST_FD, HALF_SECOND = 500000, LAST_TICK = 60 };
+
+/* A link whose header, of so many bytes, has these `count` bytes at `at` if an IPv4 packet follows. The header of BSD's
+   loopback is in the order of the machine that wrote the capture. */
+static const struct link {
+    int type;
+    size_t header, at, count;
+    u_char ipv4[4];
+} links[] = {
+    {DLT_RAW, 0, 0, 0, {0}},
+    {DLT_IPV4, 0, 0, 0, {0}},
+    {DLT_EN10MB, 14, 12, 2, {0x08, 0x00}},
+    {DLT_LINUX_SLL, 16, 14, 2, {0x08, 0x00}},
+    {DLT_LINUX_SLL2, 20, 0, 2, {0x08, 0x00}},
+    {DLT_LOOP, 4, 0, 4, {0, 0, 0, 2}},
+    {DLT_NULL, 4, 0, 4, {0, 0, 0, 2}},
+    {DLT_NULL, 4, 0, 4, {2, 0, 0, 0}},
+};
+enum { LINKS = sizeof links / sizeof links[0] };
 
 static uint8_t room[BSDUDP_TX_ROOM], bytes[BSDUDP_DATAGRAM];
 
-/* The IP packet of a frame, whose length becomes the packet's; NULL if it has none. Bytes may stand behind it. */
-static const u_char *packet_in(int link, const u_char *frame, size_t *len)
+static int is_known(int type)
 {
-    if (link != DLT_EN10MB)
-        return frame;
-    if (*len < ETHERNET_HEADER || frame[ETHERTYPE] != 0x08 || frame[ETHERTYPE + 1] != 0x00)
-        return NULL;
-    *len -= ETHERNET_HEADER;
-    return frame + ETHERNET_HEADER;
+    int k;
+    for (k = 0; k < LINKS && links[k].type != type; k++)
+        ;
+    return k < LINKS;
+}
+
+/* The IP packet of a frame, whose length becomes the packet's; NULL if it has none. Bytes may stand behind it. */
+static const u_char *packet_in(int type, const u_char *frame, size_t *len)
+{
+    int k;
+    for (k = 0; k < LINKS; k++) {
+        const struct link *it = &links[k];
+        if (it->type == type && *len >= it->header && memcmp(frame + it->at, it->ipv4, it->count) == 0) {
+            *len -= it->header;
+            return frame + it->header;
+        }
+    }
+    return NULL;
+}
+
+/* Time passes until `now`: each half second is a tick, of which the next is due at `*next`. After 60 ticks nothing is
+   left that waits for one, so 60 do for any longer time. */
+static void pass(struct bsdudp *stack, long long *next, long long now)
+{
+    long long ticks = now < *next ? 0 : (now - *next) / HALF_SECOND + 1, k;
+    *next += ticks * HALF_SECOND;
+    for (k = 0; k < ticks && k < LAST_TICK; k++)
+        bsdudp_tick(stack);
 }
 
 static void echo(struct bsdudp *stack, pcap_dumper_t *out, struct timeval when)
@@ -58,8 +99,8 @@ int main(int argc, char **argv)
     raw = pcap_open_dead(DLT_RAW, BSDUDP_PACKET);
     out = pcap_dump_open(raw, argv[2]);
     link = pcap_datalink(in);
-    if (link != DLT_EN10MB && link != DLT_RAW && link != DLT_IPV4)
-        return fprintf(stderr, "a link that isn't known\n"), 1;
+    if (!is_known(link))
+        return fprintf(stderr, "link type %d isn't known: take Ethernet, Linux cooked, loopback or raw IP\n", link), 1;
     if (out == NULL || bsdudp_boot(&stack, &config) < 0)
         return fprintf(stderr, "can't write, or no such host\n"), 1;
     if (bsdudp_socket(&stack) != FD || bsdudp_bind(&stack, FD, &any) < 0)
@@ -70,8 +111,7 @@ int main(int argc, char **argv)
         const u_char *packet = packet_in(link, frame, &len);
         if (next < 0)
             next = now + HALF_SECOND;
-        for (; now >= next; next += HALF_SECOND)
-            bsdudp_tick(&stack);
+        pass(&stack, &next, now);
         if (packet != NULL)
             bsdudp_rx(&stack, packet, len);
         echo(&stack, out, head->ts);

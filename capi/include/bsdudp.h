@@ -13,10 +13,14 @@
  * What you must uphold, of every call:
  *   - A `struct bsdudp` has all bytes 0 before its first boot (BSDUDP_NONE), and then is as the library left it. Don't
  *     copy it, and don't touch its members.
- *   - One call at a time on a stack. Calls on other stacks may run meanwhile, but for boot and end: only one of these
- *     runs at a time in the whole program. No call from a signal handler or an interrupt.
+ *   - One call at a time on a stack. Calls on other stacks may run meanwhile, boot and end among them. No call from a
+ *     signal handler or an interrupt.
  *   - No pointer is null, each points to as many bytes as the text says, and no two arguments of a call overlap.
  * All else is answered: a handle without a stack, a wrong descriptor, a wrong length, a damaged packet.
+ *
+ * Boot keeps a variable of its thread while it runs, and nothing else of the library is shared. On bare metal without
+ * thread-local storage compile capi/src/memory.c with -DBSDUDP_THREADS=0, and link it in front of the library. It makes
+ * that a plain variable, and then one boot runs at a time in the whole program.
  */
 #ifndef BSDUDP_H
 #define BSDUDP_H
@@ -39,8 +43,9 @@ struct bsdudp_core {
 struct bsdudp {
     struct bsdudp_core core;
     void *block;
+    void (*give_back)(void *);
 };
-#define BSDUDP_NONE {{0, NULL}, NULL}
+#define BSDUDP_NONE {{0, NULL}, NULL, NULL}
 
 /* What a stack is booted with. */
 struct bsdudp_config {
@@ -107,7 +112,7 @@ enum {
     BSDUDP_EBADF = 9,           /* no socket has this descriptor */
     BSDUDP_ENOMEM = 12,         /* boot: too little memory */
     BSDUDP_EACCES = 13,         /* a broadcast without BSDUDP_SO_BROADCAST */
-    BSDUDP_EINVAL = 22,         /* boot: no such configuration; bind: it has a name; a question: no such number */
+    BSDUDP_EINVAL = 22,         /* boot: configuration or alignment; bind: it has a name; a question: no such number */
     BSDUDP_EMFILE = 24,         /* 64 sockets are open */
     BSDUDP_EDOM = 33,           /* boot: sizes that no pool has */
     BSDUDP_EWOULDBLOCK = 35,    /* nothing waits */
@@ -146,9 +151,10 @@ enum {
 size_t bsdudp_memory(const struct bsdudp_config *config);
 
 /* Boots a stack in memory that you give: `len` bytes from `memory` on, aligned to BSDUDP_ALIGNMENT. The memory is the
-   stack's until bsdudp_end. No other call takes memory. The answer is 0.
+   stack's until bsdudp_end. No other call takes memory. The answer is 0. Refused, in this order:
    ENXIO: the handle has a stack, which goes on. EDOM: the mbufs aren't 1 to 65535, or the clusters more than 4096.
-   EINVAL: the MTU, or an address, isn't in its range, or both addresses are the same. ENOMEM: `len` is too little. */
+   EINVAL: the MTU, or an address, isn't in its range, both addresses are the same, or `memory` isn't aligned. ENOMEM:
+   `len` is too little. */
 int bsdudp_boot_in(struct bsdudp *, const struct bsdudp_config *, void *memory, size_t len);
 
 /* The same with memory from malloc, which bsdudp_end gives back. It's in an object of its own: a program that doesn't
@@ -245,7 +251,7 @@ int bsdudp_mbstat(struct bsdudp *, struct bsdudp_mbstat *usage);
 /* The name of a counter, as "ip.total"; NULL from 26 on. */
 const char *bsdudp_counter_name(uint32_t which);
 
-/* What an answer says, as "no buffers"; "ok" of 0 and above. */
+/* What an answer says, as "no buffers"; "ok" of 0 and above; "unknown" of what no call answers. */
 const char *bsdudp_strerror(int answer);
 
 /* The version of the library that the program is linked with. BSDUDP_VERSION is that of this header. */

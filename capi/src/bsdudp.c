@@ -1,11 +1,9 @@
-/* What stands between the header and the proved core: the memory of a stack, one export for each call, and two tables
-   of names. The core asks for memory in boot alone, by rattle_alloc, and gives it back in end, by rattle_dealloc. */
+/* What stands between the header and the proved core: one export for each call. Boot is in memory.c. */
 #include "bsdudp.h"
 
 #include <stdbool.h>
 
 /* The core's exports. */
-int bsdudp_core_boot(struct bsdudp_core *, const struct bsdudp_config *);
 int bsdudp_core_end(struct bsdudp_core *);
 int bsdudp_core_rx(struct bsdudp_core *, const uint8_t *, size_t);
 int bsdudp_core_tx(struct bsdudp_core *, uint8_t *, size_t);
@@ -30,69 +28,16 @@ int bsdudp_core_unfinished_range(struct bsdudp_core *, uint32_t, uint32_t, struc
 int bsdudp_core_counter(struct bsdudp_core *, uint32_t, uint64_t *);
 int bsdudp_core_mbstat(struct bsdudp_core *, struct bsdudp_mbstat *);
 
-/* ---- memory: blocks one after another in what boot was given, for as long as boot runs */
-
-struct tried {
-    bool ok;
-    void *at;
-};
-
-static unsigned char *arena;
-static size_t left;
-
-/* A block of `size` bytes, aligned to 16; `alignment` is at most that. */
-struct tried rattle_alloc(size_t size, size_t alignment);
-struct tried rattle_alloc(size_t size, size_t alignment)
-{
-    static unsigned char none;
-    struct tried answer = {false, &none};
-    (void)alignment;
-    if (size > left || (size + 15) / 16 * 16 > left)
-        return answer;
-    answer.ok = true;
-    answer.at = arena;
-    arena += (size + 15) / 16 * 16;
-    left -= (size + 15) / 16 * 16;
-    return answer;
-}
-
-/* A block comes back: the memory is the caller's again once all have. */
-void rattle_dealloc(void *block);
-void rattle_dealloc(void *block)
-{
-    (void)block;
-}
-
-size_t bsdudp_memory(const struct bsdudp_config *config)
-{
-    return BSDUDP_MEMORY(config->mbufs, config->clusters);
-}
-
-int bsdudp_boot_in(struct bsdudp *stack, const struct bsdudp_config *config, void *memory, size_t len)
-{
-    int answer;
-    arena = memory;
-    left = len / 16 * 16;
-    answer = bsdudp_core_boot(&stack->core, config);
-    arena = NULL;
-    left = 0;
-    return answer;
-}
-
-/* What bsdudp_boot's object puts here gives a block of malloc back. */
-void (*bsdudp_give_back)(void *) = NULL;
-
 int bsdudp_end(struct bsdudp *stack)
 {
     int answer = bsdudp_core_end(&stack->core);
     if (answer == 0 && stack->block != NULL) {
-        bsdudp_give_back(stack->block);
+        stack->give_back(stack->block);
         stack->block = NULL;
+        stack->give_back = NULL;
     }
     return answer;
 }
-
-/* ---- the calls */
 
 int bsdudp_rx(struct bsdudp *s, const void *packet, size_t len) { return bsdudp_core_rx(&s->core, packet, len); }
 int bsdudp_tx(struct bsdudp *s, void *room, size_t len) { return bsdudp_core_tx(&s->core, room, len); }

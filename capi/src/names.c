@@ -38,40 +38,40 @@ const char *bsdudp_strerror(int answer)
 {
     if (answer >= 0)
         return "ok";
-    switch (-answer) {
-    case BSDUDP_ENXIO:
+    switch (answer) {
+    case -BSDUDP_ENXIO:
         return "no stack, or one already";
-    case BSDUDP_EBADF:
+    case -BSDUDP_EBADF:
         return "bad descriptor";
-    case BSDUDP_ENOMEM:
+    case -BSDUDP_ENOMEM:
         return "no memory";
-    case BSDUDP_EACCES:
+    case -BSDUDP_EACCES:
         return "access denied";
-    case BSDUDP_EINVAL:
+    case -BSDUDP_EINVAL:
         return "invalid";
-    case BSDUDP_EMFILE:
+    case -BSDUDP_EMFILE:
         return "too many sockets";
-    case BSDUDP_EDOM:
+    case -BSDUDP_EDOM:
         return "bad sizes";
-    case BSDUDP_EWOULDBLOCK:
+    case -BSDUDP_EWOULDBLOCK:
         return "would block";
-    case BSDUDP_EDESTADDRREQ:
+    case -BSDUDP_EDESTADDRREQ:
         return "destination required";
-    case BSDUDP_EMSGSIZE:
+    case -BSDUDP_EMSGSIZE:
         return "bad length";
-    case BSDUDP_ENOPROTOOPT:
+    case -BSDUDP_ENOPROTOOPT:
         return "no such option";
-    case BSDUDP_EADDRINUSE:
+    case -BSDUDP_EADDRINUSE:
         return "address in use";
-    case BSDUDP_EADDRNOTAVAIL:
+    case -BSDUDP_EADDRNOTAVAIL:
         return "address not available";
-    case BSDUDP_ENOBUFS:
+    case -BSDUDP_ENOBUFS:
         return "no buffers";
-    case BSDUDP_EISCONN:
+    case -BSDUDP_EISCONN:
         return "is connected";
-    case BSDUDP_EHOSTUNREACH:
+    case -BSDUDP_EHOSTUNREACH:
         return "host unreachable";
-    case BSDUDP_EQUEUE:
+    case -BSDUDP_EQUEUE:
         return "output queue full";
     default:
         return "unknown";

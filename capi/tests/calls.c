@@ -2,6 +2,7 @@
    first answer that is wrong, and then exits with 1. */
 #include "bsdudp.h"
 
+#include <limits.h>
 #include <stdio.h>
 #include <string.h>
 
@@ -64,6 +65,23 @@ static int without_a_stack(struct bsdudp *s)
     return 0;
 }
 
+/* Memory that isn't aligned is the last fault of a configuration, and not a byte of it is touched. */
+static int misaligned(void)
+{
+    struct bsdudp_config c = config();
+    size_t at, k;
+    for (at = 1; at < BSDUDP_ALIGNMENT; at++) {
+        WANT(bsdudp_boot_in(&near_, &c, memory + at, sizeof memory - at), -BSDUDP_EINVAL);
+        WANT(bsdudp_boot_in(&near_, &c, memory + at, 0), -BSDUDP_EINVAL);
+        WANT(bsdudp_socket(&near_), -BSDUDP_ENXIO);
+    }
+    for (k = 0; k < sizeof memory; k++)
+        WANT(memory[k], 0);
+    c.clusters = 4097;
+    WANT(bsdudp_boot_in(&near_, &c, memory + 1, sizeof memory - 1), -BSDUDP_EDOM);
+    return 0;
+}
+
 /* What boot refuses, and how much memory it takes. */
 static int boots(void)
 {
@@ -89,6 +107,7 @@ static int boots(void)
         WANT(bsdudp_boot_in(&near_, &c, memory, len), -BSDUDP_ENOMEM);
     WANT(bsdudp_boot_in(&near_, &c, memory, sizeof memory), 0);
     WANT(bsdudp_boot_in(&near_, &c, other, sizeof other), -BSDUDP_ENXIO);
+    WANT(bsdudp_boot_in(&near_, &c, other + 1, sizeof other - 1), -BSDUDP_ENXIO);
     WANT(bsdudp_boot(&near_, &c), -BSDUDP_ENXIO);
     c.addr = 0x0a000002;
     WANT(bsdudp_boot_in(&far_, &c, other, sizeof other), 0);
@@ -247,6 +266,9 @@ static int limits(void)
     WANT(bsdudp_counter_name(26) == NULL, 1);
     WANT(strcmp(bsdudp_strerror(-BSDUDP_EQUEUE), "output queue full"), 0);
     WANT(strcmp(bsdudp_strerror(3), "ok"), 0);
+    WANT(strcmp(bsdudp_strerror(INT_MAX), "ok"), 0);
+    WANT(strcmp(bsdudp_strerror(-1), "unknown"), 0);
+    WANT(strcmp(bsdudp_strerror(INT_MIN), "unknown"), 0);
     WANT(strcmp(bsdudp_version(), BSDUDP_VERSION), 0);
     return 0;
 }
@@ -267,5 +289,6 @@ static int ends(void)
 
 int main(void)
 {
-    return without_a_stack(&near_) || boots() || sockets() || traffic() || unfinished() || limits() || ends();
+    return without_a_stack(&near_) || misaligned() || boots() || sockets() || traffic() || unfinished() || limits() ||
+           ends();
 }

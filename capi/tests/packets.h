@@ -90,7 +90,7 @@ static size_t keep_fragment(uint8_t *packet, size_t len)
     last = end * 8 < len - 20 ? end * 8 : len - 20;
     memmove(packet + 20, packet + 20 + first * 8, last - first * 8);
     put16(packet + 2, (unsigned)(20 + last - first * 8));
-    put16(packet + 6, (unsigned)((last < len - 20) << 13 | first));
+    put16(packet + 6, (unsigned)((size_t)(last < len - 20) << 13 | first));
     put_header_sum(packet);
     return 20 + last - first * 8;
 }

@@ -2,10 +2,12 @@
 """The captures of tests/captures, played: replay.py PCAP [TUN_ECHO].
 
 PCAP is the built capi/examples/pcap.c. What it counts stands in NAME.stdout; what it writes has the echo of each
-datagram to port 7, with right checksums; and tshark, if it's there, finds nothing to say of it. TUN_ECHO is the built
+datagram to port 7, with right checksums; and tshark, if it's there, finds nothing to say of it. The same packets behind
+the headers of other links get the same answers, and so does a jump of time, in seconds. TUN_ECHO is the built
 tun_echo.c: the packets of ethernet.pcap go to it by its device, and it has to send the same packets back, byte for
 byte. That takes a network namespace (unshare -n). It says the first thing that is wrong, and then exits with 1."""
 import pathlib
+import resource
 import shutil
 import signal
 import socket
@@ -18,6 +20,22 @@ import time
 CAPTURES = pathlib.Path(__file__).resolve().parent / "captures"
 HOST, BROADCAST, ECHO = socket.inet_aton("10.0.0.1"), socket.inet_aton("10.0.0.255"), 7
 ETHERNET, MORE, OFFSET, ETH_P_IP = 1, 0x2000, 0x1FFF, 0x0800
+# The links that pcap.c reads beside Ethernet, by https://www.tcpdump.org/linktypes.html: the number, and the headers of
+# an IPv4 packet and of an IPv6 one. Linux cooked: the kind of packet, of device, the length of its address, that, and
+# the EtherType; in version 2 with the number of the interface, in another order.
+COOKED, COOKED2 = "!HHH8sH", "!HHIHBB8s"
+ADDRESS = bytes(range(2, 10))
+LINKS = {
+    "raw": (101, b"", None),
+    "ipv4": (228, b"", None),
+    "loopback": (0, struct.pack("<I", 2), struct.pack("<I", 30)),
+    "loopback-big": (0, struct.pack(">I", 2), struct.pack(">I", 30)),
+    "loop": (108, struct.pack(">I", 2), struct.pack(">I", 24)),
+    "cooked": (113, *(struct.pack(COOKED, 0, 1, 6, ADDRESS, it) for it in (ETH_P_IP, 0x86DD))),
+    "cooked2": (276, *(struct.pack(COOKED2, it, 0, 3, 1, 0, 6, ADDRESS) for it in (ETH_P_IP, 0x86DD))),
+}
+SECONDS = 20  # of the processor, where pcap.c takes a hundredth of one
+LATEST = 0x7FFF_FFFF
 
 
 class Wrong(Exception):
@@ -89,18 +107,75 @@ def read_by_tshark(path, count):
         raise Wrong(f"tshark says of {path.name}: {wrong or rows}")
 
 
-def by_pcap(program, name, room):
-    """Plays a capture by pcap.c. The answer is what it wrote."""
-    source, written = CAPTURES / f"{name}.pcap", pathlib.Path(room, f"{name}.pcap")
+def played(program, source, room, counted):
+    """Plays a capture by pcap.c, which has to say what it counted. The answer is the file that it wrote."""
+    written = pathlib.Path(room, "written.pcap")
     words = [program, source, written, "10.0.0.1", "10.0.0.255"]
-    said = subprocess.run(words, capture_output=True, text=True, check=False)
-    if said.returncode or said.stdout != source.with_suffix(".stdout").read_text(encoding="ascii"):
-        raise Wrong(f"pcap left {said.returncode} and said {said.stdout + said.stderr!r} of {name}.pcap")
+    limit = (SECONDS, SECONDS)
+    limited = {"preexec_fn": lambda: resource.setrlimit(resource.RLIMIT_CPU, limit)}
+    said = subprocess.run(words, capture_output=True, text=True, check=False, **limited)
+    if said.returncode or said.stdout != counted:
+        raise Wrong(f"pcap left {said.returncode} and said {said.stdout + said.stderr!r} of {source.name}")
+    return written
+
+
+def by_pcap(program, name, room):
+    """Plays a stored capture by pcap.c. The answer is what it wrote."""
+    source = CAPTURES / f"{name}.pcap"
+    written = played(program, source, room, source.with_suffix(".stdout").read_text(encoding="ascii"))
     wanted = echoes(source)
     if not wanted or list(datagrams(packets(written))) != wanted:
         raise Wrong(f"pcap answers {name}.pcap otherwise")
     read_by_tshark(written, len(wanted))
     return [packet for _, packet in packets(written)]
+
+
+def write(path, link, records):
+    """A capture of these records: the seconds of each, and its bytes."""
+    head = struct.pack("<IHHiIII", 0xA1B2C3D4, 2, 4, 0, 0, 65_536, link)
+    rows = [struct.pack("<IIII", seconds, 0, len(frame), len(frame)) + frame for seconds, frame in records]
+    path.write_bytes(head + b"".join(rows))
+
+
+def read_by_link(path, count):
+    """tshark finds so many IPv4 packets behind the headers of a link."""
+    if not shutil.which("tshark"):
+        return
+    words = ["tshark", "-r", path, "-Y", "ip.dst && !_ws.malformed", "-T", "fields", "-e", "ip.dst"]
+    said = subprocess.run(words, stdout=subprocess.PIPE, stderr=subprocess.DEVNULL, text=True, check=True).stdout
+    if len(said.splitlines()) != count:
+        raise Wrong(f"tshark finds {len(said.splitlines())} packets in {path.name}, not {count}")
+
+
+def by_links(program, room, wanted):
+    """The packets of ethernet.pcap behind the headers of the other links get the same answers. What another protocol is
+    said of is no packet, nor is a frame that ends in its header."""
+    heard = [packet for _, packet in packets(CAPTURES / "ethernet.pcap")]
+    counted = (CAPTURES / "ethernet.stdout").read_text(encoding="ascii")
+    for name, (link, header, other) in LINKS.items():
+        source = pathlib.Path(room, f"{name}.pcap")
+        frames = [header + packet for packet in heard]
+        if other is not None:
+            frames[1:1] = [other + heard[0], header[:-1]]
+        write(source, link, [(1, frame) for frame in frames])
+        read_by_link(source, len(heard))
+        if [packet for _, packet in packets(played(program, source, room, counted))] != wanted:
+            raise Wrong(f"pcap answers {source.name} otherwise than ethernet.pcap")
+    source = pathlib.Path(room, "other.pcap")
+    write(source, 105, [(1, heard[0])])  # IEEE 802.11
+    refused = subprocess.run([program, source, "/dev/null", "10.0.0.1", "10.0.0.255"], capture_output=True, check=False)
+    if refused.returncode != 1 or not refused.stderr.startswith(b"link type 105 isn't known"):
+        raise Wrong(f"pcap takes a link that it doesn't know: {refused}")
+
+
+def by_jumps(program, room):
+    """Two fragments of a datagram with all the time between them that a capture can tell: the first one is dropped. If
+    time goes back, no tick is made."""
+    both = [packet for _, packet in packets(CAPTURES / "late.pcap")][:2]
+    source = pathlib.Path(room, "jump.pcap")
+    for times, told in (((0, LATEST), "ip.fragtimeout 1\n"), ((LATEST, 0), "ip.reassembled 1\nip.localout 1\n")):
+        write(source, 228, zip(times, both))
+        played(program, source, room, f"ip.total 2\nip.fragments 2\n{told}")
 
 
 def device():
@@ -139,6 +214,8 @@ def main(programs):
         with tempfile.TemporaryDirectory() as room:
             sent = by_pcap(programs[0], "ethernet", room)
             by_pcap(programs[0], "late", room)
+            by_links(programs[0], room, sent)
+            by_jumps(programs[0], room)
         if not shutil.which("tshark"):
             print("capi: no tshark: what pcap writes isn't read by it")
         for program in programs[1:]:

@@ -1,0 +1,135 @@
+/* A stack between the tasks of an RTOS. One task carries packets and time. Each service has a task of its own, which
+   waits for its socket. The link's interrupt only fills a queue. Here threads of Linux are the tasks, by rtos.h, and
+   the peer is another stack, which sends datagrams to two services and wants them back.
+       cc -std=gnu99 -pthread rtos.c -I PREFIX/include PREFIX/lib/libbsdudp.a && ./a.out */
+#include "bsdudp.h"
+#include "rtos.h"
+
+#include <stdio.h>
+
+enum { MTU = 576, HALF_SECOND = 500, SERVICES = 2, PORT = 7, TURNS = 300, LONGEST = 2000, PATIENCE = 60000 };
+
+static unsigned char memory[BSDUDP_MEMORY(128, 32)] __attribute__((aligned(BSDUDP_ALIGNMENT)));
+static struct bsdudp stack = BSDUDP_NONE;
+static mutex turn = MUTEX; /* round each call on `stack`, and is_over */
+static struct flags readable = FLAGS;
+static struct queue received, sent; /* what came from the link, and what is for it */
+static int is_over;
+
+/* What follows each call by which something may arrive or leave: packets go to the link, and who waits for a socket
+   wakes. The caller has the lock. */
+static void pass_on(void)
+{
+    static uint8_t packet[MTU];
+    uint64_t set = 0;
+    int len;
+    while ((len = bsdudp_tx(&stack, packet, sizeof packet)) > 0)
+        queue_put(&sent, packet, len);
+    bsdudp_readable(&stack, &set);
+    flags_set(&readable, set);
+}
+
+/* The task of the stack. */
+static void *net_task(void *none)
+{
+    static uint8_t packet[SLOT];
+    long long next = milliseconds() + HALF_SECOND;
+    int is_running = 1;
+    while (is_running) {
+        int len = queue_take(&received, packet, next);
+        lock(&turn);
+        if (len > 0)
+            bsdudp_rx(&stack, packet, (size_t)len);
+        for (; milliseconds() >= next; next += HALF_SECOND)
+            bsdudp_tick(&stack);
+        pass_on();
+        is_running = !is_over;
+        unlock(&turn);
+    }
+    return none;
+}
+
+/* A bsdudp_recvfrom that waits. The flag of what came after the look is set before the wait, so it isn't missed. */
+static int receive(uint32_t fd, void *room, size_t len, struct bsdudp_addr *from)
+{
+    for (;;) {
+        int answer;
+        lock(&turn);
+        answer = bsdudp_recvfrom(&stack, fd, room, len, from);
+        unlock(&turn);
+        if (answer != -BSDUDP_EWOULDBLOCK)
+            return answer;
+        flags_wait(&readable, (uint64_t)1 << (fd - BSDUDP_FIRST_FD));
+    }
+}
+
+/* The task of a service, until its socket is closed. */
+static void *echo_task(void *of)
+{
+    const uint32_t fd = *(const uint32_t *)of;
+    uint8_t bytes[LONGEST];
+    struct bsdudp_addr from;
+    int len;
+    while ((len = receive(fd, bytes, sizeof bytes, &from)) >= 0) {
+        lock(&turn);
+        bsdudp_sendto(&stack, fd, &from, bytes, (size_t)len);
+        pass_on();
+        unlock(&turn);
+    }
+    return NULL;
+}
+
+/* ---- the peer: it sends a datagram to each service, and waits until each is back. The answer is how many weren't. */
+static int missing(struct bsdudp *peer, int number)
+{
+    static uint8_t bytes[LONGEST], back[LONGEST], packet[MTU];
+    const int wanted = number * 7 % (LONGEST + 1);
+    struct bsdudp_addr to = {BSDUDP_IP(10, 0, 0, 1), PORT};
+    int left = SERVICES, len;
+    memset(bytes, number, sizeof bytes);
+    for (; to.port < PORT + SERVICES; to.port++)
+        bsdudp_sendto(peer, BSDUDP_FIRST_FD, &to, bytes, (size_t)wanted);
+    while ((len = bsdudp_tx(peer, packet, sizeof packet)) > 0)
+        queue_put(&received, packet, len); /* the interrupt of the board's link */
+    while (left > 0 && (len = queue_take(&sent, packet, milliseconds() + PATIENCE)) > 0) {
+        bsdudp_rx(peer, packet, (size_t)len);
+        while ((len = bsdudp_recvfrom(peer, BSDUDP_FIRST_FD, back, sizeof back, &to)) >= 0)
+            left -= len == wanted && memcmp(back, bytes, (size_t)len) == 0;
+    }
+    return left;
+}
+
+int main(void)
+{
+    struct bsdudp_config config = {BSDUDP_IP(10, 0, 0, 1), BSDUDP_IP(10, 0, 0, 255), 128, 32, MTU, 1};
+    struct bsdudp peer = BSDUDP_NONE;
+    task tasks[SERVICES + 1];
+    uint32_t fds[SERVICES];
+    int k, number, lost = 0;
+    queue_make(&received);
+    queue_make(&sent);
+    if (bsdudp_boot_in(&stack, &config, memory, sizeof memory) < 0)
+        return 1;
+    config.addr = BSDUDP_IP(10, 0, 0, 2);
+    if (bsdudp_boot(&peer, &config) < 0 || bsdudp_socket(&peer) < 0)
+        return 1;
+    for (k = 0; k < SERVICES; k++) {
+        const struct bsdudp_addr local = {0, (uint16_t)(PORT + k)};
+        fds[k] = (uint32_t)bsdudp_socket(&stack);
+        bsdudp_bind(&stack, fds[k], &local);
+    }
+    task_start(&tasks[SERVICES], net_task, NULL);
+    for (k = 0; k < SERVICES; k++)
+        task_start(&tasks[k], echo_task, &fds[k]);
+    for (number = 0; number < TURNS && lost == 0; number++)
+        lost += missing(&peer, number);
+    lock(&turn);
+    for (is_over = 1, k = 0; k < SERVICES; k++)
+        bsdudp_close(&stack, fds[k]);
+    unlock(&turn);
+    flags_set(&readable, ~(uint64_t)0);
+    for (k = 0; k <= SERVICES; k++)
+        task_join(tasks[k]);
+    printf("%d datagrams, %d lost\n", SERVICES * number, lost);
+    return bsdudp_end(&stack) < 0 || bsdudp_end(&peer) < 0 || lost != 0;
+}
