@@ -94,7 +94,8 @@ static void make_arena(struct bsdudp *fresh, u8 *memory, size_t len)
     put_u64(memory + ARENA_END, (u64)MEMORY + fresh->core.live);
 }
 
-int bsdudp_boot_in(struct bsdudp *stack, const struct bsdudp_config *config, void *memory, size_t len)
+/* The same as bsdudp_boot_in, in memory of any alignment: bytes alone are read and written here. */
+static int boot_at(struct bsdudp *stack, const struct bsdudp_config *config, u8 *memory, size_t len)
 {
     u8 head[ARENA_HEAD];
     struct bsdudp fresh = *stack;
@@ -116,6 +117,13 @@ int bsdudp_boot_in(struct bsdudp *stack, const struct bsdudp_config *config, voi
     return answer;
 }
 
+int bsdudp_boot_in(struct bsdudp *stack, const struct bsdudp_config *config, void *memory, size_t len)
+{
+    const int is_aligned = (uintptr_t)memory % BSDUDP_ALIGNMENT == 0;
+    int answer = boot_at(stack, config, memory, is_aligned ? len : 0);
+    return answer == -BSDUDP_ENOMEM && !is_aligned ? -BSDUDP_EINVAL : answer;
+}
+
 #if BSDUDP_MALLOC
 int bsdudp_boot(struct bsdudp *stack, const struct bsdudp_config *config)
 {
@@ -128,7 +136,7 @@ int bsdudp_boot(struct bsdudp *stack, const struct bsdudp_config *config)
     block = malloc(bsdudp_memory(config));
     if (block == NULL)
         return -BSDUDP_ENOMEM;
-    answer = bsdudp_boot_in(stack, config, block, bsdudp_memory(config));
+    answer = boot_at(stack, config, block, bsdudp_memory(config));
     if (answer < 0)
         free(block);
     else
