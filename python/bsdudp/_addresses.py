@@ -2,11 +2,14 @@
 from __future__ import annotations
 
 import ipaddress
-from typing import Any, Tuple, Union
+import operator
+from typing import SupportsIndex, Tuple, Union
 
 from ._library import Address as Raw
 
 Host = Union[str, ipaddress.IPv4Address]
+# an address as it's given, and as it's told
+Endpoint = Tuple[Host, SupportsIndex]
 Address = Tuple[str, int]
 
 ANY = ""
@@ -35,17 +38,19 @@ def text_of(number: int) -> str:
     return str(ipaddress.IPv4Address(number))
 
 
-def in_range(what: str, value: Any, least: int, most: int) -> int:
-    """The value, if it's an int from `least` to `most`."""
-    if isinstance(value, bool) or not isinstance(value, int):
+def in_range(what: str, value: SupportsIndex, least: int, most: int) -> int:
+    """The value, if it's an integer from `least` to `most`: an int, or what has `__index__`, as numpy's integers. A bool is
+    none."""
+    if isinstance(value, bool) or not hasattr(value, "__index__"):
         raise TypeError(f"{what} is an int, and not {type(value).__name__}")
-    if not least <= value <= most:
-        raise ValueError(f"{what} is {least} to {most}, and not {value}")
-    return value
+    number = operator.index(value)
+    if not least <= number <= most:
+        raise ValueError(f"{what} is {least} to {most}, and not {number}")
+    return number
 
 
-def raw(address: Tuple[Host, int]) -> Raw:
-    """An address with its port, for the library."""
+def raw(address: object) -> Raw:
+    """An address with its port, for the library. TypeError, ValueError: it's no `Endpoint`."""
     if not isinstance(address, tuple) or len(address) != 2:
         raise TypeError("an address is a tuple of a host and a port, as ('10.0.0.1', 7)")
     host, port = address

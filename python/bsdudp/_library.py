@@ -6,7 +6,7 @@ import ctypes.util
 import errno
 import os
 import pathlib
-from typing import Any, Callable, Dict, List, NamedTuple
+from typing import Any, Callable, Dict, List, NamedTuple, Tuple, Type
 
 NAME = "libbsdudp.so.0"
 ENVIRONMENT = "BSDUDP_LIBRARY"
@@ -138,6 +138,10 @@ class NoBuffersError(OSError):
         super().__init__(number, text)
         self.lack = lack
 
+    def __reduce__(self) -> Tuple[Type["NoBuffersError"], Tuple[int, str, str]]:
+        """So that it comes back from another process: OSError keeps two of the three arguments."""
+        return type(self), (self.errno, self.strerror, self.lack)
+
 
 def refused(answer: int) -> OSError:
     """The exception of a negative answer. OSError makes its subclasses by the number: EAGAIN is a BlockingIOError."""
@@ -214,7 +218,7 @@ class Library:
         self.version = self._library.bsdudp_version().decode()
         self.counter_names = tuple(self._library.bsdudp_counter_name(which).decode() for which in range(COUNTERS))
 
-    def call(self, name: str, handle: Handle, *arguments: Any) -> int:
+    def call(self, name: str, handle: Handle, *arguments: object) -> int:
         """Makes the call `bsdudp_NAME` of the stack that a handle has."""
         return int(self._calls[name](ctypes.byref(handle), *arguments))
 

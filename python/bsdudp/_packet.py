@@ -2,12 +2,30 @@
 from __future__ import annotations
 
 import html
-from typing import Any
+from typing import TYPE_CHECKING, Protocol, SupportsBytes, Union, runtime_checkable
 
 from ._addresses import text_of
+from ._buffers import octets
 from ._library import MAX_PACKET
 
+if TYPE_CHECKING:
+    from _typeshed import ReadableBuffer
+
 UDP = 17
+
+
+@runtime_checkable
+class LayeredPacket(Protocol):
+    """What is known here of scapy's packets."""
+
+    def haslayer(self, __layer: str) -> object:
+        """Whether it has this layer."""
+
+    def __getitem__(self, __layer: str) -> SupportsBytes:
+        """The layer, with those in it."""
+
+
+AnyPacket = Union["ReadableBuffer", LayeredPacket]
 
 
 class Packet(bytes):
@@ -85,16 +103,17 @@ class Packet(bytes):
         return f'<table aria-label="IPv4 header">{body}</table>'
 
 
-def bytes_of(packet: Any) -> bytes:
+def bytes_of(packet: AnyPacket) -> bytes:
     """The bytes of an IPv4 packet: of anything like bytes, or of a scapy packet, from its IP layer on."""
-    if isinstance(packet, (bytes, bytearray, memoryview)):
-        found = bytes(packet)
-    elif hasattr(packet, "haslayer"):
+    if isinstance(packet, LayeredPacket):
         if not packet.haslayer("IP"):
             raise ValueError("the scapy packet has no IP layer; if its bytes are meant as they are, give bytes(packet)")
         found = bytes(packet["IP"])
     else:
-        raise TypeError(f"a packet is bytes or a scapy packet, and not {type(packet).__name__}")
+        try:
+            found = octets(packet)
+        except TypeError:
+            raise TypeError(f"a packet is bytes or a scapy packet, and not {type(packet).__name__}") from None
     if len(found) > MAX_PACKET:
         raise ValueError(f"a packet has at most {MAX_PACKET} bytes, and not {len(found)}")
     return found

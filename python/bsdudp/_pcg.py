@@ -3,13 +3,14 @@ from __future__ import annotations
 
 from decimal import Decimal
 from fractions import Fraction
-from typing import Union
+from numbers import Real
+from typing import SupportsIndex, Union
 
 MULTIPLIER = 6_364_136_223_846_793_005
 STREAM = 0xA02B_DBF7_BB3C_0A7
 MASK = (1 << 64) - 1
 
-Chance = Union[float, int, str, Decimal, Fraction]
+Chance = Union[float, str, Decimal, Fraction, SupportsIndex]
 
 
 class Pcg32:
@@ -42,7 +43,7 @@ class Pcg32:
 
 def limit_of(what: str, chance: Chance) -> int:
     """The limit of a chance from 0 to 1, given as it's written: 0.05 is one twentieth. A chance of 1 always happens."""
-    if isinstance(chance, bool) or not isinstance(chance, (float, int, str, Decimal, Fraction)):
+    if isinstance(chance, bool) or not isinstance(chance, (Real, str, Decimal)):
         raise TypeError(f"{what} is a number, and not {type(chance).__name__}")
     try:
         exact = Fraction(str(chance))

@@ -5,13 +5,25 @@ import concurrent.futures
 import concurrent.futures.process
 import importlib
 import sys
-from typing import Any, Callable, Dict, Iterable, List, Optional, TypeVar
+from typing import Any, Callable, Dict, Iterable, List, Optional, Protocol, TypeVar, Union
 
 Result = TypeVar("Result")
 
 CORES = "cores"
 # How often a seed is tried before a fault of the workers is told, and not of the scenario.
 TRIES = 5
+
+
+class ClusterClient(Protocol):
+    """What is known here of a `distributed.Client`."""
+
+    @property
+    def map(self) -> Callable[..., Any]:
+        """Calls a function on the cluster for each of a list."""
+
+    @property
+    def gather(self) -> Callable[..., Any]:
+        """The results."""
 
 
 class _Progress:
@@ -58,7 +70,9 @@ def _on_cores(scenario: Callable[[int], Result], seeds: List[int], progress: _Pr
     return [results[at] for at in range(len(seeds))]
 
 
-def _on_dask(scenario: Callable[[int], Result], seeds: List[int], client: Any, progress: _Progress) -> List[Result]:
+def _on_dask(
+    scenario: Callable[[int], Result], seeds: List[int], client: Union[str, ClusterClient], progress: _Progress
+) -> List[Result]:
     distributed: Any = importlib.import_module("distributed")
     own = isinstance(client, str)
     asked = distributed.Client(client) if own else client
@@ -75,7 +89,7 @@ def _on_dask(scenario: Callable[[int], Result], seeds: List[int], client: Any, p
 def sweep(
     scenario: Callable[[int], Result],
     seeds: Iterable[int] = range(1000),
-    client: Any = None,
+    client: Union[None, str, ClusterClient] = None,
     progress: Optional[bool] = None,
 ) -> List[Result]:
     """Calls `scenario(seed)` for each seed, and answers the results in the order of the seeds, whichever way they came.

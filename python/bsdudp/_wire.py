@@ -1,12 +1,13 @@
 """A wire between stacks, which loses, repeats and reorders packets by a seed."""
 from __future__ import annotations
 
-from typing import Dict, List, NamedTuple, Optional, Sequence, Tuple
+from typing import Dict, List, NamedTuple, Optional, Sequence, SupportsIndex, Tuple
 
 from ._addresses import in_range, number_of
 from ._packet import Packet
 from ._pcg import Chance, Pcg32, limit_of
 from ._stack import Stack
+from ._uncopied import Uncopied
 
 LIMITED_BROADCAST = 0xFFFF_FFFF
 TICK = 0.5  # in seconds
@@ -35,7 +36,7 @@ class Carried(NamedTuple):
     """Packets that were due, and that no stack on the wire is the destination of."""
 
 
-class Wire:
+class Wire(Uncopied):
     """A segment that joins stacks. A packet goes to the stack whose address is its destination, and a broadcast to all
     but its sender.
 
@@ -55,8 +56,8 @@ class Wire:
         loss: Chance = 0,
         repeat: Chance = 0,
         reorder: Chance = 0,
-        delay: Tuple[int, int] = (0, 0),
-        seed: int = 1,
+        delay: Tuple[SupportsIndex, SupportsIndex] = (0, 0),
+        seed: SupportsIndex = 1,
     ) -> None:
         self.stacks = list(stacks)
         self._at: Dict[int, int] = {number_of(stack.addr): at for at, stack in enumerate(self.stacks)}
@@ -65,8 +66,9 @@ class Wire:
         self._broadcasts = {number_of(stack.bcast) for stack in self.stacks} | {LIMITED_BROADCAST}
         self._loss, self._repeat = limit_of("loss", loss), limit_of("repeat", repeat)
         self._reorder = limit_of("reorder", reorder)
-        self._least, self._most = delay
-        in_range("the most delay", self._most, in_range("the least delay", self._least, 0, 1_000_000), 1_000_000)
+        least, most = delay
+        self._least = in_range("the least delay", least, 0, 1_000_000)
+        self._most = in_range("the most delay", most, self._least, 1_000_000)
         self._random = Pcg32(in_range("seed", seed, 0, (1 << 64) - 1))
         self._now = 0
         self._ticks = 0
@@ -132,7 +134,7 @@ class Wire:
         self._carries += 1
         return handed
 
-    def run(self, until_quiet: bool = True, carries: int = 10_000) -> bool:
+    def run(self, until_quiet: bool = True, carries: SupportsIndex = 10_000) -> bool:
         """Carries until nothing is under way and no packet waits, at most `carries` times; with `until_quiet=False` exactly
         so many times. The answer is whether nothing is left."""
         for _ in range(in_range("carries", carries, 0, 1 << 31)):
@@ -141,7 +143,7 @@ class Wire:
             self.carry()
         return self._is_quiet()
 
-    def tick(self, n: int = 1) -> None:
+    def tick(self, n: SupportsIndex = 1) -> None:
         """Lets `n` times half a second pass at each stack of the wire. What is under way stays so: a delay is counted in
         carries."""
         for _ in range(in_range("n", n, 0, 1_000_000)):

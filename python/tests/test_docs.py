@@ -4,6 +4,7 @@ import ast
 import contextlib
 import io
 import re
+import socket
 import subprocess
 import sys
 
@@ -33,6 +34,17 @@ def test_counters():
     """The table of counters names them all, in their order."""
     section = PAGE.split("## The counters")[1].split("##")[0]
     assert re.findall(r"^\| `([a-z.]+)` \|", section, re.M) == list(bsdudp.Stack().counters)
+
+
+def test_socket_methods():
+    """What the page lists as there, and as not there, is all of a socket of Python."""
+    section = PAGE.split("## A socket")[1].split("##")[0]
+    there, table = section.split("A socket of this package differs")
+    lacking = re.search(r"^\| What isn't there \| (.*) \|$", table, re.M)[1]
+    public = {name for name in dir(socket.socket) if not name.startswith("_")}
+    assert set(re.findall(r"`(\w+)`", lacking)) == public - set(dir(bsdudp.Socket))
+    methods = {name for name in public if callable(getattr(bsdudp.Socket, name, None))}
+    assert {name for name in re.findall(r"`(\w+)`", there)} - {"with", "__index__"} == methods
 
 
 def test_pieces(tmp_path, monkeypatch):

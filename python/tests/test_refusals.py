@@ -1,7 +1,9 @@
 """Each refusal by its number of the host, and each wrong argument before the library is called."""
+import array
+import copy
 import errno
+import pickle
 import socket as host
-import threading
 
 import bsdudp
 import pytest
@@ -151,35 +153,157 @@ def test_arguments(stack):
 
 
 def test_after_close_and_end(stack):
+    """A closed socket is EBADF, as one of Python's own is, and so is a socket of a stack that has ended."""
     it, other = stack.socket(), stack.socket()
     it.close()
     it.close()
     assert it.fileno() == -1
-    with pytest.raises(ValueError):
-        it.send(b"hi")
+    buffer = bytearray(8)
+    calls = [
+        lambda who: who.send(b"hi"),
+        lambda who: who.sendto(b"hi", ("10.0.0.2", 7)),
+        lambda who: who.bind(("", 7)),
+        lambda who: who.connect(("10.0.0.2", 7)),
+        lambda who: who.recvfrom(),
+        lambda who: who.recv_into(buffer),
+        lambda who: who.recvmsg(8),
+        lambda who: who.getsockname(),
+        lambda who: who.getpeername(),
+        lambda who: who.setsockopt(host.SOL_SOCKET, host.SO_BROADCAST, 1),
+        lambda who: who.getsockopt(host.SOL_SOCKET, host.SO_BROADCAST),
+        lambda who: who.waiting,
+    ]
+    for call in calls:
+        refused(errno.EBADF, call, it)
     stack.end()
     stack.end()
-    for call in [stack.tick, stack.tx, stack.socket, other.recvfrom, lambda: stack.counters, lambda: stack.rx(b"")]:
+    assert other.fileno() == -1 and repr(other) == "<Socket, closed>"
+    for call in calls:
+        refused(errno.EBADF, call, other)
+    assert it.connect_ex(("10.0.0.2", 7)) == errno.EBADF
+    other.close()
+    for call in [stack.tick, stack.tx, stack.socket, lambda: stack.counters, lambda: stack.rx(b"")]:
         with pytest.raises(ValueError):
             call()
 
 
-def test_second_thread(stack):
-    """A thread that finds another in the stack is refused, and disturbs nothing."""
-    found = []
+def test_closed_descriptor_is_reused(stack):
+    """A socket that is closed stays so once another one has its descriptor."""
+    first = stack.socket()
+    first.close()
+    second = stack.socket()
+    assert second.fileno() == 3
+    refused(errno.EBADF, first.bind, ("", 7))
+    first.close()
+    second.bind(("", 7))
 
-    def try_it():
-        try:
-            stack.tick()
-        except RuntimeError as fault:
-            found.append(fault)
 
-    with stack._turn:
-        thread = threading.Thread(target=try_it)
-        thread.start()
-        thread.join()
-    assert len(found) == 1
-    stack.tick()
+@pytest.mark.parametrize("make", [copy.copy, copy.deepcopy, pickle.dumps], ids=["copy", "deepcopy", "pickle"])
+def test_no_copies(stack, make):
+    """What holds memory of the library is there once: the reason names the Stack."""
+    for it in (stack, stack.socket(), bsdudp.Wire([stack])):
+        with pytest.raises(TypeError, match=f"a {type(it).__name__} can't be (copied|pickled): .* Stack"):
+            make(it)
+        with pytest.raises(TypeError, match="can't be"):
+            make(it if make is copy.copy else [it])
+    assert stack.socket().fileno() == 4
+
+
+def test_what_is_told_can_be_pickled(stack):
+    stack.socket().sendto(b"hi", ("10.0.0.2", 7))
+    for it in (stack.tx(), stack.mbstat, stack.counters, bsdudp.Waiting(("10.0.0.2", 7), 1, 1)):
+        again = pickle.loads(pickle.dumps(it))
+        assert again == it and type(again) is type(it)
+    fault = pickle.loads(pickle.dumps(bsdudp.NoBuffersError(errno.ENOBUFS, "why", "pool")))
+    assert (fault.errno, fault.strerror, fault.lack) == (errno.ENOBUFS, "why", "pool")
+
+
+class Seven:
+    """A number that isn't an int, as numpy's are."""
+
+    def __index__(self):
+        return 7
+
+
+def test_numbers_by_index():
+    numpy = pytest.importorskip("numpy")
+    for seven in (Seven(), numpy.int64(7), numpy.uint16(7)):
+        with bsdudp.Stack(mtu=numpy.int32(576), mbufs=numpy.uint16(64), clusters=seven, first_id=seven) as stack:
+            it = stack.socket()
+            it.bind(("", seven))
+            it.setsockopt(host.SOL_SOCKET, host.SO_BROADCAST, seven)
+            assert it.sendto(numpy.array([1, 2, 3], dtype=numpy.uint8), ("127.0.0.1", seven)) == 3
+            assert it.recvmsg(seven)[0] == b"\1\2\3"
+            stack.tick(seven)
+            wire = bsdudp.Wire([stack], loss=numpy.float32(0.5), repeat=numpy.int64(0), delay=(seven, seven), seed=seven)
+            assert wire.run(carries=seven)
+            assert (stack.mtu, stack.mbstat.clusters) == (576, 7)
+    for wrong in (7.0, "7", None, True, numpy.float64(7)):
+        with pytest.raises(TypeError):
+            bsdudp.Stack(clusters=wrong)
+
+
+def test_receive_into(stack):
+    it = stack.socket()
+    it.bind(("", 7))
+    for _ in range(5):
+        it.sendto(b"hello", ("127.0.0.1", 7))
+    buffer = bytearray(b"........")
+    assert it.recv_into(buffer) == 5 and buffer == b"hello..."
+    words = array.array("H", [0, 0, 0])
+    assert it.recvfrom_into(words) == (5, ("127.0.0.1", 7)) and words.tobytes() == b"hello\0"
+    with pytest.warns(bsdudp.CutDatagramWarning) as told:
+        assert it.recv_into(memoryview(buffer)[6:], 1) == 1 and buffer == b"hello.h."
+    assert told[0].filename == __file__
+    for wrong in (b"read only", "text", 7, memoryview(bytearray(8))[::2]):
+        with pytest.raises(TypeError):
+            it.recv_into(wrong)
+    for wrong in (-1, 9):
+        with pytest.raises(ValueError):
+            it.recv_into(buffer, wrong)
+    with pytest.raises(ValueError):
+        it.recv_into(buffer, 0, host.MSG_PEEK)
+    assert it.waiting.datagrams == 2
+    with pytest.warns(bsdudp.CutDatagramWarning):
+        assert it.recv_into(bytearray()) == 0
+    assert it.recv() == b"hello"
+    with pytest.raises(BlockingIOError):
+        it.recv_into(buffer)
+
+
+def test_nothing_blocks(stack):
+    it = stack.socket()
+    it.settimeout(0)
+    it.settimeout(0.0)
+    it.setblocking(False)
+    assert (it.gettimeout(), it.timeout, it.getblocking(), it.proto) == (0.0, 0.0, False, 0)
+    for wrong in (None, 1, 0.5, -1):
+        with pytest.raises(ValueError):
+            it.settimeout(wrong)
+    with pytest.raises(ValueError):
+        it.setblocking(True)
+
+
+def test_connect_ex(stack):
+    it = stack.socket()
+    assert it.connect_ex(("10.0.0.2", 0)) == errno.EADDRNOTAVAIL
+    assert it.connect_ex(("10.0.0.2", 7)) == 0
+    with pytest.raises(TypeError):
+        it.connect_ex("10.0.0.2")
+
+
+def test_bytes_like(stack):
+    it = stack.socket()
+    for data in (bytearray(b"hi"), memoryview(b"h-i")[::2], array.array("B", b"hi"), b"hi"):
+        assert it.sendto(data, 0, ("10.0.0.2", 7)) == 2
+        packet = stack.tx()
+        assert packet[28:] == b"hi"
+        stack.rx(memoryview(packet))
+    with pytest.raises(ValueError):
+        it.sendto(b"hi", 1, ("10.0.0.2", 7))
+    for wrong in [(b"hi",), (b"hi", 0, ("10.0.0.2", 7), 0), (7, ("10.0.0.2", 7))]:
+        with pytest.raises(TypeError):
+            it.sendto(*wrong)
 
 
 def test_pictures(stack):

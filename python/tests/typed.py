@@ -1,0 +1,49 @@
+"""What a type checker sees of the package, for `mypy --strict`: the calls of the first function are right. Each of the
+others is wrong in the way that its comment names; a comment without a fault is one itself. It isn't run."""
+import array
+import ipaddress
+import socket
+from typing import List, Optional, Tuple
+
+import bsdudp
+
+
+def right(stack: bsdudp.Stack, it: bsdudp.Socket, buffer: bytearray) -> None:
+    it.bind(("", 7))
+    it.connect((ipaddress.IPv4Address("10.0.0.2"), 7))
+    sent: int = it.sendto(b"hi", ("10.0.0.2", 7)) + it.sendto(array.array("B", [1]), 0, ("10.0.0.2", 7))
+    sent += it.send(memoryview(b"hi"))
+    data, sender = it.recvfrom()
+    taken: Tuple[bytes, Tuple[str, int]] = (data, sender)
+    came: Tuple[int, Tuple[str, int]] = it.recvfrom_into(buffer, 10)
+    came_too: int = it.recv_into(memoryview(buffer))
+    flags: int = it.recvmsg(100)[2]
+    refused: int = it.connect_ex(("10.0.0.2", 7))
+    it.setsockopt(socket.SOL_SOCKET, socket.SO_BROADCAST, True)
+    it.settimeout(0)
+    it.setblocking(False)
+    packet: Optional[bsdudp.Packet] = stack.tx()
+    stack.rx(packet or b"")
+    held: List[bsdudp.UnfinishedDatagram] = stack.unfinished
+    total: int = stack.counters["ip.total"]
+    results: List[int] = bsdudp.sweep(lambda seed: seed * 2, range(3))
+
+
+def wrong(stack: bsdudp.Stack, it: bsdudp.Socket) -> None:
+    it.sendto("a", ("10.0.0.2", 7))  # type: ignore[call-overload]
+    it.sendto(b"a", "10.0.0.2")  # type: ignore[call-overload]
+    it.sendto(b"a", ("10.0.0.2", "7"))  # type: ignore[arg-type]
+    it.sendto(b"a")  # type: ignore[call-overload]
+    it.send("a")  # type: ignore[arg-type]
+    it.bind("10.0.0.2")  # type: ignore[arg-type]
+    it.connect((7, 7))  # type: ignore[arg-type]
+    it.recv("7")  # type: ignore[arg-type]
+    it.settimeout("0")  # type: ignore[arg-type]
+    stack.rx("a")  # type: ignore[arg-type]
+    stack.rx(7)  # type: ignore[arg-type]
+    stack.tick(0.5)  # type: ignore[arg-type]
+    bsdudp.Stack(mtu="1500")  # type: ignore[arg-type]
+    bsdudp.Wire([stack], delay=3)  # type: ignore[arg-type]
+    bsdudp.Wire([stack], loss=None)  # type: ignore[arg-type]
+    bsdudp.sweep(lambda seed: seed, range(3), client=7)  # type: ignore[arg-type]
+    text: str = it.recv()  # type: ignore[assignment]
