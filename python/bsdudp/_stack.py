@@ -34,7 +34,10 @@ class Turn:
 
     def __enter__(self) -> None:
         if not self._lock.acquire(blocking=False):
-            raise RuntimeError("another thread is in this stack: a stack is used by one thread at a time")
+            raise RuntimeError(
+                "another thread, or what a signal handler stopped, is in this stack: put a lock round the calls, or give"
+                " each thread a stack of its own"
+            )
 
     def __exit__(
         self,

@@ -234,16 +234,16 @@ def test_many_threads():
 
 
 def test_lives():
-    """Stacks of several threads begin and end at once."""
+    """Stacks of several threads begin and end at once. A large pool takes a while to begin."""
     packet = udp("10.0.0.9", "10.0.0.1", 5000, 7, b"hello")
 
     def run():
-        for at in range(100):
-            with bsdudp.Stack(mbufs=64 + at, clusters=at % 7) as stack:
+        for at in range(60):
+            with bsdudp.Stack(mbufs=30_000 + at, clusters=at % 7) as stack:
                 it = stack.socket()
                 it.bind(("", 7))
                 stack.rx(packet)
-                assert (stack.mbstat.mbufs, stack.mbstat.clusters) == (64 + at, at % 7)
+                assert (stack.mbstat.mbufs, stack.mbstat.clusters) == (30_000 + at, at % 7)
                 assert it.recv() == b"hello"
 
     all_of(*[run] * 4)
