@@ -141,13 +141,20 @@ class Socket(Uncopied):
             length = self._call("recvfrom", buffer, size, ctypes.byref(sender))
         return _Taken(buffer.raw[:length], (text_of(sender.ip), sender.port), found.len > most)
 
-    def _take_whole(self, most: int) -> _Taken:
-        """The same, with a warning if it was cut. It's told of the caller's caller."""
+    def _take_whole(self, most: int, depth: int = 3) -> _Taken:
+        """The same, with a warning if it was cut. It's told of the line that called the socket, `depth` calls above it."""
         taken = self._take(most)
         if taken.is_cut:
             warning = CutDatagramWarning(f"a datagram from {taken.sender[0]} was cut to {most} bytes")
-            warnings.warn(warning, stacklevel=3)
+            warnings.warn(warning, stacklevel=depth)
         return taken
+
+    def _take_into(self, buffer: "WriteableBuffer", nbytes: SupportsIndex) -> Tuple[int, Address]:
+        """The same into a buffer: how many bytes stand there, and the sender."""
+        view = room(buffer)
+        taken = self._take_whole(in_range("nbytes", nbytes, 0, len(view)) or len(view), 4)
+        view[: len(taken.data)] = taken.data
+        return len(taken.data), taken.sender
 
     def recvmsg(
         self, bufsize: SupportsIndex, ancbufsize: int = 0, flags: int = 0
@@ -171,29 +178,18 @@ class Socket(Uncopied):
         _no_flags("recv", flags)
         return self._take_whole(in_range("bufsize", bufsize, 0, ROOM)).data
 
-    def _take_into(self, buffer: "WriteableBuffer", nbytes: SupportsIndex) -> Tuple[memoryview, int]:
-        """The bytes of the buffer, and how many of them may be written."""
-        view = room(buffer)
-        return view, in_range("nbytes", nbytes, 0, len(view)) or len(view)
-
     def recvfrom_into(
         self, buffer: "WriteableBuffer", nbytes: SupportsIndex = 0, flags: int = 0
     ) -> Tuple[int, Address]:
         """Takes the oldest datagram as `recvfrom` does: up to `nbytes` bytes of it, or with 0 as many as the buffer has, stand
         in front of the buffer. The answer is how many, and the sender."""
         _no_flags("recvfrom_into", flags)
-        view, most = self._take_into(buffer, nbytes)
-        taken = self._take_whole(most)
-        view[: len(taken.data)] = taken.data
-        return len(taken.data), taken.sender
+        return self._take_into(buffer, nbytes)
 
     def recv_into(self, buffer: "WriteableBuffer", nbytes: SupportsIndex = 0, flags: int = 0) -> int:
         """The same without the sender."""
         _no_flags("recv_into", flags)
-        view, most = self._take_into(buffer, nbytes)
-        taken = self._take_whole(most)
-        view[: len(taken.data)] = taken.data
-        return len(taken.data)
+        return self._take_into(buffer, nbytes)[0]
 
     @property
     def waiting(self) -> Optional[Waiting]:

@@ -264,6 +264,11 @@ def test_receive_into(stack):
     with pytest.raises(ValueError):
         it.recv_into(buffer, 0, host.MSG_PEEK)
     assert it.waiting.datagrams == 2
+    for call in (it.recv, it.recvfrom):
+        it.sendto(b"hello", ("127.0.0.1", 7))
+        with pytest.warns(bsdudp.CutDatagramWarning) as told:
+            call(1)
+        assert told[0].filename == __file__
     with pytest.warns(bsdudp.CutDatagramWarning):
         assert it.recv_into(bytearray()) == 0
     assert it.recv() == b"hello"
