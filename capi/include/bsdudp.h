@@ -35,17 +35,17 @@ extern "C" {
 /* The version of this header. */
 #define BSDUDP_VERSION "0.2.0"
 
-/* A stack, or none. Its members are the library's. */
+/* A stack, or none. Its members are the library's. Those of the core have the same places on every host. */
 struct bsdudp_core {
-    uint32_t live;
-    void *at;
+    uint32_t live, none;
+    uint64_t at;
 };
 struct bsdudp {
     struct bsdudp_core core;
     void *block;
     void (*give_back)(void *);
 };
-#define BSDUDP_NONE {{0, NULL}, NULL, NULL}
+#define BSDUDP_NONE {{0, 0, 0}, NULL, NULL}
 
 /* What a stack is booted with. */
 struct bsdudp_config {

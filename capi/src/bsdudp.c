@@ -3,17 +3,17 @@
 
 #include <stdbool.h>
 
-/* The core's exports. */
+/* The core's exports. Lengths have 64 bits on every host. */
 int bsdudp_core_end(struct bsdudp_core *);
-int bsdudp_core_rx(struct bsdudp_core *, const uint8_t *, size_t);
-int bsdudp_core_tx(struct bsdudp_core *, uint8_t *, size_t);
+int bsdudp_core_rx(struct bsdudp_core *, const uint8_t *, uint64_t);
+int bsdudp_core_tx(struct bsdudp_core *, uint8_t *, uint64_t);
 int bsdudp_core_tick(struct bsdudp_core *);
 int bsdudp_core_socket(struct bsdudp_core *);
 int bsdudp_core_bind(struct bsdudp_core *, uint32_t, const struct bsdudp_addr *);
 int bsdudp_core_connect(struct bsdudp_core *, uint32_t, const struct bsdudp_addr *);
-int bsdudp_core_sendto(struct bsdudp_core *, uint32_t, const struct bsdudp_addr *, const uint8_t *, size_t);
-int bsdudp_core_send(struct bsdudp_core *, uint32_t, const uint8_t *, size_t);
-int bsdudp_core_recvfrom(struct bsdudp_core *, uint32_t, uint8_t *, size_t, struct bsdudp_addr *);
+int bsdudp_core_sendto(struct bsdudp_core *, uint32_t, const struct bsdudp_addr *, const uint8_t *, uint64_t);
+int bsdudp_core_send(struct bsdudp_core *, uint32_t, const uint8_t *, uint64_t);
+int bsdudp_core_recvfrom(struct bsdudp_core *, uint32_t, uint8_t *, uint64_t, struct bsdudp_addr *);
 int bsdudp_core_close(struct bsdudp_core *, uint32_t);
 int bsdudp_core_set_broadcast(struct bsdudp_core *, uint32_t, bool);
 int bsdudp_core_set_reuse_port(struct bsdudp_core *, uint32_t, bool);

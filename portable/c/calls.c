@@ -21,7 +21,7 @@ static void begin(struct core *it, const struct bsdudp *stack, u8 *frames, u32 s
     it->windows[WINDOW(FRAMES)].start = frames;
     it->windows[WINDOW(FRAMES)].readable = size + HANDLE + ARGUMENT;
     it->windows[WINDOW(FRAMES)].writable = size + HANDLE + ARGUMENT;
-    it->windows[WINDOW(MEMORY)].start = stack->core.at;
+    it->windows[WINDOW(MEMORY)].start = (u8 *)(uintptr_t)stack->core.at;
     it->windows[WINDOW(MEMORY)].readable = stack->core.live;
     it->windows[WINDOW(MEMORY)].writable = stack->core.live;
     it->windows[WINDOW(BYTES)] = none;
@@ -87,7 +87,7 @@ size_t bsdudp_memory(const struct bsdudp_config *config)
 static void make_arena(struct bsdudp *fresh, u8 *memory, size_t len)
 {
     const size_t most = 0x3ffffff0;
-    fresh->core.at = memory;
+    fresh->core.at = (uintptr_t)memory;
     fresh->core.live = (u32)((len < most ? len : most) / 16 * 16);
     memset(memory, 0, HANDLE);
     put_u64(memory + ARENA_NEXT, MEMORY + ARENA_HEAD);
@@ -100,7 +100,7 @@ static int boot_at(struct bsdudp *stack, const struct bsdudp_config *config, u8 
     u8 head[ARENA_HEAD];
     struct bsdudp fresh = *stack;
     int answer;
-    if (stack->core.at == NULL)
+    if (stack->core.at == 0)
         make_arena(&fresh, len < ARENA_HEAD ? head : memory, len < ARENA_HEAD ? ARENA_HEAD : len);
     {
         BEGIN(boot, &fresh);
@@ -129,7 +129,7 @@ int bsdudp_boot(struct bsdudp *stack, const struct bsdudp_config *config)
 {
     void *block;
     int answer;
-    if (stack->core.at != NULL)
+    if (stack->core.at != 0)
         return -BSDUDP_ENXIO;
     if (config->mbufs < 1 || config->mbufs > 65535 || config->clusters > 4096)
         return -BSDUDP_EDOM;
