@@ -15,7 +15,6 @@ measure_portable() { # WORK
     "$top/capi/build" "$work/capi"
     "$top/portable/small" "$work/for_size"
     "$top/portable/build" "$work/portable"
-    "$top/portable/build" --speed "$work/speed"
     build_portable() { # NAME FILE|FLAG..
         local to="$work/$1"
         shift
@@ -23,12 +22,10 @@ measure_portable() { # WORK
     }
     build_portable native -O3 "$work/capi/libbsdudp.a"
     build_portable small -O3 "$work/for_size/libbsdudp_small.a"
-    for name in speed portable; do
-        build_portable "$name-tested" -O3 "$work/$name/bsdudp_portable.c"
-        build_portable "$name-untested" -O3 -DBSDUDP_TESTS=0 "$work/$name/bsdudp_portable.c"
-    done
+    build_portable tested -O3 "$work/portable/bsdudp_portable.c"
+    build_portable untested -O3 -DBSDUDP_TESTS=0 "$work/portable/bsdudp_portable.c"
     printf '%-40s %12s %12s %12s\n' instructions '2 bytes' '1472 bytes' '9000 bytes'
-    for name in native small {speed,portable}-{,un}tested; do
+    for name in native small tested untested; do
         printf '%-40s' "$name"
         for length in 2 1472 9000; do printf ' %12d' "$(datagram "$work/$name" "$length")"; done
         echo

@@ -9,10 +9,14 @@
 #define UART_DIVIDER REGISTER(0x40004010)
 #define CLOCK_CONTROL REGISTER(0xe000e010)
 #define CLOCK_RELOAD REGISTER(0xe000e014)
+#define CLOCK_NOW REGISTER(0xe000e018)
 enum { UART_FULL = 1, UART_CAME = 2, UART_ON = 3, CLOCK_ON = 5, CLOCK_PASSED = 1 << 16, HALF_A_SECOND = 12500000 };
+enum { LONGEST = 0xffffff };
 
-/* From the linker: where variables begin and end, and the end of the memory. */
-extern uint32_t variables_start, variables_end, memory_end;
+/* From the linker: where variables with values begin and end, and where their values are; where the others begin and
+   end; and the end of the memory. */
+extern uint32_t values_start, values_end, variables_start, variables_end, memory_end;
+extern const uint32_t values;
 enum { PAINT = 0x5aa5c33c };
 
 int main(void);
@@ -48,6 +52,9 @@ static void fault(void)
 void start(void)
 {
     uint32_t *at, *here = (uint32_t *)__builtin_frame_address(0) - 16;
+    const uint32_t *from = &values;
+    for (at = &values_start; at < &values_end; at++)
+        *at = *from++;
     for (at = &variables_start; at < &variables_end; at++)
         *at = 0;
     for (; at < here; at++)
@@ -84,3 +91,13 @@ void machine_put(uint8_t byte)
 }
 
 int machine_ticked(void) { return (CLOCK_CONTROL & CLOCK_PASSED) != 0; }
+
+void machine_watch(void)
+{
+    CLOCK_RELOAD = LONGEST;
+    CLOCK_NOW = 0; /* any value begins anew */
+    while (CLOCK_NOW == 0)
+        continue;
+}
+
+uint32_t machine_watched(void) { return LONGEST - CLOCK_NOW; }

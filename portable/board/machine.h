@@ -19,3 +19,9 @@ uint32_t machine_stack(void);
 
 /* Ends the program. */
 void machine_end(void);
+
+/* Begins to count the clock's ticks, of which half a second is no longer one then; and how many there were, up to 2 to
+   the 24. With QEMU's `-icount shift=0` an instruction takes 1 ns, and a tick 40 ns. */
+void machine_watch(void);
+uint32_t machine_watched(void);
+enum { MACHINE_INSTRUCTIONS = 40 };

@@ -4,8 +4,9 @@ ENTRY(start)
 SECTIONS
 {
     . = 0;
-    .text : { KEEP(*(.vectors)) *(.text*) *(.rodata*) *(.data*) *(.ARM.ex*) }
+    .text : { KEEP(*(.vectors)) *(.text*) *(.rodata*) *(.ARM.ex*) . = ALIGN(8); values = .; }
     . = 0x20000000;
+    .data : AT(values) { values_start = .; *(.data*) . = ALIGN(8); values_end = .; }
     .bss (NOLOAD) : { variables_start = .; *(.bss*) *(COMMON) . = ALIGN(8); variables_end = .; }
     memory_end = 0x20000000 + MEMORY_SIZE;
     ASSERT(variables_end + 8K < memory_end, "the variables leave too little for the stack")

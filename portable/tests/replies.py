@@ -1,7 +1,11 @@
 #!/usr/bin/env python3
-"""replies.py [--random N PROGRAM] DRIVER..: plays all scripts of examples/ by a driver of run.c, whose words these
-are, and compares its replies with those beside the scripts, byte for byte. Then it plays N random scripts by the driver
-and by the program `bsdudp`, and compares these. It says what is answered otherwise, and then exits with 1."""
+"""replies.py [--random N PROGRAM] DRIVER.. [+ DRIVER..]..: plays all scripts of examples/ by a driver of run.c, whose
+words these are, and compares its replies with those beside the scripts, byte for byte. Then it plays N random scripts
+by the driver and by the program `bsdudp`, and compares these. Several drivers, with a word + between them, play the
+same scripts. It says what is answered otherwise, and then exits with 1."""
+import concurrent.futures
+import itertools
+import os
 import pathlib
 import random
 import subprocess
@@ -81,42 +85,56 @@ def random_script(seed, lines):
     return options, "".join(f"{line}\n" for line in [*chosen, "stat", "mbstat"]).encode()
 
 
-def played(driver, scripts):
-    """The driver's replies to scripts, one after another."""
-    text = b"".join(" ".join(options).encode() + b"\n" + script + b"\0" for options, script in scripts)
+def heard(driver, scripts):
+    """The driver's replies to scripts, one after another, and what else it says."""
+    text = b"".join(" ".join(options).encode() + b"\n" + script + b"\0" for _, options, script in scripts)
     ran = subprocess.run(driver, input=text + b"\x04", capture_output=True, check=False)
-    replies = ran.stdout.split(b"\0")[:-1]
-    if ran.returncode or len(replies) != len(scripts):
-        said = (ran.stderr.decode(errors="replace").strip() or "nothing").splitlines()[0]
-        ended = f"{driver[0]} ended with {ran.returncode} after {len(replies)} of {len(scripts)} scripts"
-        sys.exit(f"replies.py: {ended}: {said}")
-    return replies
+    got, said = ran.stdout.split(b"\0")[:-1], ran.stderr.decode(errors="replace")
+    if ran.returncode or len(got) != len(scripts):
+        first = (said.strip() or "nothing").splitlines()[0]
+        ended = f"{driver[0]} ended with {ran.returncode} after {len(got)} of {len(scripts)} scripts"
+        sys.exit(f"replies.py: {ended}: {first}")
+    return got, said
 
 
-def differ(got, wanted):
-    """Which line is answered otherwise."""
-    pairs = zip(got.splitlines() + [b""], wanted.splitlines() + [b""])
-    return next(at for at, (one, other) in enumerate(pairs, 1) if one != other or not one)
+def chosen(count, program):
+    """All scripts of examples/, and so many random ones, each with its name and options; and the replies to them."""
+    told = list(examples())
+    scripts = [(f"examples/{name}", options, script) for name, options, script, _ in told]
+    lines = [line for _, _, script, _ in told for line in script.decode().split("\n") if line and len(line) < LONGEST]
+    mixed_up = [(f"random script {seed}", *random_script(seed, lines)) for seed in range(FIRST, FIRST + count)]
+
+    def answered(script):
+        return subprocess.run([program, "run", *script[1]], input=script[2], capture_output=True, check=True).stdout
+
+    with concurrent.futures.ThreadPoolExecutor(os.cpu_count()) as pool:
+        wanted = [replies for *_, replies in told] + list(pool.map(answered, mixed_up))
+    return scripts + mixed_up, wanted
+
+
+def differences(scripts, got, wanted):
+    """Which line of which script is answered otherwise."""
+
+    def line_of(one, other):
+        pairs = zip(one.splitlines() + [b""], other.splitlines() + [b""])
+        return next(at for at, (here, there) in enumerate(pairs, 1) if here != there or not here)
+
+    told = zip(scripts, got, wanted)
+    return [f"{name}: line {line_of(it, want)} is answered otherwise" for (name, *_), it, want in told if it != want]
 
 
 def main(words):
     count, program = 0, None
     if words[:1] == ["--random"]:
         count, program, words = int(words[1]), words[2], words[3:]
-    told = list(examples())
-    scripts = [(f"examples/{name}", options, script) for name, options, script, _ in told]
-    wanted = [replies for *_, replies in told]
-    lines = [line for _, _, script, _ in told for line in script.decode().split("\n") if line and len(line) < LONGEST]
-    for seed in range(FIRST, FIRST + count):
-        options, script = random_script(seed, lines)
-        scripts.append((f"random script {seed}", options, script))
-        wanted.append(subprocess.run([program, "run", *options], input=script, capture_output=True, check=True).stdout)
-    faults = 0
-    for (name, *_), got, want in zip(scripts, played(words, [it[1:] for it in scripts]), wanted):
-        if got != want:
-            print(f"{name}: line {differ(got, want)} is answered otherwise", file=sys.stderr)
-            faults += 1
-    return min(faults, 1)
+    drivers = [list(it) for same, it in itertools.groupby(words, lambda word: word != "+") if same]
+    scripts, wanted = chosen(count, program)
+    with concurrent.futures.ThreadPoolExecutor(len(drivers)) as pool:
+        played = list(pool.map(lambda driver: heard(driver, scripts)[0], drivers))
+    faults = [(driver, fault) for driver, got in zip(drivers, played) for fault in differences(scripts, got, wanted)]
+    for driver, fault in faults:
+        print(f"{' '.join(driver)}: {fault}" if len(drivers) > 1 else fault, file=sys.stderr)
+    return min(len(faults), 1)
 
 
 if __name__ == "__main__":

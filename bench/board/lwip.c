@@ -1,0 +1,83 @@
+/* lwIP's echo by its own interface: a callback sends what came, as its own echo does. With COPIES the bytes are copied
+   out of the packet and into another, as sockets copy them. A packet from the link is copied in, and one for it out, as
+   ours are. */
+#include "lwip/init.h"
+#include "lwip/netif.h"
+#include "lwip/udp.h"
+
+#include "echo.h"
+
+static struct netif interface;
+static uint8_t packet[MTU];
+
+u32_t sys_now(void)
+{
+    return 0;
+}
+
+static err_t put_out(struct netif *netif, struct pbuf *bytes, const ip4_addr_t *to)
+{
+    (void)netif;
+    (void)to;
+    pbuf_copy_partial(bytes, packet, bytes->tot_len, 0);
+    gone++;
+    return ERR_OK;
+}
+
+static err_t link_of(struct netif *netif)
+{
+    netif->mtu = MTU;
+    netif->output = put_out;
+    netif->flags = NETIF_FLAG_BROADCAST | NETIF_FLAG_LINK_UP;
+    return ERR_OK;
+}
+
+static void echo(void *of, struct udp_pcb *pcb, struct pbuf *bytes, const ip_addr_t *from, u16_t port)
+{
+#ifdef COPIES
+    static uint8_t room[LONGEST];
+    u16_t len = pbuf_copy_partial(bytes, room, sizeof room, 0);
+    struct pbuf *answer = pbuf_alloc(PBUF_TRANSPORT, len, PBUF_RAM);
+    if (answer != NULL) {
+        pbuf_take(answer, room, len);
+        udp_sendto(pcb, answer, from, port);
+        pbuf_free(answer);
+    }
+#else
+    udp_sendto(pcb, bytes, from, port);
+#endif
+    (void)of;
+    pbuf_free(bytes);
+}
+
+static void turn(void)
+{
+    uint32_t i;
+    for (i = 0; i < packet_count; i++) {
+        struct pbuf *bytes = pbuf_alloc(PBUF_RAW, (u16_t)lengths[i], PBUF_POOL);
+        if (bytes == NULL)
+            continue;
+        pbuf_take(bytes, packets[i], (u16_t)lengths[i]);
+        if (interface.input(bytes, &interface) != ERR_OK)
+            pbuf_free(bytes);
+    }
+    netif_poll(&interface);
+}
+
+int main(void)
+{
+    ip4_addr_t addr, mask, gateway;
+    struct udp_pcb *pcb;
+    IP4_ADDR(&addr, 10, 0, 0, 1);
+    IP4_ADDR(&mask, 255, 255, 255, 0);
+    IP4_ADDR(&gateway, 10, 0, 0, 2);
+    lwip_init();
+    netif_add(&interface, &addr, &mask, &gateway, NULL, link_of, ip_input);
+    netif_set_default(&interface);
+    netif_set_up(&interface);
+    pcb = udp_new();
+    udp_bind(pcb, IP_ADDR_ANY, 7);
+    udp_recv(pcb, echo, NULL);
+    measure_all();
+    return 0;
+}

@@ -1,0 +1,46 @@
+/* lwIP as bench/board builds it: IPv4, UDP, fragments, loopback, shared ports and counters without an operating system,
+   as ours has them, and nothing else. Pools are for as much as 16 packets, as ours. */
+#ifndef BSDUDP_BOARD_LWIPOPTS_H
+#define BSDUDP_BOARD_LWIPOPTS_H
+
+#define NO_SYS 1
+#define SYS_LIGHTWEIGHT_PROT 0
+#define LWIP_NOASSERT 1
+
+/* What our stack doesn't have. */
+#define LWIP_IPV6 0
+#define LWIP_TCP 0
+#define LWIP_ICMP 0
+#define LWIP_RAW 0
+#define LWIP_ARP 0
+#define LWIP_ETHERNET 0
+#define LWIP_NETCONN 0
+#define LWIP_SOCKET 0
+#define LWIP_NETIF_API 0
+#define IP_FORWARD 0
+
+/* What it has. */
+#define IP_REASSEMBLY 1
+#define IP_FRAG 1
+#define LWIP_NETIF_LOOPBACK 1
+#define LWIP_HAVE_LOOPIF 1
+#define SO_REUSE 1
+#define SO_REUSE_RXTOALL 1
+#define IP_SOF_BROADCAST 1
+#define IP_SOF_BROADCAST_RECV 1
+#define LWIP_STATS 1
+#define LWIP_STATS_DISPLAY 0
+
+/* One interface, and memory of fixed sizes. A pool buffer takes a packet. */
+#define LWIP_SINGLE_NETIF 0
+#define MEM_ALIGNMENT 4
+#define MEM_SIZE 16384
+#define PBUF_POOL_SIZE 16
+#define PBUF_POOL_BUFSIZE 1520
+#define MEMP_NUM_PBUF 16
+#define MEMP_NUM_FRAG_PBUF 16
+#define MEMP_NUM_UDP_PCB 4
+#define MEMP_NUM_REASSDATA 4
+#define IP_REASS_MAX_PBUFS 10
+
+#endif

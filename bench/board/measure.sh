@@ -1,0 +1,158 @@
+# Echoes on a Cortex-M3, QEMU's mps2-an385: our library in each build, and lwIP; and, unless BRIEF is set, the library's
+# bytes on each processor and by crate, and the call stack of each call. The tables are those of docs/portable.md. QEMU
+# counts instructions (-icount), so its figures are the same on each machine. LWIP names a folder with lwIP's sources;
+# CORE a folder with libraries of portable/core, as CORE/cortex-m3-Os; PORTABLE one with bsdudp_portable.c.
+. "$bench/peers/measure.sh"
+
+board=$bench/../portable/board
+of_board=(-mcpu=cortex-m3 -mthumb -Os -ffreestanding -ffunction-sections -fdata-sections)
+
+# Compiles a file for the board.
+board_object() { # FILE OBJECT FLAG..
+    local file=$1 object=$2
+    shift 2
+    arm-none-eabi-gcc "${of_board[@]}" "-I$board" "-I$bench/board" "$@" -c "$file" -o "$object"
+}
+
+# Links a program with what every one takes.
+board_program() { # WORK PROGRAM OBJECT..
+    local work=$1 program=$2
+    shift 2
+    arm-none-eabi-gcc -mcpu=cortex-m3 -mthumb -nostartfiles "-T$board/machine.ld" -Wl,--gc-sections,-z,noexecstack \
+        --specs=nano.specs --specs=nosys.specs -Wl,--defsym=MEMORY_SIZE=262144 "$@" "$work/machine.o" -o "$program"
+}
+
+# What a program says on the board: instructions of 2, 1,472 and 4,000 bytes, and the call stack.
+on_board() { # PROGRAM
+    timeout 300 qemu-system-arm -M mps2-an385 -display none -monitor none -serial null -icount shift=0 \
+        -semihosting-config enable=on,target=native -kernel "$1" 2>&1
+}
+
+# text, data and bss of a program, or of all objects of a library.
+bytes_of() { # FILE
+    arm-none-eabi-size -t "$1" | awk 'END {print $1, $2, $3}'
+}
+
+# A row of a table, its numbers with commas.
+table_row() { # CELL..
+    local cell row='|'
+    for cell in "$@"; do
+        [[ $cell != *[!0-9]* ]] && cell=$(sed ':a;s/\B[0-9]\{3\}\>/,&/;ta' <<< "$cell")
+        row+=" $cell |"
+    done
+    echo "$row"
+}
+
+# What a library has with every call (or -), what its echo takes beside a program that measures nothing, and its costs.
+board_row() { # WORK NAME LIBRARY PROGRAM
+    local work=$1 name=$2 library=$3 program=$4 text data bss text0 data0 bss0 said
+    read -r text data bss < <(bytes_of "$program")
+    read -r text0 data0 bss0 < <(bytes_of "$work/nothing.elf")
+    read -ra said < <(on_board "$program")
+    table_row "$name" "$library" $((text - text0)) $((data - data0)) $((bss - bss0)) "${said[3]:-0}" "${said[@]:0:3}"
+}
+
+# Our echo over a library or an object.
+board_ours() { # WORK NAME HEADERS LIBRARY
+    local work=$1 name=$2
+    board_object "$bench/board/bench.c" "$work/bench.o" "-I$3" -Wall -Wextra
+    board_program "$work" "$work/bench.elf" "$work/bench.o" "$4"
+    board_row "$work" "$name" "$(bytes_of "$4" | cut -d' ' -f1)" "$work/bench.elf"
+}
+
+# lwIP's two echoes.
+board_lwip() { # WORK
+    local work=$1 core=$LWIP/src/core file objects=() how=("-I$LWIP/src/include") name
+    for file in def inet_chksum init ip mem memp netif pbuf stats timeouts udp ipv4/{ip4,ip4_addr,ip4_frag}; do
+        objects+=("$work/lwip_$(basename "$file").o")
+        board_object "$core/$file.c" "${objects[-1]}" "${how[@]}"
+    done
+    for name in "" COPIES; do
+        board_object "$bench/board/lwip.c" "$work/lwip.o" "${how[@]}" ${name:+-D$name}
+        board_program "$work" "$work/lwip.elf" "$work/lwip.o" "${objects[@]}"
+        board_row "$work" "lwIP 2.1.3, \`-Os\`${name:+, with two copies more}" - "$work/lwip.elf"
+    done
+}
+
+# The library of portable/core for a processor, which is made if it isn't there.
+core_of() { # WORK PROCESSOR LEVEL
+    local made=${CORE:-$1}/$2$3
+    [ -e "$made/libbsdudp.a" ] || "$bench/../portable/core" "$3" "$2" "$made" >&2
+    echo "$made"
+}
+
+board_echoes() { # WORK
+    local work=$1 level made
+    table_row Cortex-M3 'library' 'echo: text' data bss 'call stack' '2 bytes' '1,472' '4,000'
+    echo '|---|---:|---:|---:|---:|---:|---:|---:|---:|'
+    for level in -Oz -Os -O2; do
+        made=$(core_of "$work" cortex-m3 $level)
+        board_ours "$work" "\`portable/core $level\`" "$made" "$made/libbsdudp.a"
+    done
+    made=${PORTABLE:-$work}
+    if ! [ -e "$made/bsdudp_portable.c" ] && [ -z "${BRIEF:-}" ] && command -v wasm2c > /dev/null; then
+        "$bench/../portable/build" "$made"
+    fi
+    if [ -e "$made/bsdudp_portable.c" ]; then
+        board_object "$made/bsdudp_portable.c" "$work/portable.o" "-I$bench/../capi/include" -std=c99 -DBSDUDP_MALLOC=0
+        board_ours "$work" "the portable C, \`-Os\`" "$bench/../capi/include" "$work/portable.o"
+    fi
+    if lwip_sources "$work"; then
+        board_lwip "$work"
+    else
+        echo "lwIP's sources can't be had by apt-get: its rows are left out"
+    fi
+}
+
+# The bytes of code and constants of the library, with every call in.
+board_processors() { # WORK
+    local work=$1 processor
+    echo
+    table_row Processor -Os
+    echo '|---|---:|'
+    for processor in $("$bench/../portable/core" targets | awk '{print $1}'); do
+        table_row "\`$processor\`" "$(bytes_of "$(core_of "$work" "$processor" -Os)/libbsdudp.a" | cut -d' ' -f1)"
+    done
+}
+
+# Where the bytes are, by crate: each function's, with what is inlined into it; what is left are constants.
+board_crates() { # WORK
+    local name size made all
+    echo
+    table_row Crate -Os
+    echo '|---|---:|'
+    made=$(core_of "$1" cortex-m3 -Os)/libbsdudp.a
+    all=$(bytes_of "$made" | cut -d' ' -f1)
+    arm-none-eabi-nm -S -t d --defined-only "$made" | awk -v left="$all" 'NF == 4 && $3 ~ /[tT]/ {
+        crate = $4 ~ /::/ ? substr($4, 1, index($4, "::") - 1) : $4 ~ /^bsdudp_core_/ ? "libbsdudp, the exports" : \
+            $4 ~ /plain|bsdmove/ ? "portable/c/plain.c" : "capi/src"
+        bytes[crate] += $2
+        left -= $2
+    } END {for (it in bytes) print bytes[it], it; print left, "constants"}' | sort -rn | while read -r size name; do
+        table_row "$name" "$size"
+    done
+}
+
+# The call stack of each call.
+board_stacks() { # WORK
+    local work=$1
+    "$board/build" "$(core_of "$work" cortex-m3 -Os)" "$work/board"
+    echo
+    "$board/stacks" "$work/board/painted.elf" timeout 900 qemu-system-arm -M mps2-an385 -display none \
+        -monitor none -serial stdio -semihosting-config enable=on,target=native -kernel
+}
+
+measure_board() { # WORK
+    local work=$1 tool
+    for tool in arm-none-eabi-gcc qemu-system-arm; do
+        command -v $tool > /dev/null || { echo "skipped: no $tool"; return 0; }
+    done
+    board_object "$board/machine.c" "$work/machine.o"
+    board_object "$bench/board/nothing.c" "$work/nothing.o"
+    board_program "$work" "$work/nothing.elf" "$work/nothing.o"
+    board_echoes "$work"
+    [ -z "${BRIEF:-}" ] || return 0
+    board_processors "$work"
+    board_crates "$work"
+    board_stacks "$work"
+}

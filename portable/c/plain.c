@@ -1,0 +1,60 @@
+/* What stands in for three functions of the core, and for memmove, where a processor has no vectors and registers of 32
+   bits: it answers the same by plain loops, in fewer instructions. Lengths are below 2 ^ 32 there. */
+#include <stddef.h>
+#include <stdint.h>
+#include <string.h>
+
+void *bsdmove(void *to, const void *from, size_t len);
+uint64_t bsdudp_plain_sum(const uint8_t *bytes, uint64_t len);
+uint16_t bsdudp_plain_fold(uint64_t sum);
+uint64_t bsdudp_plain_before(const uint16_t *ports, uint64_t len, uint64_t at, uint16_t port);
+
+/* memmove, which calls memcpy where it may: most C libraries for boards have a fast one of the latter alone. */
+void *bsdmove(void *to, const void *from, size_t len)
+{
+    const uintptr_t above = (uintptr_t)to - (uintptr_t)from, below = (uintptr_t)from - (uintptr_t)to;
+    return above >= len && below >= len ? memcpy(to, from, len) : memmove(to, from, len);
+}
+
+typedef uint32_t __attribute__((may_alias)) word;
+
+static uint32_t word_at(const uint8_t *at)
+{
+    return *(const word *)(const void *)at;
+}
+
+/* The sum of the words of 16 bits as they lie in memory, an odd last byte being the low half of one: of each 32 bits
+   the high half counts 65,536 times, which a fold makes 1. */
+uint64_t bsdudp_plain_sum(const uint8_t *bytes, uint64_t len)
+{
+    uint32_t n = (uint32_t)len;
+    uint64_t sum = 0;
+    if ((uintptr_t)bytes % 4 == 0) {
+        for (; n >= 16; n -= 16, bytes += 16)
+            sum += (uint64_t)word_at(bytes) + word_at(bytes + 4) + word_at(bytes + 8) + word_at(bytes + 12);
+        for (; n >= 4; n -= 4, bytes += 4)
+            sum += word_at(bytes);
+    }
+    for (; n >= 2; n -= 2, bytes += 2)
+        sum += (uint32_t)bytes[0] | (uint32_t)bytes[1] << 8;
+    return n == 0 ? sum : sum + bytes[0];
+}
+
+/* A sum folded to 16 bits: 0 of 0 alone. */
+uint16_t bsdudp_plain_fold(uint64_t sum)
+{
+    uint32_t low = (uint32_t)sum, high = (uint32_t)(sum >> 32);
+    low = (low & 65535) + (low >> 16) + (high & 65535) + (high >> 16);
+    low = (low & 65535) + (low >> 16);
+    return (uint16_t)((low & 65535) + (low >> 16));
+}
+
+/* How many of the sixteen ports from a place on come before the first that is this one: 16 if none is. */
+uint64_t bsdudp_plain_before(const uint16_t *ports, uint64_t len, uint64_t at, uint16_t port)
+{
+    uint32_t k;
+    (void)len;
+    for (k = 0; k < 16 && ports[(uint32_t)at + k] != port; k++)
+        continue;
+    return k;
+}
