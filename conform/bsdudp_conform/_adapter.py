@@ -1,0 +1,192 @@
+"""A stack's adapter, as the judge runs it: a program that reads cases and says what came of them. One that answers
+nonsense, dies, hangs or floods costs the case that it was in, and is begun anew for the next."""
+from __future__ import annotations
+
+import os
+import selectors
+import signal
+import subprocess
+import time
+from typing import FrozenSet, List, Optional, Sequence
+
+from ._addresses import address
+from ._case import ABILITIES, Answer, Case, Event, Got, Out, Refused, Wait
+
+TIMEOUT_S = 30.0
+MOST_BYTES = 64 << 20
+READ = 1 << 16
+# So many cases may bring a fault one after the other before the others aren't asked any more.
+MOST_FAULTS = 20
+NOT_ASKED = f"it isn't asked any more, after a fault in {MOST_FAULTS} cases one after the other"
+
+
+class Fault(Exception):
+    """What is wrong with an adapter, as one line."""
+
+
+class Adapter:
+    """A running adapter."""
+
+    def __init__(self, command: Sequence[str], timeout: float = TIMEOUT_S) -> None:
+        self.command, self.timeout = list(command), timeout
+        self.name, self.abilities = "", frozenset()  # type: str, FrozenSet[str]
+        self.running: Optional["subprocess.Popen[bytes]"] = None
+        self.faults = 0
+
+    def __enter__(self) -> "Adapter":
+        self.start()
+        return self
+
+    def __exit__(self, *_: object) -> None:
+        self.stop()
+
+    def start(self) -> None:
+        """Begins the program, and asks what it is. Fault if it can't be begun or doesn't say."""
+        try:
+            self.running = subprocess.Popen(
+                self.command, stdin=subprocess.PIPE, stdout=subprocess.PIPE, start_new_session=True
+            )
+        except OSError as fault:
+            raise Fault(f"{self.command[0]} can't be run: {fault.strerror}") from None
+        for pipe in (self.running.stdin, self.running.stdout):
+            assert pipe is not None
+            os.set_blocking(pipe.fileno(), False)
+        for line in self.exchange(["hello 1"], self.timeout):
+            word, _, rest = line.partition(" ")
+            if word == "stack":
+                self.name = rest.strip()
+            elif word == "has":
+                self.abilities = frozenset(rest.split())
+            else:
+                raise Fault(
+                    f"it answers `hello 1` with {quoted(line)}, and not with `stack NAME`, `has WORD ..`, `end`"
+                )
+        unknown = self.abilities - set(ABILITIES)
+        if unknown:
+            raise Fault(f"it has {quoted(sorted(unknown)[0])}, but what there is to have is: {' '.join(ABILITIES)}")
+
+    def stop(self) -> None:
+        """Ends the program and what it began."""
+        if self.running is not None:
+            try:
+                os.killpg(self.running.pid, signal.SIGKILL)
+            except ProcessLookupError:
+                pass
+            self.running.wait()
+            for pipe in (self.running.stdin, self.running.stdout):
+                if pipe is not None:
+                    pipe.close()
+            self.running = None
+
+    def ask(self, case: Case) -> Answer:
+        """What came of a case."""
+        if self.faults >= MOST_FAULTS:
+            return Answer(fault=NOT_ASKED)
+        try:
+            if self.running is None:
+                self.start()
+            waits = sum(step.ms for step in case.steps if isinstance(step, Wait))
+            answer = read_answer(case, self.exchange(case.lines(), self.timeout + waits * 1.5 / 1000))
+        except Fault as fault:
+            self.stop()
+            self.faults += 1
+            return Answer(fault=str(fault))
+        self.faults = 0
+        return answer
+
+    def exchange(self, lines: List[str], seconds: float) -> List[str]:
+        """Writes lines, and reads up to the line `end`, which isn't among what is answered."""
+        running = self.running
+        assert running is not None and running.stdin is not None and running.stdout is not None
+        text, heard = memoryview("".join(f"{line}\n" for line in lines).encode()), bytearray()
+        until = time.monotonic() + seconds
+        with selectors.DefaultSelector() as ready:
+            ready.register(running.stdout, selectors.EVENT_READ)
+            ready.register(running.stdin, selectors.EVENT_WRITE)
+            while not (heard.endswith(b"end\n") and (len(heard) == 4 or heard[-5] == 10)):
+                left = until - time.monotonic()
+                if left <= 0:
+                    raise Fault(f"it hangs: no end of the answer in {seconds:.0f} s")
+                for key, _ in ready.select(left):
+                    if key.fileobj is running.stdin:
+                        text = self.write(text)
+                        if not text:
+                            ready.unregister(running.stdin)
+                    else:
+                        self.hear(heard)
+        return heard.decode("utf-8", "replace").splitlines()[:-1]
+
+    def write(self, text: memoryview) -> memoryview:
+        running = self.running
+        assert running is not None and running.stdin is not None
+        try:
+            return text[os.write(running.stdin.fileno(), text[:READ]) :]
+        except BlockingIOError:
+            return text
+        except BrokenPipeError:
+            raise Fault(self.ended()) from None
+
+    def hear(self, heard: bytearray) -> None:
+        running = self.running
+        assert running is not None and running.stdout is not None
+        more = os.read(running.stdout.fileno(), READ)
+        if not more:
+            raise Fault(self.ended())
+        heard += more
+        if len(heard) > MOST_BYTES:
+            raise Fault(f"it floods: more than {MOST_BYTES >> 20} MB for one case")
+
+    def ended(self) -> str:
+        """How the program ended."""
+        assert self.running is not None
+        try:
+            status = self.running.wait(2)
+        except subprocess.TimeoutExpired:
+            return "it closed its standard output or input"
+        if status < 0:
+            return f"it ended by signal {-status} ({signal.Signals(-status).name})"
+        return f"it ended with status {status}"
+
+
+def quoted(text: str) -> str:
+    """A text of an adapter, for a line of ours."""
+    return repr(text if len(text) <= 60 else f"{text[:60]}..")
+
+
+def read_answer(case: Case, lines: List[str]) -> Answer:
+    """The events of a case's lines. Fault if one isn't a line of an adapter."""
+    if lines[:1] != [f"case {case.name}"]:
+        raise Fault(f"it answers `case {case.name}` with {quoted(lines[0]) if lines else 'nothing'}")
+    events: List[Event] = []
+    notes: List[str] = []
+    crash: Optional[str] = None
+    for line in lines[1:]:
+        word, _, rest = line.partition(" ")
+        if word == "note":
+            notes.append(rest)
+        elif word == "crash":
+            crash = crash or f"the stack crashes: {rest.strip()}"
+        else:
+            try:
+                events.append(read_event(case, word, rest.split()))
+            except (ValueError, IndexError):
+                raise Fault(f"it says {quoted(line)}, which isn't a line of an adapter") from None
+    return Answer(tuple(events), tuple(notes), crash)
+
+
+def read_event(case: Case, word: str, words: List[str]) -> Event:
+    step = int(words[0])
+    if not 0 <= step < len(case.steps):
+        raise ValueError
+    if word == "got" and len(words) in (4, 5):
+        source = None if words[1] == "*" else address(words[1])
+        return Got(step, source, int(words[2]), bytes_of(words[3]), int(words[4]) if len(words) == 5 else 0)
+    if word == "out" and len(words) == 2:
+        return Out(step, bytes_of(words[1]))
+    if word == "refused":
+        return Refused(step)
+    raise ValueError
+
+
+def bytes_of(text: str) -> bytes:
+    return b"" if text == "-" else bytes.fromhex(text)

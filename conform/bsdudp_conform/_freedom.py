@@ -1,0 +1,245 @@
+"""The freedom that the RFCs leave to a stack, as settings of the reference machine.
+
+A setting's `keeps` are values that keep MUSTs and SHOULDs, `strays` those that keep the MUSTs alone, and `breaks` those
+that break a MUST: they're never permitted, and stand here so that a known stack's answers can be explained. `finer` are
+further permitted values that only matter for that."""
+from __future__ import annotations
+
+from dataclasses import dataclass, field
+from typing import Callable, Dict, List, Mapping, Tuple, Union
+
+Value = Union[str, int, Tuple[str, int]]
+Values = Tuple[Value, ...]
+
+
+@dataclass(frozen=True)
+class Setting:
+    """One choice: what it's about, its values, and each value in words."""
+
+    title: str
+    keeps: Values
+    strays: Values = ()
+    breaks: Values = ()
+    finer: Values = ()
+    words: Mapping[Value, str] = field(default_factory=dict)
+
+    @property
+    def default(self) -> Value:
+        return self.keeps[0]
+
+    @property
+    def permitted(self) -> Values:
+        return self.keeps + self.strays
+
+    @property
+    def all(self) -> Values:
+        return self.keeps + self.strays + self.breaks + self.finer
+
+    def told(self, value: Value) -> str:
+        """A value in words."""
+        return self.words.get(value, str(value))
+
+
+TAKE_DROP: Dict[Value, str] = {"take": "taken", "drop": "dropped"}
+BOUNDS = (3, 5, 15, 63, 255, 1023, 3999)
+KEPT: Dict[Value, str] = {("all", 0): "all are kept"}
+KEPT.update({("refuse", n): f"up to {n}; then newcomers are refused" for n in BOUNDS})
+KEPT.update({("oldest", n): f"up to {n}; then the oldest is dropped" for n in BOUNDS})
+KEPT.update({("flush", n): f"up to {n}; then all are dropped" for n in BOUNDS})
+
+SETTINGS: Dict[str, Setting] = {
+    "overlap": Setting(
+        "overlaps",
+        ("bsd", "last", "first", "drop new", "drop all but repeats"),
+        ("drop all",),
+        words={
+            "bsd": "the piece that begins first keeps its bytes, as 4.4BSD",
+            "last": "the bytes that came last, as RFC 791's example",
+            "first": "the bytes that came first",
+            "drop new": "the newcomer is dropped, as lwIP",
+            "drop all but repeats": "the datagram is dropped, but for a repeated piece, as Linux",
+            "drop all": "the datagram is dropped",
+        },
+    ),
+    "odd": Setting(
+        "fragments with more to come and no multiple of 8",
+        ("refuse", "round down", "take"),
+        words={
+            "refuse": "refused, as 4.4BSD",
+            "round down": "cut to a multiple of 8, as Linux",
+            "take": "taken as they are",
+        },
+    ),
+    "empty": Setting(
+        "fragments without data",
+        ("refuse", "take", "drop all", "hold the place"),
+        words={
+            "refuse": "refused",
+            "take": "kept among the others",
+            "drop all": "their datagram is dropped, as Linux",
+            "hold the place": "kept as if they overlapped, as lwIP",
+        },
+    ),
+    "ends": Setting(
+        "last fragments that disagree",
+        ("highest", "latest", "drop all"),
+        words={
+            "highest": "the piece with the highest offset decides, as 4.4BSD",
+            "latest": "the last fragment that came",
+            "drop all": "the datagram is dropped, as Linux",
+        },
+    ),
+    "whole": Setting(
+        "a whole datagram with the identification of an unfinished one",
+        ("leave", "flush"),
+        words={"leave": "the unfinished one stays", "flush": "the unfinished one is dropped"},
+    ),
+    "expire": Setting(
+        "unfinished datagrams are kept",
+        (60, 119),
+        (5, 15, 30, 254),
+        words={n: f"some {n} s" for n in (5, 15, 30, 60, 119, 254)},
+    ),
+    "largest": Setting(
+        "the longest datagram",
+        (65515,),
+        (556,),
+        (41592,),
+        words={
+            65515: "as IPv4 allows",
+            556: "576 bytes",
+            41592: "41,584 bytes of data, as 4.4BSD's socket buffer holds",
+        },
+    ),
+    "kept": Setting(
+        "unfinished datagrams at once",
+        (("all", 0),),
+        (("refuse", 3), ("oldest", 3), ("flush", 3)),
+        finer=tuple(key for key in KEPT if isinstance(key, tuple) and key[1] > 3),
+        words=KEPT,
+    ),
+    "no checksum": Setting("UDP without a checksum", ("take",), ("drop",), words=TAKE_DROP),
+    "surplus": Setting(
+        "bytes after the UDP length", ("trim",), ("drop",), words={"trim": "cut off", "drop": "the datagram is dropped"}
+    ),
+    "reserved": Setting("the reserved flag", ("take", "drop"), words=TAKE_DROP),
+    "bad options": Setting("malformed options", ("take", "drop"), words=TAKE_DROP),
+    "own source": Setting("its own address as source", ("take", "drop"), words=TAKE_DROP),
+    "other source": Setting("class E and the network's own address as source", ("take", "drop"), words=TAKE_DROP),
+    "zero broadcast": Setting(
+        "the old broadcast forms, with 0",
+        ("drop", "take", "take 10.0.0.0"),
+        words={**TAKE_DROP, "take 10.0.0.0": "0.0.0.0 dropped, the network's own address taken"},
+    ),
+    "loop destination": Setting(
+        "127/8 as destination, from the wire",
+        ("drop",),
+        ("take", "take 127.0.0.1"),
+        words={**TAKE_DROP, "take 127.0.0.1": "127.0.0.1 taken"},
+    ),
+    "ecn": Setting(
+        "ECN marks that differ among fragments",
+        ("take", "drop CE", "drop mixed"),
+        words={
+            "take": "not looked at",
+            "drop CE": "CE with Not-ECT is dropped",
+            "drop mixed": "Not-ECT with others is dropped",
+        },
+    ),
+    "several": Setting(
+        "a datagram that several sockets could take",
+        ("best, youngest", "best, oldest", "best, all", "all"),
+        words={
+            "best, youngest": "the socket that names most, and of several the one opened last",
+            "best, oldest": "the socket that names most, and of several the one opened first",
+            "best, all": "each of the sockets that name most",
+            "all": "each of them",
+        },
+    ),
+    "several, broadcast": Setting(
+        "a broadcast that several sockets could take",
+        ("all", "best, youngest", "best, oldest", "best, all"),
+        words={
+            "all": "each of them",
+            "best, youngest": "the one opened last",
+            "best, oldest": "the one opened first",
+            "best, all": "each that names most",
+        },
+    ),
+    "connected broadcast": Setting("a peer's broadcast, at a connected socket", ("drop", "take"), words=TAKE_DROP),
+    "options": Setting("options that are well formed", ("take",), (), ("drop",), words=TAKE_DROP),
+    "bad source": Setting("sources of broadcast, multicast, 127/8 and 0/8", ("drop",), (), ("take",), words=TAKE_DROP),
+    "bad source and loop": Setting(
+        "source and destination in 127/8, from the wire", ("drop",), (), ("take",), words=TAKE_DROP
+    ),
+}
+
+Settings = Dict[str, Value]
+
+
+class Path:
+    """The values that one run of the machine takes: those given, else each setting's own default."""
+
+    def __init__(self, given: Mapping[str, Value]) -> None:
+        self.taken: Settings = dict(given)
+        self.asked: List[str] = []
+
+    def choose(self, name: str) -> Value:
+        """The value of a setting. The machine asks only where another value could change what it does."""
+        if name not in self.taken:
+            self.taken[name] = SETTINGS[name].default
+            self.asked.append(name)
+        return self.taken[name]
+
+
+# What 4.4BSD's rules are, as docs/behaviour.md has them, and what explains other stacks.
+BSD: Settings = {
+    "overlap": "bsd",
+    "odd": "refuse",
+    "empty": "refuse",
+    "ends": "highest",
+    "whole": "leave",
+    "expire": 30,
+    "largest": 41592,
+    "kept": ("flush", 255),
+    "no checksum": "take",
+    "surplus": "trim",
+    "reserved": "take",
+    "bad options": "drop",
+    "own source": "take",
+    "other source": "take",
+    "zero broadcast": "drop",
+    "loop destination": "take 127.0.0.1",
+    "ecn": "take",
+    "several": "best, youngest",
+    "several, broadcast": "all",
+    "connected broadcast": "drop",
+    "options": "drop",
+    "bad source": "take",
+    "bad source and loop": "take",
+}
+
+Play = Callable[[Path], object]
+# More runs than that aren't made of one case: its answers are then taken for many.
+MOST_RUNS = 600
+
+
+def runs(play: Play, strict: bool, given: Mapping[str, Value] = {}) -> "List[Tuple[Settings, object]]":
+    """All runs of a machine that differ in a setting that's asked for, until two answers differ or there are too many.
+    strict: only values that keep the SHOULDs too. The last answer differs from the first, or all are alike."""
+    found: List[Tuple[Settings, object]] = []
+    todo: List[Settings] = [dict(given)]
+    while todo:
+        fixed = todo.pop()
+        path = Path(fixed)
+        answer = play(path)
+        found.append((path.taken, answer))
+        if answer != found[0][1] or len(found) > MOST_RUNS:
+            break
+        for place, name in enumerate(path.asked):
+            before = {earlier: path.taken[earlier] for earlier in path.asked[:place]}
+            setting = SETTINGS[name]
+            for value in setting.keeps if strict else setting.permitted:
+                if value != setting.default:
+                    todo.append({**fixed, **before, name: value})
+    return found

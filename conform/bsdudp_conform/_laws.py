@@ -1,0 +1,238 @@
+"""The two laws of what reaches users, which hold in every case and read the packets alone.
+
+never     A datagram that reaches a socket is one that the packets carry: the data of one whole packet with right
+          lengths and checksums, or, byte for byte, of fragments of one key (source, destination, identification,
+          protocol 17) that leave no hole up to a last one, by any choice where they overlap. It's for the socket's
+          port, and of its peer if it's connected.
+always    A datagram of at most 576 bytes with a UDP checksum that came whole, or in fragments once each, without
+          overlap, within 2 seconds, with nothing else of its key, reaches the user. Above 576 bytes, and where more
+          than ten fragments or fragments of more than three datagrams came, it should."""
+from __future__ import annotations
+
+import itertools
+import struct
+from dataclasses import dataclass, field, replace
+from typing import Dict, FrozenSet, Iterator, List, NamedTuple, Optional, Sequence, Set, Tuple
+
+from ._addresses import HOST, OURS, ZERO_BROADCAST, is_host
+from ._case import Case, Connect, Got, Open, Receive, Wait, user_sockets
+from ._packets import with_checksum
+from ._read import UDP, Header, fold, read, read_udp, sum_with_pseudo_header
+
+LENGTH, PROTOCOL, END, GREATEST = (
+    "the UDP length",
+    "the protocol",
+    "the last fragment's end",
+    "the greatest length (65,535)",
+)
+TOTAL, HEADER_SUM, UDP_SUM = "the total length", "the header checksum", "the UDP checksum"
+STRANGER = "from another than its peer"
+CHECKS = (LENGTH, PROTOCOL, END, GREATEST, TOTAL, HEADER_SUM, UDP_SUM)
+NO_CHECK_OMITTED: FrozenSet[str] = frozenset()
+LONGEST_LIFE_MS, PROMPT_MS = 255_000, 2_000
+FEW_FRAGMENTS, FEW_DATAGRAMS = 10, 3
+
+
+class Arrival(NamedTuple):
+    """A packet of a case, with its step and time."""
+
+    step: int
+    ms: int
+    packet: bytes
+    header: Optional[Header]
+
+
+class Promise(NamedTuple):
+    """A datagram that has to come: since when, and how surely."""
+
+    step: int
+    level: str
+    source: int
+    port: int
+    data: bytes
+
+
+@dataclass
+class Seen:
+    """What came in a case: its packets, and its sockets at each step."""
+
+    case: Case
+    arrivals: List[Arrival] = field(default_factory=list)
+    ports: Dict[int, int] = field(default_factory=user_sockets)
+    peers: List[Tuple[int, int, Tuple[int, int]]] = field(default_factory=list)
+
+    def __post_init__(self) -> None:
+        now = 0
+        for number, step in enumerate(self.case.steps):
+            if isinstance(step, Wait):
+                now += step.ms
+            elif isinstance(step, Receive):
+                self.arrivals.append(Arrival(number, now, step.packet, step.header))
+            elif isinstance(step, Open):
+                self.ports[step.socket] = step.port
+            elif isinstance(step, Connect):
+                self.peers.append((number, step.socket, (step.address, step.port)))
+
+    def peer(self, socket: int, step: int) -> Optional[Tuple[int, int]]:
+        """Whom a socket is connected to at a step."""
+        found = [peer for since, who, peer in self.peers if who == socket and since <= step]
+        return found[-1] if found else None
+
+    def fault(self, got: Got) -> Optional[str]:
+        """The law `never`: what a datagram breaks; None where it may come. The fewest of a receiver's checks without
+        which it could come are named."""
+        peer = self.peer(got.socket, got.step)
+        if peer and got.source is not None and peer != (got.source, got.port):
+            return STRANGER
+        if self.carries(got, NO_CHECK_OMITTED):
+            return None
+        for count in (1, 2, 3):
+            for omitted in itertools.combinations(CHECKS, count):
+                if self.carries(got, frozenset(omitted)):
+                    return f"against {' and '.join(omitted)}"
+        return "bytes that nobody sent"
+
+    def carries(self, got: Got, omitted: FrozenSet[str]) -> bool:
+        """Whether the packets up to a step carry the datagram, if these checks are omitted."""
+        keys: Dict[Tuple[int, int, int, int], List[Arrival]] = {}
+        for it in self.believed(got, omitted):
+            header = it.header
+            assert header is not None
+            if header.whole:
+                is_udp = header.protocol == UDP or PROTOCOL in omitted
+                if is_udp and self.fits(header.data, header, got, omitted):
+                    return True
+            elif header.end <= 65515 or GREATEST in omitted:
+                key = (*header.key[:3], UDP) if PROTOCOL in omitted else header.key
+                keys.setdefault(key, []).append(it)
+        return any(key[3] == UDP and self.made_of(parts, got, omitted) for key, parts in keys.items())
+
+    def believed(self, got: Got, omitted: FrozenSet[str]) -> Iterator[Arrival]:
+        """The packets of the sender whose header holds, with these checks omitted."""
+        for it in self.arrivals:
+            if it.step > got.step:
+                return
+            if it.header is None and omitted & {TOTAL, HEADER_SUM}:
+                it = it._replace(header=read(mended(it.packet, omitted)))
+            if it.header is not None and got.source in (None, it.header.source):
+                yield it
+
+    def made_of(self, parts: List[Arrival], got: Got, omitted: FrozenSet[str]) -> bool:
+        """Whether fragments of one key make the datagram, by any choice where they overlap."""
+        last = max(it.ms for it in parts)
+        headers = [it.header for it in parts if it.header and last - it.ms < LONGEST_LIFE_MS]
+        length = 8 + len(got.data)
+        if not any(it.end >= length for it in headers):
+            return False
+        joined = in_sequence(headers)
+        if joined is not None:
+            return self.fits(joined, headers[0], got, omitted)
+        there: List[Set[int]] = [set() for _ in range(max(it.end for it in headers))]
+        for it in headers:
+            for place, byte in enumerate(it.data, it.offset):
+                there[place].add(byte)
+        ends = [it.end for it in headers if not it.more]
+        if END not in omitted and not any(end >= length and all(there[:end]) for end in ends):
+            return False
+        if not all(byte in there[place] for place, byte in enumerate(got.data, 8)):
+            return False
+        return any(self.fits(head + got.data, headers[0], got, omitted, True) for head in heads(there))
+
+    def fits(self, data: bytes, header: Header, got: Got, omitted: FrozenSet[str], exact: bool = False) -> bool:
+        """Whether this UDP datagram, as IP carries it, is the one that came."""
+        if len(data) < 8:
+            return False
+        source_port, port, length, check = struct.unpack(">HHHH", data[:8])
+        if port != self.ports.get(got.socket) or got.source is not None and source_port != got.port:
+            return False
+        end = len(data) if LENGTH in omitted else length
+        if not 8 <= end <= len(data) or data[8:end] != got.data or exact and end != len(data):
+            return False
+        if check == 0 or UDP_SUM in omitted:
+            return True
+        lengths = {end, length} if LENGTH in omitted else {end}
+        return any(
+            sum_with_pseudo_header(data[:end], header.source, header.destination, it) == 0xFFFF for it in lengths
+        )
+
+    def promises(self) -> List[Promise]:
+        """The law `always`: what has to come to the only socket of a case."""
+        if self.peers or len(self.ports) > 1:
+            return []
+        found = []
+        keys: Dict[Tuple[int, int, int, int], List[Arrival]] = {}
+        for it in self.arrivals:
+            if it.header is not None:
+                keys.setdefault(it.header.key, []).append(it)
+        cut = [it.header.key for it in self.arrivals if it.header is not None and not it.header.whole]
+        few = len(cut) <= FEW_FRAGMENTS and len(set(cut)) <= FEW_DATAGRAMS
+        for (source, destination, _, protocol), parts in keys.items():
+            if protocol != UDP or destination not in OURS or not is_host(source) or source in (HOST, ZERO_BROADCAST):
+                continue
+            found += whole_promises(parts) + fragment_promises(parts, few)
+        return sorted(found)
+
+
+def mended(packet: bytes, omitted: FrozenSet[str]) -> bytes:
+    """A packet as one reads it who doesn't look at its total length, or its header checksum."""
+    if len(packet) < 20 or packet[0] != 0x45:
+        return packet
+    if HEADER_SUM not in omitted and fold(packet[:20]) != 0xFFFF:
+        return packet
+    if TOTAL in omitted:
+        packet = packet[:2] + struct.pack(">H", len(packet)) + packet[4:]
+    return with_checksum(packet)
+
+
+def in_sequence(headers: Sequence[Header]) -> Optional[bytes]:
+    """The data of fragments that follow one another once each, without a hole, up to a last one."""
+    data, ordered = b"", sorted(headers, key=lambda it: it.offset)
+    for it in ordered:
+        if it.offset != len(data) or not it.data or it.more == (it is ordered[-1]):
+            return None
+        data += it.data
+    return data
+
+
+def heads(there: List[Set[int]]) -> Iterator[bytes]:
+    """All UDP headers that fragments allow."""
+    return map(bytes, itertools.product(*there[:8]))
+
+
+def plain(header: Header) -> bool:
+    """Whether nothing about a header leaves a choice."""
+    return not header.reserved and not header.options and header.tos & 3 == 0
+
+
+def whole_promises(parts: List[Arrival]) -> List[Promise]:
+    found = []
+    for it in parts:
+        header = it.header
+        if header and header.whole and plain(header):
+            promised = promise(it.step, header, header.data, True)
+            found += [promised] if promised else []
+    return found
+
+
+def fragment_promises(parts: List[Arrival], few: bool) -> List[Promise]:
+    headers = [it.header for it in parts if it.header is not None]
+    if any(it.whole or not plain(it) for it in headers):
+        return []
+    if max(it.ms for it in parts) - min(it.ms for it in parts) > PROMPT_MS:
+        return []
+    if any(it.more and len(it.data) % 8 for it in headers):
+        return []
+    data = in_sequence(headers)
+    if data is None or len(data) > 65515:
+        return []
+    promised = promise(max(it.step for it in parts), replace(headers[0], offset=0), data, few)
+    return [promised] if promised else []
+
+
+def promise(step: int, header: Header, data: bytes, few: bool) -> Optional[Promise]:
+    """What's promised of a datagram's data, if it's one for the socket with a checksum and nothing after its end."""
+    it = read_udp(data, header.source, header.destination)
+    if it is None or it.destination_port != 7 or it.checksum == 0 or 8 + len(it.payload) != len(data):
+        return None
+    level = "MUST" if few and len(data) + 20 <= 576 else "SHOULD"
+    return Promise(step, level, header.source, it.source_port, it.payload)

@@ -1,0 +1,274 @@
+"""The command bsdudp-conform."""
+from __future__ import annotations
+
+import argparse
+import os
+import pathlib
+import re
+import shlex
+import shutil
+import sys
+from typing import TYPE_CHECKING, Dict, List, Optional, Sequence, Set, Tuple
+
+from ._addresses import TARGET
+
+if TYPE_CHECKING:
+    from ._case import Case
+
+MOST_FLOOD = 100
+OK, DEVIATES, USAGE, NO_ADAPTER = 0, 1, 2, 3
+TEMPLATES = pathlib.Path(__file__).resolve().parent / "templates"
+DESCRIPTION = """Judges a UDP/IPv4 stack: cases of packets go through it, and two laws and the machines that the RFCs
+permit say what may come of them. docs/conform.md says what an adapter is, and leads to a first verdict in five
+minutes."""
+STATUS = """Status: 0 if nothing deviates that the baseline doesn't know, 1 if something does, 2 for wrong words, 3 if a
+stack or a device can't be reached at all."""
+
+
+def parser() -> argparse.ArgumentParser:
+    top = argparse.ArgumentParser(prog="bsdudp-conform", description=DESCRIPTION, epilog=STATUS)
+    commands = top.add_subparsers(dest="what", required=True, metavar="COMMAND")
+    run = commands.add_parser(
+        "run",
+        help="judge one stack or several, by their adapters",
+        epilog=STATUS,
+        description="bsdudp-conform run [OPTIONS] -- ADAPTER [WORD ..]",
+    )
+    run.add_argument(
+        "--stack",
+        action="append",
+        default=[],
+        metavar="COMMAND",
+        help="a stack's adapter with its words; may come again",
+    )
+    run.add_argument(
+        "--jobs",
+        type=int,
+        default=os.cpu_count() or 1,
+        metavar="N",
+        help="so many adapters at once (default: one a processor)",
+    )
+    run.add_argument(
+        "--seeds", metavar="A-B", help="random mixes of these seeds alone, on all cores or on a Dask cluster"
+    )
+    run.add_argument(
+        "--client", metavar="ADDRESS", help="with --seeds: the scheduler of a Dask cluster, as tcp://10.0.0.9:8786"
+    )
+    run.add_argument("adapter", nargs="*", metavar="ADAPTER", help="the adapter and its words, after --")
+    wire = commands.add_parser("wire", help="judge a device on a wire by its UDP echo service", epilog=STATUS)
+    wire.add_argument("interface", metavar="IFACE", help="the interface, on which CAP_NET_RAW is needed")
+    wire.add_argument(
+        "--target", default="10.0.0.1", metavar="ADDR", help="the device's address, on a network of 24 bits"
+    )
+    for it in (run, wire):
+        add_choices(it)
+        add_reports(it)
+    reduce = commands.add_parser("reduce", help="make a case shorter that a stack breaks")
+    reduce.add_argument("case", metavar="CASE", help="as frag.key:14")
+    reduce.add_argument("--pcap", metavar="FILE", help="write its packets to a capture")
+    reduce.add_argument("adapter", nargs="+", metavar="ADAPTER", help="the adapter and its words, after --")
+    for it in (run, wire, reduce):
+        it.add_argument("--seed", type=int, default=1, metavar="N", help="of the random bytes and mixes (default: 1)")
+        it.add_argument("--mixes", type=int, default=400, metavar="N", help="so many random mixes (default: 400)")
+        it.add_argument("--timeout", type=float, default=30.0, metavar="S", help="seconds for an answer (default: 30)")
+    template = commands.add_parser("template", help="write kit.h and adapters to fill in, in C and in Python")
+    template.add_argument("folder", metavar="FOLDER")
+    return top
+
+
+def add_choices(it: argparse.ArgumentParser) -> None:
+    it.add_argument(
+        "--only",
+        action="append",
+        default=[],
+        metavar="RULE",
+        help="a rule, a case, or what they begin with; may come again",
+    )
+    it.add_argument("--no-waits", action="store_true", help="leave out cases that wait for a second or more")
+    it.add_argument("--list", action="store_true", help="print the cases, and ask nobody")
+
+
+def add_reports(it: argparse.ArgumentParser) -> None:
+    it.add_argument(
+        "--report",
+        metavar="FOLDER",
+        help="write report.txt, report.html, junit.xml, and a pcap of each kind's shortest case",
+    )
+    it.add_argument("--baseline", metavar="FILE", help="known deviations")
+    it.add_argument("--write-baseline", metavar="FILE", help="write the file that knows all deviations of this run")
+    it.add_argument("--quiet", action="store_true", help="print the last line of each stack, and new deviations")
+    it.add_argument("--no-policy", action="store_true", help="don't look for each stack's policy")
+
+
+def span(text: str) -> range:
+    """The seeds of A-B. ValueError if it's of another form."""
+    found = re.fullmatch(r"(\d+)-(\d+)", text)
+    if not found or int(found[1]) > int(found[2]):
+        raise ValueError(f"--seeds is A-B, and not {text}")
+    return range(int(found[1]), int(found[2]) + 1)
+
+
+def wanted(name: str, only: Sequence[str]) -> bool:
+    """Whether a case is asked for."""
+    return not only or any(
+        name == it or name.startswith((f"{it}:", f"{it}.", it) if it.endswith(".") else (f"{it}:", f"{it}."))
+        for it in only
+    )
+
+
+def commands_of(words: argparse.Namespace) -> List[List[str]]:
+    """The adapters' commands."""
+    if words.what == "wire":
+        return [[sys.executable, "-m", "bsdudp_conform.adapters.onwire", words.interface, words.target]]
+    return [shlex.split(it) for it in words.stack] + ([words.adapter] if words.adapter else [])
+
+
+def main(argv: Optional[Sequence[str]] = None) -> int:
+    top = parser()
+    words = top.parse_args(argv)
+    if words.what == "template":
+        return template(pathlib.Path(words.folder))
+    if words.what == "wire":
+        os.environ[TARGET] = words.target
+    elif words.what == "run" and not words.list and not commands_of(words):
+        top.error(
+            "name an adapter: bsdudp-conform run -- ./my-adapter (bsdudp-conform template FOLDER writes one to fill in)"
+        )
+    from ._packets import MissingScapy
+
+    try:
+        return {"run": run, "wire": run, "reduce": reduce}[words.what](words)
+    except MissingScapy as fault:
+        print(f"bsdudp-conform: {fault}", file=sys.stderr)
+        return USAGE
+    except KeyboardInterrupt:
+        return DEVIATES
+
+
+def template(folder: pathlib.Path) -> int:
+    folder.mkdir(parents=True, exist_ok=True)
+    for path in sorted(it for it in TEMPLATES.iterdir() if it.is_file()):
+        shutil.copyfile(path, folder / path.name)
+        print(folder / path.name)
+    return OK
+
+
+def run(words: argparse.Namespace) -> int:
+    from . import _output, cases
+    from ._adapter import Fault
+    from ._baseline import BadBaseline, read_baseline
+    from ._judge import judge
+
+    if words.what == "run" and words.seeds:
+        return sweep(words)
+    chosen = [
+        it
+        for it in cases.make(words.seed, words.mixes)
+        if wanted(it.name, words.only) and not (words.no_waits and it.slow)
+    ]
+    every = len(chosen)
+    if words.what == "wire":
+        chosen = for_one_device(chosen)
+    if words.list or not chosen:
+        for it in chosen:
+            print(f"{it.name:24} {it.title}")
+        return OK if chosen else fault_line(f"there is no case of {' '.join(words.only)}", USAGE)
+    judged = []
+    try:
+        known = read_baseline(pathlib.Path(words.baseline)) if words.baseline else set()
+        for command in commands_of(words):
+            if words.what == "wire" and not can_open_raw():
+                return fault_line(
+                    "a packet socket needs CAP_NET_RAW: run it as root, or with that capability", NO_ADAPTER
+                )
+            judged.append(judge(command, chosen, 1 if words.what == "wire" else words.jobs, words.timeout))
+            if every > len(chosen):
+                judged[-1].left_out["one device"] = every - len(chosen)
+    except BadBaseline as fault:
+        return fault_line(str(fault), USAGE)
+    except Fault as fault:
+        return fault_line(f"{shlex.join(command)}: {fault}", NO_ADAPTER)
+    _output.write(judged, known, words)
+    return OK if not any(_output.new(it, known) for it in judged) else DEVIATES
+
+
+def for_one_device(chosen: "List[Case]") -> "List[Case]":
+    """The cases that one device can be asked one after the other: none meets fragments that another left, and no flood
+    fills it for those after it. Runs are left out, since all of it is one."""
+    found: "List[Case]" = []
+    used: Set[Tuple[int, int, int]] = set()
+    for case in sorted(chosen, key=lambda it: (it.slow, it.rule == "frag.many")):
+        keys = case.fragment_keys
+        flood = case.rule == "frag.many" and len(case.steps) > MOST_FLOOD
+        if case.rule != "run" and not flood and not keys & used:
+            found.append(case)
+            used |= keys
+    return found
+
+
+def can_open_raw() -> bool:
+    import socket
+
+    try:
+        socket.socket(socket.AF_PACKET, socket.SOCK_RAW).close()
+    except PermissionError:
+        return False
+    return True
+
+
+def fault_line(text: str, status: int) -> int:
+    print(f"bsdudp-conform: {text}", file=sys.stderr)
+    return status
+
+
+def sweep(words: argparse.Namespace) -> int:
+    from ._sweep import CORES, NoSweep, sweep_seeds
+
+    try:
+        seeds = span(words.seeds)
+    except ValueError as fault:
+        return fault_line(str(fault), USAGE)
+    status = OK
+    for command in commands_of(words):
+        try:
+            found = sweep_seeds(command, seeds, words.client or CORES, words.timeout)
+        except (NoSweep, ImportError, OSError) as fault:
+            return fault_line(str(fault), USAGE)
+        kinds: Dict[Tuple[str, str], List[str]] = {}
+        for it in found:
+            kinds.setdefault((it.level, re.sub(r"\d+", "N", it.what)), []).append(f"seed {it.seed} {it.case}")
+        print(f"{shlex.join(command)}: {len(seeds)} seeds, {len(found)} deviations of {len(kinds)} kinds")
+        for (level, what), where in sorted(kinds.items()):
+            print(f"  {level} {what}: {len(where)}, first {where[0]}")
+        status = DEVIATES if found else status
+    return status
+
+
+def reduce(words: argparse.Namespace) -> int:
+    from . import cases
+    from ._adapter import Adapter, Fault
+    from ._packets import write_capture
+    from ._reduce import reduce_case
+    from ._report import steps_of
+
+    found = {it.name: it for it in cases.make(words.seed, words.mixes)}.get(words.case)
+    if found is None:
+        return fault_line(f"there is no case {words.case}: bsdudp-conform run --list has all", USAGE)
+    try:
+        with Adapter(words.adapter, words.timeout) as adapter:
+            shorter = reduce_case(adapter, found)
+    except Fault as fault:
+        return fault_line(f"{shlex.join(words.adapter)}: {fault}", NO_ADAPTER)
+    if shorter is None:
+        print(f"{found.name} breaks nothing")
+        return OK
+    case, breach = shorter.case, shorter.breach
+    print(f"{found.name}, {found.title}: {len(case.steps)} steps of {len(found.steps)} break {breach.rule}: {breach.what}")
+    print("\n".join(f"  {line}" for line in steps_of(case)))
+    if words.pcap:
+        write_capture(pathlib.Path(words.pcap), case.packets())
+    return DEVIATES
+
+
+if __name__ == "__main__":
+    sys.exit(main())

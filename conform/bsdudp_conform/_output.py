@@ -1,0 +1,68 @@
+"""What a run prints, and the files that it writes."""
+from __future__ import annotations
+
+import argparse
+import pathlib
+import re
+import sys
+from typing import Dict, List, Sequence
+
+from ._baseline import Known, baseline_of, new_ones
+from ._html import html
+from ._judge import Deviation, Judged
+from ._packets import write_capture
+from ._policy import Explained, settings_of
+from ._report import junit, kind_text, summary, text
+
+
+def new(judged: Judged, known: Known) -> List[Deviation]:
+    """The deviations that the baseline doesn't know."""
+    return new_ones(judged, known)
+
+
+def write(stacks: Sequence[Judged], known: Known, words: argparse.Namespace) -> None:
+    """Prints the report, and writes the files that are asked for."""
+    policies: Dict[str, List[Explained]] = {}
+    if not words.no_policy and not words.quiet:
+        if sys.stderr.isatty():
+            print("looking for each stack's policy ..", file=sys.stderr)
+        policies = {it.name: settings_of(it)[1] for it in stacks}
+    whole = text(stacks, policies, known)
+    if words.quiet:
+        for it in stacks:
+            for kind in it.kinds():
+                left = [one for one in kind if one in new_ones(it, known)]
+                if left:
+                    print(f"{it.name}: {kind_text(left, known)}")
+            print(summary(it, known))
+    else:
+        print(whole, end="")
+    if words.write_baseline:
+        pathlib.Path(words.write_baseline).write_text("".join(map(baseline_of, stacks)), encoding="utf-8")
+    if words.report:
+        write_folder(pathlib.Path(words.report), stacks, policies, known, whole)
+
+
+def write_folder(
+    folder: pathlib.Path, stacks: Sequence[Judged], policies: Dict[str, List[Explained]], known: Known, whole: str
+) -> None:
+    """The report's files."""
+    folder.mkdir(parents=True, exist_ok=True)
+    captures = {it.name: captures_of(it, folder) for it in stacks}
+    (folder / "report.txt").write_text(whole, encoding="utf-8")
+    (folder / "report.html").write_text(html(stacks, policies, known, captures), encoding="utf-8")
+    (folder / "junit.xml").write_text(junit(stacks, known), encoding="utf-8")
+
+
+def captures_of(judged: Judged, folder: pathlib.Path) -> Dict[str, str]:
+    """A capture of each kind's shortest case, by the case: its path from the folder."""
+    found = {}
+    place = re.sub(r"[^A-Za-z0-9.]+", "-", judged.name).strip("-").lower()
+    for kind in judged.kinds():
+        case = kind[0].case
+        if case.packets():
+            (folder / place).mkdir(exist_ok=True)
+            path = f"{place}/{case.rule}.{case.number}.pcap"
+            write_capture(folder / path, case.packets())
+            found[case.name] = path
+    return found

@@ -1,0 +1,97 @@
+"""A stack's policy by name: the settings of the reference machine that explain most of its answers."""
+from __future__ import annotations
+
+from collections import Counter
+from typing import Dict, List, Mapping, NamedTuple, Tuple
+
+from ._case import Answer, Case
+from ._freedom import SETTINGS, Path, Settings, Value
+from ._judge import Judged
+from ._machine import play
+from ._verdict import explains
+
+ROUNDS = 3
+MOST_CASES, MOST_BYTES = 40, 60_000
+
+
+class Explained(NamedTuple):
+    """One setting: the values that explain most, and how many of the cases that ask for it."""
+
+    setting: str
+    values: Tuple[Value, ...]
+    explained: int
+    cases: int
+
+    @property
+    def title(self) -> str:
+        return SETTINGS[self.setting].title
+
+    @property
+    def words(self) -> str:
+        told = ", or ".join(SETTINGS[self.setting].told(it) for it in self.values)
+        apart = ", which these cases don't tell apart" if len(self.values) > 1 else ""
+        return f"{self.title}: {told}{apart} ({self.explained} of {self.cases} cases)"
+
+
+def asking(cases: List[Case], settings: Mapping[str, Value]) -> Dict[str, List[Case]]:
+    """The cases that ask for each setting."""
+    found: Dict[str, List[Case]] = {name: [] for name in SETTINGS}
+    for case in cases:
+        path = Noting(settings)
+        play(case, path)
+        for name in path.noted:
+            found[name].append(case)
+    return found
+
+
+class Noting(Path):
+    """A path that notes which settings are asked for, given or not."""
+
+    def __init__(self, given: Mapping[str, Value]) -> None:
+        super().__init__(given)
+        self.noted: List[str] = []
+
+    def choose(self, name: str) -> Value:
+        if name not in self.noted:
+            self.noted.append(name)
+        return super().choose(name)
+
+
+def chosen(cases: List[Case], name: str) -> List[Case]:
+    """Enough cases for a setting: those that ask for little else come first, and floods are few."""
+    fit = [case for case in cases if case.size[1] < MOST_BYTES or name in ("kept", "largest", "expire")]
+    own = sorted((case for case in fit if case.rule not in ("run", "mix")), key=lambda case: case.size)
+    mixed = [case for case in fit if case.rule == "mix"]
+    return own[:: max(1, len(own) // MOST_CASES)][: 2 * MOST_CASES] + mixed[:MOST_CASES]
+
+
+def settings_of(judged: Judged) -> Tuple[Settings, List[Explained]]:
+    """The settings that explain a stack, and how well each does: first alone, then with the others so found."""
+    settings: Settings = {name: setting.default for name, setting in SETTINGS.items()}
+    found: List[Explained] = []
+    sound = [case for case in judged.cases if judged.answers[case.name].fault is None]
+    for _ in range(ROUNDS):
+        found = []
+        cases_of = asking(sound, settings)
+        for name in SETTINGS:
+            cases = chosen(cases_of[name], name)
+            if not cases:
+                continue
+            best = best_value(cases, judged.answers, settings, name)
+            settings[name] = best.values[0]
+            found.append(best)
+    return settings, found
+
+
+def best_value(cases: List[Case], answers: Mapping[str, Answer], settings: Settings, name: str) -> Explained:
+    """The values with which most cases are explained. The machine takes the first."""
+    scores: "Counter[Value]" = Counter()
+    for value in SETTINGS[name].all:
+        scores[value] = sum(explains(case, answers[case.name], {**settings, name: value}) for case in cases)
+    most = max(scores.values())
+    return Explained(name, tuple(it for it in SETTINGS[name].all if scores[it] == most), most, len(cases))
+
+
+def unexplained(judged: Judged, settings: Settings) -> List[Case]:
+    """The cases whose answers no machine with these settings gives."""
+    return [case for case in judged.cases if not explains(case, judged.answers[case.name], settings)]

@@ -1,0 +1,152 @@
+"""The report as text, and as JUnit's XML."""
+from __future__ import annotations
+
+import textwrap
+import xml.etree.ElementTree as ElementTree
+from collections import Counter
+from typing import Dict, List, Sequence
+
+from ._baseline import Known, is_known
+from ._case import Case, Receive
+from ._judge import Deviation, Judged
+from ._packets import show
+from ._policy import Explained
+from ._rules import RULES
+from ._verdict import FAULT, LEVELS, NEVER
+from ._wire_laws import MUST, SHOULD
+
+WORDS = {FAULT: "crash", NEVER: "never", MUST: "must", SHOULD: "should"}
+MEANING = {
+    FAULT: "the stack crashed, hung or gave no answer",
+    NEVER: "bytes reached a user that the packets don't carry",
+    MUST: "against a MUST: all that the RFCs permit answer alike, and not so",
+    SHOULD: "against a SHOULD: all that keep the SHOULDs answer alike, and not so",
+}
+SHOWN = 8
+# A setting of which so many values explain the same isn't told.
+MANY_VALUES = 4
+
+
+def cell(count: "Counter[str]") -> str:
+    """A cell of the matrix."""
+    if not count["cases"] and not any(count[level] for level in LEVELS):
+        return "-"
+    return ", ".join(f"{WORDS[level]} {count[level]}" for level in LEVELS if count[level]) or "ok"
+
+
+def rules_of(stacks: Sequence[Judged]) -> List[str]:
+    """The rules of which there are cases or deviations."""
+    there = {case.rule for it in stacks for case in it.cases} | {
+        it.breach.rule for one in stacks for it in one.deviations
+    }
+    return [rule for rule in RULES if rule in there]
+
+
+def matrix(stacks: Sequence[Judged]) -> str:
+    """A row for each rule, a column for each stack."""
+    rows = [["rule", "cases", *(it.name for it in stacks)]]
+    for rule in rules_of(stacks):
+        counts = [it.cell(rule) for it in stacks]
+        rows.append([rule, str(max(it["cases"] for it in counts) or ""), *map(cell, counts)])
+    rows.append(["all", str(max(len(it.cases) for it in stacks)), *map(total, stacks)])
+    widths = [max(len(row[place]) for row in rows) + 2 for place in range(len(rows[0]))]
+    return "\n".join("".join(it.ljust(width) for it, width in zip(row, widths)).rstrip() for row in rows)
+
+
+def total(judged: Judged) -> str:
+    """A stack's last cell: over all rules."""
+    levels = {level: len({it.case.name for it in judged.deviations if it.breach.level == level}) for level in LEVELS}
+    return cell(Counter(cases=len(judged.cases), **levels))
+
+
+def steps_of(case: Case) -> List[str]:
+    """The steps of a case in words; of many the first and the last."""
+    told = [show(it.packet) if isinstance(it, Receive) and len(it.packet) >= 20 else it.line[:80] for it in case.steps]
+    lines = [f"{number}. {words}" for number, words in enumerate(told)]
+    if len(lines) > SHOWN:
+        lines = [*lines[: SHOWN - 2], f".. {len(lines) - SHOWN + 1} more ..", lines[-1]]
+    return lines
+
+
+def kind_text(kind: List[Deviation], known: Known) -> str:
+    """One kind of deviation, by its shortest case."""
+    first = kind[0]
+    breach, rule = first.breach, RULES[first.breach.rule]
+    old = ", known" if all(is_known(it, known) for it in kind) else ""
+    lines = [
+        f"{WORDS[breach.level].upper()} {breach.rule}: {rule.sentence} ({rule.source}); {len(kind)} cases{old}",
+        f"    seen: {breach.what}",
+        f"    expected: {breach.expected or rule.sentence}",
+        f"    shortest: {first.case.name}, {first.case.title}",
+    ]
+    lines += [f"      {line}" for line in steps_of(first.case)]
+    return "\n".join(lines)
+
+
+def policy_text(explained: Sequence[Explained]) -> List[str]:
+    """A stack's policy in words: what explains nine cases of ten, and at the end what nothing explains so well."""
+    well = [it for it in explained if it.explained * 10 >= it.cases * 9]
+    lines = [it.words for it in well if len(it.values) < MANY_VALUES]
+    others = "; ".join(f"{it.title} ({it.explained} of {it.cases} cases at best)" for it in explained if it not in well)
+    return lines + ([f"no policy that the judge knows explains: {others}"] if others else [])
+
+
+def text(stacks: Sequence[Judged], policies: Dict[str, List[Explained]], known: Known) -> str:
+    """The whole report."""
+    parts = [
+        matrix(stacks),
+        "A cell counts the cases that deviate:\n"
+        + "\n".join(f"  {WORDS[level]:7} {MEANING[level]}" for level in LEVELS),
+    ]
+    for it in stacks:
+        if sum(it.left_out.values()):
+            parts.append(
+                f"{it.name}: {sum(it.left_out.values())} cases don't apply, or need what its adapter doesn't have"
+            )
+        parts += [f"{it.name}: {kind_text(kind, known)}" for kind in it.kinds()]
+        if policies.get(it.name):
+            told = [
+                textwrap.fill(line, 118, initial_indent="  ", subsequent_indent="      ")
+                for line in policy_text(policies[it.name])
+            ]
+            parts.append("\n".join([f"{it.name}: policy, where the RFCs leave one", *told]))
+        parts.append(summary(it, known))
+    return "\n\n".join(parts) + "\n"
+
+
+def summary(judged: Judged, known: Known) -> str:
+    """A stack's last line."""
+    cases = len({it.case.name for it in judged.deviations})
+    new = len({it.case.name for it in judged.deviations if not is_known(it, known)})
+    told = f"{judged.name}: {len(judged.cases)} cases, {cases} deviate in {len(judged.kinds())} kinds"
+    return f"{told}, {new} of them new" if known else told
+
+
+def junit(stacks: Sequence[Judged], known: Known) -> str:
+    """JUnit's XML: a suite for each stack, a test for each case. A known deviation is a skipped test."""
+    top = ElementTree.Element("testsuites", name="bsdudp-conform")
+    for judged in stacks:
+        broken: Dict[str, List[Deviation]] = {}
+        for it in judged.deviations:
+            broken.setdefault(it.case.name, []).append(it)
+        new = {name for name, all_of in broken.items() if not all(is_known(it, known) for it in all_of)}
+        suite = ElementTree.SubElement(
+            top,
+            "testsuite",
+            name=judged.name,
+            tests=str(len(judged.cases)),
+            failures=str(len(new)),
+            skipped=str(len(broken) - len(new)),
+        )
+        for case in judged.cases:
+            test = ElementTree.SubElement(
+                suite, "testcase", classname=f"{judged.name}.{case.rule}", name=f"{case.name} {case.title}"
+            )
+            for it in broken.get(case.name, [])[:1]:
+                rule = RULES[it.breach.rule]
+                tag = ElementTree.SubElement(
+                    test, "failure" if case.name in new else "skipped", message=f"{it.breach.level}: {it.breach.what}"
+                )
+                tag.text = f"{it.breach.rule}: {rule.sentence} ({rule.source}); expected: {it.breach.expected}"
+    ElementTree.indent(top)
+    return ElementTree.tostring(top, encoding="unicode", xml_declaration=True) + "\n"

@@ -1,0 +1,205 @@
+"""A case's verdict: the laws first, then what all permitted machines answer alike."""
+from __future__ import annotations
+
+import functools
+from collections import Counter
+from dataclasses import dataclass
+from typing import FrozenSet, Iterable, List, Mapping, Tuple
+
+from ._addresses import BROADCAST, HOST, ZERO_BROADCAST, is_host, text_of
+from ._case import Answer, Case, Got, Receive
+from ._freedom import Path, Value, runs
+from ._laws import STRANGER, Seen
+from ._machine import Delivered, Due, Machine, answer_of, delivered, play
+from ._read import ICMP, UDP, read
+from ._wire_laws import MUST, SHOULD, Breach, leaving
+
+FAULT, NEVER, POLICY = "FAULT", "NEVER", "policy"
+LEVELS = (FAULT, NEVER, MUST, SHOULD)
+
+
+@dataclass(frozen=True)
+class Expected:
+    """What the reference machines say of a case: the level at which they agree, what they deliver, and the ICMP errors
+    that a host sends."""
+
+    level: str
+    answer: Delivered
+    due: Tuple[Due, ...]
+    asked: FrozenSet[str]
+
+
+def play_delivered(case: Case, path: Path) -> Delivered:
+    return delivered(answer_of(play(case, path)).got)
+
+
+@functools.lru_cache(maxsize=None)
+def expected(case: Case) -> Expected:
+    """MUST where all permitted machines answer alike, SHOULD where those do that keep the SHOULDs, policy elsewhere."""
+    path = Path({})
+    machine: Machine = play(case, path)
+    answer = delivered(answer_of(machine).got)
+    level = POLICY
+    if alike(case, True):
+        level = MUST if alike(case, False) else SHOULD
+    return Expected(level, answer, tuple(machine.due), frozenset(path.asked))
+
+
+def alike(case: Case, strict: bool) -> bool:
+    """Whether all machines answer alike."""
+    answers = [answer for _, answer in runs(lambda path: play_delivered(case, path), strict)]
+    return answers.count(answers[0]) == len(answers)
+
+
+def same(wanted: Tuple[int, int, int, bytes], got: Got) -> bool:
+    """Whether a datagram is the one that's wanted; a sender that the adapter can't know isn't compared."""
+    sender = got.source is None or (wanted[1], wanted[2]) == (got.source, got.port)
+    return sender and wanted[0] == got.socket and wanted[3] == got.data
+
+
+def matched(
+    wanted: Iterable[Tuple[int, int, int, bytes]], got: List[Got]
+) -> Tuple[List[Tuple[int, int, int, bytes]], List[Got]]:
+    """What is missing, and what comes beyond what's wanted."""
+    left, missing = list(got), []
+    for it in wanted:
+        hit = next((one for one in left if same(it, one)), None)
+        if hit is None:
+            missing.append(it)
+        else:
+            left.remove(hit)
+    return missing, left
+
+
+def verdict(case: Case, answer: Answer, abilities: FrozenSet[str]) -> List[Breach]:
+    """All that a stack's answer to a case breaks."""
+    if answer.fault is not None:
+        return [Breach(FAULT, case.rule, answer.fault, None, "an answer to the end of the case")]
+    seen = Seen(case)
+    found = by_laws(case, seen, answer)
+    if not found:
+        found = by_machines(case, answer)
+    if "out" in abilities:
+        found += leaving(seen, answer, 'echo' in abilities)
+        if not abilities & {"gateway", "echo"}:
+            found += missing_errors(case, answer)
+    return list(dict.fromkeys(found))
+
+
+def by_laws(case: Case, seen: Seen, answer: Answer) -> List[Breach]:
+    found = []
+    for got in answer.got:
+        fault = seen.fault(got)
+        if fault == STRANGER:
+            words = f"a connected socket gets {len(got.data)} bytes {fault}"
+            found.append(Breach(MUST, "socket.connected", words, got.step, "its peer's datagrams alone"))
+        elif fault:
+            words = f"{len(got.data)} bytes reach the user {fault}"
+            found.append(Breach(NEVER, case.rule, words, got.step, "nothing that the packets don't carry"))
+    left = list(answer.got)
+    for promise in seen.promises():
+        wanted = (0, promise.source, promise.port, promise.data)
+        hit = next((it for it in left if same(wanted, it)), None)
+        if hit is None:
+            words = f"a datagram of {len(promise.data)} bytes doesn't come"
+            sender = f"{text_of(promise.source)} port {promise.port}"
+            found.append(
+                Breach(promise.level, case.rule, words, promise.step, f"{len(promise.data)} bytes from {sender}")
+            )
+        else:
+            left.remove(hit)
+    return found
+
+
+def by_machines(case: Case, answer: Answer) -> List[Breach]:
+    """Where all machines answer alike, a stack's answer is that one."""
+    want = expected(case)
+    if want.level == POLICY:
+        return []
+    missing, extra = matched(want.answer, answer.got)
+    found = []
+    if missing:
+        words = (
+            "a datagram doesn't come"
+            if len(want.answer) == 1
+            else f"{len(missing)} of {len(want.answer)} datagrams don't come"
+        )
+        found.append(Breach(want.level, case.rule, words, None, told(want.answer)))
+    if extra:
+        words = "a datagram comes that shouldn't" if len(extra) == 1 else f"{len(extra)} datagrams come that shouldn't"
+        found.append(Breach(want.level, case.rule, words, extra[0].step, told(want.answer)))
+    return found
+
+
+def told(answer: Delivered) -> str:
+    """What is delivered, in words."""
+    if not answer:
+        return "nothing is delivered"
+    parts = [f"{len(data)} bytes from {text_of(source)} port {port}" for _, source, port, data in answer[:3]]
+    return ", ".join(parts) + (f" and {len(answer) - 3} more" if len(answer) > 3 else "")
+
+
+ERROR_RULES = {
+    (3, 3): (SHOULD, "icmp.port", "no Port Unreachable"),
+    (3, 2): (SHOULD, "icmp.proto", "no Protocol Unreachable"),
+    (11, 1): (MUST, "icmp.reass", "no Time Exceeded"),
+}
+
+
+def missing_errors(case: Case, answer: Answer) -> List[Breach]:
+    """ICMP errors that a host sends, and that didn't come. Errors may be limited, so floods and runs are left out."""
+    if case.rule in ("frag.many", "run", "mix"):
+        return []
+    sent: "Counter[Tuple[int, int]]" = Counter()
+    for out in answer.out:
+        header = read(out.packet)
+        if header and header.protocol == ICMP and len(header.data) >= 2:
+            sent[header.data[0], header.data[1]] += 1
+    found = []
+    for due in expected(case).due:
+        if sent[due.type, due.code]:
+            sent[due.type, due.code] -= 1
+        else:
+            level, rule, words = ERROR_RULES[due.type, due.code]
+            found.append(Breach(level, rule, words, due.step, f"ICMP type {due.type} code {due.code}"))
+    return found
+
+
+def applies(case: Case, abilities: FrozenSet[str]) -> bool:
+    """Whether a stack can be held to a case. A gateway that translates addresses isn't held to those about a host's."""
+    if not case.needs <= abilities:
+        return False
+    if "echo" in abilities:
+        return all(echoed(step.packet) for step in case.steps if isinstance(step, Receive))
+    if "gateway" not in abilities:
+        return True
+    if case.rule.startswith(("ip.dst.", "ip.src.", "ip.ttl", "icmp.")):
+        return False
+    return all(for_gateway(step.packet) for step in case.steps if isinstance(step, Receive))
+
+
+def for_gateway(packet: bytes) -> bool:
+    """Whether a packet is one that a gateway passes on: for the one address, from a host, with a time to live."""
+    if len(packet) < 20:
+        return True
+    source = int.from_bytes(packet[12:16], "big")
+    return packet[16:20] == HOST.to_bytes(4, "big") and packet[8] > 1 and is_host(source)
+
+
+def echoed(packet: bytes) -> bool:
+    """Whether an echo can tell what became of a packet: it comes from another host of the network, and from a port."""
+    if len(packet) < 20:
+        return True
+    source = int.from_bytes(packet[12:16], "big")
+    near = ZERO_BROADCAST < source < BROADCAST and source != HOST
+    header = read(packet)
+    first = header is not None and header.offset == 0 and header.protocol == UDP
+    return near and not (first and header is not None and header.data[:2] == bytes(2))
+
+
+def explains(case: Case, answer: Answer, settings: Mapping[str, Value]) -> bool:
+    """Whether a machine with these settings delivers what the stack did."""
+    if answer.fault is not None:
+        return False
+    missing, extra = matched(play_delivered(case, Path(settings)), answer.got)
+    return not missing and not extra

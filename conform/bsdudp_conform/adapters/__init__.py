@@ -1,0 +1,1 @@
+"""Adapters that come with the judge: bsdudp itself, and Linux."""

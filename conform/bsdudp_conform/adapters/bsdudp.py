@@ -1,0 +1,149 @@
+"""bsdudp: `python3 -m bsdudp_conform.adapters.bsdudp [PROGRAM [WORD ..]]`, by default `bsdudp run`.
+
+One process of the program serves all cases of an MTU: after 60 ticks nothing of the last case is left but the
+identification of the next send. A wait is told in ticks of half a second; what is left of it goes to the next wait."""
+from __future__ import annotations
+
+import subprocess
+import sys
+from typing import Callable, Dict, List, Optional, Set, Tuple
+
+from ..kit import Adapter, bytes_of, serve
+
+TICK_MS, TICKS_KEPT, QUEUE = 500, 60, 50
+FIRST_DESCRIPTOR = 3
+# Less than a pipe holds, so that neither side waits for the other.
+MOST_WAITING = 32_000
+
+
+Handler = Callable[[str], None]
+
+
+class Program:
+    """A running `bsdudp run`. Lines are gathered, and asked together: fewer bytes wait than a pipe holds."""
+
+    def __init__(self, command: List[str], mtu: int) -> None:
+        words = [*command, "--mtu", str(mtu)]
+        self.running = subprocess.Popen(words, stdin=subprocess.PIPE, stdout=subprocess.PIPE, text=True)
+        self.waiting: List[Tuple[str, Optional[Handler]]] = []
+        self.size = 0
+
+    def later(self, line: str, handler: Optional[Handler] = None) -> None:
+        """Asks a line, with the others; its reply goes to the handler."""
+        if self.size + len(line) > MOST_WAITING:
+            self.flush()
+        self.waiting.append((line, handler))
+        self.size += len(line) + 1
+
+    def flush(self) -> None:
+        """Asks all that waits."""
+        stdin, stdout = self.running.stdin, self.running.stdout
+        assert stdin is not None and stdout is not None
+        asked, self.waiting, self.size = self.waiting, [], 0
+        stdin.write("".join(f"{line}\n" for line, _ in asked))
+        stdin.flush()
+        for _, handler in asked:
+            reply = stdout.readline().rstrip("\n")
+            if handler:
+                handler(reply)
+
+
+class Bsdudp(Adapter):
+    """4.4BSD's stack, by the lines of `bsdudp run`."""
+
+    name = "bsdudp"
+    has = ("out", "send", "mtu", "sockets", "connect")
+    forks = False
+    command = ["bsdudp", "run"]
+    programs: Dict[int, Program] = {}
+
+    def boot(self, mtu: int) -> None:
+        if mtu not in self.programs:
+            self.programs[mtu] = Program(self.command, mtu)
+        self.program = self.programs[mtu]
+        self.owed, self.count, self.fragments = 0, 0, False
+        self.connected: Set[int] = set()
+        self.free: List[str] = []
+        self.program.later("mbstat", self.free.append)
+        self.open(0, 7)
+
+    def rx(self, packet: bytes) -> None:
+        self.program.later(f"rx {packet.hex() or '-'}")
+        self.fragments = self.fragments or packet[6:8] not in (b"\0\0", b"\x40\0")
+        for socket in reversed(range(self.count)):
+            self.program.later(f"recvfrom {FIRST_DESCRIPTOR + socket} 65535", self.received(socket))
+
+    def received(self, socket: int) -> Handler:
+        """What a reply to `recvfrom` says."""
+        step = self.step
+
+        def handler(reply: str) -> None:
+            if reply.startswith("from "):
+                _, address, port, data = reply.split()
+                self.step = step
+                self.got(address, int(port), bytes_of(data), socket)
+
+        return handler
+
+    def wait(self, ms: int) -> None:
+        ticks, self.owed = divmod(self.owed + ms, TICK_MS)
+        for _ in range(ticks):
+            self.program.later("tick")
+
+    def open(self, socket: int, port: int) -> None:
+        descriptor = FIRST_DESCRIPTOR + self.count
+        self.expect("socket", f"ok {descriptor}")
+        self.expect(f"setsockopt {descriptor} reuseport 1", "ok")
+        self.expect(f"bind {descriptor} 0.0.0.0 {port}", "ok")
+        self.count += 1
+
+    def connect(self, socket: int, address: str, port: int) -> None:
+        self.connected.add(socket)
+        self.expect(f"connect {FIRST_DESCRIPTOR + socket} {address} {port}", "ok")
+
+    def expect(self, line: str, wanted: str) -> None:
+        """Asks a line that is answered so."""
+
+        def handler(reply: str) -> None:
+            if reply != wanted:
+                print(f"crash it answers {reply!r} to {line!r}")
+
+        self.program.later(line, handler)
+
+    def send(self, socket: int, address: str, port: int, data: bytes) -> bool:
+        descriptor, replies = FIRST_DESCRIPTOR + socket, []  # type: int, List[str]
+        there = "" if socket in self.connected else f"{address} {port} "
+        self.program.later(
+            f"{'send' if socket in self.connected else 'sendto'} {descriptor} {there}{data.hex() or '-'}",
+            replies.append,
+        )
+        for _ in range(QUEUE + 1):
+            self.program.later("tx", replies.append)
+        step = self.step
+        self.program.flush()
+        self.step = step
+        for reply in replies[1:]:
+            if reply.startswith("packet "):
+                self.out(bytes_of(reply.split()[1]))
+        return replies[0].startswith("ok")
+
+    def end(self) -> None:
+        for socket in range(self.count):
+            self.program.later(f"close {FIRST_DESCRIPTOR + socket}")
+        for _ in range(TICKS_KEPT if self.fragments else 0):
+            self.program.later("tick")
+        left: List[str] = []
+        self.program.later("mbstat", left.append)
+        self.program.flush()
+        if left != self.free:
+            print(f"crash buffers are held after all was closed: {left[0]}, before: {self.free[0]}")
+
+
+def main() -> None:
+    if sys.argv[1:]:
+        Bsdudp.command = sys.argv[1:]
+    serve(Bsdudp)
+
+
+if __name__ == "__main__":
+    main()

@@ -1,0 +1,136 @@
+"""The Linux kernel: `python3 -m bsdudp_conform.adapters.linux [NAME=VALUE ..]`; the words are sysctls under net.ipv4.
+
+Each case has a network namespace of its own, whose packets come and go by a TUN device, and its waits take real time.
+It needs root, unshare and /dev/net/tun."""
+from __future__ import annotations
+
+import ctypes
+import fcntl
+import os
+import platform
+import socket
+import struct
+import subprocess
+import sys
+import time
+from typing import Dict, List
+
+from ..kit import Adapter, serve
+
+CLONE_NEWNET, TUNSETIFF, TUN = 0x40000000, 0x400454CA, 0x0001
+SO_RCVBUFFORCE, IP_MTU_DISCOVER, DONT = 33, 10, 0
+SETTLE_S = 0.002
+SETUP = """addr add 10.0.0.1/24 broadcast + dev t0
+link set lo up
+link set t0 up mtu {mtu}
+route add default dev t0
+"""
+
+
+def sysctl(name: str, value: object) -> None:
+    with open(f"/proc/sys/net/{name}", "w", encoding="ascii") as file:
+        file.write(str(value))
+
+
+class Linux(Adapter):
+    """The kernel's own UDP."""
+
+    name = f"Linux {platform.release()}"
+    has = ("out", "send", "mtu", "sockets", "connect")
+    settings: List[str] = []
+
+    def boot(self, mtu: int) -> None:
+        if ctypes.CDLL(None, use_errno=True).unshare(CLONE_NEWNET):
+            raise OSError(ctypes.get_errno(), "no network namespace")
+        self.tun = os.open("/dev/net/tun", os.O_RDWR | os.O_NONBLOCK)
+        fcntl.ioctl(self.tun, TUNSETIFF, struct.pack("16sH22x", b"t0", TUN))
+        sysctl("ipv6/conf/t0/disable_ipv6", 1)
+        sysctl("ipv4/icmp_ratelimit", 0)
+        for word in self.settings:
+            name, value = word.split("=")
+            sysctl(f"ipv4/{name}", value)
+        subprocess.run(["ip", "-batch", "-"], input=SETUP.format(mtu=mtu), text=True, check=True)
+        self.sockets: Dict[int, socket.socket] = {}
+        self.open(0, 7)
+        self.read_tun()
+
+    def open(self, socket: int, port: int) -> None:
+        self.sockets[socket] = bound(port)
+
+    def connect(self, socket: int, address: str, port: int) -> None:
+        self.sockets[socket].connect((address, port))
+
+    def rx(self, packet: bytes) -> None:
+        try:
+            os.write(self.tun, b"\0\0\x08\0" + packet)
+        except OSError as fault:
+            print(f"note the TUN device refuses: {fault}")
+        self.drain()
+
+    def wait(self, ms: int) -> None:
+        time.sleep(ms / 1000 + 0.2 if ms >= 1000 else ms / 1000)
+        self.drain()
+
+    def send(self, socket: int, address: str, port: int, data: bytes) -> bool:
+        it = self.sockets[socket]
+        try:
+            try:
+                peer = it.getpeername()
+            except OSError:
+                it.sendto(data, (address, port))
+            else:
+                assert peer == (address, port)
+                it.send(data)
+        except OSError as fault:
+            print(f"note the send is refused: {fault}")
+            return False
+        finally:
+            self.drain()
+        return True
+
+    def end(self) -> None:
+        time.sleep(SETTLE_S)
+        self.drain()
+
+    def drain(self) -> None:
+        for number, it in sorted(self.sockets.items(), reverse=True):
+            while True:
+                try:
+                    data, (address, port) = it.recvfrom(65536)
+                    self.got(address, port, data, number)
+                except BlockingIOError:
+                    break
+                except OSError as fault:
+                    print(f"note a socket's error: {fault}")
+        for packet in self.read_tun():
+            self.out(packet)
+
+    def read_tun(self) -> List[bytes]:
+        found: List[bytes] = []
+        while True:
+            try:
+                packet = os.read(self.tun, 65540)[4:]
+            except BlockingIOError:
+                return found
+            if packet[:1] and packet[0] >> 4 == 4:
+                found.append(packet)
+
+
+def bound(port: int) -> socket.socket:
+    """A socket on a port of any address, with room for all that a case brings."""
+    it = socket.socket(socket.AF_INET, socket.SOCK_DGRAM)
+    it.setsockopt(socket.SOL_SOCKET, SO_RCVBUFFORCE, 1 << 23)
+    it.setsockopt(socket.SOL_SOCKET, socket.SO_REUSEADDR, 1)
+    it.setsockopt(socket.IPPROTO_IP, IP_MTU_DISCOVER, DONT)
+    it.bind(("0.0.0.0", port))
+    it.setblocking(False)
+    return it
+
+
+def main() -> None:
+    Linux.settings = sys.argv[1:]
+    serve(Linux)
+
+
+if __name__ == "__main__":
+    main()

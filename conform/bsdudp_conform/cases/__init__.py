@@ -1,0 +1,34 @@
+"""The cases: 5,000 by rule, and as many random mixes as are asked for."""
+from __future__ import annotations
+
+from typing import List
+
+from .._case import Case
+from ._addresses import add_addresses
+from ._builder import Builder
+from ._datagrams import add_datagrams
+from ._fragments import add_fragments
+from ._headers import add_headers
+from ._limits import add_limits
+from ._mixes import add_mixes, add_runs
+from ._overlaps import add_overlaps
+from ._users import add_users
+
+MIXES, RUNS = 400, 300
+
+
+def make(seed: int = 1, mixes: int = MIXES) -> List[Case]:
+    """All cases of a seed, in the order of their rules."""
+    to = Builder(seed)
+    for add in (add_headers, add_addresses, add_datagrams, add_fragments, add_overlaps, add_limits, add_users):
+        add(to)
+    add_runs(to, RUNS)
+    add_mixes(to, mixes)
+    return to.cases
+
+
+def make_mixes(seed: int, count: int) -> List[Case]:
+    """Random mixes alone, for a sweep over seeds."""
+    to = Builder(seed)
+    add_mixes(to, count)
+    return to.cases

@@ -1,0 +1,69 @@
+"""How cases are put together."""
+from __future__ import annotations
+
+import itertools
+import random
+from collections import Counter
+from typing import Any, Iterator, List, Optional, Sequence, Tuple, Union
+
+from .._case import Case, Receive, Step, Wait
+from .._packets import packet, pieces, udp
+from .._rules import RULES
+
+Given = Union[bytes, int, Step]
+
+
+class Builder:
+    """Makes cases by rule and random bytes by a seed: the same seed has the same cases."""
+
+    def __init__(self, seed: int) -> None:
+        self.random = random.Random(seed)
+        self.cases: List[Case] = []
+        self._numbers: "Counter[str]" = Counter()
+        self._identifications: Iterator[int] = itertools.cycle(range(0x100, 0xF000))
+
+    def data(self, length: int) -> bytes:
+        """Random bytes."""
+        return (
+            bytes(self.random.randrange(256) for _ in range(length)) if length < 64 else self.random.randbytes(length)
+        )
+
+    @property
+    def id(self) -> int:
+        """A fresh identification."""
+        return next(self._identifications)
+
+    def add(self, rule: str, title: str, steps: Sequence[Given], mtu: int = 1500) -> None:
+        """A case. A step may be given as a packet's bytes, or as milliseconds to wait."""
+        assert rule in RULES, rule
+        self._numbers[rule] += 1
+        self.cases.append(Case(rule, self._numbers[rule], title, tuple(map(step_of, steps)), mtu))
+
+    def one(self, rule: str, title: str, made: bytes) -> None:
+        """A case of a single packet."""
+        self.add(rule, title, [made])
+
+    def cut(self, count: int, last: Optional[int] = None) -> Tuple[List[int], int]:
+        """Where a datagram is cut into so many fragments, and its length."""
+        sizes = [8 * self.random.randint(1, 6) for _ in range(count - 1)]
+        cuts = list(itertools.accumulate(sizes))
+        return cuts, cuts[-1] + (last or self.random.randint(1, 40))
+
+    def halves(self, length: int = 40, **fields: Any) -> List[bytes]:
+        """Two fragments of a datagram of fresh bytes, cut at 24."""
+        return pieces(udp(self.data(length)), [24], id=self.id, **fields)
+
+    def whole(self, length: int = 10, **fields: Any) -> bytes:
+        """A datagram of fresh bytes in one packet."""
+        return packet(udp(self.data(length)), **fields)
+
+
+def step_of(given: Given) -> Step:
+    if isinstance(given, bytes):
+        return Receive(given)
+    return Wait(given) if isinstance(given, int) else given
+
+
+def both_ways(packets: Sequence[bytes]) -> List[Tuple[str, List[bytes]]]:
+    """The same packets forwards and backwards, with the word for it."""
+    return [("forwards", list(packets)), ("backwards", list(packets)[::-1])]

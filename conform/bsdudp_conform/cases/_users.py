@@ -1,0 +1,139 @@
+"""What users do: further sockets, connected ones, and sends."""
+from __future__ import annotations
+
+from typing import List
+
+from .._addresses import BROADCAST, HOST, PEER, PEER2
+from .._case import Connect, Open, Send, Step
+from .._packets import packet, pieces, udp
+from ._builder import Builder, Given
+from ._datagrams import data_with_sum_zero
+
+MTUS = (68, 69, 75, 76, 84, 100, 256, 296, 508, 576, 1006, 1280, 1492, 1500)
+OTHER_PORT = 70
+
+
+def add_users(to: Builder) -> None:
+    add_ports(to)
+    add_connected(to)
+    add_several(to)
+    add_sends(to)
+    add_sums_and_numbers(to)
+
+
+def at(to: Builder, dport: int = 7, source: int = PEER, sport: int = 5000, destination: int = HOST) -> bytes:
+    data = udp(to.data(10), source=source, destination=destination, sport=sport, dport=dport)
+    return packet(data, source=source, destination=destination, id=to.id)
+
+
+def add_ports(to: Builder) -> None:
+    for port in (OTHER_PORT, 8, 6, 0x0700, 0x8007, 65535, 1024):
+        to.add("socket.ports", f"sockets on 7 and {port}, a datagram for each", [Open(1, port), at(to), at(to, port)])
+        to.add("socket.ports", f"sockets on 7 and {port}, a datagram for neither", [Open(1, port), at(to, 9)])
+        halves = pieces(udp(to.data(40), dport=port), [24], id=to.id)
+        to.add("socket.ports", f"sockets on 7 and {port}, fragments for the second", [Open(1, port), *halves])
+    for count in (3, 8):
+        opened: List[Given] = [Open(number, 100 + number) for number in range(1, count)]
+        to.add(
+            "socket.ports",
+            f"{count} sockets, a datagram for each",
+            [*opened, at(to), *[at(to, 100 + it) for it in range(1, count)]],
+        )
+
+
+def add_connected(to: Builder) -> None:
+    joined = Connect(0, PEER, 5000)
+    strangers = {
+        "another address": at(to, source=PEER2),
+        "another port": at(to, sport=5001),
+        "port 0": at(to, sport=0),
+        "both": at(to, source=PEER2, sport=5001),
+    }
+    to.add("socket.connected", "its peer's datagram", [joined, at(to)])
+    to.add("socket.connected", "its peer's broadcast", [joined, at(to, destination=BROADCAST)])
+    for name, stranger in strangers.items():
+        to.add("socket.connected", f"a datagram of a stranger: {name}", [joined, stranger])
+        to.add(
+            "socket.connected", f"a stranger's, its peer's, a stranger's: {name}", [joined, stranger, at(to), stranger]
+        )
+        to.add(
+            "socket.connected", f"a stranger's before it's connected, and after: {name}", [stranger, joined, stranger]
+        )
+    to.add("socket.connected", "its peer's datagram in fragments", [joined, *to.halves()])
+    for how in (1, -1):
+        strange = pieces(udp(to.data(40), source=PEER2), [24], source=PEER2, id=to.id)
+        to.add("socket.connected", "a stranger's datagram in fragments", [joined, *strange[::how]])
+    to.add(
+        "socket.connected",
+        "connected anew: the new peer is heard",
+        [joined, Connect(0, PEER2, 6), at(to, source=PEER2, sport=6)],
+    )
+    to.add("socket.connected", "connected anew: the old peer isn't", [joined, Connect(0, PEER2, 6), at(to)])
+
+
+def add_several(to: Builder) -> None:
+    second: Step = Open(1, 7)
+    to.add("socket.several", "two sockets on the port", [second, at(to)])
+    to.add("socket.several", "two sockets on the port, a broadcast", [second, at(to, destination=BROADCAST)])
+    to.add(
+        "socket.several", "three sockets on the port, a broadcast", [second, Open(2, 7), at(to, destination=BROADCAST)]
+    )
+    for number in (0, 1):
+        joined = Connect(number, PEER, 5000)
+        to.add("socket.several", f"two sockets, number {number} connected, its peer's", [second, joined, at(to)])
+        to.add(
+            "socket.several",
+            f"two sockets, number {number} connected, a stranger's",
+            [second, joined, at(to, source=PEER2)],
+        )
+    to.add(
+        "socket.several",
+        "two sockets, each connected to another peer",
+        [second, Connect(0, PEER, 5000), Connect(1, PEER2, 5000), at(to), at(to, source=PEER2)],
+    )
+
+
+def sent(to: Builder, length: int, address: int = PEER, port: int = 5000) -> Send:
+    return Send(0, address, port, to.data(length))
+
+
+def add_sends(to: Builder) -> None:
+    for length in (*range(40), 99, 100, 101, 207, 208, 209, 547, 548, 1471, 1472):
+        to.add("send.bytes", f"{length} bytes", [sent(to, length)])
+    for mtu in MTUS:
+        most = (mtu - 20) // 8 * 8
+        around = {mtu - 28 + more for more in (-1, 0, 1)} | {
+            most * count - 8 + more for count in (1, 2, 3, 5, 9) for more in (-1, 0, 1)
+        }
+        for length in sorted(it for it in around if it >= 0):
+            to.add("send.cut", f"{length} bytes at MTU {mtu}", [sent(to, length)], mtu)
+    for mtu, length in (
+        (1500, 9216),
+        (1500, 9217),
+        (1500, 30000),
+        (1500, 65507),
+        (576, 9216),
+        (296, 9216),
+        (68, 2392),
+        (68, 9216),
+    ):
+        to.add("send.cut", f"{length} bytes at MTU {mtu}", [sent(to, length)], mtu)
+    for mtu in range(68, 1500, 61):
+        to.add("send.cut", f"3000 bytes at MTU {mtu}", [sent(to, 3000)], mtu)
+
+
+def add_sums_and_numbers(to: Builder) -> None:
+    for size in (2, 3, 8, 100, 1001):
+        data = data_with_sum_zero(size, HOST, PEER, 7, 5000)
+        to.add("send.checksum", f"{size} bytes with a checksum computed as 0", [Send(0, PEER, 5000, data)])
+    for size in (3000, 2001):
+        data = data_with_sum_zero(size, HOST, PEER, 7, 5000)
+        to.add("send.checksum", f"{size} bytes with a checksum computed as 0, cut", [Send(0, PEER, 5000, data)], 576)
+    for size in (0, 1, 10):
+        to.add("send.checksum", f"{size} bytes", [sent(to, size)])
+    for count in (2, 5, 20):
+        to.add("send.id", f"{count} cut sends", [sent(to, 2000 + it) for it in range(count)])
+        to.add("send.id", f"{count} cut sends of the same bytes", [sent(to, 2000)] * count)
+    to.add("send.bytes", "a send between two packets that come", [at(to), sent(to, 10), at(to)])
+    to.add("send.bytes", "a connected socket sends", [Connect(0, PEER, 5000), sent(to, 10), at(to)])
+    to.add("send.bytes", "sends to two others", [sent(to, 10), sent(to, 10, PEER2, 6), sent(to, 10, PEER, 65535)])
