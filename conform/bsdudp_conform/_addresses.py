@@ -4,6 +4,8 @@ from __future__ import annotations
 import ipaddress
 import os
 
+from ._target import TARGET
+
 
 def address(text: str) -> int:
     """An IPv4 address as a number. ValueError if the text is none."""
@@ -16,8 +18,7 @@ def text_of(number: int) -> str:
 
 
 # Who is on the wire of a case: the stack is HOST, on a network of 24 bits. A device on a wire may have another address
-# than 10.0.0.1: `bsdudp-conform wire` names it here before any case is made.
-TARGET = "BSDUDP_CONFORM_TARGET"
+# than 10.0.0.1: `bsdudp-conform wire` names it in the environment.
 HOST = address(os.environ.get(TARGET, "10.0.0.1"))
 ZERO_BROADCAST = HOST & 0xFFFFFF00
 BROADCAST = ZERO_BROADCAST | 0xFF

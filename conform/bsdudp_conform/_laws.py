@@ -89,8 +89,8 @@ class Seen:
         for count in (1, 2, 3):
             for omitted in itertools.combinations(CHECKS, count):
                 if self.carries(got, frozenset(omitted)):
-                    return f"against {' and '.join(omitted)}"
-        return "bytes that nobody sent"
+                    return f", as if {' and '.join(omitted)} weren't looked at"
+        return " that nobody sent"
 
     def carries(self, got: Got, omitted: FrozenSet[str]) -> bool:
         """Whether the packets up to a step carry the datagram, if these checks are omitted."""

@@ -2,6 +2,7 @@
 from __future__ import annotations
 
 import argparse
+import ipaddress
 import os
 import pathlib
 import re
@@ -10,7 +11,7 @@ import shutil
 import sys
 from typing import TYPE_CHECKING, Dict, List, Optional, Sequence, Set, Tuple
 
-from ._addresses import TARGET
+from ._target import TARGET
 
 if TYPE_CHECKING:
     from ._case import Case
@@ -129,6 +130,8 @@ def main(argv: Optional[Sequence[str]] = None) -> int:
     if words.what == "template":
         return template(pathlib.Path(words.folder))
     if words.what == "wire":
+        if not is_device(words.target):
+            top.error(f"--target is the address of a device on a network of 24 bits, and not {words.target}")
         os.environ[TARGET] = words.target
     elif words.what == "run" and not words.list and not commands_of(words):
         top.error(
@@ -204,6 +207,15 @@ def for_one_device(chosen: "List[Case]") -> "List[Case]":
             found.append(case)
             used |= keys
     return found
+
+
+def is_device(text: str) -> bool:
+    """Whether a text is the address of one host."""
+    try:
+        number = int(ipaddress.IPv4Address(text))
+    except ValueError:
+        return False
+    return 0 < number >> 24 < 0xE0 and number >> 24 != 127 and 0 < number % 256 < 255
 
 
 def can_open_raw() -> bool:

@@ -94,7 +94,7 @@ def by_laws(case: Case, seen: Seen, answer: Answer) -> List[Breach]:
             words = f"a connected socket gets {len(got.data)} bytes {fault}"
             found.append(Breach(MUST, "socket.connected", words, got.step, "its peer's datagrams alone"))
         elif fault:
-            words = f"{len(got.data)} bytes reach the user {fault}"
+            words = f"{len(got.data)} bytes reach the user{fault}"
             found.append(Breach(NEVER, case.rule, words, got.step, "nothing that the packets don't carry"))
     left = list(answer.got)
     for promise in seen.promises():
