@@ -1,6 +1,7 @@
 """The report as text, and as JUnit's XML."""
 from __future__ import annotations
 
+import sys
 import textwrap
 import xml.etree.ElementTree as ElementTree
 from collections import Counter
@@ -148,5 +149,6 @@ def junit(stacks: Sequence[Judged], known: Known) -> str:
                     test, "failure" if case.name in new else "skipped", message=f"{it.breach.level}: {it.breach.what}"
                 )
                 tag.text = f"{it.breach.rule}: {rule.sentence} ({rule.source}); expected: {it.breach.expected}"
-    ElementTree.indent(top)
+    if sys.version_info >= (3, 9):
+        ElementTree.indent(top)
     return ElementTree.tostring(top, encoding="unicode", xml_declaration=True) + "\n"

@@ -23,10 +23,10 @@ class Builder:
         self._identifications: Iterator[int] = itertools.cycle(range(0x100, 0xF000))
 
     def data(self, length: int) -> bytes:
-        """Random bytes."""
-        return (
-            bytes(self.random.randrange(256) for _ in range(length)) if length < 64 else self.random.randbytes(length)
-        )
+        """Random bytes: many of them at once, since that's faster."""
+        if length < 64:
+            return bytes(self.random.randrange(256) for _ in range(length))
+        return self.random.getrandbits(8 * length).to_bytes(length, "little")
 
     @property
     def id(self) -> int:
