@@ -1,0 +1,235 @@
+// ns-3's applications over bsdudp and over ns-3's own stack, in one process: the processor time of echoes and of a
+// hundred nodes, in rounds that alternate, and how memory grows with the nodes, in a process for each row. ROUNDS names
+// more or fewer rounds than 5.
+
+#include "ns3/applications-module.h"
+#include "ns3/bsdudp-module.h"
+#include "ns3/core-module.h"
+#include "ns3/internet-module.h"
+#include "ns3/network-module.h"
+#include "ns3/point-to-point-module.h"
+
+#include <algorithm>
+#include <cstdio>
+#include <cstdlib>
+#include <functional>
+#include <sys/resource.h>
+#include <sys/wait.h>
+#include <unistd.h>
+#include <vector>
+
+using namespace ns3;
+
+namespace
+{
+
+/// Installs one of the two stacks, with addresses of a network.
+void
+Install(bool ours, const NodeContainer& nodes, const NetDeviceContainer& devices, Ipv4AddressHelper& addresses)
+{
+    if (ours)
+    {
+        BsdudpHelper().Install(nodes, devices, addresses);
+        return;
+    }
+    InternetStackHelper().Install(nodes);
+    addresses.Assign(devices);
+}
+
+/// Echoes between the two nodes of so many pairs; answers how many came back.
+uint64_t
+Echoes(bool ours, uint32_t pairs, uint32_t echoes, uint32_t size)
+{
+    uint64_t back = 0;
+    Ipv4AddressHelper addresses("10.1.0.0", "255.255.255.0");
+    PointToPointHelper link;
+    link.SetDeviceAttribute("DataRate", StringValue("100Mbps"));
+    for (uint32_t i = 0; i < pairs; i++)
+    {
+        NodeContainer nodes;
+        nodes.Create(2);
+        auto devices = link.Install(nodes);
+        Install(ours, nodes, devices, addresses);
+        addresses.NewNetwork();
+        UdpEchoServerHelper(7).Install(nodes.Get(1));
+        UdpEchoClientHelper client(Ipv4Address(Ipv4Address("10.1.0.2").Get() + 256 * i), 7);
+        client.SetAttribute("MaxPackets", UintegerValue(echoes));
+        client.SetAttribute("Interval", TimeValue(MilliSeconds(5)));
+        client.SetAttribute("PacketSize", UintegerValue(size));
+        auto apps = client.Install(nodes.Get(0));
+        apps.Get(0)->TraceConnectWithoutContext(
+            "Rx", Callback<void, Ptr<const Packet>>([&back](Ptr<const Packet>) { back++; }));
+    }
+    Simulator::Run();
+    Simulator::Destroy();
+    return back;
+}
+
+/// A hundred nodes on one channel, as in the example bsdudp-hundred, without loss; answers how many datagrams came.
+uint64_t
+Hundred(bool ours)
+{
+    const uint32_t count = 100;
+    NodeContainer nodes;
+    nodes.Create(count);
+    SimpleNetDeviceHelper simple;
+    simple.SetNetDevicePointToPointMode(true);
+    simple.SetDeviceAttribute("DataRate", StringValue("100Mbps"));
+    auto devices = simple.Install(nodes);
+    for (uint32_t i = 0; i < count; i++)
+    {
+        devices.Get(i)->SetMtu(1500);
+    }
+    Ipv4AddressHelper addresses("10.1.0.0", "255.255.255.0");
+    Install(ours, nodes, devices, addresses);
+    auto servers = UdpServerHelper(4000).Install(nodes);
+    for (uint32_t i = 0; i < count; i++)
+    {
+        UdpClientHelper client(Ipv4Address(Ipv4Address("10.1.0.1").Get() + (i + count / 2) % count), 4000);
+        client.SetAttribute("MaxPackets", UintegerValue(5));
+        client.SetAttribute("Interval", TimeValue(MilliSeconds(500)));
+        client.SetAttribute("PacketSize", UintegerValue(4000));
+        client.Install(nodes.Get(i)).Start(Seconds(1) + MilliSeconds(5 * i));
+    }
+    Simulator::Run();
+    uint64_t received = 0;
+    for (auto it = servers.Begin(); it != servers.End(); ++it)
+    {
+        received += DynamicCast<UdpServer>(*it)->GetReceived();
+    }
+    Simulator::Destroy();
+    return received;
+}
+
+/// The processor time of this process in user mode, in milliseconds.
+double
+UserTime()
+{
+    rusage usage;
+    getrusage(RUSAGE_SELF, &usage);
+    return usage.ru_utime.tv_sec * 1e3 + usage.ru_utime.tv_usec / 1e3;
+}
+
+/// Prints the least time of each stack, and their ratio.
+void
+Compare(const char* name, uint64_t wanted, int rounds, const std::function<uint64_t(bool)>& run)
+{
+    double least[2] = {1e30, 1e30};
+    for (int round = 0; round < rounds; round++)
+    {
+        for (const bool ours : {true, false})
+        {
+            const double before = UserTime();
+            const uint64_t came = run(ours);
+            least[ours] = std::min(least[ours], UserTime() - before);
+            if (came != wanted)
+            {
+                std::fprintf(stderr, "%s: %llu came\n", name, static_cast<unsigned long long>(came));
+                std::exit(1);
+            }
+        }
+    }
+    std::printf("%-46s %10.0f %12.0f %8.2f\n", name, least[1], least[0], least[1] / least[0]);
+    std::fflush(stdout);
+}
+
+/// What the nodes of a row have.
+enum Kind
+{
+    DEVICES,
+    OWN,
+    SMALL,
+    DEFAULT,
+};
+
+/// The resident memory of a process with so many nodes, in bytes.
+double
+Resident(uint32_t count, Kind kind)
+{
+    int ends[2];
+    long pages = 0;
+    if (pipe(ends) != 0)
+    {
+        std::exit(1);
+    }
+    if (fork() == 0)
+    {
+        NodeContainer nodes;
+        NetDeviceContainer devices;
+        nodes.Create(count);
+        PointToPointHelper link;
+        for (uint32_t i = 0; i < count; i += 2)
+        {
+            devices.Add(link.Install(nodes.Get(i), nodes.Get(i + 1)));
+        }
+        Ipv4AddressHelper addresses("10.0.0.0", "255.255.0.0");
+        if (kind == SMALL)
+        {
+            Config::SetDefault("ns3::BsdudpStack::Mbufs", UintegerValue(64));
+            Config::SetDefault("ns3::BsdudpStack::Clusters", UintegerValue(16));
+        }
+        if (kind != DEVICES)
+        {
+            Install(kind != OWN, nodes, devices, addresses);
+        }
+        long all = 0;
+        FILE* file = std::fopen("/proc/self/statm", "r");
+        const bool read = file && std::fscanf(file, "%ld %ld", &all, &pages) == 2;
+        _exit(read && write(ends[1], &pages, sizeof pages) == sizeof pages ? 0 : 1);
+    }
+    const bool told = read(ends[0], &pages, sizeof pages) == sizeof pages;
+    int status = 0;
+    wait(&status);
+    close(ends[0]);
+    close(ends[1]);
+    if (!told || status != 0)
+    {
+        std::exit(1);
+    }
+    return static_cast<double>(pages) * sysconf(_SC_PAGESIZE);
+}
+
+} // namespace
+
+int
+main()
+{
+    const char* named = std::getenv("ROUNDS");
+    const int rounds = named ? std::atoi(named) : 5;
+    GlobalValue::Bind("ChecksumEnabled", BooleanValue(true));
+    // else each node would forward what it hears on the one channel
+    Config::SetDefault("ns3::Ipv4::IpForward", BooleanValue(false));
+
+    std::printf("%-46s %10s %12s %8s\n", "memory of a node, in KB, beside its device", "100 nodes", "1,000 nodes", "");
+    const struct
+    {
+        const char* name;
+        Kind kind;
+    } rows[] = {{"ns-3's own", OWN},
+                {"bsdudp, 64 mbufs, 16 clusters", SMALL},
+                {"bsdudp, 512 mbufs, 64 clusters", DEFAULT}};
+    for (const auto& row : rows)
+    {
+        double each[2];
+        const uint32_t counts[2] = {100, 1000};
+        for (int i = 0; i < 2; i++)
+        {
+            each[i] = (Resident(counts[i], row.kind) - Resident(counts[i], DEVICES)) / counts[i] / 1e3;
+        }
+        std::printf("%-46s %10.1f %12.1f\n", row.name, each[0], each[1]);
+        std::fflush(stdout);
+    }
+
+    std::printf("%-46s %10s %12s %8s\n", "milliseconds of user time, the least", "bsdudp", "ns-3's own", "ratio");
+    for (const uint32_t size : {2, 1000, 9000})
+    {
+        char name[64];
+        std::snprintf(name, sizeof name, "20,000 echoes of %u bytes", size);
+        Compare(name, 20000, rounds, [size](bool ours) { return Echoes(ours, 1, 20000, size); });
+    }
+    Compare("50 pairs, 400 echoes of 1,000 bytes each", 20000, rounds, [](bool ours) {
+        return Echoes(ours, 50, 400, 1000);
+    });
+    Compare("100 nodes on a channel, 500 of 4,000 bytes", 500, rounds, Hundred);
+    return 0;
+}

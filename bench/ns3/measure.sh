@@ -1,0 +1,19 @@
+# ns-3's applications over bsdudp beside ns-3's own stack, as Debian compiles it.
+
+measure_ns3() { # WORK
+    local work="$1" top="$bench/.." flags
+    if ! command -v cmake > "$work/ns3.log" || ! pkg-config --exists ns3-applications ns3-point-to-point gsl; then
+        echo "skipped: it wants cmake, pkg-config, libns3-dev and libgsl-dev"
+        return
+    fi
+    "$top/capi/install" "$work/prefix"
+    export PKG_CONFIG_PATH="$work/prefix/lib/pkgconfig"
+    cmake -S "$top/simulators/ns3" -B "$work/build" -DBSDUDP_EXAMPLES=OFF -DCMAKE_INSTALL_PREFIX="$work/prefix" \
+        -DCMAKE_INSTALL_LIBDIR=lib > "$work/ns3.log"
+    cmake --build "$work/build" -j > "$work/ns3.log"
+    cmake --install "$work/build" > "$work/ns3.log"
+    read -ra flags <<< "$(pkg-config --cflags --libs ns3-bsdudp ns3-point-to-point ns3-applications)"
+    "${CXX:-c++}" -std=c++17 -O2 -Wall -Wextra "$bench/ns3/bench.cc" "${flags[@]}" "-Wl,-rpath,$work/prefix/lib" \
+        -o "$work/bench"
+    "$work/bench"
+}

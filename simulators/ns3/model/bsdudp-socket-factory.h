@@ -1,0 +1,70 @@
+/*
+ * Copyright (c) 2026 The bsdudp authors
+ *
+ * SPDX-License-Identifier: BSD-2-Clause
+ */
+#ifndef BSDUDP_SOCKET_FACTORY_H
+#define BSDUDP_SOCKET_FACTORY_H
+
+#include "ns3/ipv4-raw-socket-factory.h"
+#include "ns3/tcp-socket-factory.h"
+#include "ns3/udp-socket-factory.h"
+
+namespace ns3
+{
+
+/**
+ * \ingroup bsdudp
+ *
+ * \brief A node's UdpSocketFactory: applications that ask for one get sockets of its BsdudpStack.
+ */
+class BsdudpSocketFactory : public UdpSocketFactory
+{
+  public:
+    /**
+     * \brief Get the type ID.
+     * \return the object TypeId
+     */
+    static TypeId GetTypeId();
+
+    Ptr<Socket> CreateSocket() override;
+};
+
+/**
+ * \ingroup bsdudp
+ *
+ * \brief Stands for the factory of TCP, which the stack hasn't: an application that asks for a
+ * socket (BulkSendApplication) ends the program with a message in place of a null pointer.
+ */
+class BsdudpNoTcp : public TcpSocketFactory
+{
+  public:
+    /**
+     * \brief Get the type ID.
+     * \return the object TypeId
+     */
+    static TypeId GetTypeId();
+
+    Ptr<Socket> CreateSocket() override;
+};
+
+/**
+ * \ingroup bsdudp
+ *
+ * \brief Stands for the factory of raw sockets, which the stack hasn't, in the same way (V4Ping).
+ */
+class BsdudpNoRaw : public Ipv4RawSocketFactory
+{
+  public:
+    /**
+     * \brief Get the type ID.
+     * \return the object TypeId
+     */
+    static TypeId GetTypeId();
+
+    Ptr<Socket> CreateSocket() override;
+};
+
+} // namespace ns3
+
+#endif /* BSDUDP_SOCKET_FACTORY_H */

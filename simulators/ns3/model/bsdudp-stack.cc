@@ -1,0 +1,572 @@
+/*
+ * Copyright (c) 2026 The bsdudp authors
+ *
+ * SPDX-License-Identifier: BSD-2-Clause
+ */
+#include "bsdudp-stack.h"
+
+#include "bsdudp-log.h"
+#include "bsdudp-socket.h"
+
+#include "ns3/abort.h"
+#include "ns3/ipv4-header.h"
+#include "ns3/ipv4-l3-protocol.h"
+#include "ns3/ipv4.h"
+#include "ns3/simulator.h"
+#include "ns3/udp-header.h"
+#include "ns3/udp-l4-protocol.h"
+#include "ns3/uinteger.h"
+
+#include <algorithm>
+#include <cstring>
+#include <sstream>
+
+namespace ns3
+{
+
+NS_OBJECT_ENSURE_REGISTERED(BsdudpStack);
+
+LogComponent&
+GetBsdudpLog()
+{
+    static LogComponent log("bsdudp", __FILE__);
+    return log;
+}
+
+namespace
+{
+
+/// The MTUs that the library takes.
+constexpr uint16_t LEAST_MTU = 68;
+constexpr uint16_t GREATEST_MTU = BSDUDP_TX_ROOM;
+
+/// The bytes of a UDP header.
+constexpr uint32_t UDP_LENGTH = 8;
+
+/// What is told of a counter of something dropped.
+const std::map<std::string, std::string> CAUSES = {
+    {"ip.toosmall", "packet shorter than a header"},
+    {"ip.badvers", "wrong version"},
+    {"ip.badhlen", "header length too small"},
+    {"ip.options", "options are not taken"},
+    {"ip.badsum", "wrong header checksum"},
+    {"ip.badlen", "total length too small"},
+    {"ip.tooshort", "packet shorter than its total length"},
+    {"ip.cantforward", "not addressed to this machine"},
+    {"ip.badfrag", "malformed fragment"},
+    {"ip.fragdropped", "fragment held already"},
+    {"ip.fragtimeout", "fragments missing for 60 ticks"},
+    {"ip.reclaimed", "unfinished datagram given up for its buffers"},
+    {"ip.noproto", "unknown protocol"},
+    {"udp.hdrops", "datagram shorter than a header"},
+    {"udp.badlen", "wrong datagram length"},
+    {"udp.badsum", "wrong datagram checksum"},
+    {"udp.noport", "no socket has the port"},
+    {"udp.noportbcast", "no socket has the port of the broadcast"},
+    {"udp.fullsock", "receive queue full"},
+    {"out.dropped", "output queue full"},
+    {"nobufs", "no buffer space available"},
+};
+
+/// The number of a counter; BSDUDP_COUNTERS if there is none of this name.
+uint32_t
+FindCounter(const std::string& name)
+{
+    uint32_t i = 0;
+    while (i < BSDUDP_COUNTERS && name != bsdudp_counter_name(i))
+    {
+        i++;
+    }
+    return i;
+}
+
+/// What Drop tells of each counter: its name and what it counts, empty of one that isn't of
+/// something dropped.
+const std::array<std::string, BSDUDP_COUNTERS>&
+GetCauses()
+{
+    static const auto causes = [] {
+        std::array<std::string, BSDUDP_COUNTERS> told;
+        for (const auto& [name, words] : CAUSES)
+        {
+            told.at(FindCounter(name)) = name + ": " + words;
+        }
+        return told;
+    }();
+    return causes;
+}
+
+/// Bytes that a call is given or gives. They're read before anything else is called.
+std::vector<uint8_t>&
+GetRoom(std::size_t length)
+{
+    static std::vector<uint8_t> room(BSDUDP_PACKET);
+    if (room.size() < length)
+    {
+        room.resize(length);
+    }
+    return room;
+}
+
+} // namespace
+
+TypeId
+BsdudpStack::GetTypeId()
+{
+    static TypeId tid =
+        TypeId("ns3::BsdudpStack")
+            .SetParent<Object>()
+            .SetGroupName("Internet")
+            .AddConstructor<BsdudpStack>()
+            .AddAttribute("Mbufs",
+                          "How many mbufs of 128 bytes the pool has.",
+                          UintegerValue(512),
+                          MakeUintegerAccessor(&BsdudpStack::m_mbufs),
+                          MakeUintegerChecker<uint32_t>(1, 65535))
+            .AddAttribute("Clusters",
+                          "How many clusters of 2,048 bytes the pool has.",
+                          UintegerValue(64),
+                          MakeUintegerAccessor(&BsdudpStack::m_clusters),
+                          MakeUintegerChecker<uint32_t>(0, 4096))
+            .AddAttribute("FirstId",
+                          "The IP identification of the first datagram.",
+                          UintegerValue(1),
+                          MakeUintegerAccessor(&BsdudpStack::m_firstId),
+                          MakeUintegerChecker<uint16_t>())
+            .AddAttribute("Tick",
+                          "The time between two ticks. After 60 of them a datagram that lacks "
+                          "fragments is dropped.",
+                          TimeValue(MilliSeconds(500)),
+                          MakeTimeAccessor(&BsdudpStack::m_tick),
+                          MakeTimeChecker(TimeStep(1)))
+            .AddTraceSource("Tx",
+                            "A packet leaves by the device.",
+                            MakeTraceSourceAccessor(&BsdudpStack::m_txTrace),
+                            "ns3::BsdudpStack::PacketTracedCallback")
+            .AddTraceSource("Rx",
+                            "A packet came from the device.",
+                            MakeTraceSourceAccessor(&BsdudpStack::m_rxTrace),
+                            "ns3::BsdudpStack::PacketTracedCallback")
+            .AddTraceSource("Drop",
+                            "A packet or a datagram was dropped, with the cause.",
+                            MakeTraceSourceAccessor(&BsdudpStack::m_dropTrace),
+                            "ns3::BsdudpStack::DropTracedCallback")
+            .AddTraceSource("Delivered",
+                            "A datagram waits in a socket.",
+                            MakeTraceSourceAccessor(&BsdudpStack::m_deliveredTrace),
+                            "ns3::BsdudpStack::DeliveredTracedCallback")
+            .AddTraceSource("Unfinished",
+                            "How many datagrams wait for fragments.",
+                            MakeTraceSourceAccessor(&BsdudpStack::m_unfinished),
+                            "ns3::TracedValueCallback::Uint32");
+    return tid;
+}
+
+BsdudpStack::~BsdudpStack()
+{
+    bsdudp_end(&m_stack);
+}
+
+std::string
+BsdudpStack::GetRefusal(Ptr<NetDevice> device)
+{
+    std::ostringstream reason;
+    if (!device->GetNode())
+    {
+        reason << "it has no node";
+    }
+    else if (device->NeedsArp())
+    {
+        reason << "a " << device->GetInstanceTypeId().GetName()
+               << " needs ARP, which this stack hasn't: use point-to-point devices, or "
+                  "ns3::SimpleNetDevice with PointToPointMode. CSMA and Wi-Fi aren't supported";
+    }
+    else if (device->GetMtu() < LEAST_MTU || device->GetMtu() > GREATEST_MTU)
+    {
+        reason << "its MTU is " << device->GetMtu() << ": set one of " << LEAST_MTU << " to "
+               << GREATEST_MTU << " before the stack is installed";
+    }
+    return reason.str();
+}
+
+void
+BsdudpStack::Start(Ptr<NetDevice> device, Ipv4Address address, Ipv4Mask mask)
+{
+    NS_LOG_FUNCTION(this << device << address << mask);
+    const std::string refusal = GetRefusal(device);
+    NS_ABORT_MSG_UNLESS(refusal.empty(), "bsdudp: no stack for this device: " << refusal);
+    NS_ABORT_MSG_IF(m_device, "bsdudp: the stack was started before");
+    m_address = address;
+    m_broadcast = address.GetSubnetDirectedBroadcast(mask);
+    const bsdudp_config config =
+        {m_address.Get(), m_broadcast.Get(), m_mbufs, m_clusters, device->GetMtu(), m_firstId};
+    const int answer = bsdudp_boot(&m_stack, &config);
+    NS_ABORT_MSG_IF(answer == -BSDUDP_EINVAL,
+                    "bsdudp: " << address << " with the broadcast address " << m_broadcast
+                               << " can't be the address of a stack: both have to be of 1.0.0.0 to "
+                                  "223.255.255.255, not in 127.0.0.0/8, and not the same");
+    NS_ABORT_MSG_IF(answer != 0, "bsdudp: no stack: " << bsdudp_strerror(answer));
+    m_device = device;
+    m_node = device->GetNode();
+    m_start = Simulator::Now();
+    m_node->RegisterProtocolHandler(MakeCallback(&BsdudpStack::Receive, this),
+                                    Ipv4L3Protocol::PROT_NUMBER,
+                                    device);
+}
+
+void
+BsdudpStack::DoDispose()
+{
+    NS_LOG_FUNCTION(this);
+    m_tickEvent.Cancel();
+    if (m_node)
+    {
+        m_node->UnregisterProtocolHandler(MakeCallback(&BsdudpStack::Receive, this));
+    }
+    while (!m_sockets.empty())
+    {
+        m_sockets.begin()->second->Close();
+    }
+    m_fragments.Clear();
+    bsdudp_end(&m_stack);
+    m_device = nullptr;
+    m_node = nullptr;
+    Object::DoDispose();
+}
+
+void
+BsdudpStack::NotifyNewAggregate()
+{
+    NS_ABORT_MSG_IF(GetObject<Ipv4>() || GetObject<UdpL4Protocol>(),
+                    "bsdudp: a node with a bsdudp stack was given ns-3's own, too: leave its "
+                    "InternetStackHelper out");
+    Object::NotifyNewAggregate();
+}
+
+Ptr<Socket>
+BsdudpStack::CreateSocket()
+{
+    NS_LOG_FUNCTION(this);
+    auto socket = CreateObject<BsdudpSocket>();
+    socket->Open(this);
+    return socket;
+}
+
+Ptr<NetDevice>
+BsdudpStack::GetDevice() const
+{
+    return m_device;
+}
+
+Ipv4Address
+BsdudpStack::GetAddress() const
+{
+    return m_address;
+}
+
+Ipv4Address
+BsdudpStack::GetBroadcast() const
+{
+    return m_broadcast;
+}
+
+BsdudpStack::Counts
+BsdudpStack::ReadCounts() const
+{
+    Counts counts{};
+    for (uint32_t i = 0; i < COUNTERS; i++)
+    {
+        bsdudp_counter(&m_stack, i, &counts[i]);
+    }
+    return counts;
+}
+
+std::map<std::string, uint64_t>
+BsdudpStack::GetCounters() const
+{
+    const Counts counts = ReadCounts();
+    std::map<std::string, uint64_t> named;
+    for (uint32_t i = 0; i < COUNTERS; i++)
+    {
+        named[bsdudp_counter_name(i)] = counts[i];
+    }
+    return named;
+}
+
+uint64_t
+BsdudpStack::GetCounter(const std::string& name) const
+{
+    uint64_t value = 0;
+    const uint32_t which = FindCounter(name);
+    NS_ABORT_MSG_IF(which == COUNTERS, "bsdudp: no counter is called " << name);
+    bsdudp_counter(&m_stack, which, &value);
+    return value;
+}
+
+struct bsdudp_mbstat
+BsdudpStack::GetUsage() const
+{
+    struct bsdudp_mbstat usage = {};
+    bsdudp_mbstat(&m_stack, &usage);
+    return usage;
+}
+
+uint32_t
+BsdudpStack::GetUnfinished() const
+{
+    return m_unfinished;
+}
+
+int
+BsdudpStack::Send(int fd, const bsdudp_addr* to, Ptr<Packet> packet)
+{
+    NS_LOG_FUNCTION(this << fd << packet);
+    const uint32_t length = packet->GetSize();
+    const Before before = ReadBefore();
+    std::vector<uint8_t>& room = GetRoom(length);
+    packet->CopyData(room.data(), length);
+    const int answer = to ? bsdudp_sendto(&m_stack, fd, to, room.data(), length)
+                          : bsdudp_send(&m_stack, fd, room.data(), length);
+    const auto leaving = TakePackets(packet);
+    const auto readers = NoteArrivals(packet, packet->Copy(), 0);
+    Settle(packet, before);
+    for (const auto& it : leaving)
+    {
+        Transmit(it);
+    }
+    // as by ns-3's own loopback device, so that two sockets of a node don't call each other deeper
+    // and deeper
+    for (const auto& socket : readers)
+    {
+        Simulator::ScheduleNow(&BsdudpSocket::Wake, socket);
+    }
+    return answer;
+}
+
+bool
+BsdudpStack::HasBytes(Ptr<const Packet> packet, const uint8_t* bytes, uint32_t length)
+{
+    static std::vector<uint8_t> room(BSDUDP_PACKET);
+    return packet->GetSize() == length && packet->CopyData(room.data(), length) == length &&
+           std::memcmp(room.data(), bytes, length) == 0;
+}
+
+Ptr<Packet>
+BsdudpStack::Cut(Ptr<Packet> datagram, const uint8_t* bytes, uint32_t length)
+{
+    const BsdudpHeader header(bytes);
+    if (header.offset + header.length <= datagram->GetSize())
+    {
+        Ipv4Header ip;
+        ip.EnableChecksum();
+        ip.SetSource(Ipv4Address(std::get<0>(header.key)));
+        ip.SetDestination(Ipv4Address(std::get<1>(header.key)));
+        ip.SetIdentification(std::get<2>(header.key));
+        ip.SetProtocol(std::get<3>(header.key));
+        ip.SetTtl(bytes[8]);
+        ip.SetFragmentOffset(header.offset);
+        header.more ? ip.SetMoreFragments() : ip.SetLastFragment();
+        ip.SetPayloadSize(header.length);
+        Ptr<Packet> cut =
+            header.IsFragment() ? datagram->CreateFragment(header.offset, header.length) : datagram;
+        cut->AddHeader(ip);
+        if (HasBytes(cut, bytes, length))
+        {
+            return cut;
+        }
+    }
+    NS_LOG_WARN("a packet of " << length << " bytes leaves without its tags");
+    return Create<Packet>(bytes, length);
+}
+
+std::vector<Ptr<Packet>>
+BsdudpStack::TakePackets(Ptr<const Packet> packet)
+{
+    std::vector<Ptr<Packet>> leaving;
+    uint8_t* bytes = GetRoom(BSDUDP_TX_ROOM).data();
+    Ptr<Packet> datagram;
+    int length;
+    while ((length = bsdudp_tx(&m_stack, bytes, BSDUDP_TX_ROOM)) > 0)
+    {
+        if (!datagram)
+        {
+            UdpHeader udp;
+            udp.SetSourcePort(bytes[20] << 8 | bytes[21]);
+            udp.SetDestinationPort(bytes[22] << 8 | bytes[23]);
+            udp.ForceChecksum(bytes[27] << 8 | bytes[26]); // it's written low byte first
+            datagram = packet->Copy();
+            datagram->AddHeader(udp);
+        }
+        leaving.push_back(Cut(datagram, bytes, length));
+    }
+    return leaving;
+}
+
+void
+BsdudpStack::Transmit(Ptr<Packet> packet)
+{
+    m_txTrace(packet);
+    // the device may change a packet that it takes
+    if (!m_device->Send(packet, m_device->GetBroadcast(), Ipv4L3Protocol::PROT_NUMBER))
+    {
+        NS_LOG_INFO("the device refused a packet of " << packet->GetSize() << " bytes");
+        m_dropTrace(packet, "device: it refused the packet, its queue is full or its link is down");
+    }
+}
+
+void
+BsdudpStack::Receive(Ptr<NetDevice> device,
+                     Ptr<const Packet> packet,
+                     uint16_t protocol,
+                     const Address& from,
+                     const Address& to,
+                     NetDevice::PacketType type)
+{
+    NS_LOG_FUNCTION(this << packet << protocol << from << to << type);
+    m_rxTrace(packet);
+    const uint32_t length = std::min<uint32_t>(packet->GetSize(), BSDUDP_PACKET);
+    std::vector<uint8_t>& room = GetRoom(length);
+    packet->CopyData(room.data(), length);
+    // a header that the library refuses may say anything: then no counter of fragments goes up
+    if (length < BsdudpHeader::LENGTH)
+    {
+        std::fill_n(room.begin() + length, BsdudpHeader::LENGTH - length, 0);
+    }
+    const BsdudpHeader header(room.data());
+    const Before before = ReadBefore();
+    const FragmentCounts fragments = ReadFragmentCounts(header);
+    bsdudp_rx(&m_stack, room.data(), length);
+    Ptr<const Packet> datagram = packet;
+    uint32_t start = BsdudpHeader::LENGTH + UDP_LENGTH;
+    if (header.IsFragment())
+    {
+        const FragmentCounts now = ReadFragmentCounts(header);
+        const bool joined = now[REASSEMBLED] != fragments[REASSEMBLED];
+        if (joined || (now[FRAGMENTS] != fragments[FRAGMENTS] &&
+                       now[HELD_ALREADY] == fragments[HELD_ALREADY] &&
+                       now[NO_BUFFERS] == fragments[NO_BUFFERS]))
+        {
+            m_fragments.Add(header, packet);
+        }
+        datagram = joined ? m_fragments.Join(header.key) : nullptr;
+        start = UDP_LENGTH;
+    }
+    const auto readers = NoteArrivals(packet, datagram, start);
+    Settle(packet, before);
+    for (const auto& socket : readers)
+    {
+        socket->Wake();
+    }
+}
+
+std::vector<Ptr<BsdudpSocket>>
+BsdudpStack::NoteArrivals(Ptr<const Packet> packet, Ptr<const Packet> datagram, uint32_t start)
+{
+    std::vector<Ptr<BsdudpSocket>> readers;
+    uint64_t readable = 0;
+    bsdudp_readable(&m_stack, &readable);
+    for (int fd = BSDUDP_FIRST_FD; readable != 0; fd++, readable >>= 1)
+    {
+        if ((readable & 1) != 0)
+        {
+            Ptr<BsdudpSocket> socket = m_sockets.at(fd);
+            if (socket->NoteArrival(datagram, start))
+            {
+                readers.push_back(socket);
+            }
+        }
+    }
+    for (const auto& socket : readers)
+    {
+        NS_LOG_INFO("a datagram waits in descriptor " << socket->m_fd);
+        m_deliveredTrace(packet, socket);
+    }
+    return readers;
+}
+
+BsdudpStack::Before
+BsdudpStack::ReadBefore() const
+{
+    Before before{!m_dropTrace.IsEmpty() || g_log.IsEnabled(LOG_INFO), {}};
+    if (before.read)
+    {
+        before.counts = ReadCounts();
+    }
+    return before;
+}
+
+BsdudpStack::FragmentCounts
+BsdudpStack::ReadFragmentCounts(const BsdudpHeader& header) const
+{
+    static const FragmentCounts which = {FindCounter("ip.fragments"),
+                                         FindCounter("ip.reassembled"),
+                                         FindCounter("ip.fragdropped"),
+                                         FindCounter("nobufs")};
+    FragmentCounts counts{};
+    for (uint32_t i = 0; header.IsFragment() && i < counts.size(); i++)
+    {
+        bsdudp_counter(&m_stack, which[i], &counts[i]);
+    }
+    return counts;
+}
+
+void
+BsdudpStack::Drop(Ptr<const Packet> packet, uint32_t counter)
+{
+    const std::string& cause = GetCauses().at(counter);
+    NS_LOG_INFO("dropped: " << cause);
+    m_dropTrace(packet, cause);
+}
+
+void
+BsdudpStack::Settle(Ptr<const Packet> packet, const Before& before)
+{
+    static const uint32_t reclaimed = FindCounter("ip.reclaimed");
+    static const uint32_t timeout = FindCounter("ip.fragtimeout");
+    if (before.read)
+    {
+        const Counts counts = ReadCounts();
+        for (uint32_t i = 0; i < COUNTERS; i++)
+        {
+            // those that are given up aren't this packet's
+            if (counts[i] != before.counts[i] && !GetCauses()[i].empty() && i != reclaimed)
+            {
+                Drop(packet, i);
+            }
+        }
+    }
+    const uint32_t unfinished = bsdudp_unfinished_len(&m_stack);
+    if (m_fragments.GetN() != unfinished)
+    {
+        for (const auto& it : m_fragments.KeepThoseOf(&m_stack))
+        {
+            Drop(it, packet ? reclaimed : timeout);
+        }
+    }
+    m_unfinished = unfinished;
+    ScheduleTick();
+}
+
+void
+BsdudpStack::Tick()
+{
+    NS_LOG_FUNCTION(this);
+    bsdudp_tick(&m_stack);
+    Settle(nullptr, Before{});
+}
+
+void
+BsdudpStack::ScheduleTick()
+{
+    if (m_unfinished.Get() == 0 || m_tickEvent.IsRunning())
+    {
+        return;
+    }
+    // at a multiple of the tick since the start: a datagram waits as long as if ticks never paused,
+    // since one that finds nothing unfinished changes nothing
+    const int64_t tick = m_tick.GetTimeStep();
+    const int64_t passed = (Simulator::Now() - m_start).GetTimeStep() % tick;
+    m_tickEvent = Simulator::Schedule(TimeStep(tick - passed), &BsdudpStack::Tick, this);
+}
+
+} // namespace ns3

@@ -1,0 +1,320 @@
+/*
+ * Copyright (c) 2026 The bsdudp authors
+ *
+ * SPDX-License-Identifier: BSD-2-Clause
+ */
+#ifndef BSDUDP_STACK_H
+#define BSDUDP_STACK_H
+
+#include "bsdudp-fragments.h"
+
+#include "ns3/event-id.h"
+#include "ns3/ipv4-address.h"
+#include "ns3/net-device.h"
+#include "ns3/node.h"
+#include "ns3/nstime.h"
+#include "ns3/object.h"
+#include "ns3/packet.h"
+#include "ns3/traced-callback.h"
+#include "ns3/traced-value.h"
+
+#include <array>
+#include <bsdudp.h>
+#include <map>
+#include <string>
+#include <vector>
+
+namespace ns3
+{
+
+/**
+ * \defgroup bsdudp The bsdudp stack
+ *
+ * IPv4 and UDP of a node by libbsdudp, the datagram half of a 4.4BSD network stack, each call of
+ * which is proved to be one step of a reference machine. BsdudpHelper installs it.
+ */
+
+class BsdudpSocket;
+class Socket;
+
+/**
+ * \ingroup bsdudp
+ *
+ * \brief A stack of libbsdudp on one device of a node.
+ *
+ * It takes the IPv4 packets that the device receives and gives the device those that leave.
+ * Sockets come from CreateSocket(), which the node's UdpSocketFactory calls. Ticks are events only
+ * while fragments of a datagram wait for others, so that a simulation ends by itself.
+ *
+ * What a packet or a call does here is what libbsdudp does. The bytes on the link and those that a
+ * socket reads are always the library's. An ns-3 packet carries them only if it has exactly these
+ * bytes, and so brings its tags along.
+ */
+class BsdudpStack : public Object
+{
+  public:
+    /// How many counters there are.
+    static constexpr uint32_t COUNTERS = BSDUDP_COUNTERS;
+
+    /**
+     * \brief Get the type ID.
+     * \return the object TypeId
+     */
+    static TypeId GetTypeId();
+
+    BsdudpStack() = default;
+    ~BsdudpStack() override;
+
+    BsdudpStack(const BsdudpStack&) = delete;
+    BsdudpStack& operator=(const BsdudpStack&) = delete;
+
+    /**
+     * \brief Why a device can't have a stack.
+     *
+     * Links whose devices need ARP (CSMA, Wi-Fi) aren't supported: a stack has IPv4 packets and no
+     * Ethernet frames. Neither are MTUs that the library doesn't take, and a device without a node.
+     *
+     * \param device the device
+     * \return the reason in words, empty if it can
+     */
+    static std::string GetRefusal(Ptr<NetDevice> device);
+
+    /**
+     * \brief Boots the stack on a device. The packets of the link are as long as the device's MTU
+     * is at this moment.
+     *
+     * It ends the program with a message if GetRefusal() gives a reason, if the stack was started
+     * before, or if the library refuses the address: it has to be one of 1.0.0.0 to
+     * 223.255.255.255, not in 127/8, and another one than the broadcast address of its network.
+     *
+     * \param device the device
+     * \param address its address
+     * \param mask the mask of its network, by which its broadcast address goes
+     */
+    void Start(Ptr<NetDevice> device, Ipv4Address address, Ipv4Mask mask);
+
+    /**
+     * \brief Opens a socket. If 64 are open already, each call of this one answers -1 with
+     * ERROR_BADF.
+     * \return the socket
+     */
+    Ptr<Socket> CreateSocket();
+
+    /**
+     * \return the device, null before Start()
+     */
+    Ptr<NetDevice> GetDevice() const;
+
+    /**
+     * \return the address of the device
+     */
+    Ipv4Address GetAddress() const;
+
+    /**
+     * \return the broadcast address of the network
+     */
+    Ipv4Address GetBroadcast() const;
+
+    /**
+     * \brief All 26 counters. docs/behaviour.md says what each one counts.
+     * \return the values by the names, as "ip.total"
+     */
+    std::map<std::string, uint64_t> GetCounters() const;
+
+    /**
+     * \brief One counter. It ends the program with a message if no counter has this name.
+     * \param name the name, as "udp.fullsock"
+     * \return the value
+     */
+    uint64_t GetCounter(const std::string& name) const;
+
+    /**
+     * \return how many mbufs and clusters there are, and how many of them are free
+     */
+    struct bsdudp_mbstat GetUsage() const;
+
+    /**
+     * \return how many datagrams wait for fragments
+     */
+    uint32_t GetUnfinished() const;
+
+    /**
+     * \brief TracedCallback signature of Tx and Rx.
+     * \param [in] packet the packet, from its IPv4 header on
+     */
+    typedef void (*PacketTracedCallback)(Ptr<const Packet> packet);
+
+    /**
+     * \brief TracedCallback signature of Drop.
+     * \param [in] packet what was dropped
+     * \param [in] cause the counter that went up and what it counts, as
+     * "udp.noport: no socket has the port"
+     */
+    typedef void (*DropTracedCallback)(Ptr<const Packet> packet, const std::string& cause);
+
+    /**
+     * \brief TracedCallback signature of Delivered.
+     * \param [in] packet the packet that made the datagram whole; if the stack sent it to itself,
+     * the datagram's data
+     * \param [in] socket who can read the datagram now
+     */
+    typedef void (*DeliveredTracedCallback)(Ptr<const Packet> packet, Ptr<const Socket> socket);
+
+  protected:
+    void DoDispose() override;
+    void NotifyNewAggregate() override;
+
+  private:
+    friend class BsdudpSocket;
+
+    /// The counters at one moment, in the library's order.
+    typedef std::array<uint64_t, COUNTERS> Counts;
+
+    /// The places of the counters by which it's seen what became of a fragment.
+    enum
+    {
+        FRAGMENTS,
+        REASSEMBLED,
+        HELD_ALREADY,
+        NO_BUFFERS,
+        FRAGMENT_COUNTERS
+    };
+
+    /// These counters at one moment.
+    typedef std::array<uint64_t, FRAGMENT_COUNTERS> FragmentCounts;
+
+    /// What is needed of the counters before a call to say afterwards what it dropped.
+    struct Before
+    {
+        bool read;     ///< whether the counters were read at all
+        Counts counts; ///< the counters, if so
+    };
+
+    /**
+     * \brief Sends a datagram and gives the device what leaves.
+     * \param fd the descriptor of the socket
+     * \param to where to, null for the peer
+     * \param packet the data
+     * \return what the library answers
+     */
+    int Send(int fd, const bsdudp_addr* to, Ptr<Packet> packet);
+
+    /**
+     * \brief A packet came: the node's handler of IPv4.
+     * \param device the device
+     * \param packet the packet, from its IPv4 header on
+     * \param protocol IPv4
+     * \param from the sender's link address
+     * \param to the link address that it went to
+     * \param type for whom the frame was
+     */
+    void Receive(Ptr<NetDevice> device,
+                 Ptr<const Packet> packet,
+                 uint16_t protocol,
+                 const Address& from,
+                 const Address& to,
+                 NetDevice::PacketType type);
+
+    /// Half a second passed, or whatever the attribute Tick says.
+    void Tick();
+
+    /// Schedules the next tick if a datagram waits for fragments and none is scheduled.
+    void ScheduleTick();
+
+    /**
+     * \brief Whether an ns-3 packet has these bytes.
+     * \param packet the packet
+     * \param bytes the bytes
+     * \param length how many there are
+     * \return whether the packet has them and no others
+     */
+    static bool HasBytes(Ptr<const Packet> packet, const uint8_t* bytes, uint32_t length);
+
+    /**
+     * \brief Makes the ns-3 packet of a packet that leaves.
+     * \param datagram the data with their UDP header; it's used up if the packet is all of it
+     * \param bytes the packet's bytes
+     * \param length how many there are
+     * \return a piece of the datagram with an ns-3 header if that has these bytes, else a packet of
+     * the bytes alone
+     */
+    static Ptr<Packet> Cut(Ptr<Packet> datagram, const uint8_t* bytes, uint32_t length);
+
+    /**
+     * \brief Takes all packets that wait for the link.
+     * \param packet the data that was sent, of which they're cut if the bytes are the same
+     * \return the packets
+     */
+    std::vector<Ptr<Packet>> TakePackets(Ptr<const Packet> packet);
+
+    /**
+     * \brief Gives a packet to the device. On links without ARP each goes to the broadcast address
+     * of the link, as ns-3's own Ipv4Interface does it.
+     * \param packet the packet
+     */
+    void Transmit(Ptr<Packet> packet);
+
+    /**
+     * \brief Notes which sockets got a datagram by the last call.
+     * \param packet what is told by Delivered
+     * \param datagram the ns-3 packet in which the datagram's data are, null if there is none
+     * \param start where they begin in it
+     * \return these sockets
+     */
+    std::vector<Ptr<BsdudpSocket>>
+    NoteArrivals(Ptr<const Packet> packet, Ptr<const Packet> datagram, uint32_t start);
+
+    /**
+     * \brief Reads the counters if someone wants to know what is dropped.
+     * \return the counters
+     */
+    Before ReadBefore() const;
+
+    /**
+     * \brief Reads the counters by which it's seen what became of a fragment.
+     * \param header the header of a packet
+     * \return the counters, all 0 if it isn't a fragment
+     */
+    FragmentCounts ReadFragmentCounts(const BsdudpHeader& header) const;
+
+    /// \return all counters
+    Counts ReadCounts() const;
+
+    /**
+     * \brief After a call: tells what it dropped and how many datagrams wait, and sees to the tick.
+     * \param packet the packet of the call, null of a tick
+     * \param before the counters before the call
+     */
+    void Settle(Ptr<const Packet> packet, const Before& before);
+
+    /**
+     * \brief Tells of something dropped.
+     * \param packet what
+     * \param counter the number of the counter that went up
+     */
+    void Drop(Ptr<const Packet> packet, uint32_t counter);
+
+    /// The library's stack. Questions change nothing, but take a pointer to it.
+    mutable bsdudp m_stack = BSDUDP_NONE;
+    Ptr<Node> m_node;                            ///< the node
+    Ptr<NetDevice> m_device;                     ///< its device
+    Ipv4Address m_address;                       ///< the device's address
+    Ipv4Address m_broadcast;                     ///< the broadcast address of its network
+    uint32_t m_mbufs;                            ///< how many mbufs the pool has
+    uint32_t m_clusters;                         ///< how many clusters
+    uint16_t m_firstId;                          ///< the identification of the first datagram
+    Time m_tick;                                 ///< the time between two ticks
+    Time m_start;                                ///< when the stack was booted
+    EventId m_tickEvent;                         ///< the next tick, if one is needed
+    std::map<int, BsdudpSocket*> m_sockets;      ///< the open sockets by their descriptors
+    BsdudpFragments m_fragments;                 ///< the packets of unfinished datagrams
+    TracedValue<uint32_t> m_unfinished{0};       ///< how many datagrams wait for fragments
+    TracedCallback<Ptr<const Packet>> m_txTrace; ///< packets that leave
+    TracedCallback<Ptr<const Packet>> m_rxTrace; ///< packets that come
+    TracedCallback<Ptr<const Packet>, const std::string&> m_dropTrace;     ///< what is dropped
+    TracedCallback<Ptr<const Packet>, Ptr<const Socket>> m_deliveredTrace; ///< who got a datagram
+};
+
+} // namespace ns3
+
+#endif /* BSDUDP_STACK_H */

@@ -1,0 +1,90 @@
+/*
+ * Copyright (c) 2026 The bsdudp authors
+ *
+ * SPDX-License-Identifier: BSD-2-Clause
+ */
+
+// The tests of libns3-bsdudp, with ns-3's own stack as the judge where both do the same work.
+// Without an argument all of them run: each fault is a line on standard error, and the status is 1
+// if there is one. --refuse=NAME does what ends a program by a message.
+
+#include "pair.h"
+
+#include "ns3/applications-module.h"
+#include "ns3/csma-module.h"
+
+using namespace ns3;
+
+namespace
+{
+
+/// What ends the program with a message.
+void
+Refuse(const std::string& name)
+{
+    Ipv4AddressHelper addresses("10.0.0.0", "255.255.255.0");
+    NodeContainer nodes;
+    nodes.Create(2);
+    auto devices = PointToPointHelper().Install(nodes);
+    if (name == "csma")
+    {
+        BsdudpHelper().Install(CsmaHelper().Install(nodes), addresses);
+    }
+    else if (name == "mtu")
+    {
+        devices.Get(0)->SetMtu(9000);
+        BsdudpHelper().Install(nodes, devices, addresses);
+    }
+    else if (name == "device")
+    {
+        BsdudpHelper().Install(nodes, devices, addresses);
+        BsdudpHelper().Install(nodes, PointToPointHelper().Install(nodes), addresses);
+    }
+    else if (name == "stack")
+    {
+        InternetStackHelper().Install(nodes);
+        BsdudpHelper().Install(nodes, devices, addresses);
+    }
+    else if (name == "later")
+    {
+        BsdudpHelper().Install(nodes, devices, addresses);
+        InternetStackHelper().Install(nodes);
+    }
+    else if (name == "address")
+    {
+        BsdudpHelper().Install(devices.Get(0), "10.0.0.1", "255.255.255.255");
+    }
+    else if (name == "count")
+    {
+        BsdudpHelper().Install(nodes.Get(0), devices, addresses);
+    }
+    else if (name == "bulk")
+    {
+        BsdudpHelper().Install(nodes, devices, addresses);
+        BulkSendHelper("ns3::TcpSocketFactory", At("10.0.0.2", 9)).Install(nodes.Get(0));
+        Simulator::Run();
+    }
+}
+
+} // namespace
+
+int
+main(int argc, char* argv[])
+{
+    std::string refuse;
+    CommandLine cmd(__FILE__);
+    cmd.AddValue("refuse", "csma, mtu, device, stack, later, address, count, bulk", refuse);
+    cmd.Parse(argc, argv);
+    GlobalValue::Bind("ChecksumEnabled", BooleanValue(true)); // for the runs without bsdudp
+    if (!refuse.empty())
+    {
+        Refuse(refuse);
+        std::cerr << "cases: " << refuse << " isn't refused" << std::endl;
+        return 1;
+    }
+    CheckTable();
+    CheckApplications();
+    CheckSockets();
+    CheckStacks();
+    return g_faults == 0 ? 0 : 1;
+}

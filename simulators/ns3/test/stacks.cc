@@ -1,0 +1,155 @@
+/*
+ * Copyright (c) 2026 The bsdudp authors
+ *
+ * SPDX-License-Identifier: BSD-2-Clause
+ */
+
+#include "pair.h"
+
+namespace ns3
+{
+
+namespace
+{
+
+/// Trace sources: what comes, goes, is dropped, is delivered, and waits.
+void
+CheckTraces()
+{
+    Pair pair(BOTH, 0, 512, 64);
+    Traced client(pair.client);
+    Traced server(pair.server);
+    auto sender = Open(pair.nodes.Get(0));
+    auto reader = Open(pair.nodes.Get(1));
+    sender->Bind();
+    reader->Bind(At("0.0.0.0", 7));
+    // a packet of these bytes, as a stranger could send it
+    auto inject = [&pair](std::vector<uint8_t> bytes) {
+        pair.devices.Get(0)->Send(Create<Packet>(bytes.data(), bytes.size()),
+                                  pair.devices.Get(0)->GetBroadcast(),
+                                  0x0800);
+    };
+    Simulator::Schedule(Seconds(1), [sender, inject] {
+        sender->SendTo(Create<Packet>(3000), 0, At("10.0.0.2", 7));
+        sender->SendTo(Create<Packet>(5), 0, At("10.0.0.2", 8));
+        sender->SendTo(Create<Packet>(5), 0, At("10.0.0.7", 7));
+        inject({0x45, 0, 0});
+        inject({0x45, 0, 0, 28, 0, 1, 0, 0, 64, 17, 1, 2, 10, 0, 0, 9, 10, 0, 0, 2});
+    });
+    Simulator::Schedule(Seconds(1.2), [inject] {
+        // the first eight bytes of a datagram that goes on, from 10.0.0.9; the sum was worked
+        // by hand
+        inject({0x45, 0, 0,  28, 0, 1, 0x20, 0, 64, 17, 0x46, 0xc6, 10, 0,
+                0,    9, 10, 0,  0, 2, 0,    9, 0,  7,  0,    16,   0,  0});
+    });
+    // the first tick after it is at 1.5 seconds, and the sixtieth at 31
+    Simulator::Schedule(Seconds(31.1), [&pair] {
+        Same(pair.server->GetUnfinished(), 0U, "unfinished after 60 ticks");
+    });
+    Simulator::Schedule(Seconds(30.9), [&pair] {
+        Same(pair.server->GetUnfinished(), 1U, "unfinished before 60 ticks");
+    });
+    Simulator::Schedule(Seconds(32), [reader] {
+        Check(reader->Recv() && !reader->Recv(), "one datagram is delivered");
+    });
+    pair.Run(32, "traces");
+    Same(client.tx, 5U, "Tx of the client");
+    Same(client.rx, 0U, "Rx of the client");
+    Same(server.rx, 8U, "Rx of the server");
+    Same(server.delivered, 1U, "Delivered");
+    Same(server.most, 1U, "Unfinished");
+    const std::map<std::string, uint32_t> wanted = {{"ip.toosmall", 1},
+                                                    {"ip.badsum", 1},
+                                                    {"ip.cantforward", 1},
+                                                    {"ip.fragtimeout", 1},
+                                                    {"udp.noport", 1}};
+    for (const auto& [name, times] : wanted)
+    {
+        Same(server.drops[name], times, "Drop for " + name);
+        Same(pair.server->GetCounter(name), times, "counter " + name);
+    }
+    Same(server.drops.size(), wanted.size(), "causes of Drop");
+}
+
+/// A flood that nobody reads empties the pool; then all goes on as before.
+void
+CheckFlood()
+{
+    Pair pair(BOTH, 0, 40, 12);
+    Traced server(pair.server);
+    auto sender = Open(pair.nodes.Get(0));
+    auto reader = Open(pair.nodes.Get(1));
+    sender->Bind();
+    reader->Bind(At("0.0.0.0", 7));
+    for (int i = 0; i < 200; i++)
+    {
+        Simulator::Schedule(MilliSeconds(1000 + 20 * i), [sender, i] {
+            sender->SendTo(Create<Packet>(i % 3 == 0 ? 4000 : 1000), 0, At("10.0.0.2", 7));
+        });
+    }
+    Simulator::Schedule(Seconds(10), [reader] {
+        Check(bool(reader->Recv()), "what waits can be read after the flood");
+        while (reader->Recv())
+        {
+        }
+    });
+    Simulator::Schedule(Seconds(11), [sender] {
+        sender->SendTo(Create<Packet>(4000), 0, At("10.0.0.2", 7));
+    });
+    Simulator::Schedule(Seconds(12), [reader] {
+        auto packet = reader->Recv();
+        Check(packet && packet->GetSize() == 4000, "a datagram comes after the flood");
+    });
+    pair.Run(12, "flood");
+    Check(server.drops["nobufs"] > 100, "the flood doesn't empty the pool");
+    Same(server.drops["nobufs"], pair.server->GetCounter("nobufs"), "Drop for nobufs");
+    Check(server.drops["ip.reclaimed"] > 0, "no unfinished datagram is given up");
+}
+
+/// A send that finds no buffers.
+void
+CheckPoor()
+{
+    Pair pair(BOTH, 0, 20, 4);
+    auto sender = Open(pair.nodes.Get(0));
+    sender->Bind();
+    Same(sender->SendTo(Create<Packet>(9216), 0, At("10.0.0.2", 7)), -1, "no buffers: a send");
+    Same(sender->GetErrno(), Socket::ERROR_AGAIN, "no buffers: its error");
+    pair.Run(1, "a send that finds no buffers");
+}
+
+/// Packets that the device doesn't take, since its queue is full.
+void
+CheckFullDevice()
+{
+    Pair pair(BOTH);
+    Traced client(pair.client);
+    auto sender = Open(pair.nodes.Get(0));
+    auto reader = Open(pair.nodes.Get(1));
+    sender->Bind();
+    reader->Bind(At("0.0.0.0", 7));
+    reader->ShutdownRecv();
+    Simulator::Schedule(Seconds(1), [sender] {
+        for (int i = 0; i < 150; i++)
+        {
+            Same(sender->SendTo(Create<Packet>(100), 0, At("10.0.0.2", 7)), 100, "a send");
+        }
+    });
+    pair.Run(2, "a full device");
+    // one is on its way and a hundred wait: the length of ns-3's queue
+    Same(client.drops["device"], 49U, "Drop of the device");
+    Same(client.tx, 150U, "Tx of a full device");
+}
+
+} // namespace
+
+void
+CheckStacks()
+{
+    CheckTraces();
+    CheckFlood();
+    CheckPoor();
+    CheckFullDevice();
+}
+
+} // namespace ns3
