@@ -2,8 +2,8 @@
 
 measure_ns3() { # WORK
     local work="$1" top="$bench/.." flags
-    if ! command -v cmake > "$work/ns3.log" || ! pkg-config --exists ns3-applications ns3-point-to-point gsl; then
-        echo "skipped: it wants cmake, pkg-config, libns3-dev and libgsl-dev"
+    if ! command -v cmake > "$work/ns3.log" || ! pkg-config --exists ns3-applications ns3-point-to-point gsl sqlite3; then
+        echo "skipped: it wants cmake, pkg-config, libns3-dev, libgsl-dev and libsqlite3-dev"
         return
     fi
     "$top/capi/install" "$work/prefix"

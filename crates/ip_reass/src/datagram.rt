@@ -13,14 +13,14 @@ pub struct Datagram {
     pub key: FragmentKey,
     /// The mbuf of the key.
     pub holder: Chain,
-    /// How many ticks it has left.
-    pub ticks: u8,
     /// Its fragments: a chain's tag is its offset times 2, plus 1 where more come after it.
     pub fragments: Train,
     /// How many bytes they have together, at most 65,515: this many lie below the end of the last exactly if none is
     /// missing.
-    // of 16 bits, so that a row has 32 bytes
+    // of 16 bits, and beside the ticks, so that a row has 32 bytes
     pub bytes: u16,
+    /// How many ticks it has left.
+    pub ticks: u8,
 }
 
 /// Frees a datagram's fragments and its key's mbuf.

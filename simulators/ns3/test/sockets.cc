@@ -206,8 +206,11 @@ CheckLoopback()
     b->Bind(At("0.0.0.0", 8));
     far->Bind(At("0.0.0.0", 8));
     uint32_t rounds = 0;
+    uint32_t depth = 0;
+    uint32_t deepest = 0;
     // each answers the other at once: ten thousand calls, none inside another
-    auto answer = [&rounds](Ptr<Socket> socket) {
+    auto answer = [&](Ptr<Socket> socket) {
+        deepest = std::max(deepest, ++depth);
         Address from;
         while (auto packet = socket->RecvFrom(from))
         {
@@ -216,6 +219,7 @@ CheckLoopback()
                 socket->SendTo(packet, 0, from);
             }
         }
+        depth--;
     };
     a->SetRecvCallback(Callback<void, Ptr<Socket>>(answer));
     b->SetRecvCallback(Callback<void, Ptr<Socket>>(answer));
@@ -231,6 +235,7 @@ CheckLoopback()
     });
     Simulator::Schedule(Seconds(3), [&] {
         Same(rounds, 10000U, "rounds by loopback");
+        Same(deepest, 1U, "callbacks inside one another");
         for (const auto& socket : {b, far})
         {
             auto packet = socket->Recv();
