@@ -22,6 +22,8 @@ for line in sys.stdin:
 """
 BAD = {
     "print('got here')": "which isn't a line of an adapter",
+    "print('nonsense 0')": "which isn't a line of an adapter",
+    "print('got 0 10.0.0.2 5000 00 0 0')": "which isn't a line of an adapter",
     "print('got 0 10.0.0.2 5000 zz')": "which isn't a line of an adapter",
     "print('got 7 10.0.0.2 5000 00')": "which isn't a line of an adapter",
     "sys.exit(4)": "it ended with status 4",
