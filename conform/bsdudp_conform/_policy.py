@@ -11,6 +11,8 @@ from ._machine import play
 from ._verdict import explains
 
 ROUNDS = 3
+# A setting of which so many values explain the same isn't told.
+MANY_VALUES = 4
 MOST_CASES, MOST_BYTES = 40, 60_000
 
 
@@ -25,6 +27,11 @@ class Explained(NamedTuple):
     @property
     def title(self) -> str:
         return SETTINGS[self.setting].title
+
+    @property
+    def told_apart(self) -> bool:
+        """Whether the cases leave less than all values."""
+        return len(self.values) < min(MANY_VALUES, len(SETTINGS[self.setting].all))
 
     @property
     def words(self) -> str:

@@ -24,8 +24,6 @@ MEANING = {
     SHOULD: "against a SHOULD: all that keep the SHOULDs answer alike, and not so",
 }
 SHOWN = 8
-# A setting of which so many values explain the same isn't told.
-MANY_VALUES = 4
 
 
 def cell(count: "Counter[str]") -> str:
@@ -87,7 +85,7 @@ def kind_text(kind: List[Deviation], known: Known) -> str:
 def policy_text(explained: Sequence[Explained]) -> List[str]:
     """A stack's policy in words: what explains nine cases of ten, and at the end what nothing explains so well."""
     well = [it for it in explained if it.explained * 10 >= it.cases * 9]
-    lines = [it.words for it in well if len(it.values) < MANY_VALUES]
+    lines = [it.words for it in well if it.told_apart]
     others = "; ".join(f"{it.title} ({it.explained} of {it.cases} cases at best)" for it in explained if it not in well)
     return lines + ([f"no policy that the judge knows explains: {others}"] if others else [])
 
@@ -119,7 +117,8 @@ def summary(judged: Judged, known: Known) -> str:
     """A stack's last line."""
     cases = len({it.case.name for it in judged.deviations})
     new = len({it.case.name for it in judged.deviations if not is_known(it, known)})
-    told = f"{judged.name}: {len(judged.cases)} cases, {cases} deviate in {len(judged.kinds())} kinds"
+    kinds = len(judged.kinds())
+    told = f"{judged.name}: {len(judged.cases)} cases, {cases} deviate in {kinds} kind{'s' * (kinds != 1)}"
     return f"{told}, {new} of them new" if known else told
 
 

@@ -138,7 +138,10 @@ class Device(Adapter):
 
 def main() -> None:
     Device.name = f"{text_of(HOST)} on {sys.argv[1]}"
-    Device.wire = Wire(sys.argv[1])
+    try:
+        Device.wire = Wire(sys.argv[1])
+    except OSError as fault:
+        sys.exit(f"{sys.argv[1]}: {fault.strerror}")
     serve(Device)
 
 
