@@ -8,6 +8,7 @@ import ctypes
 import fcntl
 import os
 import platform
+import select
 import socket
 import struct
 import subprocess
@@ -15,11 +16,14 @@ import sys
 import time
 from typing import Dict, List
 
+from .._packets import packet, udp
 from ..kit import Adapter, serve
 
 CLONE_NEWNET, TUNSETIFF, TUN = 0x40000000, 0x400454CA, 0x0001
 SO_RCVBUFFORCE, IP_MTU_DISCOVER, DONT = 33, 10, 0
-SETTLE_S = 0.002
+IPV4_FRAME = b"\0\0\x08\0"
+# A packet to this port of the adapter's own comes last: once it's there, the kernel has done with those before it.
+PROBE_PORT, PROBE_S = 65000, 10.0
 SETUP = """addr add 10.0.0.1/24 broadcast + dev t0
 link set lo up
 link set t0 up mtu {mtu}
@@ -38,6 +42,7 @@ class Linux(Adapter):
     name = f"Linux {platform.release()}"
     has = ("out", "send", "mtu", "sockets", "connect")
     settings: List[str] = []
+    probe = b""
 
     def boot(self, mtu: int) -> None:
         if ctypes.CDLL(None, use_errno=True).unshare(CLONE_NEWNET):
@@ -52,6 +57,7 @@ class Linux(Adapter):
         subprocess.run(["ip", "-batch", "-"], input=SETUP.format(mtu=mtu), text=True, check=True)
         self.sockets: Dict[int, socket.socket] = {}
         self.open(0, 7)
+        self.settled = bound(PROBE_PORT)
         self.read_tun()
 
     def open(self, socket: int, port: int) -> None:
@@ -62,7 +68,7 @@ class Linux(Adapter):
 
     def rx(self, packet: bytes) -> None:
         try:
-            os.write(self.tun, b"\0\0\x08\0" + packet)
+            os.write(self.tun, IPV4_FRAME + packet)
         except OSError as fault:
             print(f"note the TUN device refuses: {fault}")
         self.drain()
@@ -89,7 +95,8 @@ class Linux(Adapter):
         return True
 
     def end(self) -> None:
-        time.sleep(SETTLE_S)
+        os.write(self.tun, IPV4_FRAME + self.probe)
+        select.select([self.settled], [], [], PROBE_S)
         self.drain()
 
     def drain(self) -> None:
@@ -129,6 +136,7 @@ def bound(port: int) -> socket.socket:
 
 def main() -> None:
     Linux.settings = sys.argv[1:]
+    Linux.probe = packet(udp(b"probe", dport=PROBE_PORT), id=0xFFF0)
     serve(Linux)
 
 
