@@ -54,12 +54,14 @@ def table(stacks: Sequence[Judged]) -> str:
         counts = [it.cell(rule) for it in stacks]
         cells = "".join(f'<td class="{shade(cell(it))}">{cell(it)}</td>' for it in counts)
         rows.append(
-            f"<tr><th scope=row>{rule}</th><td class=source>{escape(said.sentence)}<span class=says>{escape(said.source)}</span></td>"
+            f"<tr><th scope=row>{rule}</th><td class=source>{escape(said.sentence)}"
+            f"<span class=says>{escape(said.source)}</span></td>"
             f"<td class=cases>{max(it['cases'] for it in counts) or ''}</td>{cells}</tr>"
         )
     return (
-        f"<div class=scroll tabindex=0 role=region aria-label='the matrix'><table><thead><tr><th scope=col>rule</th>"
-        f"<th scope=col class=source>says, and where</th><th scope=col>cases</th>{heads}</tr></thead><tbody>{''.join(rows)}</tbody></table></div>"
+        "<div class=scroll tabindex=0 role=region aria-label='the matrix'><table><thead><tr><th scope=col>rule</th>"
+        f"<th scope=col class=source>says, and where</th><th scope=col>cases</th>{heads}</tr></thead>"
+        f"<tbody>{''.join(rows)}</tbody></table></div>"
     )
 
 
@@ -81,8 +83,9 @@ def kind_of(kind: List[Deviation], known: Known, captures: Dict[str, str]) -> st
     more = f"<dt>also</dt><dd class=soft>{others}</dd>" if others else ""
     steps = escape("\n".join(steps_of(first.case)))
     return (
-        f'<details><summary><span class="level {shade(level)}">{level}</span> <b>{breach.rule}</b>: {escape(breach.what)} '
-        f"<span class=soft>({len(kind)} case{'s' * (len(kind) > 1)})</span>{old}</summary><dl>{facts}{capture}{more}</dl>"
+        f'<details><summary><span class="level {shade(level)}">{level}</span> <b>{breach.rule}</b>: '
+        f"{escape(breach.what)} <span class=soft>({len(kind)} case{'s' * (len(kind) > 1)})</span>{old}</summary>"
+        f"<dl>{facts}{capture}{more}</dl>"
         f"<pre tabindex=0>{steps}</pre></details>"
     )
 
@@ -94,7 +97,8 @@ def stack_part(judged: Judged, explained: List[Explained], known: Known, capture
     out = f"<p class=soft>{left} cases don't apply, or need what its adapter doesn't have.</p>" if left else ""
     policy = "".join(f"<li>{escape(line)}</li>" for line in policy_text(explained))
     policies = f"<h3>Policy, where the RFCs leave one</h3><ul>{policy}</ul>" if policy else ""
-    return f"<section><h2>{escape(judged.name)}</h2><p>{escape(summary(judged, known))}.</p>{out}{kinds}{policies}</section>"
+    head = f"<h2>{escape(judged.name)}</h2><p>{escape(summary(judged, known))}.</p>"
+    return f"<section>{head}{out}{kinds}{policies}</section>"
 
 
 def html(
@@ -107,8 +111,10 @@ def html(
     parts = "".join(stack_part(it, policies.get(it.name, []), known, captures.get(it.name, {})) for it in stacks)
     names = escape(", ".join(it.name for it in stacks))
     return (
-        f"<!doctype html><html lang=en><meta charset=utf-8><meta name=viewport content='width=device-width, initial-scale=1'>"
+        "<!doctype html><html lang=en><meta charset=utf-8>"
+        "<meta name=viewport content='width=device-width, initial-scale=1'>"
         f"<title>UDP/IPv4: {names}</title><style>{STYLE}</style><h1>UDP over IPv4: {names}</h1>"
-        f"<p>Each case is a sequence of packets. Two laws hold of every case; beside them stands what all machines answer that the "
-        f"RFCs permit. A cell counts the cases that deviate; a case may break another rule than its own.</p><ul>{legend}</ul>{table(stacks)}{parts}</html>\n"
+        "<p>Each case is a sequence of packets. Two laws hold of every case; beside them stands what all machines "
+        "answer that the RFCs permit. A cell counts the cases that deviate; a case may break another rule than its "
+        f"own.</p><ul>{legend}</ul>{table(stacks)}{parts}</html>\n"
     )

@@ -9,7 +9,7 @@ import re
 import shlex
 import shutil
 import sys
-from typing import TYPE_CHECKING, Dict, List, Optional, Sequence, Set, Tuple
+from typing import TYPE_CHECKING, Any, Dict, List, Optional, Sequence, Set, Tuple
 
 from ._target import TARGET
 
@@ -29,7 +29,30 @@ stack or a device can't be reached at all."""
 def parser() -> argparse.ArgumentParser:
     top = argparse.ArgumentParser(prog="bsdudp-conform", description=DESCRIPTION, epilog=STATUS)
     commands = top.add_subparsers(dest="what", required=True, metavar="COMMAND")
-    run = commands.add_parser(
+    run = run_parser(commands)
+    wire = commands.add_parser("wire", help="judge a device on a wire by its UDP echo service", epilog=STATUS)
+    wire.add_argument("interface", metavar="IFACE", help="the interface, on which CAP_NET_RAW is needed")
+    wire.add_argument(
+        "--target", default="10.0.0.1", metavar="ADDR", help="the device's address, on a network of 24 bits"
+    )
+    for it in (run, wire):
+        add_choices(it)
+        add_reports(it)
+    reduce = commands.add_parser("reduce", help="make a case shorter that a stack breaks")
+    reduce.add_argument("case", metavar="CASE", help="as frag.key:14")
+    reduce.add_argument("--pcap", metavar="FILE", help="write its packets to a capture")
+    reduce.add_argument("adapter", nargs="+", metavar="ADAPTER", help="the adapter and its words, after --")
+    for it in (run, wire, reduce):
+        it.add_argument("--seed", type=int, default=1, metavar="N", help="of the random bytes and mixes (default: 1)")
+        it.add_argument("--mixes", type=int, default=400, metavar="N", help="so many random mixes (default: 400)")
+        it.add_argument("--timeout", type=float, default=30.0, metavar="S", help="seconds for an answer (default: 30)")
+    template = commands.add_parser("template", help="write kit.h and adapters to fill in, in C and in Python")
+    template.add_argument("folder", metavar="FOLDER")
+    return top
+
+
+def run_parser(commands: Any) -> argparse.ArgumentParser:
+    run: argparse.ArgumentParser = commands.add_parser(
         "run",
         help="judge one stack or several, by their adapters",
         epilog=STATUS,
@@ -56,25 +79,7 @@ def parser() -> argparse.ArgumentParser:
         "--client", metavar="ADDRESS", help="with --seeds: the scheduler of a Dask cluster, as tcp://10.0.0.9:8786"
     )
     run.add_argument("adapter", nargs="*", metavar="ADAPTER", help="the adapter and its words, after --")
-    wire = commands.add_parser("wire", help="judge a device on a wire by its UDP echo service", epilog=STATUS)
-    wire.add_argument("interface", metavar="IFACE", help="the interface, on which CAP_NET_RAW is needed")
-    wire.add_argument(
-        "--target", default="10.0.0.1", metavar="ADDR", help="the device's address, on a network of 24 bits"
-    )
-    for it in (run, wire):
-        add_choices(it)
-        add_reports(it)
-    reduce = commands.add_parser("reduce", help="make a case shorter that a stack breaks")
-    reduce.add_argument("case", metavar="CASE", help="as frag.key:14")
-    reduce.add_argument("--pcap", metavar="FILE", help="write its packets to a capture")
-    reduce.add_argument("adapter", nargs="+", metavar="ADAPTER", help="the adapter and its words, after --")
-    for it in (run, wire, reduce):
-        it.add_argument("--seed", type=int, default=1, metavar="N", help="of the random bytes and mixes (default: 1)")
-        it.add_argument("--mixes", type=int, default=400, metavar="N", help="so many random mixes (default: 400)")
-        it.add_argument("--timeout", type=float, default=30.0, metavar="S", help="seconds for an answer (default: 30)")
-    template = commands.add_parser("template", help="write kit.h and adapters to fill in, in C and in Python")
-    template.add_argument("folder", metavar="FOLDER")
-    return top
+    return run
 
 
 def add_choices(it: argparse.ArgumentParser) -> None:

@@ -59,19 +59,8 @@ def read(packet: bytes) -> Optional[Header]:
         return None
     source, destination = struct.unpack(">II", packet[12:20])
     return Header(
-        source,
-        destination,
-        identification,
-        packet[9],
-        place % 0x2000 * 8,
-        bool(place & 0x2000),
-        bool(place & 0x4000),
-        bool(place & 0x8000),
-        packet[1],
-        packet[8],
-        total,
-        packet[20:header],
-        packet[header:total],
+        source, destination, identification, packet[9], place % 0x2000 * 8, bool(place & 0x2000), bool(place & 0x4000),
+        bool(place & 0x8000), packet[1], packet[8], total, packet[20:header], packet[header:total],
     )
 
 
