@@ -106,12 +106,13 @@ board_echoes() { # WORK
 
 # The bytes of code and constants of the library, with every call in.
 board_processors() { # WORK
-    local work=$1 processor
+    local work=$1 processor made
     echo
     table_row Processor -Os
     echo '|---|---:|'
     for processor in $("$bench/../portable/core" targets | awk '{print $1}'); do
-        table_row "\`$processor\`" "$(bytes_of "$(core_of "$work" "$processor" -Os)/libbsdudp.a" | cut -d' ' -f1)"
+        made=$(core_of "$work" "$processor" -Os)
+        table_row "\`$processor\`" "$(size -t "$made/libbsdudp.a" | awk 'END {print $1}')" # of any processor
     done
 }
 
