@@ -15,7 +15,7 @@ import time
 LENGTHS = [0, 1, 2, 72, 73, 100, 101, 207, 208, 1472, 1473, 2047, 2048, 2049, 2952, 2953, 4095, 4096]
 BOARD, MOST = ("10.0.0.1", 7), 4096
 IP_MTU_DISCOVER = 10
-WAIT = 60  # seconds: much more than any needs, for a busy machine
+WAIT, TRIES = 60, 3  # seconds: much more than any needs, for a busy machine
 
 
 def wait_for_device():
@@ -27,20 +27,34 @@ def wait_for_device():
     sys.exit("peer.py: the device doesn't come up")
 
 
+def echoed(it, data, before):
+    """Sends a datagram until it comes back, and says what is wrong. Fragments that come half a minute apart, as on a
+    busy machine, are dropped here and there, so it may take a second try; then its first answer may come late."""
+    for _ in range(TRIES):
+        it.sendto(data, BOARD)
+        try:
+            back, sender = it.recvfrom(65536)
+            while back == before != data:
+                back, sender = it.recvfrom(65536)
+        except TimeoutError:
+            continue
+        if back == data and sender == BOARD:
+            return ""
+        return f"{len(data)} bytes came back as {len(back)} others from {sender}"
+    return f"{len(data)} bytes didn't come back"
+
+
 def echo(lengths):
     it = socket.socket(socket.AF_INET, socket.SOCK_DGRAM)
     it.setsockopt(socket.IPPROTO_IP, IP_MTU_DISCOVER, 0)
     it.settimeout(WAIT)
     rng = random.Random(1)
+    before = b""
     for length in lengths:
         data = rng.randbytes(length)
-        it.sendto(data, BOARD)
-        try:
-            back, sender = it.recvfrom(65536)
-        except TimeoutError:
-            return f"{length} bytes didn't come back"
-        if back != data or sender != BOARD:
-            return f"{length} bytes came back as {len(back)} others from {sender}"
+        if fault := echoed(it, data, before):
+            return fault
+        before = data
     lines = pathlib.Path("/proc/net/snmp").read_text().splitlines()
     counted = dict(zip(*(it.split() for it in lines if it.startswith("Udp:"))))
     wrong = [name for name in ("InErrors", "InCsumErrors", "NoPorts") if counted[name] != "0"]
