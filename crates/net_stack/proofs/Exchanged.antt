@@ -26,8 +26,7 @@ use Rattle.net_stack.specs.Inside.Arrivals.{HasCome}
 use Rattle.net_stack.specs.Inside.Hosts.{KeepsOutput, arrival_view, send_view}
 use Rattle.net_stack.specs.Inside.Sending.{HasSent, no_train, out_chains}
 use Rattle.net_stack.specs.declared.host.Host.{Host}
-use Rattle.net_stack.specs.Inside.Fields.{seen as seen_in, IsInside}
-use Rattle.net_stack.specs.declared.stack.Stack.TheInside.{Inside}
+use Rattle.net_stack.specs.Inside.Fields.{Fields, seen as seen_in, IsInside}
 use Rattle.net_stack.proofs.Called.{Called, called}
 use Rattle.net_stack.proofs.Lifted.{Stepped, accounts, stepped, input_step, split}
 
@@ -86,7 +85,7 @@ send_step config p q s w r es n m fd to bytes result is mtu can sent =
     (sent.step (boot config) (sym mtu) is.consistent.keys (accounts (shown config p s r n) is))
 
 -- the fields of a stack after a send
-pub sent_called : (s : Inside) (v : StackView) (h : Host) (fd : ℕ) (to : Option Addr) (bytes : List ℕ)
+pub sent_called : (s : Fields) (v : StackView) (h : Host) (fd : ℕ) (to : Option Addr) (bytes : List ℕ)
     (result : Result ℕ Errno) → IsInside s → seen_in s ≡ v → IsEvent (Send fd to bytes)
     → HasSent fd to bytes (send_view s.host) s.host.reass result (send_view h) h.reass
     → Called v (Send fd to bytes) (sent_reply result) (record s { host = h })
@@ -101,11 +100,11 @@ sent_called s v h fd to bytes result is e can sent =
     }
 
 -- the fields of a stack after a packet came
-pub come_called : (s : Inside) (v : StackView) (h : Host) (packet : List ℕ) → IsInside s → seen_in s ≡ v
+pub come_called : (s : Fields) (v : StackView) (h : Host) (packet : List ℕ) → IsInside s → seen_in s ≡ v
     → IsEvent (Comes packet) → HasCome (arrival_view s.host) packet (arrival_view h) → IsReady h.pool h.reass
     → KeepsOutput s.host.net h.net → Called v (Comes packet) Done (record s { host = h })
 come_called s v h packet is e can came ready output =
-    let new : Net → Inside = λ n. record s { host = record h { net = n } } in
+    let new : Net → Fields = λ n. record s { host = record h { net = n } } in
     let same : Net = record (s.host.net) { counters = h.net.counters } in
     subst (λ (n : Net). Called v (Comes packet) Done (new n)) (sym output)
     (called s (new same) v (Comes packet) Done is e refl refl refl

@@ -24,8 +24,7 @@ use Rattle.ip_reass.proofs.Laws.{none_distinct}
 use Rattle.ip_out.proofs.Laws.{none_wait}
 use Rattle.net_stack.specs.Boots.{free_pool}
 use Rattle.net_stack.specs.Stack.{IsStack, state_of, chains_of}
-use Rattle.net_stack.specs.Inside.Fields.{seen, IsInside}
-use Rattle.net_stack.specs.declared.stack.Stack.TheInside.{Inside}
+use Rattle.net_stack.specs.Inside.Fields.{Fields, seen, IsInside}
 use Rattle.net_stack.proofs.Lifted.{ReassKept, reass_kept, OutputKept, output_kept, split}
 
 free_live : (config : Config) (k : ℕ) → live_at (free_pool config) k ≡ 0
@@ -42,7 +41,7 @@ pool_of_store config store p e is =
     is ∙ (λ i. record { mbufs = a i; clusters = b i; chains = finmap.empty })
 
 -- the parts that a stack starts with
-pub record Starts (config : Config) (s : Inside) : Type 0 where
+pub record Starts (config : Config) (s : Fields) : Type 0 where
   pub same : s.config ≡ config
   pub pool : s.host.pool ≡ free_pool config
   pub socks : (p : PoolView) → IsSocks p s.host.socks
@@ -56,7 +55,7 @@ pub record Starts (config : Config) (s : Inside) : Type 0 where
   pub waits : s.host.net.out.len ≡ 0
   pub looped : s.host.net.looped ≡ record { first = None; last = None; len = 0 }
 
-pub started_state : (config : Config) (s : Inside) → Starts config s → state_of (seen s) ≡ boot config
+pub started_state : (config : Config) (s : Fields) → Starts config s → state_of (seen s) ≡ boot config
 started_state config s h = λ i. record {
   config = record (h.same i) { addr = (h.blocks i).addr; bcast = (h.blocks i).bcast };
   sockets = sockets_with (queues_of s.host.pool s.host.socks.queues) (h.blocks i);
@@ -67,10 +66,10 @@ started_state config s h = λ i. record {
   counters = h.counters i;
 }
 
-none_table : (p : PoolView) (ds : List Datagram) → ds ≡ [] → IsTable p ds
+pub none_table : (p : PoolView) (ds : List Datagram) → ds ≡ [] → IsTable p ds
 none_table p ds e = subst (IsTable p) (sym e) (record { owned = λ k. omega arith; each = tt })
 
-started_all : (config : Config) (s : Inside) → Starts config s → IsAll s.host.pool (chains_of (seen s))
+started_all : (config : Config) (s : Fields) → Starts config s → IsAll s.host.pool (chains_of (seen s))
 started_all config s h = λ k. omega (
   arith,
   split (seen s) k,
@@ -81,7 +80,7 @@ started_all config s h = λ k. omega (
   free_live config k,
 )
 
-pub started : (config : Config) (s : Inside) → IsConfig config → Starts config s → IsInside s
+pub started : (config : Config) (s : Fields) → IsConfig config → Starts config s → IsInside s
 started config s is h = record {
   stack = record {
     mbufs = ap (λ (c : Config). c.mbufs) h.same ∙ sym (ap (λ (p : PoolView). p.mbufs) h.pool);
@@ -113,11 +112,11 @@ gone config p q xs em ec all m = moves_nothing {p = free_pool config} {q = q} (r
 })
 
 -- once the sockets ended
-pub record SocksGone (s : Inside) (q : PoolView) : Type 0 where
+pub record SocksGone (s : Fields) (q : PoolView) : Type 0 where
   pub reass : ReassKept s.host.pool q s.host.reass
   pub output : OutputKept s.host.pool q s.host.net.out
 
-pub socks_gone : (s : Inside) (q : PoolView) → IsStack (seen s) → Moves s.host.pool (queued_chains s.host.pool s.host.socks.queues) q [] → SocksGone s q
+pub socks_gone : (s : Fields) (q : PoolView) → IsStack (seen s) → Moves s.host.pool (queued_chains s.host.pool s.host.socks.queues) q [] → SocksGone s q
 socks_gone s q is m =
     let p : PoolView = s.host.pool in
     let xs : List ℕ = held_all p s.host.reass.datagrams in
@@ -130,11 +129,11 @@ socks_gone s q is m =
     }
 
 -- once the unfinished datagrams ended too
-pub record ReassGone (s : Inside) (r : PoolView) : Type 0 where
+pub record ReassGone (s : Fields) (r : PoolView) : Type 0 where
   pub output : OutputKept s.host.pool r s.host.net.out
   pub moves : Moves s.host.pool (held_all s.host.pool s.host.reass.datagrams ++ queued_chains s.host.pool s.host.socks.queues) r []
 
-pub reass_gone : (s : Inside) (q r : PoolView) → IsStack (seen s) → Moves s.host.pool (queued_chains s.host.pool s.host.socks.queues) q [] → Moves q (held_all q s.host.reass.datagrams) r [] → ReassGone s r
+pub reass_gone : (s : Fields) (q r : PoolView) → IsStack (seen s) → Moves s.host.pool (queued_chains s.host.pool s.host.socks.queues) q [] → Moves q (held_all q s.host.reass.datagrams) r [] → ReassGone s r
 reass_gone s q r is m n =
     let p : PoolView = s.host.pool in
     let xs : List ℕ = held_all p s.host.reass.datagrams in
@@ -148,7 +147,7 @@ reass_gone s q r is m n =
     }
 
 -- once all ended
-pub all_gone : (s : Inside) (r t : PoolView) → IsStack (seen s) → ReassGone s r → Moves r (numbers r s.host.net.out) t [] → t ≡ free_pool s.config
+pub all_gone : (s : Fields) (r t : PoolView) → IsStack (seen s) → ReassGone s r → Moves r (numbers r s.host.net.out) t [] → t ≡ free_pool s.config
 all_gone s r t is g n =
     let p : PoolView = s.host.pool in
     let xs : List ℕ = held_all p s.host.reass.datagrams ++ queued_chains p s.host.socks.queues in

@@ -55,7 +55,8 @@ impl Stack {
         ensures same { OnErr result (room.new ≡ room.old) }
         ensures rest { IfOk result (λ r. drop r.1 room.new ≡ drop r.1 room.old) }
     {
-        self.host.socks.recvfrom(&mut self.host.pool, fd, room)
+        let host = self.host.as_mut();
+        host.socks.recvfrom(&mut host.pool, fd, room)
     }
 
     /// Closes a socket, and frees all that waits in it; packets that it sent stay where they are (volume 2 chapter 15).
@@ -63,7 +64,8 @@ impl Stack {
     pub fn close(&mut self, fd: u32) -> Result<(), Errno>
         ensures { Step (state_of self.old) (Close fd) (done_reply result) (state_of self.new) }
     {
-        self.host.socks.close(&mut self.host.pool, fd)
+        let host = self.host.as_mut();
+        host.socks.close(&mut host.pool, fd)
     }
 
     /// Gives the link the packet that has waited longest: its bytes stand in front of the room, and the answer is how
@@ -77,7 +79,8 @@ impl Stack {
         ensures same { IfNone result (room.new ≡ room.old) }
         ensures rest { IfSome result (λ n. drop n room.new ≡ drop n room.old) }
     {
-        take_packet(&mut self.host.pool, &mut self.host.net.out, room)
+        let host = self.host.as_mut();
+        take_packet(&mut host.pool, &mut host.net.out, room)
     }
 
     /// The clock ticks, in 4.4BSD each half second: each unfinished datagram has a tick less, and those that have none
@@ -85,9 +88,9 @@ impl Stack {
     pub fn tick(&mut self)
         ensures { Step (state_of self.old) Tick Done (state_of self.new) }
     {
-        let ended = self.host.reass.tick(&mut self.host.pool);
-        self.host
-            .net
+        let host = self.host.as_mut();
+        let ended = host.reass.tick(&mut host.pool);
+        host.net
             .counters
             .count_more(Counter::IpFragtimeout, u64::from(ended));
     }

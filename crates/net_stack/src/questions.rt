@@ -25,7 +25,8 @@ impl Stack {
     pub fn next_datagram(&self, fd: u32) -> Result<NextDatagram, Errno>
         ensures { result ≡ next_datagram fd (state_of self.now) }
     {
-        self.host.socks.next_datagram(&self.host.pool, fd)
+        let host = self.host.as_ref();
+        host.socks.next_datagram(&host.pool, fd)
     }
 
     /// How many bytes wait in a socket in all, with 16 for each sender's address among them, 0 to 41,600: a datagram of
@@ -64,7 +65,8 @@ impl Stack {
     pub fn next_packet(&self) -> Option<u32>
         ensures { result ≡ oldest_length (state_of self.now).output }
     {
-        self.host.net.out.next_len(&self.host.pool)
+        let host = self.host.as_ref();
+        host.net.out.next_len(&host.pool)
     }
 
     /// The packet in front of which `i` others wait for the link, from 0: puts its bytes in front of the room, and
@@ -78,7 +80,8 @@ impl Stack {
         ensures same { IfNone result (room.new ≡ room.old) }
         ensures rest { IfSome result (λ n. drop n room.new ≡ drop n room.old) }
     {
-        self.host.net.out.packet(&self.host.pool, i, room)
+        let host = self.host.as_ref();
+        host.net.out.packet(&host.pool, i, room)
     }
 
     /// How many datagrams are unfinished: some of their fragments have come, and others are missing.
@@ -93,7 +96,8 @@ impl Stack {
     pub fn unfinished(&self, i: u32) -> Option<UnfinishedDatagram>
         ensures { result ≡ nth_unfinished i (state_of self.now).unfinished }
     {
-        self.host.reass.unfinished(&self.host.pool, i)
+        let host = self.host.as_ref();
+        host.reass.unfinished(&host.pool, i)
     }
 
     /// The `k`th range of bytes that the unfinished datagram at place `i` holds, in order of offset, from 0. `None`
@@ -102,6 +106,7 @@ impl Stack {
     pub fn unfinished_range(&self, i: u32, k: u32) -> Option<HeldRange>
         ensures { result ≡ nth_range i k (state_of self.now).unfinished }
     {
-        self.host.reass.range(&self.host.pool, i, k)
+        let host = self.host.as_ref();
+        host.reass.range(&host.pool, i, k)
     }
 }

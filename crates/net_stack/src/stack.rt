@@ -39,22 +39,23 @@ pub enum BootFault {
 /// call is a step from the state before it to the state after it. No call but `boot` takes host memory.
 pub struct Stack {
     pub(crate) config: Config,
-    pub(crate) host: Host,
+    // in memory of its own, in which it's made and ended, since its tables have 4 kB
+    pub(crate) host: Box<Host>,
 }
 
 impl Model for Stack {
     ghost use Rattle.std.specs.Coded.{codes};
     ghost use Rattle.mbuf_chain.specs.Chain.{coded_pool};
     ghost use Rattle.net_stack.specs.Stack.{StackView};
-    ghost use Rattle.net_stack.specs.Inside.Fields.{seen, IsInside};
+    ghost use Rattle.net_stack.specs.Inside.Fields.{fields, seen, IsInside};
 
     ghost Value = { StackView };
 
     ghost coded = { Prim.hlevel (codes, coded_pool) };
 
-    ghost view = { seen };
+    ghost view = { λ s. seen (fields s) };
 
-    ghost invariant = { IsInside };
+    ghost invariant = { λ s. IsInside (fields s) };
 }
 
 impl Stack {
@@ -105,7 +106,13 @@ impl Stack {
             reass,
             net: Net::new(config.mtu, config.first_id),
         };
-        Ok(Stack { config, host })
+        match Box::new(alloc, host) {
+            Ok(host) => Ok(Stack { config, host }),
+            Err(refused) => {
+                refused.value.end_new();
+                Err(BootFault::Memory)
+            }
+        }
     }
 
     /// What always holds of a stack: its parts fit together, and its pool holds what the state weighs. So the count of
@@ -123,14 +130,19 @@ impl Stack {
     pub fn end(self) -> Pool
         ensures { result ≡ free_pool self.config }
     {
-        let Stack { config: _, host } = self;
+        let Stack {
+            config: _,
+            mut host,
+        } = self;
+        let parts = host.as_mut();
+        parts.socks.flush(&mut parts.pool);
         let Host {
             mut pool,
             socks,
             reass,
             net,
-        } = host;
-        socks.end(&mut pool);
+        } = Box::into_inner(host);
+        socks.end_empty();
         reass.end(&mut pool);
         net.end(&mut pool);
         pool

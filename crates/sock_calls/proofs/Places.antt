@@ -1,6 +1,6 @@
 -- The queue of a descriptor, by its place.
 use Rattle.std.specs.Prelude.{slice_index_or, slice_set}
-use Rattle.std.proofs.Common.{◌≡◌, ℕ, zero, suc, ◌+◌, ◌<◌, List, ◌++◌, length, refl, sym, ap, ◌∙◌, subst, length-set, arith}
+use Rattle.std.proofs.Common.{◌≡◌, ℕ, zero, suc, ◌+◌, ◌<◌, List, [], ◌∷◌, ◌++◌, length, refl, sym, ap, ◌∙◌, subst, length-set, arith}
 use Rattle.arrayvec.specs.ArrayVec.{ArrayVec, with_items}
 use Rattle.arrayvec.proofs.ArrayVecLemmas.{items-with_items}
 use Rattle.mbuf_chain.specs.Chain.{PoolView}
@@ -8,7 +8,7 @@ use Rattle.mbuf_chain.specs.Owners.{IsOwned, Moves}
 use Rattle.sockbuf.specs.SockBuf.{SockBufView, IsSockBuf, chains_of, no_datagrams}
 use Rattle.sockbuf.proofs.Laws.{new_ready}
 use Rattle.sock_calls.proofs.Frames.{at_default, steps_at}
-use Rattle.sock_calls.specs.Sockets.{StepsAt, from_three, queue_at, queued_chains, queues_of}
+use Rattle.sock_calls.specs.Sockets.{AreEmpty, StepsAt, from_three, queue_at, queued_chains, queues_of}
 
 pub at_three : (bs : List SockBufView) (i fd : ℕ) → i + 3 ≡ fd → queue_at (from_three bs) fd ≡ queue_at bs i
 at_three bs i fd e = let three : fd ≡ suc (suc (suc i)) = omega (arith, e) in ap (queue_at (from_three bs)) three
@@ -60,3 +60,8 @@ steps_inside {p} {q} {bs} {now} {i} {y} v d ins outs is shows lt each owned read
     (subst (λ (l : List SockBufView). (k : ℕ) → IsSockBuf p (queue_at l k)) (sym (is ∙ shows)) each)
     (subst (λ (l : List SockBufView). IsOwned p (ins ++ queued_chains p l)) (sym (is ∙ shows)) owned)
     ready m))
+
+-- queues that are all as new
+pub none_wait : (bs : List SockBufView) → ((k : ℕ) → queue_at bs k ≡ no_datagrams) → AreEmpty bs
+none_wait [] new = tt
+none_wait (b ∷ bs) new = (ap (λ (v : SockBufView). v.train.len) (new 0), none_wait bs (λ k. new (suc k)))

@@ -10,7 +10,7 @@ ghost use Rattle.pcb_table.specs.Table.{IsDescriptor};
 ghost use Rattle.sock_calls.specs.Delivery.{seen, IsInput};
 ghost use Rattle.sock_calls.specs.Outgoing.{sending, CanSend, IsSent};
 ghost use Rattle.sock_calls.specs.Questions.{bytes_queued, next_datagram, readable, socket_name};
-ghost use Rattle.sock_calls.specs.Sockets.{IsSocks, IsCalled, queued_chains, with_sockets};
+ghost use Rattle.sock_calls.specs.Sockets.{AreEmpty, IsSocks, IsCalled, queued_chains, with_sockets};
 
 use crate::delivery::Datagram;
 use crate::ending::flush_all;
@@ -63,6 +63,7 @@ impl Socks {
         ensures blocks { IfOk result (λ s. s.pcbs
             ≡ record { addr = addr; bcast = bcast; blocks = []; last_port = None }) }
         ensures ready { IfOk result (λ s. (p : PoolView) → IsSocks p s) }
+        ensures empty { IfOk result (λ s. AreEmpty s.queues) }
     {
         let parts = Parts {
             pcbs: Pcbs::new(addr, bcast),
@@ -291,17 +292,31 @@ impl Socks {
         }
     }
 
+    /// Frees all that waits in the sockets, which end by `end_empty` then. So a caller may keep them where they lie.
+    pub fn flush(&mut self, pool: &mut Pool)
+        requires { IsSocks pool.old self.old }
+        ensures empty { AreEmpty self.new.queues }
+        ensures moves { Moves pool.old (queued_chains pool.old self.old.queues) pool.new [] }
+    {
+        flush_all(pool, &mut self.parts.queues);
+    }
+
+    /// Ends sockets in which nothing waits.
+    pub fn end_empty(self)
+        requires { AreEmpty self.queues }
+    {
+        let Socks { parts, hearers: _ } = self;
+        let Parts { pcbs: _, queues } = parts;
+        queues.end_empty();
+    }
+
     /// Ends all sockets, and frees all that waits in them.
     pub fn end(self, pool: &mut Pool)
         requires { IsSocks pool.old self }
         ensures { Moves pool.old (queued_chains pool.old self.queues) pool.new [] }
     {
-        let Socks { parts, hearers: _ } = self;
-        let Parts {
-            pcbs: _,
-            mut queues,
-        } = parts;
-        flush_all(pool, &mut queues);
-        queues.end_empty();
+        let mut socks = self;
+        socks.flush(pool);
+        socks.end_empty();
     }
 }

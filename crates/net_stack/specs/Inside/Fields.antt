@@ -1,9 +1,19 @@
 -- How the fields of a stack mean what it shows, and when they do (this project's own).
 use Rattle.std.specs.Prelude.{◌≡◌, None}
 use Rattle.net_stack.specs.Stack.{StackView, IsStack}
+use Rattle.flat_model.specs.declared.config.Config.{Config}
+use Rattle.net_stack.specs.declared.host.Host.{Host}
 use Rattle.net_stack.specs.declared.stack.Stack.TheInside.{Inside}
 
-abbrev pub seen : Inside → StackView
+-- the fields, with what is in the box
+pub record Fields : Type 0 where
+  pub config : Config
+  pub host : Host
+
+abbrev pub fields : Inside → Fields
+fields s = record { config = s.config; host = s.host.value }
+
+abbrev pub seen : Fields → StackView
 seen s = record {
   config = s.config;
   pool = s.host.pool;
@@ -15,7 +25,7 @@ seen s = record {
 }
 
 -- what is shown fits together, the link is the configuration's, and no packet is left that was to come back
-pub record IsInside (s : Inside) : Type 0 where
+pub record IsInside (s : Fields) : Type 0 where
   pub stack : IsStack (seen s)
   pub mtu : s.host.net.mtu ≡ s.config.mtu
   pub looped : s.host.net.looped ≡ record { first = None; last = None; len = 0 }
