@@ -145,7 +145,7 @@ enum {
 
 /* How many bytes of memory a stack takes with so many mbufs and clusters: a constant if they are, so that
    `static unsigned char memory[BSDUDP_MEMORY(64, 16)]` works. */
-#define BSDUDP_MEMORY(mbufs, clusters) (4400 + 150 * (size_t)(mbufs) + 2050 * (size_t)(clusters))
+#define BSDUDP_MEMORY(mbufs, clusters) (4432 + 150 * (size_t)(mbufs) + 2050 * (size_t)(clusters))
 
 /* How many bytes of memory a stack of this configuration takes: BSDUDP_MEMORY of its sizes. */
 size_t bsdudp_memory(const struct bsdudp_config *config);

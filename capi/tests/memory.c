@@ -79,19 +79,22 @@ static int grows(uint32_t mbufs, uint32_t clusters, size_t step)
 {
     struct bsdudp s = BSDUDP_NONE;
     struct bsdudp_config config = config_of(mbufs, clusters);
-    size_t all = bsdudp_memory(&config), len;
+    size_t all = bsdudp_memory(&config), len = 0;
     unsigned char *memory = (unsigned char *)__real_malloc(all + 2 * GUARD);
-    int answer = -BSDUDP_ENOMEM;
+    int answer;
     if (memory == NULL)
         return 1;
     memset(memory, UNTOUCHED, all + 2 * GUARD);
     WANT(all, BSDUDP_MEMORY(mbufs, clusters));
-    for (len = 0; len <= all && answer != 0; len += step) {
+    for (;;) {
         answer = bsdudp_boot_in(&s, &config, memory + GUARD, len);
         WANT(answer == 0 || answer == -BSDUDP_ENOMEM, 1);
         WANT(bsdudp_output_len(&s), answer == 0 ? 0 : -BSDUDP_ENXIO);
         WANT(answer != 0 || mbufs < 4 ? 0 : works(&s), 0);
         WANT(is_untouched(memory + GUARD + len), 1);
+        if (answer == 0 || len == all)
+            break;
+        len = all - len < step ? all : len + step;
     }
     WANT(answer, 0);
     WANT(len + all / 50 + 128 >= all, 1);

@@ -292,10 +292,12 @@ impl Socks {
         }
     }
 
-    /// Frees all that waits in the sockets, which end by `end_empty` then. So a caller may keep them where they lie.
+    /// Frees all that waits in the sockets, which may end by `end_empty` then: so they needn't be moved before. The
+    /// control blocks stay as they are.
     pub fn flush(&mut self, pool: &mut Pool)
         requires { IsSocks pool.old self.old }
         ensures empty { AreEmpty self.new.queues }
+        ensures blocks { self.new.pcbs ≡ self.old.pcbs }
         ensures moves { Moves pool.old (queued_chains pool.old self.old.queues) pool.new [] }
     {
         flush_all(pool, &mut self.parts.queues);
