@@ -80,10 +80,12 @@ static int grows(uint32_t mbufs, uint32_t clusters, size_t step)
     struct bsdudp s = BSDUDP_NONE;
     struct bsdudp_config config = config_of(mbufs, clusters);
     size_t all = bsdudp_memory(&config), len = 0;
-    unsigned char *memory = (unsigned char *)__real_malloc(all + 2 * GUARD);
+    unsigned char *block = (unsigned char *)__real_malloc(all + 2 * GUARD + BSDUDP_ALIGNMENT), *memory = block;
     int answer;
-    if (memory == NULL)
+    if (block == NULL)
         return 1;
+    while ((uintptr_t)(memory + GUARD) % BSDUDP_ALIGNMENT != 0) /* malloc may align to less */
+        memory++;
     memset(memory, UNTOUCHED, all + 2 * GUARD);
     WANT(all, BSDUDP_MEMORY(mbufs, clusters));
     for (;;) {
@@ -103,7 +105,7 @@ static int grows(uint32_t mbufs, uint32_t clusters, size_t step)
     WANT(mbufs < 4 ? 0 : works(&s), 0);
     WANT(bsdudp_end(&s), 0);
     WANT(is_untouched(memory) && is_untouched(memory + GUARD + all), 1);
-    __real_free(memory);
+    __real_free(block);
     return 0;
 }
 
