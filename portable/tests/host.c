@@ -1,6 +1,9 @@
 /* run.c on a host: scripts on standard input, replies on standard output. The memory of each stack is a block of
-   malloc, exactly as large as bsdudp_memory tells, so that a sanitizer sees each access outside of it. */
+   malloc's, exactly as large as bsdudp_memory tells, so that a sanitizer sees each access outside of it. */
+#define _POSIX_C_SOURCE 200112L
 #include "run.h"
+
+#include "bsdudp.h"
 
 #include <stdio.h>
 #include <stdlib.h>
@@ -18,7 +21,8 @@ static void *memory_of(size_t len)
 {
     static void *memory;
     free(memory);
-    memory = malloc(len);
+    if (posix_memalign(&memory, BSDUDP_ALIGNMENT, len) != 0) /* malloc may align to 8 */
+        memory = NULL;
     return memory;
 }
 
