@@ -89,8 +89,12 @@ pub fn cat_after(pool: &mut Pool, chain: &Chain, last: Place, second: Chain) -> 
 /// Joins a chain to another: as long as its first mbuf is shorter than the room after the last bytes of the first
 /// chain, its bytes are moved there and it is freed, with its reference. What is left is linked, and loses its packet
 /// header; so is an mbuf that would fill the room exactly. A cluster takes nothing. It's never refused (TCP/IP
-/// Illustrated, volume 2, chapter 2). The mbufs of the first chain are walked for its last one: `cat_after` is told
+/// Illustrated, volume 2, chapter 2). The mbufs of the first chain are walked for its last one: `cat_after` is given
 /// it.
+///
+/// By example, with `P` for bytes in the mbuf itself, `C` for bytes in a cluster, and its count after `x`: `C300x2` and
+/// `P40` become `C300x2->P40`. `P28` with 60 bytes of room behind, and `C5x3`, become `P33`, and the cluster is counted
+/// 2.
 pub fn m_cat(pool: &mut Pool, chain: &Chain, second: Chain)
     requires front { IsLive pool.old chain.now }
     requires back { IsLive pool.old second }

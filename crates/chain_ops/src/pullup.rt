@@ -159,6 +159,10 @@ fn len_up_to(pool: &Pool, chain: &Chain, most: u32) -> u32
 /// reference, and so does an empty one in front of the last byte that is moved. `TooLong` comes where `n` is above
 /// 100, else `TooShort` where the chain has fewer bytes, else `NoBufs` exactly where a new first mbuf is needed and no
 /// mbuf is free; each changes nothing (TCP/IP Illustrated, volume 2, chapter 2).
+///
+/// By example, with `P` for bytes in the mbuf itself, `C` for bytes in a cluster, and its count after `x`: 20 bytes of
+/// `C300x2` become `P40->C260x2`, and then 60 bytes `P60->C240x2`. 40 bytes of `C40x2` become `P40`: the emptied mbuf
+/// is freed, and the cluster is counted 1.
 pub fn m_pullup(pool: &mut Pool, chain: &mut Chain, n: u32) -> Result<(), Refusal>
     requires { IsLive pool.old chain.old }
     ensures ok { OnOk result (Makes (without pool.old chain.old) pool.new chain.new

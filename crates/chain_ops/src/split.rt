@@ -119,6 +119,9 @@ fn new_head(
 /// others: of an mbuf that is cut through, a cluster is shared, and bytes of a plain one are copied. Where the chain
 /// has a packet header, both have one, and no mbuf after the cut is looked at. `NoBufs` comes exactly where fewer
 /// mbufs are free than that takes, and changes nothing (`m_split` of 4.4BSD; the details are this project's own).
+///
+/// By example, with `P` for bytes in the mbuf itself, `C` for bytes in a cluster, and its count after `x`: `C300x1` at
+/// 100 becomes `C100x2` and `C200x2`, and `P80` at 30 becomes `P30` and `P50`.
 pub fn m_split(pool: &mut Pool, chain: &Chain, at: u32) -> Result<Chain, NoBufs>
     requires live { IsLive pool.old chain.now }
     requires within { at < length (string (chain_of pool.old chain.now)) }

@@ -159,8 +159,10 @@ impl Pool {
         }
     }
 
-    /// Gives a chain's mbufs back, with their references. A cluster is free again where its last
-    /// reference is gone.
+    /// Gives a chain's mbufs back, with their references. A cluster is free again once its last reference is gone.
+    ///
+    /// By example: if the clusters along the chain are counted `1->2->3`, they are counted `0->1->2` after the call.
+    /// The first is free; the others stay with the chains that share them.
     pub fn free_chain(&mut self, chain: Chain)
         requires { IsLive self.old chain }
         ensures { self.new ≡ without self.old chain }

@@ -19,8 +19,8 @@ use std::marker::Model;
 /// `end_empty` where no chain is left.
 ///
 /// The chains stay in the pool that each call is given, which is the one that they came from.
-// As few bytes as hold it, since each socket and each unfinished datagram has one: its two ends are numbers, which say
-// nothing while there is no chain.
+// A train is kept small, since each socket and each unfinished datagram has one: its two ends are plain numbers, which
+// mean nothing while there is no chain.
 pub struct Train {
     first: u32,
     last: u32,

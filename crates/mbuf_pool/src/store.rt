@@ -170,8 +170,9 @@ impl Store {
         self.counts[cluster as usize] += 1;
     }
 
-    /// Counts one less that holds a cluster, which must be counted above 0. Where none is left it is
-    /// free: three calls take the count from 3 to 2, to 1, and to free.
+    /// Counts one less that holds a cluster, which must be counted above 0. At 0 the cluster is free.
+    ///
+    /// By example: three calls take a count along `3->2->1->0`.
     pub fn release(&mut self, cluster: u32)
         requires { 0 < count_of self.old cluster }
         ensures change { self.new ≡ with_cluster self.old cluster (released (cluster_of self.old cluster)) }

@@ -185,7 +185,7 @@ impl SockBuf {
         let (whole, _) = self.train.take(pool, 0);
         let first = pool.first(&whole);
         let sender = sockaddr_in(pool.bytes(&whole, first));
-        // the sixteen bytes of the address stand in the chain; the last one is all that was counted
+        // a chain counts with the sixteen bytes of its address; the sums of a queue's only chain are those of the queue
         let (len, memory) = if self.train.is_empty() {
             (self.cc, self.mbcnt)
         } else {
