@@ -2,6 +2,8 @@
 # Measures the subject that is named, or each of them. A subject is a folder beside this file; its measure.sh says how,
 # or else lib.sh.
 set -euo pipefail
+source "$(dirname "$0")/../tools/script.bash"
+words "[SUBJECT ..]" "$@"
 . "$(dirname "$0")/lib.sh"
 
 work="$(mktemp -d)"
@@ -12,6 +14,7 @@ if [ $# = 0 ]; then
     for program in "$bench"/*/bench.c; do subjects+=("$(basename "$(dirname "$program")")"); done
 fi
 for subject in "${subjects[@]}"; do
+    [ -d "$bench/$subject" ] || usage "there is no subject $subject"
     echo "== $subject"
     if [ -f "$bench/$subject/measure.sh" ]; then
         . "$bench/$subject/measure.sh"

@@ -3,6 +3,8 @@
 # from the wire that are received, and datagrams of 2, 1,472 and 9,000 bytes that are sent by loopback and received.
 # Build it first: `rt run` in crates/bsdudp leaves the program in out/.
 set -euo pipefail
+source "$(dirname "$0")/../tools/script.bash"
+words "[PROGRAM]" "$@"
 
 program=${1:-"$(dirname "$0")/../crates/bsdudp/out/bsdudp"}
 script=$(mktemp)

@@ -1,11 +1,12 @@
 #!/usr/bin/env python3
-"""Linux as the peer of capi/examples/tun_echo.c: kernel.py TUN_ECHO MTU. It takes a network namespace (unshare -n).
+"""Linux as the peer of capi/examples/tun_echo.c. It takes a network namespace (unshare -n).
 
 Datagrams of many lengths go to the echo at 10.0.0.1 port 7 and come back, with and without a checksum, to the broadcast
-address, and of random lengths. With a third word `lossy` the program is that host behind a wire that loses, repeats and
+address, and of random lengths. With the word `lossy` the program is that host behind a wire that loses, repeats and
 reorders (lossy.c): what comes back of 2,000 datagrams was sent so. Then the kernel's own counters have no error, and
 the pool is full again. It says the first thing that is wrong, and then exits with 1."""
 import os
+import pathlib
 import random
 import re
 import signal
@@ -13,6 +14,10 @@ import socket
 import subprocess
 import sys
 import time
+
+sys.dont_write_bytecode = True
+sys.path.insert(0, str(pathlib.Path(__file__).resolve().parent.parent.parent))
+from tools import command_line  # noqa: E402
 
 LENGTHS = [0, 1, 27, 28, 29, 72, 73, 207, 208, 1472, 1473, 2047, 2048, 2049, 4096, 9216]
 DATAGRAMS = 2000
@@ -128,11 +133,16 @@ def run(program, mtu, exchange):
         raise Wrong(f"MTU {mtu}: the kernel counted {errors()}")
 
 
-def main(program, mtu, how="plain"):
+def main():
+    parser = command_line.parser(__doc__)
+    parser.add_argument("program", metavar="TUN_ECHO", help="the built program")
+    parser.add_argument("mtu", metavar="MTU", type=int, help="the device's MTU, 68 to 9000")
+    parser.add_argument("lossy", nargs="?", choices=["lossy"], help="the program is that of lossy.c")
+    said = parser.parse_args()
     try:
-        run(os.path.abspath(program), int(mtu), lossy_datagrams if how == "lossy" else datagrams)
+        run(os.path.abspath(said.program), said.mtu, lossy_datagrams if said.lossy else datagrams)
     except Wrong as what:
         sys.exit(f"kernel.py: {what}")
 
 
-main(*sys.argv[1:])
+main()

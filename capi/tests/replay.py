@@ -1,5 +1,5 @@
 #!/usr/bin/env python3
-"""The captures of tests/captures, played: replay.py PCAP [TUN_ECHO].
+"""The captures of tests/captures, played.
 
 PCAP is the built capi/examples/pcap.c. What it counts stands in NAME.stdout; what it writes has the echo of each
 datagram to port 7, with right checksums; and tshark, if it's there, finds nothing to say of it. The same packets behind
@@ -16,6 +16,10 @@ import subprocess
 import sys
 import tempfile
 import time
+
+sys.dont_write_bytecode = True
+sys.path.insert(0, str(pathlib.Path(__file__).resolve().parent.parent.parent))
+from tools import command_line  # noqa: E402
 
 CAPTURES = pathlib.Path(__file__).resolve().parent / "captures"
 HOST, BROADCAST, ECHO = socket.inet_aton("10.0.0.1"), socket.inet_aton("10.0.0.255"), 7
@@ -209,19 +213,23 @@ def by_tun_echo(program, name, wanted):
             host.send_signal(signal.SIGTERM)
 
 
-def main(programs):
+def main():
+    parser = command_line.parser(__doc__)
+    parser.add_argument("pcap", metavar="PCAP", help="the built pcap.c")
+    parser.add_argument("tun_echo", metavar="TUN_ECHO", nargs="?", help="the built tun_echo.c")
+    said = parser.parse_args()
     try:
         with tempfile.TemporaryDirectory() as room:
-            sent = by_pcap(programs[0], "ethernet", room)
-            by_pcap(programs[0], "late", room)
-            by_links(programs[0], room, sent)
-            by_jumps(programs[0], room)
+            sent = by_pcap(said.pcap, "ethernet", room)
+            by_pcap(said.pcap, "late", room)
+            by_links(said.pcap, room, sent)
+            by_jumps(said.pcap, room)
         if not shutil.which("tshark"):
             print("capi: no tshark: what pcap writes isn't read by it")
-        for program in programs[1:]:
-            by_tun_echo(program, "ethernet", sent)
+        if said.tun_echo:
+            by_tun_echo(said.tun_echo, "ethernet", sent)
     except Wrong as what:
         sys.exit(f"replay.py: {what}")
 
 
-main(sys.argv[1:])
+main()

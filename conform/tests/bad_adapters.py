@@ -1,10 +1,15 @@
 #!/usr/bin/env python3
 """Adapters that answer nonsense, die, hang or flood: each costs the cases it was in, is named, and the run goes on."""
+import pathlib
 import sys
 import tempfile
 
 from bsdudp_conform import _adapter, cases
 from bsdudp_conform._judge import judge
+
+sys.dont_write_bytecode = True
+sys.path.insert(0, str(pathlib.Path(__file__).resolve().parent.parent.parent))
+from tools import command_line  # noqa: E402
 
 HEAD = """
 import os, sys, time
@@ -50,6 +55,7 @@ def told(body, chosen):
 
 
 def main():
+    command_line.none(__doc__)
     status = 0
     _adapter.MOST_BYTES = 4 << 20
     chosen = [it for it in cases.make(1, 0) if it.rule == "ip.version"]

@@ -1,6 +1,7 @@
 #!/usr/bin/env python3
-"""exact.py PROGRAM [WORD ..]: the reference machine at 4.4BSD's settings answers every case as the program does, byte
+"""The reference machine at 4.4BSD's settings answers every case as the program does, byte
 for byte: each delivery with its step, sender and socket, each packet that leaves, each refusal."""
+import pathlib
 import sys
 from collections import Counter
 
@@ -10,13 +11,19 @@ from bsdudp_conform._case import Send
 from bsdudp_conform._freedom import BSD, Path
 from bsdudp_conform._machine import play
 
+sys.dont_write_bytecode = True
+sys.path.insert(0, str(pathlib.Path(__file__).resolve().parent.parent.parent))
+from tools import command_line  # noqa: E402
+
 ADAPTER = [sys.executable, "-m", "bsdudp_conform.adapters.bsdudp"]
 
 
 def main():
+    parser = command_line.parser(__doc__)
+    words = command_line.with_command(parser, "PROGRAM", "the program with its words").command
     faults = 0
     spent = Counter()  # the program serves all cases of an MTU, so its identification goes on
-    with Adapter([*ADAPTER, *sys.argv[1:]], 60) as program:
+    with Adapter([*ADAPTER, *words], 60) as program:
         for case in cases.make(1, 1000):
             machine = play(case, Path(BSD), 1 + spent[case.mtu])
             answer = program.ask(case)

@@ -12,6 +12,10 @@ from bsdudp_conform._case import Answer, Receive
 from bsdudp_conform._freedom import SETTINGS, Path
 from bsdudp_conform._verdict import FAULT, MUST, NEVER, verdict
 
+sys.dont_write_bytecode = True
+sys.path.insert(0, str(pathlib.Path(__file__).resolve().parent.parent.parent))
+from tools import command_line  # noqa: E402
+
 MODULES = {"read": _read, "reassembly": _reassembly, "machine": _machine}
 ABILITIES = frozenset({"out", "send", "mtu", "sockets", "connect"})
 GRAVE = (FAULT, NEVER, MUST)
@@ -111,6 +115,9 @@ def unseen(plant):
 
 
 def main():
+    parser = command_line.parser(__doc__)
+    parser.add_argument("--count", action="store_true", help="prints how many were tried")
+    counts = parser.parse_args().count
     faults = 0
     plants = list(edits())
     with concurrent.futures.ProcessPoolExecutor(os.cpu_count()) as pool:
@@ -121,7 +128,7 @@ def main():
         for name in filter(None, missed):
             print(f"conform: a fault isn't seen: {name}", file=sys.stderr)
             faults = 1
-    if len(sys.argv) > 1:
+    if counts:
         print(
             f"{sum(len(it.permitted) for it in SETTINGS.values())} machines, {len(plants)} plants, {len(CASES)} cases"
         )

@@ -1,12 +1,17 @@
 #!/usr/bin/env python3
-"""veth.py COMMAND [WORD ..]: runs a command in a network namespace with an interface w0, at whose other end, in another
+"""Runs a command in a network namespace with an interface w0, at whose other end, in another
 namespace, Linux has 10.0.0.1/24 and a UDP echo service on port 7."""
 import ctypes
 import os
+import pathlib
 import signal
 import socket
 import subprocess
 import sys
+
+sys.dont_write_bytecode = True
+sys.path.insert(0, str(pathlib.Path(__file__).resolve().parent.parent.parent))
+from tools import command_line  # noqa: E402
 
 CLONE_NEWNET = 0x40000000
 
@@ -48,6 +53,7 @@ def echo(ready, go):
 
 
 def main():
+    words = command_line.with_command(command_line.parser(__doc__), "COMMAND", "the command with its words").command
     unshare()
     (ready_out, ready_in), (go_out, go_in) = os.pipe(), os.pipe()
     child = os.fork()
@@ -63,7 +69,7 @@ def main():
         run("ip", "link", "set", "w0", "up", "mtu", "65535", "txqueuelen", "1000")
         os.write(go_in, b"x")
         os.read(ready_out, 1)
-        return subprocess.run(sys.argv[1:], check=False).returncode
+        return subprocess.run(words, check=False).returncode
     finally:
         os.kill(child, signal.SIGKILL)
         os.waitpid(child, 0)

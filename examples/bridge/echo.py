@@ -1,5 +1,5 @@
 #!/usr/bin/env python3
-"""echo.py [--program FILE] [--mtu N] COMMAND..: a host at 10.0.0.1 on a TUN device, whose stack is `bsdudp run`.
+"""A host at 10.0.0.1 on a TUN device, whose stack is `bsdudp run`.
 
 It sends each datagram that comes to its port 7 back to the sender. This machine's kernel is 10.0.0.2, and COMMAND runs
 beside it, so that it can send there. When COMMAND ends, the host ends with its status. It wants root, and a network

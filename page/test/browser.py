@@ -1,5 +1,5 @@
 #!/usr/bin/env python3
-"""browser.py PAGE.html EXAMPLES LESSONS SHOTS: plays each example and each lesson in the page itself, in headless
+"""Plays each example and each lesson in the page itself, in headless
 Chromium, and looks at its lines. The page's replies have to be those that are wanted. Its console has to be silent, and
 it may ask the network for nothing. What takes input has to be reached by the keyboard alone. Nothing may overlap or be
 cut off at widths of 360, 768 and 1,600 pixels, and each text has to have a contrast of 4.5 at least, in light and in
@@ -13,6 +13,10 @@ import signal
 import subprocess
 import sys
 import tempfile
+
+sys.dont_write_bytecode = True
+sys.path.insert(0, str(pathlib.Path(__file__).resolve().parent.parent.parent))
+from tools import command_line  # noqa: E402
 
 HERE = pathlib.Path(__file__).resolve().parent
 UNTIL_READY = """new Promise(done => {
@@ -225,7 +229,12 @@ def try_keys(browser):
     yield from browser.run("faultsOfSaving()")
 
 
-def main(page, examples, lessons, shots):
+def main():
+    parser = command_line.parser(__doc__)
+    for name, metavar in (("page", "PAGE.html"), ("examples", "EXAMPLES"), ("lessons", "LESSONS"), ("shots", "SHOTS")):
+        parser.add_argument(name, metavar=metavar, type=pathlib.Path)
+    said = parser.parse_args()
+    page, examples, lessons, shots = said.page, said.examples, said.lessons, said.shots
     shots.mkdir(parents=True, exist_ok=True)
     signal.signal(signal.SIGALRM, give_up)
     with tempfile.TemporaryDirectory(ignore_cleanup_errors=True) as home:
@@ -252,4 +261,4 @@ def main(page, examples, lessons, shots):
 
 
 if __name__ == "__main__":
-    sys.exit(main(*map(pathlib.Path, sys.argv[1:])))
+    sys.exit(main())

@@ -1,13 +1,18 @@
 #!/usr/bin/env python3
-"""bridge.py PROGRAM..: joins a program that speaks SLIP (RFC 1055) on its standard input and output to the TUN device
+"""Joins a program that speaks SLIP (RFC 1055) on its standard input and output to the TUN device
 bsdudp0, which it makes, with the address 10.0.0.2. At SIGTERM the program gets a packet of one byte 4 and shall end."""
 import fcntl
 import os
+import pathlib
 import select
 import signal
 import struct
 import subprocess
 import sys
+
+sys.dont_write_bytecode = True
+sys.path.insert(0, str(pathlib.Path(__file__).resolve().parent.parent.parent))
+from tools import command_line  # noqa: E402
 
 END, ESC, ESCAPED_END, ESCAPED_ESC = b"\xc0", b"\xdb", b"\xdb\xdc", b"\xdb\xdd"
 TUNSETIFF, IFF_TUN, IFF_NO_PI = 0x400454CA, 1, 0x1000
@@ -31,7 +36,9 @@ def packets(came):
     return [it.replace(ESCAPED_END, END).replace(ESCAPED_ESC, ESC) for it in whole if it], rest
 
 
-def main(program):
+def main():
+    parser = command_line.parser(__doc__)
+    program = command_line.with_command(parser, "PROGRAM", "the program with its words").command
     tun, came, ending = device(), b"", []
     signal.signal(signal.SIGTERM, lambda *_: ending.append(1))
     with subprocess.Popen(program, stdin=subprocess.PIPE, stdout=subprocess.PIPE, bufsize=0) as board:
@@ -51,4 +58,4 @@ def main(program):
         return board.wait(60)
 
 
-sys.exit(main(sys.argv[1:]))
+sys.exit(main())

@@ -1,6 +1,6 @@
 #!/usr/bin/env python3
-"""peer.py [--all] BRIDGE..: Linux as the peer of echo.c, in a network namespace of its own (unshare -n). Datagrams of 0
-to 4,096 bytes go to 10.0.0.1 port 7 and come back, of each length with --all. The kernel's counters have no error then,
+"""Linux as the peer of echo.c, in a network namespace of its own (unshare -n). Datagrams of 0
+to 4,096 bytes go to 10.0.0.1 port 7 and come back. The kernel's counters have no error then,
 and the board's pool is full again. It says the first thing that is wrong and exits with 1, else how much stack was
 used."""
 import pathlib
@@ -11,6 +11,10 @@ import socket
 import subprocess
 import sys
 import time
+
+sys.dont_write_bytecode = True
+sys.path.insert(0, str(pathlib.Path(__file__).resolve().parent.parent.parent))
+from tools import command_line  # noqa: E402
 
 LENGTHS = [0, 1, 2, 72, 73, 100, 101, 207, 208, 1472, 1473, 2047, 2048, 2049, 2952, 2953, 4095, 4096]
 BOARD, MOST = ("10.0.0.1", 7), 4096
@@ -61,10 +65,13 @@ def echo(lengths):
     return f"the kernel counted {wrong}" if wrong else ""
 
 
-def main(words):
+def main():
+    parser = command_line.parser(__doc__)
+    parser.add_argument("--all", action="store_true", help="sends datagrams of each length")
+    said = command_line.with_command(parser, "BRIDGE", "bridge.py with its words")
     rng = random.Random(2)
-    lengths = range(MOST + 1) if words[0] == "--all" else LENGTHS + [rng.randrange(MOST + 1) for _ in range(100)]
-    with subprocess.Popen(words[words[0] == "--all" :], stderr=subprocess.PIPE, text=True) as bridge:
+    lengths = range(MOST + 1) if said.all else LENGTHS + [rng.randrange(MOST + 1) for _ in range(100)]
+    with subprocess.Popen(said.command, stderr=subprocess.PIPE, text=True) as bridge:
         try:
             wait_for_device()
             fault = echo(lengths)
@@ -72,11 +79,11 @@ def main(words):
                 fault = "the board ended before its time"
         finally:
             bridge.send_signal(signal.SIGTERM)
-            said = bridge.communicate()[1]
-    told = re.search(r"stack (\d+) all free", said)
+            heard = bridge.communicate()[1]
+    told = re.search(r"stack (\d+) all free", heard)
     if fault or bridge.returncode or not told:
-        sys.exit(f"peer.py: {fault or f'the board ended with {bridge.returncode} and said {said.strip()!r}'}")
+        sys.exit(f"peer.py: {fault or f'the board ended with {bridge.returncode} and said {heard.strip()!r}'}")
     print(f"{len(lengths)} datagrams, stack {int(told[1])} bytes")
 
 
-main(sys.argv[1:])
+main()

@@ -1,8 +1,8 @@
 #!/usr/bin/env python3
-"""replies.py [--random N PROGRAM] DRIVER.. [+ DRIVER..]..: plays all scripts of examples/ by a driver of run.c, whose
-words these are, and compares its replies with those beside the scripts, byte for byte. Then it plays N random scripts
-by the driver and by the program `bsdudp`, and compares these. Several drivers, with a word + between them, play the
+"""Plays all scripts of examples/ by a driver of run.c, and compares its replies with those beside the scripts, byte for
+byte. Then it plays random scripts by the driver and by the program `bsdudp`, and compares these. Several drivers, with a word + between them, play the
 same scripts. It says what is answered otherwise, and then exits with 1."""
+import argparse
 import concurrent.futures
 import itertools
 import os
@@ -13,8 +13,9 @@ import sys
 
 sys.dont_write_bytecode = True
 TOP = pathlib.Path(__file__).resolve().parent.parent.parent
-sys.path.insert(0, str(TOP / "python/tests"))
+sys.path[:0] = [str(TOP), str(TOP / "python/tests")]
 from packets import damaged, fragment, udp  # noqa: E402
+from tools import command_line  # noqa: E402
 
 FIRST, LINES, LONGEST = 1, 150, 4000
 ADDRESSES = ["10.0.0.1", "10.0.0.2", "10.0.0.255", "127.0.0.1", "0.0.0.0", "255.255.255.255", "127.0.0.2", "224.0.0.1"]
@@ -123,12 +124,29 @@ def differences(scripts, got, wanted):
     return [f"{name}: line {line_of(it, want)} is answered otherwise" for (name, *_), it, want in told if it != want]
 
 
-def main(words):
-    count, program = 0, None
-    if words[:1] == ["--random"]:
-        count, program, words = int(words[1]), words[2], words[3:]
-    drivers = [list(it) for same, it in itertools.groupby(words, lambda word: word != "+") if same]
-    scripts, wanted = chosen(count, program)
+class Random(argparse.Action):
+    """A number and the path of a program."""
+
+    def __call__(self, parser, namespace, values, option=None):
+        if not values[0].isdigit():
+            parser.error(f"{option}: {values[0]} is no number")
+        setattr(namespace, self.dest, (int(values[0]), values[1]))
+
+
+def add_random(parser):
+    """The option --random, as a number of scripts and the program that answers them, or 0 and None."""
+    about = "also plays N random scripts, by this program bsdudp too"
+    parser.add_argument(
+        "--random", nargs=2, metavar=("N", "PROGRAM"), action=Random, default=(0, None), help=about
+    )
+
+
+def main():
+    parser = command_line.parser(__doc__)
+    add_random(parser)
+    words = command_line.with_command(parser, "DRIVER", "a driver with its words, and others behind a word + each")
+    drivers = [list(it) for same, it in itertools.groupby(words.command, lambda word: word != "+") if same]
+    scripts, wanted = chosen(*words.random)
     with concurrent.futures.ThreadPoolExecutor(len(drivers)) as pool:
         played = list(pool.map(lambda driver: heard(driver, scripts)[0], drivers))
     faults = [(driver, fault) for driver, got in zip(drivers, played) for fault in differences(scripts, got, wanted)]
@@ -138,4 +156,4 @@ def main(words):
 
 
 if __name__ == "__main__":
-    sys.exit(main(sys.argv[1:]))
+    sys.exit(main())

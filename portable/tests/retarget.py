@@ -1,16 +1,12 @@
 #!/usr/bin/env python3
-"""retarget.py: what portable/retarget makes of each form of a line that it knows, and which forms it refuses. Silent if
-all is well; else it says the first that is otherwise, and exits with 1."""
-import importlib.machinery
-import importlib.util
+"""What tools/retarget.py makes of each form of a line that it knows, and which forms it refuses. Silent if all is well;
+else it says the first that is otherwise, and exits with 1."""
 import pathlib
 import sys
 
 sys.dont_write_bytecode = True
-HERE = pathlib.Path(__file__).resolve().parent
-loader = importlib.machinery.SourceFileLoader("retarget", str(HERE.parent / "retarget"))
-retarget = importlib.util.module_from_spec(importlib.util.spec_from_loader("retarget", loader))
-loader.exec_module(retarget)
+sys.path.insert(0, str(pathlib.Path(__file__).resolve().parent.parent.parent))
+from tools import command_line, retarget  # noqa: E402
 
 # A line of a function, and the lines that stand for it. %1 is the first name that's made, %2 the second.
 KNOWN = [
@@ -143,6 +139,7 @@ def refused(text, number):
 
 
 def main():
+    command_line.none(__doc__)
     faults = [f"refused: {line}" for line in SAME if rewritten(function(f"  {line}"))[1:-1] != [f"  {line}"]]
     for line, wanted in KNOWN:
         got = [named(it) for it in rewritten(function(f"  {line}"))[1:-1]]

@@ -1,8 +1,8 @@
 """How many datagrams come through a wire that loses packets, by the datagram's length: measured over many seeds, beside the
 law. A datagram of n fragments comes through if none of them is lost: with the chance (1 - p) to the power of n."""
+import argparse
 import math
 import os
-import sys
 
 import bsdudp
 
@@ -36,6 +36,9 @@ def come_through(seed):
 
 
 if __name__ == "__main__":
+    parser = argparse.ArgumentParser(description=__doc__)
+    parser.add_argument("plot", nargs="?", metavar="PLOT.png", help="a plot of it is written to this file")
+    words = parser.parse_args()
     results = bsdudp.sweep(come_through, range(SEEDS), "cores")
     shares = [sum(column) / SEEDS for column in zip(*results)]
     print("  loss  bytes  fragments  measured   law")
@@ -44,7 +47,7 @@ if __name__ == "__main__":
         law = (1 - loss) ** fragments(length)
         print(f"{loss:6} {length:6} {fragments(length):10} {share:9.3f} {law:5.3f}")
         assert abs(share - law) < 5 * math.sqrt(law * (1 - law) / SEEDS) + 1e-9
-    if len(sys.argv) > 1:
+    if words.plot:
         import matplotlib
 
         matplotlib.use("Agg")
@@ -57,4 +60,4 @@ if __name__ == "__main__":
         plt.xlabel("bytes of the datagram")
         plt.ylabel("share that comes through")
         plt.legend()
-        plt.savefig(sys.argv[1])
+        plt.savefig(words.plot)

@@ -1,10 +1,13 @@
 """A pool that runs dry: fragments of datagrams that never become whole fill it. One that finds no buffer free makes the stack
 give up all that wait. Those that came after it go when 60 ticks have passed."""
-import sys
+import argparse
 
 import bsdudp
 from scapy.all import IP, UDP, Raw
 
+parser = argparse.ArgumentParser(description=__doc__)
+parser.add_argument("plot", nargs="?", metavar="PLOT.png", help="a plot of it is written to this file")
+words = parser.parse_args()
 free, moments = [], []
 
 
@@ -33,7 +36,7 @@ with bsdudp.Stack("10.0.0.1", mbufs=64, clusters=8) as stack:
     print("30 seconds later:", usage.free_mbufs, "of", usage.mbufs, "mbufs are free")
     assert (usage.free_mbufs, usage.free_clusters) == (usage.mbufs, usage.clusters)
 
-if len(sys.argv) > 1:
+if words.plot:
     import matplotlib
 
     matplotlib.use("Agg")
@@ -42,4 +45,4 @@ if len(sys.argv) > 1:
     plt.step(range(len(free)), free, where="post")
     plt.xlabel("event")
     plt.ylabel("free mbufs")
-    plt.savefig(sys.argv[1])
+    plt.savefig(words.plot)

@@ -4,8 +4,8 @@ One process of the program serves all cases of an MTU: after 60 ticks nothing of
 identification of the next send. A wait is told in ticks of half a second; what is left of it goes to the next wait."""
 from __future__ import annotations
 
+import argparse
 import subprocess
-import sys
 from typing import Callable, Dict, List, Optional, Set, Tuple
 
 from ..kit import Adapter, bytes_of, serve
@@ -140,8 +140,12 @@ class Bsdudp(Adapter):
 
 
 def main() -> None:
-    if sys.argv[1:]:
-        Bsdudp.command = sys.argv[1:]
+    parser = argparse.ArgumentParser(prog="python3 -m bsdudp_conform.adapters.bsdudp", description=__doc__)
+    parser.add_argument("command", metavar="PROGRAM", nargs="?", help="the program, as `bsdudp` (if nothing is said)")
+    parser.add_argument("words", metavar="WORD", nargs=argparse.REMAINDER, help="its words, as `run`")
+    said = parser.parse_args()
+    if said.command:
+        Bsdudp.command = [said.command, *said.words]
     serve(Bsdudp)
 
 

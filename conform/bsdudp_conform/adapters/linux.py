@@ -1,9 +1,10 @@
-"""The Linux kernel: `python3 -m bsdudp_conform.adapters.linux [NAME=VALUE ..]`; the words are sysctls under net.ipv4.
+"""The Linux kernel, judged by `bsdudp-conform run -- python3 -m bsdudp_conform.adapters.linux`.
 
 Each case has a network namespace of its own, whose packets come and go by a TUN device, and its waits take real time.
 It needs root, unshare and /dev/net/tun."""
 from __future__ import annotations
 
+import argparse
 import ctypes
 import fcntl
 import os
@@ -12,7 +13,6 @@ import select
 import socket
 import struct
 import subprocess
-import sys
 import time
 from typing import Dict, List
 
@@ -135,7 +135,9 @@ def bound(port: int) -> socket.socket:
 
 
 def main() -> None:
-    Linux.settings = sys.argv[1:]
+    parser = argparse.ArgumentParser(prog="python3 -m bsdudp_conform.adapters.linux", description=__doc__)
+    parser.add_argument("settings", metavar="NAME=VALUE", nargs="*", help="a sysctl under net.ipv4")
+    Linux.settings = parser.parse_args().settings
     Linux.probe = packet(udp(b"probe", dport=PROBE_PORT), id=0xFFF0)
     serve(Linux)
 

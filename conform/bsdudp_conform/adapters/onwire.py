@@ -1,4 +1,4 @@
-"""A device on a wire: `python3 -m bsdudp_conform.adapters.onwire INTERFACE [ADDRESS]`.
+"""A device on a wire, for `bsdudp-conform wire`.
 
 The device has the address on a network of 24 bits, by default 10.0.0.1, and a UDP echo service on port 7 (RFC 862), so
 that each delivery comes back and shows. Frames go out by a packet socket (CAP_NET_RAW), and ARP is answered for each
@@ -6,6 +6,7 @@ other address of the network. After each packet a probe follows, whose echo says
 before."""
 from __future__ import annotations
 
+import argparse
 import os
 import select
 import socket
@@ -14,8 +15,12 @@ import sys
 import time
 from typing import List, Optional
 
-if len(sys.argv) == 3:
-    os.environ["BSDUDP_CONFORM_TARGET"] = sys.argv[2]
+parser = argparse.ArgumentParser(prog="python3 -m bsdudp_conform.adapters.onwire", description=__doc__)
+parser.add_argument("interface", metavar="INTERFACE", help="the interface of this machine to the wire")
+parser.add_argument("address", metavar="ADDRESS", nargs="?", help="the device's, as 10.0.0.1")
+said = parser.parse_args()
+if said.address:
+    os.environ["BSDUDP_CONFORM_TARGET"] = said.address
 
 from .._addresses import BROADCAST, HOST, ONES, PEER, PEER2, text_of  # noqa: E402
 from .._freedom import Path  # noqa: E402
@@ -137,11 +142,11 @@ class Device(Adapter):
 
 
 def main() -> None:
-    Device.name = f"{text_of(HOST)} on {sys.argv[1]}"
+    Device.name = f"{text_of(HOST)} on {said.interface}"
     try:
-        Device.wire = Wire(sys.argv[1])
+        Device.wire = Wire(said.interface)
     except OSError as fault:
-        sys.exit(f"{sys.argv[1]}: {fault.strerror}")
+        sys.exit(f"{said.interface}: {fault.strerror}")
     serve(Device)
 
 

@@ -1,22 +1,24 @@
 #!/usr/bin/env python3
-"""bsdudp-study.py TABLE PICTURE: plots the table that bsdudp-study prints: a mark for each measured share of datagrams
-that came through, and a line for the law."""
+"""Plots the table that bsdudp-study prints: a mark for each measured share of datagrams that came through, and a line
+for the law."""
+import argparse
 import csv
-import sys
-
-import matplotlib
-
-matplotlib.use("Agg")
-import matplotlib.pyplot as plt
 
 # all lengths of a datagram
 ALL = range(9217)
 
 
 def main():
-    if len(sys.argv) != 3:
-        sys.exit("usage: bsdudp-study.py TABLE PICTURE")
-    with open(sys.argv[1], encoding="utf-8") as table:
+    parser = argparse.ArgumentParser(description=__doc__)
+    parser.add_argument("table", metavar="TABLE", help="what bsdudp-study printed")
+    parser.add_argument("picture", metavar="PICTURE", help="the file to be written, as study.png")
+    said = parser.parse_args()
+    import matplotlib
+
+    matplotlib.use("Agg")
+    import matplotlib.pyplot as plt
+
+    with open(said.table, encoding="utf-8") as table:
         rows = list(csv.DictReader(table))
     figure, axes = plt.subplots(figsize=(8, 5))
     for number, loss in enumerate(sorted({row["loss"] for row in rows}, key=float)):
@@ -35,7 +37,7 @@ def main():
     axes.set_ylabel("share of the datagrams that came through")
     axes.set_ylim(0, 1.02)
     axes.legend(ncol=3, fontsize="small", loc="upper center", bbox_to_anchor=(0.5, 1.2))
-    figure.savefig(sys.argv[2], dpi=120, bbox_inches="tight")
+    figure.savefig(said.picture, dpi=120, bbox_inches="tight")
 
 
 main()

@@ -1,6 +1,5 @@
-#!/usr/bin/env python3
-"""portable/retarget TRIPLE LAYOUT: rewrites the text of the LLVM module of a static library, from standard input to
-standard output, for a processor whose pointers have 32 bits and whose numbers begin with the byte of least weight.
+"""Rewrites the text of the LLVM module of a static library for a processor whose pointers have 32 bits and whose
+numbers begin with the byte of least weight.
 
 The module was made for x86-64. Sizes of types and places of members stand in it as numbers, so a pointer keeps its 8
 bytes in memory, of which the last 4 are 0:
@@ -204,12 +203,3 @@ def retargeted(text, triple, layout):
         except Stop as why:
             raise Stop(f"line {number}: {why}: {line.strip()[:200]}") from None
     return "\n".join(made) + "\n"
-
-
-if __name__ == "__main__":
-    if len(sys.argv) != 3:
-        sys.exit("usage: portable/retarget TRIPLE LAYOUT < MODULE.ll")
-    try:
-        sys.stdout.write(retargeted(sys.stdin.read(), *sys.argv[1:]))
-    except Stop as why:
-        sys.exit(f"portable/retarget: {why}")

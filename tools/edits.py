@@ -1,0 +1,58 @@
+"""Wrong bodies: files NAME.edit in must-fail/ and wrong-bodies/ of a crate. Each has lines `file: PATH`, and below it
+pairs of `old: TEXT` and `new: TEXT`. The old text stands in the file exactly once; later pairs apply to what earlier
+ones made."""
+from __future__ import annotations
+
+import pathlib
+from typing import NamedTuple
+
+
+class Refused(Exception):
+    """Why a text is no edit, or doesn't apply."""
+
+
+class Pair(NamedTuple):
+    """A text of a file of the crate, and what it's replaced by."""
+
+    file: str
+    old: str
+    new: str
+
+
+def pairs_of(edit: pathlib.Path) -> list[Pair]:
+    """The pairs of an edit in their order. Raises Refused with the reason if the file isn't one."""
+    pairs: list[Pair] = []
+    path = old = None
+    for line in edit.read_text(encoding="utf-8").split("\n"):
+        if line.startswith("file: "):
+            path = line.removeprefix("file: ").strip()
+        elif line.startswith("old: "):
+            old = line.removeprefix("old: ")
+        elif line.startswith("new:"):
+            if path is None or old is None:
+                raise Refused("'new:' stands before 'file:' or 'old:'")
+            pairs.append(Pair(path, old, line.removeprefix("new:").removeprefix(" ")))
+            old = None
+        elif line.strip():
+            raise Refused(f"a line begins with none of 'file: ', 'old: ' and 'new:': {line}")
+    if old is not None:
+        raise Refused(f"no 'new:' follows: {old}")
+    if not pairs:
+        raise Refused("it has no pair of 'old:' and 'new:'")
+    return pairs
+
+
+def applied(pairs: list[Pair], crate: pathlib.Path, texts: dict[str, str] | None = None) -> dict[str, str]:
+    """The texts with each pair replaced, beside those of the crate's folder that these don't have. Raises Refused if a
+    file isn't there, or if an old text doesn't stand in it exactly once."""
+    made = dict(texts or {})
+    for path, old, new in pairs:
+        if path not in made:
+            if not path.startswith(("src/", "specs/", "proofs/")) or not (crate / path).is_file():
+                raise Refused(f"there is no file {path}")
+            made[path] = (crate / path).read_text(encoding="utf-8")
+        found = made[path].count(old) if old else 0
+        if found != 1:
+            raise Refused(f"this stands in {path} {found} times: {old}")
+        made[path] = made[path].replace(old, new)
+    return made

@@ -1,0 +1,95 @@
+"""WebAssembly of the LLVM module of a proved static library.
+
+The toolchain proves a crate for WebAssembly, but doesn't compile one that allocates. So the module that it makes for
+x86-64 gets another target, clang compiles it, ld.lld links it with a heap in C, and binaryen's wasm-opt makes its
+addresses 32 bits wide. None of this is proved."""
+import re
+import shutil
+
+from tools.llvm import TOP, Stop, readable, run
+
+LAYOUT = "e-m:e-p:64:64-p10:8:8-p20:8:8-i64:64-i128:128-n32:64-S128"
+TARGET = "wasm64-unknown-unknown"
+# What heap.c has. A module that calls anything else of C isn't taken.
+OF_HEAP = {"rattle_alloc", "rattle_realloc", "rattle_dealloc"}
+FEATURES = ["memory64", "bulk-memory", "sign-ext", "mutable-globals", "nontrapping-float-to-int"]
+# How a module is made of the LLVM module: whose memory it gets, what clang hears, what ld.lld and wasm-opt hear. The
+# page has a stack of 1 MB below its heap. For bsdudp_portable.c constants begin at address 16, and the stack is where
+# each call puts it.
+PAGE = ("heap.c", ["-O3"], ["--stack-first", "-z", f"stack-size={1 << 20}"], ["-O2"])
+PORTABLE = ("c/arena.c", ["-O2"], ["--no-stack-first", "--global-base=16"], ["-O2", "-ocimfs", "0"])
+
+
+def retargeted(text):
+    """The module's text with another target, and the functions that it exports."""
+    text, layouts = re.subn(r'(?m)^target datalayout = ".*"$', f'target datalayout = "{LAYOUT}"', text)
+    text, triples = re.subn(r'(?m)^target triple = ".*"$', f'target triple = "{TARGET}"', text)
+    if layouts != 1 or triples != 1:
+        raise Stop("the LLVM module names no target in the way that is known here")
+    of_cpu = r' "(?:probe-stack|stack-probe-size|target-cpu|target-features|tune-cpu)"="[^"]*"'
+    text = re.sub(r"(?m)^attributes .*$", lambda it: re.sub(of_cpu, "", it[0]), text)
+    called = {it for it in re.findall(r"(?m)^declare [^@]*@([\w.]+)\(", text) if not it.startswith("llvm.")}
+    if called - OF_HEAP:
+        raise Stop(f"the module calls {', '.join(sorted(called - OF_HEAP))}, which heap.c doesn't have")
+    heads = re.findall(r"(?m)^define ([^@]*)@(bsdudp_\w+)\(", text)
+    exports = [name for how, name in heads if not re.search(r"\b(internal|private)\b", how)]
+    if not exports:
+        raise Stop("the module exports no function whose name begins with bsdudp_")
+    return text, exports
+
+
+def compiled(module, kit, room, made):
+    """The module for WebAssembly with a 64-bit memory, linked with its heap."""
+    heap, level, layout, _ = made
+    clang = kit / "toolchain/bin/clang"
+    text = readable(module, kit, room)
+    text, exports = retargeted(text)
+    (room / "wasm.ll").write_text(text)
+    how = ["-c", f"--target={TARGET}", "-mcpu=lime1", "-mllvm", "-expand-div-rem-bits=64", *level]
+    how += ["-ffunction-sections", "-fdata-sections"]
+    run(clang, *how, "-x", "ir", room / "wasm.ll", "-o", room / "module.o")
+    of_c = ["-ffreestanding", "-nostdinc", "-fwrapv", "-Wall", "-Werror"]
+    run(clang, *how, *of_c, TOP / "portable" / heap, "-o", room / "heap.o")
+    wanted = ["--no-entry", "--gc-sections", *layout]
+    wanted += [f"--export={it}" for it in exports]
+    linker = ["-flavor", "wasm", "-mwasm64", *wanted, room / "module.o", room / "heap.o", "-o", room / "linked.wasm"]
+    run(clang.parent / "ld.lld", *linker)
+    return room / "linked.wasm"
+
+
+def number_at(data, at):
+    """A number in LEB128, and where it ends."""
+    number = shift = 0
+    while True:
+        byte = data[at]
+        number |= (byte & 127) << shift
+        at, shift = at + 1, shift + 7
+        if byte < 128:
+            return number, at
+
+
+def without_table(data):
+    """The module without its function table, which ld.lld always writes, and without the sections that only name
+    things. binaryen reads no 64-bit table. Nothing may fill the table: a call through an empty one could only trap."""
+    out, at = bytearray(data[:8]), 8
+    while at < len(data):
+        start, kind = at, data[at]
+        size, at = number_at(data, at + 1)
+        if kind == 9:
+            raise Stop("the module fills its function table, which is known here as empty")
+        if kind == 2:
+            raise Stop("the module imports something")
+        if kind not in (0, 4):
+            out += data[start : at + size]
+        at += size
+    return bytes(out)
+
+
+def lowered(module, kit, room, made):
+    """The module whose addresses are 32 bits wide."""
+    if not shutil.which("wasm-opt"):
+        raise Stop("wasm-opt is lacking: it's in Debian's package binaryen")
+    (room / "plain.wasm").write_bytes(without_table(compiled(module, kit, room, made).read_bytes()))
+    features = [f"--enable-{it}" for it in FEATURES]
+    run("wasm-opt", *features, "--memory64-lowering", *made[-1], room / "plain.wasm", "-o", room / "lowered.wasm")
+    return room / "lowered.wasm"
