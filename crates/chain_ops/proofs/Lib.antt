@@ -2,6 +2,7 @@ mod Lists
 mod Joins
 mod Splits
 mod Stored
+mod Filling
 mod Sent
 mod Trims
 mod Writes

@@ -26,10 +26,7 @@ fn new_cluster(pool: &mut Pool, header: bool, start: u32, bytes: &[u8]) -> Resul
         (free_clusters pool.old ≡ 0)) }
     ensures same { OnErr result (pool.new ≡ pool.old) }
 {
-    let chain = pool.new_cluster(header, start)?;
-    let at = pool.first(&chain);
-    pool.put_back(&chain, at, bytes);
-    Ok(chain)
+    pool.new_cluster_with(header, start, bytes)
 }
 
 /// How many bytes go into the next mbuf, of those left: `large` at most into a cluster, `small` at most into
@@ -135,6 +132,27 @@ fn store_rooms(pool: &mut Pool, bytes: &[u8], large: u32, ends: bool) -> Result<
     Ok(chain)
 }
 
+/// A chain with packet header of these bytes, more than a first plain mbuf holds: see `store`.
+// Inlined: mostly they fill one cluster, and need no walk over rooms.
+#[inline(always)]
+fn store_more(pool: &mut Pool, bytes: &[u8], large: u32, ends: bool) -> Result<Chain, NoBufs>
+    requires large { large ≤ CLUSTER_LEADING_SPACE }
+    requires most { length bytes.now ≤ IP_MAX_PACKET }
+    ensures ok { IfOk result (λ d. (cs : List ℕ) × AreFree pool.old cs
+        × (length cs ≡ count_by is_cluster (rooms_for large (length bytes.now)))
+        × Makes pool.old pool.new d (alone true)
+        (stored_first large ends cs (rooms_for large (length bytes.now)) bytes.now)) }
+    ensures enough { OnOk result (Has pool.old (rooms_for large (length bytes.now))) }
+    ensures err { OnErr result (Lacks pool.old (rooms_for large (length bytes.now))) }
+    ensures same { OnErr result (pool.new ≡ pool.old) }
+{
+    let len = bytes.len() as u32;
+    if len < MINCLSIZE || len > MCLBYTES - large {
+        return store_rooms(pool, bytes, large, ends);
+    }
+    pool.new_cluster_with(true, large, bytes)
+}
+
 /// A chain with packet header of these bytes. In a first cluster they begin at `large`, and in a first plain
 /// mbuf at its end or at its front.
 // Inlined, since a caller knows where they begin. Few bytes need one plain mbuf, and no walk over rooms.
@@ -154,7 +172,7 @@ fn store(pool: &mut Pool, bytes: &[u8], large: u32, ends: bool) -> Result<Chain,
         let start = first_start(ends, bytes.len());
         pool.new_plain_with(true, start, bytes)
     } else {
-        store_rooms(pool, bytes, large, ends)
+        store_more(pool, bytes, large, ends)
     }
 }
 

@@ -1,11 +1,14 @@
 //! The words of one part of the bytes, as they lie in memory: by lanes, and the rest by words of 8 bytes.
-ghost use Rattle.std.specs.Prelude.{◌≡◌, ◌+◌, ◌<◌, ◌≤◌, ◌^◌, length};
+ghost use Rattle.std.specs.Prelude.{◌≡◌, ◌+◌, ◌*◌, ◌<◌, ◌≤◌, ◌^◌, length};
 ghost use Rattle.in_cksum.specs.Inside.{CountsAs, IsAdded, IsLeft, lanes_total, swapped_sum};
 
 use std::simd::prelude::*;
 
 /// How many bytes are added at a time.
 pub(crate) const BLOCK_LEN: usize = 32;
+
+/// How many bytes are added at a time where so many are left: eight blocks.
+const EIGHT_BLOCKS_LEN: usize = 8 * BLOCK_LEN;
 
 /// How many bytes are added up at most before their sum is folded: whole blocks, whose words add up to
 /// less than 2^32.
@@ -22,6 +25,42 @@ fn add_block(all: u32x8, high: u32x8, block: &[u8]) -> (u32x8, u32x8)
     let words = u32x8::from_le_bytes(u8x32::from_slice(block));
     let halves = words >> u32x8::splat(16);
     (all + words, high.strict_add(halves))
+}
+
+/// Adds the words of two blocks.
+#[inline(always)]
+fn add_two_blocks(all: u32x8, high: u32x8, blocks: &[u8]) -> (u32x8, u32x8)
+    requires long { length blocks.now ≡ 2 * BLOCK_LEN }
+    requires fits { lanes_total all high + swapped_sum blocks.now < 2 ^ 32 }
+    ensures { lanes_total result.0 result.1 ≡ lanes_total all high + swapped_sum blocks.now }
+{
+    let (first, second) = blocks.split_at(BLOCK_LEN);
+    let (all, high) = add_block(all, high, first);
+    add_block(all, high, second)
+}
+
+/// Adds the words of four blocks.
+#[inline(always)]
+fn add_four_blocks(all: u32x8, high: u32x8, blocks: &[u8]) -> (u32x8, u32x8)
+    requires long { length blocks.now ≡ 4 * BLOCK_LEN }
+    requires fits { lanes_total all high + swapped_sum blocks.now < 2 ^ 32 }
+    ensures { lanes_total result.0 result.1 ≡ lanes_total all high + swapped_sum blocks.now }
+{
+    let (first, second) = blocks.split_at(2 * BLOCK_LEN);
+    let (all, high) = add_two_blocks(all, high, first);
+    add_two_blocks(all, high, second)
+}
+
+/// Adds the words of eight blocks.
+#[inline(always)]
+fn add_eight_blocks(all: u32x8, high: u32x8, blocks: &[u8]) -> (u32x8, u32x8)
+    requires long { length blocks.now ≡ 8 * BLOCK_LEN }
+    requires fits { lanes_total all high + swapped_sum blocks.now < 2 ^ 32 }
+    ensures { lanes_total result.0 result.1 ≡ lanes_total all high + swapped_sum blocks.now }
+{
+    let (first, second) = blocks.split_at(4 * BLOCK_LEN);
+    let (all, high) = add_four_blocks(all, high, first);
+    add_four_blocks(all, high, second)
 }
 
 #[inline(always)]
@@ -101,6 +140,11 @@ pub(crate) fn sum_part(bytes: &[u8]) -> u64
     let mut all = u32x8::splat(0);
     let mut high = u32x8::splat(0);
     let mut rest = bytes;
+    'by_eight: while rest.len() >= EIGHT_BLOCKS_LEN {
+        let (blocks, after) = rest.split_at(EIGHT_BLOCKS_LEN);
+        (all, high) = add_eight_blocks(all, high, blocks);
+        rest = after;
+    }
     while rest.len() >= BLOCK_LEN {
         let (block, after) = rest.split_at(BLOCK_LEN);
         (all, high) = add_block(all, high, block);

@@ -13,7 +13,7 @@ use mbuf_chain::{Chain, Pool};
 use params::{FRAGMENT_UNIT, IP_HEADER};
 
 /// The first byte of a header without options: version 4, and 5 words of 4 bytes.
-const VERSION_AND_LENGTH: u8 = 0x45;
+pub const VERSION_AND_LENGTH: u8 = 0x45;
 
 /// The version, in the first byte's high half.
 const VERSION: u8 = 4;
@@ -22,7 +22,7 @@ const VERSION: u8 = 4;
 const HEADER_WORDS: u8 = 5;
 
 /// The flag "don't fragment", `IP_DF`.
-const DONT_FRAGMENT: u16 = 0x4000;
+pub const DONT_FRAGMENT: u16 = 0x4000;
 
 /// The flag "more fragments", `IP_MF`.
 const MORE_FRAGMENTS: u16 = 0x2000;

@@ -9,7 +9,7 @@ mod sending;
 mod waiting;
 mod ways;
 
-pub use head::{IpHead, MAX_OFFSET, read_head, write_head};
+pub use head::{DONT_FRAGMENT, IpHead, MAX_OFFSET, VERSION_AND_LENGTH, read_head, write_head};
 pub use needs::{need, need_bcast};
 pub use queue::Queue;
 pub use sending::{Sent, output};

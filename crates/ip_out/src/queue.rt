@@ -1,10 +1,10 @@
 //! The output queue.
-ghost use Rattle.std.specs.Prelude.{◌≡◌, ℕ, ◌+◌, ◌<◌, ◌≤◌, ◌==◌, ◌++◌, [], ◌∷◌, true, None, IfSome, MatchOption, option_map, drop, take, length, nat_lt, IfNone};
+ghost use Rattle.std.specs.Prelude.{◌≡◌, ℕ, ◌+◌, ◌<◌, ◌≤◌, ◌==◌, ◌++◌, [], ◌∷◌, true, false, None, IfSome, MatchOption, option_map, drop, take, length, nat_lt, IfNone};
 ghost use Rattle.mbuf_chain.specs.Chain.{PoolView, IsLive, chain_of, entry_of, string, alone};
 ghost use Rattle.mbuf_chain.specs.Owners.{Moves, IsOwned, times};
 ghost use Rattle.mbuf_chain.specs.Train.{IsHeld, numbers};
 ghost use Rattle.ledger.specs.Accounts.{item_at};
-ghost use Rattle.ip_out.specs.Packets.{BeginPlain, IsDatagram, packets, packets_of};
+ghost use Rattle.ip_out.specs.Packets.{BeginPlain, IsDatagram, packets, packets_of, parts_of};
 ghost use Rattle.ip_out.specs.Questions.{nth_packet, oldest_length};
 ghost use Rattle.ip_out.specs.Queues.{IsQueue};
 
@@ -153,8 +153,30 @@ impl Queue {
             pool.free_chain(chain);
             return true;
         }
-        add_whole(pool, &mut self.train, chain, head, len);
+        self.push_one(pool, chain, head, len);
         false
+    }
+
+    /// Puts a datagram of `len` bytes that isn't cut at the end, as one packet. Conditions: fewer than 50 wait; the
+    /// chain is as `send_packets` wants it. It takes a number of steps that doesn't depend on the queue.
+    #[inline(always)]
+    pub fn push_one(&mut self, pool: &mut Pool, chain: Chain, head: IpHead, len: u32)
+        requires queue { IsQueue pool.old self.old }
+        requires room { self.old.len < OUTPUT_QUEUE_PACKETS }
+        requires live { IsLive pool.old chain }
+        requires datagram { IsDatagram (chain_of pool.old chain) }
+        requires len { len ≡ length (string (chain_of pool.old chain)) }
+        requires apart { times chain (numbers pool.old self.old) ≡ 0 }
+        ensures packets { (mtu : ℕ) → len ≤ mtu → packets pool.new self.new ≡ take OUTPUT_QUEUE_PACKETS
+            (packets pool.old self.old ++ packets_of (chain_of pool.old chain) head mtu) }
+        ensures lost { (mtu : ℕ) → len ≤ mtu → false ≡ nat_lt OUTPUT_QUEUE_PACKETS
+            (length (packets pool.old self.old ++ packets_of (chain_of pool.old chain) head mtu)) }
+        ensures cut { (mtu : ℕ) → len ≤ mtu → false ≡ nat_lt 1 (length (parts_of (chain_of pool.old chain) mtu)) }
+        ensures plain { BeginPlain pool.old self.old → BeginPlain pool.new self.new }
+        ensures queue { IsQueue pool.new self.new }
+        ensures moves { Moves pool.old (chain ∷ numbers pool.old self.old) pool.new (numbers pool.new self.new) }
+    {
+        add_whole(pool, &mut self.train, chain, head, len);
     }
 
     /// Takes the packet that has waited longest, or answers `None` where none waits. It takes a number of steps that

@@ -22,3 +22,4 @@ mod Drops
 mod Along
 mod Reading
 mod Filled
+mod FilledCluster

@@ -133,8 +133,55 @@ pub(crate) fn shared(
     }
 }
 
-/// A chain of one empty mbuf on a cluster of its own. Where a cluster is free and no mbuf is, the cluster is given
-/// back.
+/// A chain of one mbuf on a cluster of its own, with bytes in it from `start` on. Where a cluster is free and no mbuf
+/// is, the cluster is given back.
+// The head is written once, with the length that it's to have.
+#[inline(always)]
+pub(crate) fn clustered_with(
+    store: &mut Store,
+    header: bool,
+    start: u32,
+    bytes: &[u8],
+) -> Result<u32, NoBufs>
+    requires pool { IsPool store.old }
+    requires high { start + length bytes.now ≤ MCLBYTES }
+    ensures pool { IsPool store.new }
+    ensures ok { IfOk result (λ c. (d : ℕ) × (d < length store.old.clusters)
+        × (references (pool_of store.old) d ≡ 0)
+        × Adds (pool_of store.old) (pool_of store.new) c
+        (one_mbuf header (record { bytes = bytes.now; start = start; cluster = Some d }) c)) }
+    ensures free { OnOk result (held_mbufs (pool_of store.old) < length store.old.mbufs) }
+    ensures cluster { OnOk result (0 < free_clusters (pool_of store.old)) }
+    ensures err { OnErr result ((held_mbufs (pool_of store.old) ≡ length store.old.mbufs) ⊎
+        (free_clusters (pool_of store.old) ≡ 0)) }
+    ensures same { OnErr result (store.new ≡ store.old) }
+{
+    match store.get_cluster() {
+        Ok(cluster) => match take(
+            store,
+            head_for(header, start, bytes.len() as u32, Some(cluster)),
+        ) {
+            Ok(cell) => {
+                write_in(
+                    store,
+                    cell,
+                    Place { index: 0, cell },
+                    Some(cluster),
+                    start,
+                    bytes,
+                );
+                Ok(cell)
+            }
+            Err(refusal) => {
+                store.release(cluster);
+                Err(refusal)
+            }
+        },
+        Err(refusal) => Err(refusal),
+    }
+}
+
+/// A chain of one empty mbuf on a cluster of its own.
 pub(crate) fn clustered(store: &mut Store, header: bool, start: u32) -> Result<u32, NoBufs>
     requires pool { IsPool store.old }
     requires high { start ≤ MCLBYTES }
@@ -149,14 +196,5 @@ pub(crate) fn clustered(store: &mut Store, header: bool, start: u32) -> Result<u
         (free_clusters (pool_of store.old) ≡ 0)) }
     ensures same { OnErr result (store.new ≡ store.old) }
 {
-    match store.get_cluster() {
-        Ok(cluster) => match take(store, head_for(header, start, 0, Some(cluster))) {
-            Ok(cell) => Ok(cell),
-            Err(refusal) => {
-                store.release(cluster);
-                Err(refusal)
-            }
-        },
-        Err(refusal) => Err(refusal),
-    }
+    clustered_with(store, header, start, &[])
 }

@@ -452,6 +452,33 @@ impl Pool {
         }
     }
 
+    /// A chain of one mbuf with bytes on a cluster of its own, in which they begin at `start` and end at 2048 or
+    /// before. It's `new_cluster` and `put_back` in one, and writes the head once. `NoBufs` comes exactly where no
+    /// mbuf or no cluster is free, and changes nothing.
+    #[inline(always)]
+    pub fn new_cluster_with(
+        &mut self,
+        header: bool,
+        start: u32,
+        bytes: &[u8],
+    ) -> Result<Chain, NoBufs>
+        requires { start + length bytes.now ≤ MCLBYTES }
+        ensures ok { IfOk result (λ c. (d : ℕ) × (d < self.old.clusters)
+            × (references self.old d ≡ 0)
+            × Adds self.old self.new c
+            (one_mbuf header (record { bytes = bytes.now; start = start; cluster = Some d }) c)) }
+        ensures free { OnOk result (held_mbufs self.old < self.old.mbufs) }
+        ensures cluster { OnOk result (0 < free_clusters self.old) }
+        ensures err { OnErr result ((held_mbufs self.old ≡ self.old.mbufs) ⊎
+            (free_clusters self.old ≡ 0)) }
+        ensures same { OnErr result (self.new ≡ self.old) }
+    {
+        match make::clustered_with(&mut self.store, header, start, bytes) {
+            Ok(first) => Ok(Chain { first }),
+            Err(refusal) => Err(refusal),
+        }
+    }
+
     /// Links a chain after the last mbuf of another, whose place is `last`. They must be two chains. The one
     /// that is linked loses its packet header. The answer is the place of its first mbuf in the whole. Where
     /// the front has a packet header, and the chain after it has none, that one is walked for its length;

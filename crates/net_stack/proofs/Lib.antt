@@ -8,6 +8,7 @@ mod Lifted
 mod Looping
 mod Runs
 mod Wired
+mod Whole
 mod Sent
 mod Started
 mod Exchanged

@@ -1,5 +1,5 @@
 //! A packet from the wire.
-ghost use Rattle.std.specs.Prelude.{◌≡◌, ◌≤◌, length, if◌then◌else◌};
+ghost use Rattle.std.specs.Prelude.{◌≡◌, ◌≤◌, true, false, length, if◌then◌else◌};
 ghost use Rattle.flat_model.specs.Amounts.Layout.{is_cluster, need_of, next_room, size_of, wire};
 ghost use Rattle.mbuf_chain.specs.Owners.{IsOwned};
 ghost use Rattle.chain_ops.specs.Stored.{Has};
@@ -12,10 +12,11 @@ ghost use Rattle.net_stack.specs.Inside.Hosts.{KeepsOutput, arrival_view};
 use crate::host::Host;
 use chain_ops::from_wire;
 use chain_ops::theorems::stored_layout;
-use flat_model::{Need, Why};
+use flat_model::{Counter, Need, Why};
 use ledger::reserve;
 use mbuf_chain::{Chain, Pool};
 use params::{IP_MAX_PACKET, MCLBYTES, MHLEN, MINCLSIZE, MLEN};
+use udp::read;
 
 /// How many bytes go into the next mbuf, of those left, and how many clusters it takes: `small` at most into a plain
 /// one.
@@ -70,9 +71,49 @@ fn put_packet(pool: &mut Pool, packet: &[u8]) -> Chain
 }
 
 impl Host {
+    /// Takes a packet from the wire that is one whole datagram for one socket, and answers whether it did: it's stored
+    /// once, in that socket's queue. Else nothing changes.
+    #[inline(always)]
+    fn take_whole(&mut self, packet: &[u8]) -> bool
+        requires socks { IsSocks self.old.pool self.old.socks }
+        requires reass { IsReady self.old.pool self.old.reass }
+        requires owned { IsOwned self.old.pool (chains_at (arrival_view self.old)) }
+        ensures came { result ≡ true → HasCome (arrival_view self.old) packet.now (arrival_view self.new) }
+        ensures reass { result ≡ true → IsReady self.new.pool self.new.reass }
+        ensures output { result ≡ true → KeepsOutput self.old.net self.new.net }
+        ensures same { result ≡ false → self.new ≡ self.old }
+    {
+        let Some(checked) = read(packet) else {
+            return false;
+        };
+        if !self.socks.take_whole(&mut self.pool, &checked) {
+            return false;
+        }
+        self.net.counters.count(Counter::IpTotal);
+        true
+    }
+
+    /// A packet comes from the wire and arrives. Mostly it's one whole datagram for one socket, which is stored once;
+    /// any other goes by a chain of its own. At most 65,535 bytes.
+    pub(crate) fn come_in(&mut self, packet: &[u8])
+        requires socks { IsSocks self.old.pool self.old.socks }
+        requires reass { IsReady self.old.pool self.old.reass }
+        requires owned { IsOwned self.old.pool (chains_at (arrival_view self.old)) }
+        requires most { length packet.now ≤ IP_MAX_PACKET }
+        ensures came { HasCome (arrival_view self.old) packet.now (arrival_view self.new) }
+        ensures reass { IsReady self.new.pool self.new.reass }
+        ensures output { KeepsOutput self.old.net self.new.net }
+    {
+        if self.take_whole(packet) {
+            return;
+        }
+        self.come_by_chain(packet);
+    }
+
     /// A packet comes from the wire and arrives; if the pool has too few buffers for it, all unfinished datagrams are
     /// given back, and if it has too few then, the packet is lost and counted. At most 65,535 bytes.
-    pub(crate) fn come_in(&mut self, packet: &[u8])
+    #[inline(never)]
+    fn come_by_chain(&mut self, packet: &[u8])
         requires socks { IsSocks self.old.pool self.old.socks }
         requires reass { IsReady self.old.pool self.old.reass }
         requires owned { IsOwned self.old.pool (chains_at (arrival_view self.old)) }

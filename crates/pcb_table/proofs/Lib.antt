@@ -9,6 +9,7 @@ mod Descriptors
 mod Places
 mod Keeping
 mod Steps
+mod Unconnected
 mod Finding
 mod Opened
 mod Moved

@@ -1,9 +1,9 @@
 //! The blocks of a table, with notes of where they stand, so that none is looked for by a walk past the others.
-ghost use Rattle.std.specs.Prelude.{◌≡◌, ℕ, ◌+◌, ◌<◌, ◌≤◌, ◌∷◌, [], drop, length, remove, slice_set, find, IsSome};
+ghost use Rattle.std.specs.Prelude.{◌≡◌, ℕ, ◌+◌, ◌<◌, ◌≤◌, ◌∷◌, [], drop, length, remove, slice_set, find, option_copied, IfSome, IsSome};
 ghost use Rattle.arrayvec.specs.ArrayVec.{array_vec_len};
 ghost use Rattle.params.specs.declared.TheConstants.{MAX_SOCKETS};
 ghost use Rattle.pcb_table.specs.Apart.{has_fd};
-ghost use Rattle.pcb_table.specs.Inside.Fields.{IsLocated, Locates, HasPorts, PassesLanes, lanes_clear};
+ghost use Rattle.pcb_table.specs.Inside.Fields.{IsLocated, Locates, HasPorts, NotesConnected, PassesLanes, is_connected, lanes_clear};
 ghost use Rattle.pcb_table.specs.Inside.Search.{from_port};
 
 use crate::block::Block;
@@ -32,6 +32,8 @@ pub(crate) struct Blocks {
     ports: [u16; NOTED],
     // by descriptor, modulo 64
     places: [u8; SOCKETS],
+    // none of them is connected
+    none_connected: bool,
 }
 
 impl Model for Blocks {
@@ -40,11 +42,11 @@ impl Model for Blocks {
 
     ghost Value = { List Block };
 
-    ghost use Rattle.pcb_table.specs.Inside.Fields.{HasPorts};
+    ghost use Rattle.pcb_table.specs.Inside.Fields.{HasPorts, NotesConnected};
 
     ghost view = { λ b. b.blocks.items };
 
-    ghost invariant = { λ b. HasPorts b.blocks.items b.ports };
+    ghost invariant = { λ b. HasPorts b.blocks.items b.ports × NotesConnected b.none_connected b.blocks.items };
 }
 
 impl Blocks {
@@ -56,6 +58,7 @@ impl Blocks {
             blocks: ArrayVec::new(),
             ports: [0; NOTED],
             places: [0; SOCKETS],
+            none_connected: true,
         }
     }
 
@@ -74,6 +77,28 @@ impl Blocks {
         self.blocks.as_slice()
     }
 
+    /// Whether none is connected, as far as that is known. It takes no look at the blocks.
+    #[inline(always)]
+    pub(crate) fn is_none_connected(&self) -> bool
+        ensures { NotesConnected result self.now }
+    {
+        self.none_connected
+    }
+
+    /// Where the block of an open descriptor stands, if that's noted, and the block.
+    // Lent, since a send reads few of its fields.
+    #[inline(always)]
+    pub(crate) fn noted(&self, fd: u32) -> Option<(usize, &Block)>
+        ensures { IfSome result (λ r. IsLocated fd self.now r.0 r.1.now) }
+    {
+        let blocks = self.blocks.as_slice();
+        let index = self.places[fd as usize % SOCKETS] as usize;
+        if index < blocks.len() && fd == blocks[index].fd {
+            return Some((index, &blocks[index]));
+        }
+        None
+    }
+
     /// Puts a block into a place that holds one.
     pub(crate) fn set_block(&mut self, index: usize, block: Block)
         requires { index < length self.old }
@@ -81,6 +106,7 @@ impl Blocks {
     {
         self.blocks[index] = block;
         note(self.blocks.as_slice(), &mut self.ports, &mut self.places);
+        self.none_connected = is_none_connected(self.blocks.as_slice());
     }
 
     /// Puts a block in front of the others.
@@ -90,6 +116,7 @@ impl Blocks {
     {
         insert_first(&mut self.blocks, block);
         note(self.blocks.as_slice(), &mut self.ports, &mut self.places);
+        self.none_connected = is_none_connected(self.blocks.as_slice());
     }
 
     /// Takes out the block at a place, and moves the later ones down.
@@ -99,6 +126,7 @@ impl Blocks {
     {
         remove_at(&mut self.blocks, index);
         note(self.blocks.as_slice(), &mut self.ports, &mut self.places);
+        self.none_connected = is_none_connected(self.blocks.as_slice());
     }
 
     /// The block of a descriptor, with its place.
@@ -207,6 +235,23 @@ fn lanes_before(ports: &[u16], at: usize, port: u16) -> usize
 {
     let lanes = u16x16::from_slice(&ports[at..]);
     lanes_clear(lanes.simd_eq(u16x16::splat(port)).to_bitmask())
+}
+
+/// The youngest block that is connected.
+fn first_connected(blocks: &[Block]) -> Option<&Block>
+    ensures { option_copied result ≡ find is_connected blocks.now }
+{
+    blocks.iter().find(|block| block.peer.is_some())
+}
+
+/// Whether no block is connected.
+fn is_none_connected(blocks: &[Block]) -> bool
+    ensures { NotesConnected result blocks.now }
+{
+    match first_connected(blocks) {
+        None => true,
+        Some(_) => false,
+    }
 }
 
 /// Notes the port of each block, and the place of each descriptor.

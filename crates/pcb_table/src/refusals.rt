@@ -1,8 +1,8 @@
 //! Why a bind, a connect or a destination is refused.
-ghost use Rattle.std.specs.Prelude.{◌≡◌, ℕ};
+ghost use Rattle.std.specs.Prelude.{◌≡◌, ℕ, Some, is_some};
 ghost use Rattle.flat_model.specs.Packets.Header.{first_fault};
 ghost use Rattle.flat_model.specs.Machine.Calls as flat;
-ghost use Rattle.pcb_table.specs.Inside.Search.{block_bind_faults, block_connect_faults, config_of, is_in_way};
+ghost use Rattle.pcb_table.specs.Inside.Search.{block_bind_faults, block_connect_faults, config_of, is_in_way, youngest_block};
 
 use crate::block::Block;
 use crate::blocks::Blocks;
@@ -66,7 +66,27 @@ pub(crate) fn bind_fault(
     None
 }
 
+/// Whether a block is connected to the peer, from this address and port.
+// Where none is connected, none is looked for.
+#[inline(always)]
+fn is_met(blocks: &Blocks, local: u32, port: Option<u16>, peer: Addr) -> bool
+    ensures { result ≡ is_some (youngest_block 0
+        (record { local = Some local; port = port; peer = Some peer }) blocks.now) }
+{
+    if blocks.is_none_connected() {
+        return false;
+    }
+    let key = LookupKey {
+        local: Some(local),
+        port,
+        peer: Some(peer),
+    };
+    exact(blocks, key).is_some()
+}
+
 /// Why a packet to an address, as it was read, is refused, or a connect to it.
+// Inlined, as is what a send asks of it.
+#[inline(always)]
 pub(crate) fn destination_fault(
     blocks: &Blocks,
     interface: Interface,
@@ -81,12 +101,7 @@ pub(crate) fn destination_fault(
     if !is_reached(to.ip) {
         return Some(Errno::HostUnreachable);
     }
-    let key = LookupKey {
-        local: Some(interface.source(me, to.ip)),
-        port: me.port,
-        peer: Some(to),
-    };
-    if exact(blocks, key).is_some() {
+    if is_met(blocks, interface.source(me, to.ip), me.port, to) {
         return Some(Errno::AddressInUse);
     }
     None

@@ -1,5 +1,5 @@
 //! The control blocks of a machine, and the calls on them.
-ghost use Rattle.std.specs.Prelude.{◌≡◌, ℕ, ◌<◌, ◌≤◌, [], ◌∷◌, All, None, IfOk, IfSome, OnErr, OnOk, OnSome, length, option_map};
+ghost use Rattle.std.specs.Prelude.{◌≡◌, ℕ, ◌<◌, ◌≤◌, [], ◌∷◌, All, None, Some, IfOk, IfSome, OnErr, OnOk, OnSome, length, option_map};
 ghost use Rattle.flat_model.specs.Machine.Event.{Bind, Close, Connect, Open, Set_option};
 ghost use Rattle.flat_model.specs.Machine.State.{State};
 ghost use Rattle.flat_model.specs.Machine.Step.{Step};
@@ -96,6 +96,16 @@ impl Pcbs {
             None => None,
             Some(at) => Some(at.block),
         }
+    }
+
+    /// The block of an open descriptor, lent, if it stands where it's noted; `None` says nothing. It takes a number of
+    /// steps that doesn't depend on the table.
+    #[inline(always)]
+    pub fn noted(&self, fd: u32) -> Option<&Block>
+        ensures { IfSome result (λ b. block_at fd self.now ≡ Some b.now) }
+    {
+        let (_, block) = self.blocks.noted(fd)?;
+        Some(block)
     }
 
     /// The local and the foreign end of an open socket, with 0 for each value that is unset.
@@ -304,6 +314,7 @@ impl Pcbs {
     }
 
     /// `check_destination` of the socket that has this block.
+    #[inline(always)]
     pub fn check_destination_of(&self, block: &Block, to: Addr) -> Result<Addr, Errno>
         requires { block_at block.now.fd self.now ≡ Some block.now }
         ensures { ChecksDestination self.now block.now.fd to result }
@@ -329,11 +340,25 @@ impl Pcbs {
     }
 
     /// `source_for` of the socket that has this block.
+    #[inline(always)]
     pub fn source_of(&self, block: &Block, ip: u32) -> u32
         requires { block_at block.now.fd self.now ≡ Some block.now }
         ensures { SendsFrom self.now block.now.fd ip result }
     {
         self.interface.source(block, ip)
+    }
+
+    /// The local port of the socket that has this block, if it has one: what `ensure_port_of` answers then.
+    #[inline(always)]
+    pub fn port_of(&self, block: &Block) -> Option<u16>
+        requires { block_at block.now.fd self.now ≡ Some block.now }
+        ensures { IfSome result (λ port. EnsuresPort self.now block.now.fd port self.now) }
+    {
+        self.laws();
+        match block.port {
+            Some(port) => Some(port),
+            None => None,
+        }
     }
 
     /// `ensure_port` of the socket that has this block.

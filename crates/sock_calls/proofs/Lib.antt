@@ -13,5 +13,7 @@ mod Making
 mod Made
 mod Queueing
 mod Going
+mod Whole
+mod OnePacket
 mod Tested
 mod Asked

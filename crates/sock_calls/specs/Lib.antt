@@ -4,3 +4,4 @@ pub mod Outgoing
 pub mod Delivery
 pub mod Questions
 pub mod Inside
+pub mod Whole

@@ -9,6 +9,7 @@ use params::{IP_UDP_HEADERS, UDP_SEND_SPACE};
 use pcb_table::{Block, Pcbs};
 
 /// What is asked before the address is looked at: that there is one, and that the bytes aren't too many.
+#[inline(always)]
 fn early_fault(to: Option<Addr>, peer: Option<Addr>, len: usize) -> Option<Errno>
     ensures fault { result ≡ first_fault (early_faults to peer len) }
     ensures few { IfNone result (len ≤ UDP_SEND_SPACE) }
@@ -23,6 +24,7 @@ fn early_fault(to: Option<Addr>, peer: Option<Addr>, len: usize) -> Option<Errno
 }
 
 /// The address given, as it's read, or else the peer's.
+#[inline(always)]
 fn target_of(pcbs: &Pcbs, block: &Block, to: Option<Addr>) -> Result<Addr, Errno>
     requires { block_at block.now.fd pcbs.now ≡ Some block.now }
     ensures { FindsTarget pcbs.now block.now.fd to result }
@@ -34,6 +36,7 @@ fn target_of(pcbs: &Pcbs, block: &Block, to: Option<Addr>) -> Result<Addr, Errno
 }
 
 /// What a send to the broadcast address is refused for.
+#[inline(always)]
 fn broadcast_fault(to_all: bool, allowed: bool, mtu: u16, len: usize) -> Option<Errno>
     requires { len ≤ 65535 }
     ensures fault { result ≡ first_fault (broadcast_faults to_all allowed mtu len) }
@@ -53,6 +56,7 @@ fn broadcast_fault(to_all: bool, allowed: bool, mtu: u16, len: usize) -> Option<
 /// `AddressNotAvailable`, `HostUnreachable`, `AddressInUse`, `Access` for the broadcast address without the option,
 /// `MessageSize` for a broadcast that is longer than the link's packets. It changes nothing (volume 2 chapters 16 and
 /// 23).
+#[inline(always)]
 pub(crate) fn send_target(
     pcbs: &Pcbs,
     mtu: u16,

@@ -1,6 +1,7 @@
 //! The packets of a send that has its buffers.
-ghost use Rattle.std.specs.Prelude.{◌≡◌, ◌+◌, ◌≤◌, length};
-ghost use Rattle.flat_model.specs.Amounts.Layout.{sent};
+ghost use Rattle.std.specs.Prelude.{◌≡◌, ◌+◌, ◌≤◌, ◌++◌, IfSome, drop, length};
+ghost use Rattle.flat_model.specs.Amounts.Layout.{need, sent};
+ghost use Rattle.mbuf_chain.specs.Chain.{chain_of, string};
 ghost use Rattle.flat_model.specs.Machine.Send.{need_to};
 ghost use Rattle.flat_model.specs.Machine.Sending.{is_looped, mtu_to};
 ghost use Rattle.chain_ops.specs.Stored.{Has};
@@ -12,10 +13,11 @@ use flat_model::{Addr, Need};
 use ip_out::{IpHead, Way, need, need_bcast};
 use mbuf_chain::{Chain, Pool};
 use params::{
-    IP_DEFAULT_TTL, IP_UDP_HEADERS, LOOPBACK, LOOPBACK_MTU, MIN_MTU, PROTOCOL_UDP, UDP_SEND_SPACE,
+    CLUSTER_LEADING_SPACE, IP_DEFAULT_TTL, IP_HEADER, IP_UDP_HEADERS, LOOPBACK, LOOPBACK_MTU,
+    MCLBYTES, MHLEN, MIN_MTU, MINCLSIZE, PROTOCOL_UDP, UDP_HEADER, UDP_SEND_SPACE,
 };
 use pcb_table::Pcbs;
-use udp::build;
+use udp::header_for;
 
 /// What the headers of a send say.
 #[derive(Clone, Copy, Debug, PartialEq, Eq)]
@@ -42,6 +44,7 @@ pub(crate) struct Route {
 }
 
 /// Whether packets to an address come back and stay off the link.
+#[inline(always)]
 fn is_looped(pcbs: &Pcbs, ip: u32) -> bool
     ensures { result ≡ is_looped (config_of pcbs.now 0) ip }
 {
@@ -49,6 +52,7 @@ fn is_looped(pcbs: &Pcbs, ip: u32) -> bool
 }
 
 /// Where packets to an address go, and how long the longest of them is.
+#[inline(always)]
 pub(crate) fn way_to(pcbs: &Pcbs, mtu: u16, ip: u32) -> (Way, u16)
     ensures way { result.0 ≡ way_of (config_of pcbs.now mtu) ip }
     ensures mtu { result.1 ≡ mtu_to (config_of pcbs.now mtu) ip }
@@ -75,37 +79,84 @@ pub(crate) fn need_to(pcbs: &Pcbs, mtu: u16, ip: u32, len: u32) -> Need
     need(len, mtu)
 }
 
-/// A chain of the bytes after 28 bytes for the headers.
-fn with_headers(pool: &mut Pool, bytes: &[u8]) -> Chain
+/// How many free buffers a send of `len` bytes takes that makes one packet for a link with this MTU, and lies in one
+/// mbuf beside its headers or behind them; `None` for any other.
+#[inline(always)]
+pub(crate) fn one_packet(len: u32, mtu: u16) -> Option<Need>
+    ensures need { IfSome result (λ n. n ≡ need len mtu) }
+    ensures fits { IfSome result (λ n. len + IP_UDP_HEADERS ≤ mtu) }
+{
+    if len > UDP_SEND_SPACE || len + IP_UDP_HEADERS > u32::from(mtu) {
+        return None;
+    }
+    if len <= MHLEN - IP_UDP_HEADERS {
+        return Some(Need {
+            mbufs: 1,
+            clusters: 0,
+        });
+    }
+    if len < MINCLSIZE || len > MCLBYTES - CLUSTER_LEADING_SPACE {
+        return None;
+    }
+    Some(Need {
+        mbufs: 2,
+        clusters: 1,
+    })
+}
+
+/// A chain of the bytes after the 28 bytes of the headers.
+#[inline(always)]
+fn with_headers(pool: &mut Pool, headers: &[u8; IP_UDP_HEADERS as usize], bytes: &[u8]) -> Chain
     requires most { length bytes.now ≤ UDP_SEND_SPACE }
     requires free { Has pool.old (sent (length bytes.now)) }
-    ensures { IsStored pool.old bytes.now pool.new result }
+    ensures stored { IsStored pool.old bytes.now pool.new result }
+    ensures string { string (chain_of pool.new result) ≡ headers.now ++ bytes.now }
 {
     sent_layout();
     let Ok(mut chain) = from_user(pool, bytes) else {
         unreachable!()
     };
-    let headers = [0; IP_UDP_HEADERS as usize];
-    match m_prepend(pool, &mut chain, &headers) {
+    match m_prepend(pool, &mut chain, headers) {
         Ok(()) => {}
         Err(_) => unreachable!(),
     }
     chain
 }
 
+/// 28 bytes for both headers, of which the last 8 are that of UDP.
+#[inline(always)]
+fn headers_with(udp: &[u8; UDP_HEADER as usize]) -> [u8; IP_UDP_HEADERS as usize]
+    ensures { drop IP_HEADER result ≡ udp.now }
+{
+    let mut headers = [0; IP_UDP_HEADERS as usize];
+    headers[IP_HEADER as usize..].copy_from_slice(udp);
+    headers
+}
+
 /// The datagram, with its header, after 20 bytes for that of IP.
+// Its header is made first, from the bytes where they lie, so that it's written once.
+#[inline(always)]
 pub(crate) fn datagram(pool: &mut Pool, heading: Heading, bytes: &[u8]) -> Chain
     requires most { length bytes.now ≤ UDP_SEND_SPACE }
     requires free { Has pool.old (sent (length bytes.now)) }
     ensures { IsBuilt pool.old (sent_as heading bytes.now) pool.new result }
 {
-    let chain = with_headers(pool, bytes);
     let from = Addr {
         ip: heading.source,
         port: heading.port,
     };
-    build(pool, &chain, from, heading.to);
-    chain
+    let headers = headers_with(&header_for(from, heading.to, bytes));
+    with_headers(pool, &headers, bytes)
+}
+
+/// `datagram`, as code that stands apart.
+#[inline(never)]
+pub(crate) fn datagram_apart(pool: &mut Pool, heading: Heading, bytes: &[u8]) -> Chain
+    requires most { length bytes.now ≤ UDP_SEND_SPACE }
+    requires free { Has pool.old (sent (length bytes.now)) }
+    ensures { IsBuilt pool.old (sent_as heading bytes.now) pool.new result }
+{
+    datagram(pool, heading, bytes)
 }
 
 /// The IP header of all its packets, but for their lengths and offsets.

@@ -1,5 +1,5 @@
 //! A send.
-ghost use Rattle.std.specs.Prelude.{◌≡◌, ◌+◌, ◌≤◌, length, Some};
+ghost use Rattle.std.specs.Prelude.{◌≡◌, ◌+◌, ◌≤◌, length, true, false, Ok, Some};
 ghost use Rattle.flat_model.specs.Machine.Sending.{mtu_to};
 ghost use Rattle.pcb_table.specs.Table.{block_at};
 ghost use Rattle.ip_out.specs.Queues.{IsQueue};
@@ -9,13 +9,15 @@ ghost use Rattle.sock_calls.specs.Inside.Putting.{config_of, counts_sent, way_of
 
 use crate::destination::send_target;
 use crate::net::Net;
-use crate::packets::{Heading, Route, datagram, ip_head, need_to, way_to};
+use crate::packets::{
+    Heading, Route, datagram, datagram_apart, ip_head, need_to, one_packet, way_to,
+};
 use crate::parts::Parts;
 use flat_model::{Addr, Counter, Counters, Errno, Lack};
-use ip_out::Sent;
+use ip_out::{Sent, Way};
 use ledger::are_free;
 use mbuf_chain::Pool;
-use params::{IP_UDP_HEADERS, UDP_SEND_SPACE};
+use params::{IP_UDP_HEADERS, OUTPUT_QUEUE_PACKETS, UDP_SEND_SPACE};
 use pcb_table::Block;
 use std::mem;
 
@@ -62,7 +64,7 @@ impl Parts {
             port: self.pcbs.ensure_port_of(block),
             to: route.to,
         };
-        let chain = datagram(pool, heading, bytes);
+        let chain = datagram_apart(pool, heading, bytes);
         let head = ip_head(heading);
         let Sent {
             looped,
@@ -81,9 +83,81 @@ impl Parts {
         is_lost
     }
 
+    /// Sends a datagram that makes one packet for the link, by a socket that has a port, and answers whether it did:
+    /// all is asked before anything is made. Else nothing changes, and `send_any` has to be asked.
+    #[inline(always)]
+    fn send_one(
+        &self,
+        pool: &mut Pool,
+        net: &mut Net,
+        fd: u32,
+        to: Option<Addr>,
+        bytes: &[u8],
+    ) -> bool
+        requires { CanSend (sending pool.old (shown self.now) net.old) }
+        ensures sent { result ≡ true → IsSent fd to bytes.now (sending pool.old (shown self.now) net.old)
+            (Ok (length bytes.now)) (sending pool.new (shown self.now) net.new) }
+        ensures same { result ≡ false → (pool.new ≡ pool.old) × (net.new ≡ net.old) }
+    {
+        if net.out.len() >= OUTPUT_QUEUE_PACKETS {
+            return false;
+        }
+        let Some(block) = self.pcbs.noted(fd) else {
+            return false;
+        };
+        let Some(port) = self.pcbs.port_of(block) else {
+            return false;
+        };
+        let Ok(target) = send_target(&self.pcbs, net.mtu, block, to, bytes.len()) else {
+            return false;
+        };
+        let (Way::Link, mtu) = way_to(&self.pcbs, net.mtu, target.ip) else {
+            return false;
+        };
+        let len = bytes.len() as u32;
+        let Some(wants) = one_packet(len, mtu) else {
+            return false;
+        };
+        if !are_free(pool, wants.mbufs, wants.clusters) {
+            return false;
+        }
+        let heading = Heading {
+            id: net.next_id,
+            source: self.pcbs.source_of(block, target.ip),
+            port,
+            to: target,
+        };
+        let chain = datagram(pool, heading, bytes);
+        net.out
+            .push_one(pool, chain, ip_head(heading), len + IP_UDP_HEADERS);
+        net.next_id = heading.id.wrapping_add(1);
+        net.counters.count(Counter::IpLocalout);
+        true
+    }
+
     /// See `Socks::sendto`. The queues aren't touched.
     #[inline(always)]
     pub(crate) fn send(
+        &mut self,
+        pool: &mut Pool,
+        net: &mut Net,
+        fd: u32,
+        to: Option<Addr>,
+        bytes: &[u8],
+    ) -> Result<usize, Errno>
+        requires { CanSend (sending pool.old (shown self.old) net.old) }
+        ensures { IsSent fd to bytes.now (sending pool.old (shown self.old) net.old) result
+            (sending pool.new (shown self.new) net.new) }
+    {
+        if self.send_one(pool, net, fd, to, bytes) {
+            return Ok(bytes.len());
+        }
+        self.send_any(pool, net, fd, to, bytes)
+    }
+
+    /// Any send.
+    #[inline(never)]
+    fn send_any(
         &mut self,
         pool: &mut Pool,
         net: &mut Net,

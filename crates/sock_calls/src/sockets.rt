@@ -1,5 +1,5 @@
 //! Sockets: control blocks and receive queues.
-ghost use Rattle.std.specs.Prelude.{◌≡◌, ◌<◌, ◌≤◌, ◌+◌, ◌∷◌, ◌++◌, [], None, drop, length, IfOk, IsOk, OnErr};
+ghost use Rattle.std.specs.Prelude.{◌≡◌, ◌<◌, ◌≤◌, ◌+◌, ◌∷◌, ◌++◌, [], None, true, false, drop, length, IfOk, IsOk, OnErr};
 ghost use Rattle.flat_model.specs.Machine.Event.{Open, Bind, Close, Connect, Receive, Set_option};
 ghost use Rattle.flat_model.specs.Machine.State.{State};
 ghost use Rattle.flat_model.specs.Machine.Step.{Step};
@@ -8,6 +8,7 @@ ghost use Rattle.mbuf_chain.specs.Chain.{PoolView, chain_of, string};
 ghost use Rattle.mbuf_chain.specs.Owners.{IsOwned, Moves};
 ghost use Rattle.pcb_table.specs.Table.{IsDescriptor};
 ghost use Rattle.sock_calls.specs.Delivery.{seen, IsInput};
+ghost use Rattle.sock_calls.specs.Whole.{ComesWhole};
 ghost use Rattle.sock_calls.specs.Outgoing.{sending, CanSend, IsSent};
 ghost use Rattle.sock_calls.specs.Questions.{bytes_queued, next_datagram, readable, socket_name};
 ghost use Rattle.sock_calls.specs.Sockets.{AreEmpty, IsSocks, IsCalled, queued_chains, with_sockets};
@@ -28,7 +29,7 @@ use params::{FIRST_DESCRIPTOR, IP_MAX_PACKET, MAX_SOCKETS};
 use pcb_table::{Pcbs, SOCKETS};
 use std::alloc::{AllocError, Global};
 use std::marker::Model;
-use udp::Outcome;
+use udp::{Checked, Outcome};
 
 /// The place of a descriptor's queue.
 pub(crate) fn place_of(fd: u32) -> usize
@@ -253,6 +254,17 @@ impl Socks {
         self.parts.pcbs.laws();
         self.parts.queues.flush_at(pool, place_of(fd));
         Ok(())
+    }
+
+    /// A packet from the wire that was read: it's stored and put into the queue of the one socket that hears it, and
+    /// the answer is whether. Else nothing changes, and the packet has to come by `input`.
+    #[inline(always)]
+    pub fn take_whole(&mut self, pool: &mut Pool, packet: &Checked<'_>) -> bool
+        requires { IsSocks pool.old self.old }
+        ensures came { result ≡ true → ComesWhole pool.old self.old packet.now.packet.now pool.new self.new }
+        ensures same { result ≡ false → (pool.new ≡ pool.old) × (self.new ≡ self.old) }
+    {
+        self.parts.take_whole(pool, packet)
     }
 
     /// A whole datagram without its IP header, which said `head`: it's put into the queues of all sockets that hear it,

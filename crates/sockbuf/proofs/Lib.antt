@@ -3,3 +3,4 @@ mod Measures
 mod Fronts
 mod Queues
 mod Beside
+mod Stores

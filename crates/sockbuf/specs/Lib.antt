@@ -1,2 +1,3 @@
 pub mod SockBuf
 pub mod Questions
+pub mod Stored

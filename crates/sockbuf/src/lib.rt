@@ -8,5 +8,6 @@
 mod address;
 mod buffer;
 mod measure;
+mod stored;
 
 pub use buffer::{Refusal, SockBuf};

@@ -35,7 +35,7 @@ module _ (src dst sport dport : ℕ) where
       sum_is ∙ ap not_zero is ∙ ap (λ n. not_zero (checksum (pseudo_header src dst n ++ header_bytes (record { source = sport; destination = dport; len = n; sum = 0 }) ++ s))) len_is in
       λ j. header_bytes (record { source = sport; destination = dport; len = len_is j; sum = whole j })
 
-  udp_parts : (s : List ℕ) → udp src dst sport dport s ≡ take 8 (udp src dst sport dport s) ++ s
+  pub udp_parts : (s : List ℕ) → udp src dst sport dport s ≡ take 8 (udp src dst sport dport s) ++ s
   unfolding udp
   udp_parts s = refl
 

@@ -1,2 +1,3 @@
 pub mod Datagrams
+pub mod Checked
 pub mod Inside

@@ -54,7 +54,7 @@ fn examine(pool: &Pool, chain: &Chain, src: u32, dst: u32) -> Result<Header, Why
 }
 
 /// Whether the address is one of the two broadcast addresses.
-fn is_broadcast(pcbs: &Pcbs, ip: u32) -> bool
+pub(crate) fn is_broadcast(pcbs: &Pcbs, ip: u32) -> bool
     ensures { result ≡ broadcasts pcbs.now ip }
 {
     ip == pcbs.bcast() || ip == LIMITED_BROADCAST

@@ -9,7 +9,31 @@ use crate::sums::headers_sum;
 use flat_model::Addr;
 use in_cksum::cksum_chain;
 use mbuf_chain::{Chain, Pool};
-use params::{IP_HEADER, IP_MAX_PACKET, IP_UDP_HEADERS, UDP_HEADER};
+use params::{IP_HEADER, IP_MAX_PACKET, IP_UDP_HEADERS, UDP_HEADER, UDP_MAX_DATA};
+
+/// The 8 bytes of the UDP header of a datagram with these bytes, at most 65,507, from one address and port to another,
+/// with its checksum. A computed 0 is written as 65,535 (`udp_output` of volume 2, chapter 23; RFC 768).
+#[inline(always)]
+pub fn header_for(from: Addr, to: Addr, bytes: &[u8]) -> [u8; 8]
+    requires { length bytes.now ≤ UDP_MAX_DATA }
+    ensures { result ++ bytes.now ≡ udp from.ip to.ip from.port to.port bytes.now }
+{
+    let Addr { ip, port } = from;
+    let blank = Header {
+        source: port,
+        destination: to.port,
+        len: bytes.len() as u16 + UDP_HEADER as u16,
+        sum: 0,
+    };
+    let mut covered = headers_sum(ip, to.ip, blank);
+    covered.add(bytes);
+    let computed = covered.finish();
+    let stated = if computed == 0 { u16::MAX } else { computed };
+    to_bytes(Header {
+        sum: stated,
+        ..blank
+    })
+}
 
 /// Writes the UDP header of a datagram from one address and port to another, with its checksum. A computed 0 is written
 /// as 65,535 (`udp_output` of volume 2, chapter 23; RFC 768).

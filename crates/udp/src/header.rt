@@ -23,8 +23,9 @@ pub(crate) struct Header {
     pub(crate) sum: u16,
 }
 
+/// The number of 16 bits in the bytes from a place on.
 #[inline(always)]
-fn field(bytes: &[u8], at: usize) -> u16
+pub(crate) fn field(bytes: &[u8], at: usize) -> u16
     requires { at + 2 ≤ length bytes.now }
     ensures { result ≡ u16_at at bytes.now }
 {
@@ -33,7 +34,7 @@ fn field(bytes: &[u8], at: usize) -> u16
 
 /// What the first 8 bytes of a string say.
 #[inline(always)]
-fn header_of(bytes: &[u8; HEADER]) -> Header
+pub(crate) fn header_of(bytes: &[u8; HEADER]) -> Header
     ensures { (s : List ℕ) → bytes.now ≡ take UDP_HEADER s → result ≡ header_in s }
 {
     Header {
@@ -71,6 +72,7 @@ pub(crate) fn read_header(pool: &Pool, chain: &Chain) -> Header
 }
 
 /// Writes two numbers of 16 bits, one after the other.
+#[inline(always)]
 fn put_pair(bytes: &mut [u8], first: u16, second: u16)
     requires { 4 ≤ length bytes.old }
     ensures { bytes.new ≡ (two_bytes first ++ two_bytes second) ++ drop 4 bytes.old }
@@ -80,6 +82,7 @@ fn put_pair(bytes: &mut [u8], first: u16, second: u16)
 }
 
 /// The bytes of a header.
+#[inline(always)]
 pub(crate) fn to_bytes(header: Header) -> [u8; 8]
     ensures { result ≡ header_bytes header }
 {

@@ -6,10 +6,12 @@
 #![tactic(auto)]
 
 mod arrival;
+mod checked;
 mod departure;
 mod header;
 mod sums;
 
 pub use arrival::{Outcome, input};
-pub use departure::build;
+pub use checked::{Checked, hearer, read};
+pub use departure::{build, header_for};
 pub use sums::check;

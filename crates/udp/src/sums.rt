@@ -21,7 +21,7 @@ fn pseudo_words(src: u32, dst: u32, len: u16) -> u64
 
 /// The sum of the pseudo header of a datagram of `len` bytes.
 #[inline(always)]
-fn pseudo_sum(src: u32, dst: u32, len: u16) -> Sum
+pub(crate) fn pseudo_sum(src: u32, dst: u32, len: u16) -> Sum
     ensures { result ≡ sum_of (pseudo_header src dst len) }
 {
     Sum::of_words(pseudo_words(src, dst, len))

@@ -1,5 +1,5 @@
 -- What holds of the fields of a table, and where a block stands in it (this project's own).
-use Rattle.std.specs.Prelude.{◌≡◌, ℕ, ◌+◌, ◌<◌, ◌≤◌, Bool, false, ◌&&◌, ◌==◌, List, length, get_or, slice_index_or, count_by, find, Option, Some, None, IsSome, unwrap_or}
+use Rattle.std.specs.Prelude.{◌≡◌, ℕ, ◌+◌, ◌<◌, ◌≤◌, Bool, true, false, is_some, ◌&&◌, ◌==◌, List, length, get_or, slice_index_or, count_by, find, Option, Some, None, IsSome, unwrap_or}
 use Rattle.std.specs.Prelude.{if◌then◌else◌}
 use Rattle.std.specs.Int.{w64, trailing_zeros}
 use Rattle.params.specs.declared.TheConstants.{FIRST_DESCRIPTOR, FIRST_EPHEMERAL_PORT, LAST_EPHEMERAL_PORT}
@@ -53,3 +53,11 @@ lanes_clear mask = if mask == 0 then 16 else trailing_zeros w64 mask
 -- the first n of the ports from a place on are others
 abbrev pub PassesLanes : List ℕ → ℕ → ℕ → ℕ → Type 0
 PassesLanes ports port at n = (k : ℕ) → at ≤ k → k < at + n → (get_or ports k 0 == port) ≡ false
+
+-- whether a block is connected
+abbrev pub is_connected : Block → Bool
+is_connected b = is_some b.peer
+
+-- where it's noted that none is connected, none is
+abbrev pub NotesConnected : Bool → List Block → Type 0
+NotesConnected none bs = none ≡ true → find is_connected bs ≡ None

@@ -5,11 +5,19 @@ use Rattle.in_cksum.proofs.lanes.sum_part.Goals as goal
 
 pub add_block-requires-clause-fits : goal.add_block-requires-clause-fits
 add_block-requires-clause-fits c =
-    omega (arith, c.loop-rest.invariant, c.requires, swapped_sum_bound c.args.bytes.now c.type_inv.bytes, swapped_sum_cut c.split_at.result.0.now c.split_at.result.1.now c.loop-rest.rest.now c.split_at.ensures.by_index.0 (omega (arith, c.split_at.ensures.front_len)))
+    omega (arith, c.loop-rest.invariant, c.requires, swapped_sum_bound c.args.bytes.now c.type_inv.bytes, swapped_sum_cut c.split_at-in-loop-rest.result.0.now c.split_at-in-loop-rest.result.1.now c.loop-rest.rest.now c.split_at-in-loop-rest.ensures.by_index.0 (omega (arith, c.split_at-in-loop-rest.ensures.front_len)))
 
 pub loop-rest-preserved : goal.loop-rest-preserved
 loop-rest-preserved c =
-    omega (arith, c.loop-rest.invariant, c.add_block.ensures, swapped_sum_cut c.split_at.result.0.now c.split_at.result.1.now c.loop-rest.rest.now c.split_at.ensures.by_index.0 (omega (arith, c.split_at.ensures.front_len)))
+    omega (arith, c.loop-rest.invariant, c.add_block.ensures, swapped_sum_cut c.split_at-in-loop-rest.result.0.now c.split_at-in-loop-rest.result.1.now c.loop-rest.rest.now c.split_at-in-loop-rest.ensures.by_index.0 (omega (arith, c.split_at-in-loop-rest.ensures.front_len)))
+
+pub add_eight_blocks-requires-clause-fits : goal.add_eight_blocks-requires-clause-fits
+add_eight_blocks-requires-clause-fits c =
+    omega (arith, c.by_eight.invariant, c.requires, swapped_sum_bound c.args.bytes.now c.type_inv.bytes, swapped_sum_cut c.split_at.result.0.now c.split_at.result.1.now c.by_eight.rest.now c.split_at.ensures.by_index.0 (omega (arith, c.split_at.ensures.front_len)))
+
+pub by_eight-preserved : goal.by_eight-preserved
+by_eight-preserved c =
+    omega (arith, c.by_eight.invariant, c.add_eight_blocks.ensures, swapped_sum_cut c.split_at.result.0.now c.split_at.result.1.now c.by_eight.rest.now c.split_at.ensures.by_index.0 (omega (arith, c.split_at.ensures.front_len)))
 
 pub sum_lanes-requires : goal.sum_lanes-requires
 sum_lanes-requires c =

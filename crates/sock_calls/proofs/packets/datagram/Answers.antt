@@ -1,12 +1,7 @@
+use Rattle.std.proofs.Common.{arith}
 use Rattle.sock_calls.specs.Inside.Putting.{sent_as}
-use Rattle.sock_calls.proofs.Making.{ready, has_headers, built_is}
+use Rattle.sock_calls.proofs.OnePacket.{built_at}
 use Rattle.sock_calls.proofs.packets.datagram.Goals as goal
 
-pub build-requires-clause-plain : goal.build-requires-clause-plain
-build-requires-clause-plain c = (ready c.with_headers-chain.ensures.lies c.requires.most).plain
-
-pub build-requires-clause-headers : goal.build-requires-clause-headers
-build-requires-clause-headers c = has_headers c.with_headers-chain.ensures.lies
-
 pub returns : goal.returns
-returns c = built_is (sent_as c.args.heading c.args.bytes.now) c.with_headers-chain.ensures c.build.ensures.chain c.build.ensures.string
+returns c = built_at (sent_as c.args.heading c.args.bytes.now) c.headers_with-headers.result c.header_for.result c.with_headers.ensures.stored c.with_headers.ensures.string (omega arith) c.headers_with-headers.ensures c.header_for.ensures

@@ -1,9 +1,8 @@
-use Rattle.std.proofs.Common.{◌++◌, ap, sym, ◌∙◌, subst, arith}
+use Rattle.std.proofs.Common.{sym, subst, arith}
 use Rattle.mbuf_chain.specs.Chain.{chain_of}
 use Rattle.mbuf_chain.proofs.Laws.Owners.{moves_without}
-use Rattle.mbuf_chain.specs.Train.{TrainView}
-use Rattle.ip_out.specs.Packets.{packets, packets_of, AreBegunPlain}
-use Rattle.ip_out.proofs.Sends.{aside, aside_gone, no_room, one_packet, room}
+use Rattle.ip_out.specs.Packets.{AreBegunPlain}
+use Rattle.ip_out.proofs.Sends.{aside, aside_gone, no_room, one_packet}
 use Rattle.ip_out.proofs.queue.Queue.push_whole.Goals as goal
 
 pub returns-then-len-ge-OUTPUT_QUEUE_PACKETS-clause-packets : goal.returns-then-len-ge-OUTPUT_QUEUE_PACKETS-clause-packets
@@ -33,8 +32,7 @@ pub returns-then-len-ge-OUTPUT_QUEUE_PACKETS-clause-moves : goal.returns-then-le
 returns-then-len-ge-OUTPUT_QUEUE_PACKETS-clause-moves c = (aside_gone c.args.chain c.args.self.now c.free_chain.ensures c.requires.live c.requires.queue.held c.requires.apart).1
 
 pub returns-clause-packets : goal.returns-clause-packets
-returns-clause-packets c mtu fits =
-    let some = packets_of (chain_of c.args.pool.now c.args.chain) c.args.head mtu in
-    let one = one_packet (chain_of c.args.pool.now c.args.chain) c.args.head c.args.len mtu c.requires.datagram c.requires.len fits in
-    let added = c.add_whole.ensures.packets mtu fits ∙ ap (λ (t : TrainView). packets c.args.pool.now t ++ some) c.self.view_is in
-    (room c.args.pool.now c.add_whole.new.pool c.args.self.now c.add_whole.new.train some c.requires.queue (omega (arith, c.len.ensures, c.if-len-ge-OUTPUT_QUEUE_PACKETS.false)) one added).items
+returns-clause-packets c mtu fits = c.push_one.ensures.packets mtu fits
+
+pub returns-clause-lost : goal.returns-clause-lost
+returns-clause-lost c mtu fits = c.push_one.ensures.lost mtu fits

@@ -1,5 +1,5 @@
 use Rattle.net_stack.proofs.Coming.{IsAsked, lost, laid_ready, came}
-use Rattle.net_stack.proofs.host.Host.come_in.Goals as goal
+use Rattle.net_stack.proofs.host.Host.come_by_chain.Goals as goal
 
 pub returns-then-not-reserve-clause-came : goal.returns-then-not-reserve-clause-came
 returns-then-not-reserve-clause-came c =

@@ -13,7 +13,7 @@ use Rattle.sock_calls.specs.Inside.Destination.{ChecksSend}
 use Rattle.sock_calls.specs.Inside.Putting.{IsPut}
 use Rattle.pcb_table.specs.declared.block.Block.{Block}
 use Rattle.pcb_table.specs.Table.{block_at}
-use Rattle.sock_calls.proofs.parts.Parts.send.Goals as goal
+use Rattle.sock_calls.proofs.parts.Parts.send_any.Goals as goal
 
 pub returns-in_default : goal.returns-in_default
 returns-in_default c =

@@ -1,0 +1,56 @@
+-- A datagram that is stored and queued at once.
+use Rattle.std.proofs.Common.{◌≡◌, ℕ, ◌+◌, false, List, [], ◌∷◌, length, Option, Some, None, refl, sym, ap, ◌∙◌, subst, arith}
+use Rattle.std.proofs.lemmas.List.{append-nil}
+use Rattle.flat_model.specs.Amounts.Weight.{mbuf, ◌⊕◌}
+use Rattle.flat_model.specs.declared.address.Addr.{Addr}
+use Rattle.mbuf_chain.specs.Chain.{ChainView, Entry, PoolView, IsLive, Adds, chain_of, held_mbufs, string}
+use Rattle.mbuf_chain.specs.Owners.{times, Moves}
+use Rattle.mbuf_chain.specs.Steps.{one_mbuf}
+use Rattle.mbuf_chain.proofs.Laws.Owners.{live_adds, moves_adds, moves_beside, shown_adds}
+use Rattle.mbuf_chain.proofs.Laws.Accounts.{held-adds}
+use Rattle.ledger.specs.Accounts.{weight_of}
+use Rattle.sockbuf.specs.SockBuf.{SockBufView, IsSockBuf, chains_of, datagrams, datagram_from}
+use Rattle.sockbuf.specs.Stored.{bag_of, stored_datagram}
+use Rattle.sockbuf.proofs.Beside.{apart_ready, chains_same, datagrams_same, made_beside, ready_made}
+
+-- one mbuf of bytes, in no queue yet
+abbrev pub entry : List ℕ → ℕ → Option ℕ → Entry
+entry bytes start o = record { bytes = bytes; start = start; cluster = o }
+
+-- what is in hand then, beside the queue
+pub record InHand (p : PoolView) (b : SockBufView) (bytes : List ℕ) (o : Option ℕ) (q : PoolView) (d : ℕ) : Type 0 where
+  pub ready : IsSockBuf q b
+  pub live : IsLive q d
+  pub apart : times d (chains_of q b) ≡ 0
+  pub len : length bytes ≡ length (string (chain_of q d))
+  pub same : datagrams q b ≡ datagrams p b
+  pub held : held_mbufs q ≡ held_mbufs p + 1
+  pub mbufs : q.mbufs ≡ p.mbufs
+  pub moves : Moves p (chains_of p b) q (d ∷ chains_of q b)
+  pub is : (sender : Addr) → datagram_from sender q d ≡ stored_datagram sender bytes o
+
+one_weighs : (bytes : List ℕ) (start : ℕ) (o : Option ℕ) → mbuf ⊕ weight_of (entry bytes start o ∷ []) ≡ record { mbufs = 2; bag = bag_of o }
+one_weighs bytes start None = refl
+one_weighs bytes start (Some c) = refl
+
+pub in_hand : {p q : PoolView} {b : SockBufView} {d : ℕ} (bytes : List ℕ) (start : ℕ) (o : Option ℕ) → IsSockBuf p b → Adds p q d (one_mbuf false (entry bytes start o) d) → InHand p b bytes o q d
+in_hand {p} {q} {b} {d} bytes start o ready adds =
+    let made : Moves p [] q (d ∷ []) = moves_adds adds in
+    let shown : chain_of q d ≡ one_mbuf false (entry bytes start o) d = shown_adds adds in
+    let all : string (chain_of q d) ≡ bytes = ap string shown ∙ append-nil bytes in
+    let chains : chains_of q b ≡ chains_of p b = chains_same p q b (made_beside b made ready) in
+    record {
+      ready = ready_made b made ready;
+      live = live_adds adds;
+      apart = apart_ready b made ready;
+      len = ap (λ (xs : List ℕ). length xs) (sym all);
+      same = datagrams_same p q b (made_beside b made ready);
+      held = held-adds adds;
+      mbufs = made.mbufs;
+      moves = subst (λ (xs : List ℕ). Moves p (chains_of p b) q (d ∷ xs)) (sym chains)
+          (moves_beside (chains_of p b) (d ∷ chains_of p b) (chains_of p b) made (λ k. omega arith) (λ k. omega arith));
+      is = λ sender i. record {
+        sender = sender;
+        item = record { bytes = all i; weight = (ap (λ (v : ChainView). mbuf ⊕ weight_of v.entries) shown ∙ one_weighs bytes start o) i };
+      };
+    }
