@@ -113,23 +113,30 @@ function linesOf(text) {
 // ---- scripts with notes
 
 // A line that begins with # is a note on the next line, and no part of the script. At the end of a note may stand what
-// the program has to reply, after "=>"; where that ends in "..", it's the beginning of the reply.
-function readNotes(text) {
-  const all = linesOf(text), lines = [], places = [], notes = [], wanted = [];
-  let note = [];
+// the program has to reply, after "=>"; where that ends in "..", it's the beginning of the reply. "#?" begins a
+// question on the next line, to be answered before its reply is shown; "#-" a wrong answer, and "#+" the right one.
+// In a script that people wrote (`isPlay`) empty lines are none, and those that begin with "--" are options.
+function readNotes(text, isPlay = false) {
+  const all = linesOf(text), lines = [], places = [], notes = [], wanted = [], questions = [];
+  let note = [], question = null;
   all.forEach((line, place) => {
-    if (line.startsWith("#")) {
-      note.push(line.slice(1).trim());
-      return;
+    const said = line.slice(2).trim();
+    if (line.startsWith("#?")) question = { text: said, answers: [] };
+    else if (question && /^#[-+]/.test(line)) question.answers.push({ text: said, isRight: line[1] === "+" });
+    else if (line.startsWith("#")) note.push(line.slice(1).trim());
+    else if (isPlay && (line.trim() === "" || line.startsWith("--"))) return;
+    else {
+      const [told, reply] = note.join(" ").split(/\s*=> /);
+      lines.push(line);
+      places.push(place);
+      notes.push(told);
+      wanted.push(reply);
+      questions.push(question);
+      [note, question] = [[], null];
     }
-    const [said, reply] = note.join(" ").split(/\s*=> /);
-    lines.push(line);
-    places.push(place);
-    notes.push(said);
-    wanted.push(reply);
-    note = [];
   });
-  return { all, lines, places, notes, wanted, script: lines.map(line => line + "\n").join("") };
+  const options = isPlay ? settingsIn(scriptOptions(all)) : {};
+  return { all, lines, places, notes, wanted, questions, options, script: lines.map(line => line + "\n").join("") };
 }
 
 const isReply = (reply, wanted) =>
@@ -150,10 +157,10 @@ function configOf(options) {
   return wrong ? { wrong } : config;
 }
 
-// Options from words as --mtu 68 or --mtu=68.
-function optionsOf(words) {
-  const options = { ...DEFAULTS };
-  const all = words.flatMap(word => word.split("="));
+// What words as --mtu 68 or --mtu=68 set, and all options with that.
+function settingsIn(words) {
+  const options = {}, all = words.flatMap(word => word.split("="));
   for (let i = 0; i + 1 < all.length; i += 2) options[all[i].replace(/^--/, "")] = all[i + 1];
   return options;
 }
+const optionsOf = words => ({ ...DEFAULTS, ...settingsIn(words) });

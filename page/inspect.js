@@ -18,16 +18,58 @@ function leadOf(step, note, verdicts) {
       h("span", {}, h("code", {}, step.kind === "bad" ? cut(step.line, 40) || "an empty line" : step.verb), " ",
       step.tells)),
     note && h("p", { class: "note" }, note), verdicts,
-    h("p", { class: "reply" }, h("span", {}, "reply "), h("code", {}, cut(step.reply, 160))));
+    h("p", { class: "reply" }, h("span", {}, "reply "), h("code", {}, cut(step.says || step.reply, 160))),
+    step.expected && expectedView(step));
+}
+
+// What was expected of a line, and whether it came.
+const expectedView = step => (isExpected(step.expected, step.says)
+  ? verdict("yes", "As you expected.")
+  : verdict("no", "You expected ", h("code", {}, step.expected), "."));
+
+// ---- where the bytes lie
+
+// The figure is drawn once its place is in the page, since it depends on the width (main.js).
+function figurePanel(title, figure, ...more) {
+  const host = h("div", { class: "figure-host" });
+  host.figure = figure;
+  return h("section", { class: "panel wide" },
+    h("div", { class: "head-of" }, h("h3", {}, title), allButton()), host, more);
+}
+
+// All queues are drawn, or those alone that the line changed.
+const allButton = () => h("button", { type: "button", class: "all", "aria-pressed": String(page.drawsAll), onclick() {
+  page.drawsAll = !page.drawsAll;
+  select(page.at);
+  document.querySelector("button.all").focus();
+} }, "Draw all");
+
+const STACK_CAPTION = "An mbuf has 128 bytes, and is one of the four kinds of volume 2, figure 2.1. m_next leads to "
+  + "the next mbuf of a packet, and m_nextpkt to the next packet of a queue, as in figure 2.2.";
+const CAPTIONS = {
+  so_rcv: "so_rcv is a socket's receive queue (chapter 16). The sender's address stands in an mbuf in front of each "
+    + "datagram. In 4.4BSD that is one of type MT_SONAME, without a packet header; here it has the datagram's.",
+  if_snd: "if_snd is the interface's output queue (chapter 3).",
+  ipq: "An ipq is a datagram whose fragments haven't all come (chapter 10). In 4.4BSD a struct ipq stands in an mbuf "
+    + "of its own; here that mbuf is taken too, and left empty. A fragment's rcvif says its offset × 2, and 1 more "
+    + "where others follow; its IP header is gone.",
+};
+
+// The captions of what a state holds.
+function captionOf({ sockets, output, unfinished }) {
+  const held = { so_rcv: sockets.some(it => it.first !== null), if_snd: output.len > 0, ipq: unfinished.length > 0 };
+  return [STACK_CAPTION, ...Object.keys(CAPTIONS).filter(name => held[name]).map(name => CAPTIONS[name])].join(" ");
+}
+
+function memoryView(before, after, title = "The mbufs after this line") {
+  if (!after) {
+    return panel(title, h("p", { class: "faint" }, "They aren't drawn: of this script the page can't work out where "
+      + "the bytes lie. The figures below are the program's."));
+  }
+  return figurePanel(title, { after, before, caption: captionOf(after), all: page.drawsAll });
 }
 
 // ---- the stack
-
-// Sockets in whose queue more waits than before.
-function grownIn(before, now) {
-  const was = fd => before.sockets.find(socket => socket.fd === fd);
-  return now.sockets.filter(socket => socket.queue.length > (was(socket.fd) ? was(socket.fd).queue.length : 0));
-}
 
 function verdictsOf(step, before, now) {
   const all = [], grown = grownIn(before, now), sent = now.output.length - before.output.length;
@@ -44,12 +86,16 @@ function verdictsOf(step, before, now) {
   }
   for (const it of step.drops) {
     all.push(verdict("no", h("b", {}, it.by > 1 ? `${it.by} dropped` : "Dropped"), `: ${COUNTERS[it.name]} (`,
-      h("code", {}, it.name), ")."));
+      h("code", {}, it.name), `)${bothSums(step, it.name)}.`));
   }
   if (step.data) all.push(verdict("yes", "Read: ",
     h("code", {}, step.data.length ? readable(step.data, 60) : "no bytes")));
   return all;
 }
+
+// Of a wrong checksum: what came, and what would be right.
+const bothSums = ({ packet }, name) =>
+  (name.endsWith(".badsum") && packet && packet.wrongSum ? `: ${packet.wrongSum}` : "");
 
 // The checks of a packet in their order, up to the one that failed.
 function checksOf(step) {
@@ -67,7 +113,7 @@ function checksOf(step) {
     const [kind, mark, told] = i < last ? ["pass", "✓", "passed: "] : i === last ? ["fail", "✗", "failed: "]
       : ["not", "·", "not reached: "];
     return h("li", { class: kind }, h("span", { "aria-hidden": "true" }, mark), h("span", { class: "unseen" }, told),
-      what, kind === "fail" && h("code", {}, name.split(" ")[0]));
+      what, kind === "fail" && [h("code", {}, name.split(" ")[0]), bothSums(step, name).slice(1)]);
   }));
 }
 
@@ -105,23 +151,27 @@ function outputView(output, before) {
     queueOf("output", output, output.length - before.output.length, tell));
 }
 
-function piecesView([key, { pieces, end }]) {
-  const whole = end || Math.max(...pieces.map(it => it.to)) * 1.25;
-  const bars = pieces.map(it =>
+// The pieces of an unfinished datagram in their order, on a scale that all of them share.
+function piecesView([key, { pieces, end }], most) {
+  const whole = end || Math.max(...pieces.map(it => it.to)), sorted = [...pieces].sort((a, b) => a.from - b.from);
+  const bars = sorted.map(it =>
     h("i", { style: `left: ${(100 * it.from) / whole}%; width: ${(100 * (it.to - it.from)) / whole}%` }));
-  const told = pieces.map(it => `${it.from} to ${it.to - 1}`).join(", ");
+  const told = sorted.map(it => `${it.from} to ${it.to - 1}`).join(", ");
   return h("div", { class: "pieces" }, h("small", {}, key),
-    h("div", { class: "pieces-bar", "aria-hidden": "true" }, bars),
-      h("small", {}, `bytes ${told} came; ${end ? `it has ${end}` : "its end isn't known yet"}`));
+    h("div", { class: `pieces-bar${end ? "" : " open"}`, "aria-hidden": "true",
+      style: `width: ${(100 * whole) / most}%` }, bars),
+    h("small", {}, `bytes ${told} came; ${end ? `it has ${end}` : "its end isn't known yet"}`));
 }
 
 function unfinishedView(held, steps) {
   const pieces = [...piecesAfter(steps)], end = held.unfinished.ends[0];
+  const most = Math.max(...pieces.map(([, it]) => it.end || Math.max(...it.pieces.map(piece => piece.to))));
   const until = end && `, dropped in ${plural(end.tick, "tick")} unless whole by then`;
   return h("div", { class: "holder" }, h("b", {}, "unfinished datagrams"), " ",
     h("span", { class: "faint" }, `${plural(held.unfinished.mbufs, "mbuf")}${until || ""}`),
-    pieces.slice(0, 6).map(piecesView),
-      pieces.length > 6 && h("p", { class: "faint" }, `and ${pieces.length - 6} more`));
+    pieces.slice(0, 6).map(it => piecesView(it, most)),
+    pieces.length > 1 && h("p", { class: "faint" }, `All bars have one scale: the longest is ${plural(most, "byte")}.`),
+    pieces.length > 6 && h("p", { class: "faint" }, `and ${pieces.length - 6} more`));
 }
 
 // Buffers by owner. What is left over is shared between owners, so no one of them gives it back alone.
@@ -170,44 +220,51 @@ function packetsOfLine(step, before, now) {
 
 function stackView(page, step) {
   const now = page.heldAfter(step.number), before = page.heldAfter(step.number - 1);
-  const about = packetsOfLine(step, before, now);
-  const state = [machineView(step, page.steps.slice(0, step.number), before, now), countersView(step)];
-  return [leadOf(step, page.noteOf(step), verdictsOf(step, before, now)),
-    about.length > 0 && h("div", { class: "column" }, about), h("div", { class: "column" }, state)];
+  const about = packetsOfLine(step, before, now), own = page.own.slice(0, page.ranAfter(step.number));
+  const state = [machineView(step, own, before, now), countersView(step)];
+  const lead = leadOf(step, page.noteOf(step), verdictsOf(step, before, now));
+  const packets = about.length > 0 && h("div", { class: "column" }, about);
+  const machine = h("div", { class: "column" }, state);
+  const memory = memoryView(page.memoryAfter(step.number - 1), page.memoryAfter(step.number));
+  // of a packet that was dropped the checks say most
+  return step.kind === "in" && step.drops.length ? [lead, packets, machine, memory] : [lead, memory, packets, machine];
 }
 
 // ---- chains
 
 // Who has a part of each cluster that is shared, in words.
-function sharersView(clusters) {
-  const partOf = ({ slot, place, mbuf }) =>
-    `mbuf ${place + 1} of chain ${slot} has ${plural(mbuf.bytes.length, "byte")} from ${mbuf.start} on`;
-  const shared = [...clusters].filter(([, refs]) => refs.length > 1);
-  const told = ([number, refs]) => h("li", {}, h("b", {}, `Cluster ${letterOf(number)}`),
-    ` is counted ${refs.length}: ${refs.slice(0, 8).map(partOf).join(", ")}`
-      + `${refs.length > 8 ? `, and ${refs.length - 8} more` : ""}.`);
+function sharersView({ mbufs, clusters }) {
+  const shared = Object.entries(clusters).filter(([, count]) => count > 1);
+  const partOf = it => `mbuf ${it.n} has ${plural(it.len, "byte")} from ${it.data.toLocaleString("en")} on`;
+  const told = ([n, count]) => {
+    const parts = mbufs.filter(it => it.cluster === +n).slice(0, 8).map(partOf).join(", ");
+    return h("li", {}, h("b", {}, `Cluster ${n}`), ` is counted ${count}: ${parts}${count > 8 ? ", .." : ""}.`);
+  };
   return shared.length > 0 && h("ul", { class: "sharers" }, shared.map(told));
 }
 
-function chainsView(step, chains, before) {
-  const title = h("h3", {}, "The chains after this line"), none = h("p", { class: "faint" }, "No chain is held.");
-  if (!chains.size) return h("section", { class: "panel wide" }, title, none);
-  const picture = new ChainPicture(step, chains, before);
-  const key = [["header", "the mbuf's header"], ["packet-header", "the packet's header"], ["room", "free"]];
-  return h("section", { class: "panel wide" }, title,
-    scroller("the chains after this line", picture.element),
-    h("p", { class: "legend" }, key.map(([kind, name]) => h("span", { class: `key-${kind}` }, name))),
-    sharersView(picture.clusters));
+const CHAIN_CAPTION = "An mbuf has 128 bytes, of which its header takes 20, and 8 more for a packet. It's one of the "
+  + "four kinds of volume 2, figure 2.1. A cluster has 2,048 bytes, and is counted once for each mbuf that refers to "
+  + "it.";
+
+function chainsView(step, before, after) {
+  const title = "The chains after this line";
+  if (!after.chains.length && !(before && before.chains.length)) {
+    return panel(title, h("p", { class: "faint" }, "No chain is held."));
+  }
+  const refused = refusedIn(step, page.drawnAfter(step.number), clustersIn(page.drawnAfter(step.number)));
+  const marked = [...refused].map(n => after.named.get(n).n);
+  return figurePanel(title, { after, before, caption: CHAIN_CAPTION, all: page.drawsAll, marked }, sharersView(after));
 }
 
 function chainView(page, step) {
   const refused = !step.isOk && verdict("no", h("b", {}, step.reply), `: ${step.why}. Nothing has changed.`);
-  const chains = page.drawnAfter(step.number), before = page.drawnAfter(step.number - 1);
+  const before = page.chainsAfter(step.number - 1), after = page.chainsAfter(step.number);
   const pool = step.pool, inChains = count => [{ name: "in chains", kind: "queue", count }];
   const many = pool.refs > pool.usedClusters ? " So bytes are shared, and not copied." : "";
   const refer = `${plural(pool.refs, "mbuf")} ${pool.refs === 1 ? "refers" : "refer"}`;
   const told = `${refer} to ${plural(pool.usedClusters, "cluster")}; the greatest count is ${pool.most}.${many}`;
-  return [leadOf(step, page.noteOf(step), refused), chainsView(step, chains, before),
+  return [leadOf(step, page.noteOf(step), refused), chainsView(step, before, after),
     panel("The pool after this line", poolBar("mbufs", pool.mbufs, inChains(pool.used)),
       poolBar("clusters", pool.clusters, inChains(pool.usedClusters)),
       h("p", { class: "faint" }, pool.refs ? told : "No cluster is referred to."))];

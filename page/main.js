@@ -8,14 +8,26 @@ const page = {
   options: { ...DEFAULTS },
   steps: [],
   at: 0,
-  name: "",
+  known: null,
+  guesses: new Map(),
+  firstQuestion: null,
+  drawsAll: false,
   held: new Map(),
   drawn: new Map(),
+  memories: new Map(),
+  chains: [],
+  // after how many lines of `bsdudp run` the n-th line ends
+  ranAfter(n) {
+    return n ? this.ends[n - 1] : 0;
+  },
+  heldAfterRun(n) {
+    if (!this.held.has(n)) this.held.set(n,
+      new Held(this.engine, this.config, this.own.slice(0, n).map(it => it.line), this.own.slice(0, n)));
+    return this.held.get(n);
+  },
   // what is held after so many lines
   heldAfter(n) {
-    if (!this.held.has(n)) this.held.set(n,
-      new Held(this.engine, this.config, this.notes.lines.slice(0, n), this.steps.slice(0, n)));
-    return this.held.get(n);
+    return this.heldAfterRun(this.ranAfter(n));
   },
   // what is held by one of several machines after so many lines of its own
   heldOf(host, n) {
@@ -23,6 +35,17 @@ const page = {
     if (!this.held.has(key)) this.held.set(key,
       new Held(this.engine, host.config, host.lines.slice(0, n), host.steps.slice(0, n)));
     return this.held.get(key);
+  },
+  memory(name, config, steps, held) {
+    if (!this.memories.has(name)) this.memories.set(name, new Memory(this.engine, config, steps, held));
+    return this.memories.get(name);
+  },
+  // where the bytes lie after so many lines, or null
+  memoryAfter(n) {
+    return this.memory("", this.config, this.own, count => this.heldAfterRun(count)).after(this.ranAfter(n));
+  },
+  memoryOf(host, n) {
+    return this.memory(host.name, host.config, host.steps, count => this.heldOf(host, count)).after(n);
   },
   // the chains after so many lines, mbuf by mbuf; those of a few places are kept
   drawnAfter(n) {
@@ -33,6 +56,14 @@ const page = {
     }
     return this.drawn.get(n);
   },
+  // the same as a figure has it. Of a long script numbers aren't the same ones from line to line.
+  chainsAfter(n) {
+    if (n > MOST_LINES) return chainState(this.drawnAfter(n), null);
+    while (this.chains.length <= n) {
+      this.chains.push(chainState(this.drawnAfter(this.chains.length), this.chains[this.chains.length - 1]));
+    }
+    return this.chains[n];
+  },
   noteOf(step) {
     return this.notes.notes[step.number - 1];
   },
@@ -40,69 +71,119 @@ const page = {
 
 // What a script of each kind is played by, and what shows a line of it.
 const PLAYS = {
-  run: { trace: traceStack, view: stackView },
+  run: { trace: tracePlay, view: stackView },
   chain: { trace: traceChains, view: chainView },
   wire: { trace: (engine, _, lines) => traceWire(engine, lines), view: wireView },
 };
 
 // ---- what is shown
 
+const badgesOf = step => step.changed.map(({ host, name, by, isLost }) =>
+  h("span", { class: DROPS.has(name) || isLost ? "badge drop" : "badge" }, `${host ? `${host} ` : ""}+${by} ${name}`));
+
+// Whether what was expected of a line came.
+const markOf = step => step.expected && (isExpected(step.expected, step.says)
+  ? h("span", { class: "badge came" }, "✓ expected")
+  : h("span", { class: "badge drop" }, "✗ expected ", step.expected));
+
+// A line of the script: its note, what it says, its reply and what was counted; or the line alone, if it's asked first.
 function rowOf(step, i) {
+  const isAsked = Boolean(questionOf(i)), isHidden = isAsked || isBehindQuestion(i), note = page.noteOf(step);
   const change = step.pool.used - step.before.used;
-  const badges = step.changed.map(({ host, name, by, isLost }) =>
-    h("span", { class: DROPS.has(name) || isLost ? "badge drop" : "badge" },
-      `${host ? `${host} ` : ""}+${by} ${name}`));
-  const what = h("span", { class: "what" },
+  const delta = change ? `${change > 0 ? "+" : "−"}${plural(Math.abs(change), "mbuf")}` : "";
+  const told = [note && h("span", { class: "row-note" }, note),
     h("code", {}, step.kind === "bad" ? cut(step.line, 24) || "an empty line" : step.verb), " ", step.tells,
     h("span", { class: "after" },
-      h("code", { class: step.isOk ? "answer" : "answer no" }, cut(step.reply, step.kind === "ask" ? 60 : 34)),
-      badges));
-  const delta = change ? `${change > 0 ? "+" : "−"}${plural(Math.abs(change), "mbuf")}` : "";
+      h("code", { class: step.isOk ? "answer" : "answer no" },
+        cut(step.says || step.reply, step.kind === "ask" ? 60 : 44)),
+      badgesOf(step), markOf(step), h("span", { class: "delta" }, delta))];
+  const alone = [isExercise() && note && h("span", { class: "row-note" }, note), askedLine(step),
+    h("span", { class: "after" }, h("span", { class: "answer" }, isAsked ? "guess first" : ".."))];
   return h("li", {}, h("button", { class: "row", type: "button", onclick: () => select(i) },
-    h("span", { class: "number" }, String(page.notes.places[i] + 1)), signOf(step), what,
-      h("span", { class: "delta" }, delta)));
+    h("span", { class: "number" }, String(page.notes.places[i] + 1)),
+    isHidden ? h("span", { class: "sign", "aria-hidden": "true" }, "?") : signOf(step),
+    h("span", { class: "what" }, isHidden ? alone : told)));
 }
+
+// A line as it's asked about: a packet of many digits in words.
+const askedLine = step => (step.kind === "in" && step.line.length > 60
+  ? [h("code", {}, step.verb), " ", step.packet.tells] : h("code", {}, cut(step.line, 160)));
+
+function refreshRows() {
+  findQuestion();
+  byId("rows").replaceChildren(...page.steps.map(rowOf));
+}
+
+// What a screen reader says of a line: its place in the script, what became of it, and its note.
+function spoken(step) {
+  const refusal = step.isOk ? "" : ` Refused: ${step.error || step.why || step.reply}.`;
+  const drops = step.drops.map(it => ` Dropped: ${COUNTERS[it.name]}${bothSums(step, it.name)}.`).join("");
+  return `line ${page.notes.places[step.number - 1] + 1}: ${step.verb} ${step.tells}.${refusal}${drops} `
+    + `${page.noteOf(step) || ""}`;
+}
+
+let stopFigures = [];
 
 // Looks at a line. All that is shown of it is made anew.
 function select(i) {
   if (!page.steps.length) return;
   page.at = Math.max(0, Math.min(page.steps.length - 1, i));
-  const step = page.steps[page.at], rows = byId("rows").children;
-  byId("rows").querySelectorAll("[aria-current]").forEach(row => row.removeAttribute("aria-current"));
-  const row = rows[page.at].firstChild;
-  row.setAttribute("aria-current", "step");
-  const list = byId("rows"), top = row.offsetTop;
-  if (top < list.scrollTop || top + row.offsetHeight > list.scrollTop + list.clientHeight) list.scrollTop = top - 60;
+  const step = page.steps[page.at], question = questionOf(page.at);
+  showRow();
   byId("curve").replaceChildren(...curve(page.steps, page.at, select));
-  byId("look").replaceChildren(...PLAYS[page.mode].view(page, step).filter(Boolean));
+  const views = question ? [questionView(step, page.at, question)] : PLAYS[page.mode].view(page, step).filter(Boolean);
+  const guess = !question && guessView(page.at);
+  if (guess) views[0].append(guess);
+  for (const stop of stopFigures) stop();
+  byId("look").replaceChildren(...views);
+  stopFigures = [...byId("look").querySelectorAll(".figure-host")].map(host => MbufFigure.mount(host, host.figure));
   byId("place").textContent = `${step.number} of ${page.steps.length}`;
-  const refusal = step.isOk ? "" : step.error || step.reply;
-  byId("said").textContent = `line ${step.number}: ${step.verb} ${step.tells}. ${refusal}`;
+  byId("said").textContent = question
+    ? `line ${page.notes.places[page.at] + 1}: ${cut(step.line, 80)}. A question: ${question.text}` : spoken(step);
   for (const mark of byId("gutter").querySelectorAll(".here")) mark.classList.remove("here");
   byId("gutter").children[page.notes.places[page.at]].classList.add("here");
 }
 
+// Marks the row of the line that is looked at, and brings it into view.
+function showRow() {
+  const list = byId("rows");
+  list.querySelectorAll("[aria-current]").forEach(row => row.removeAttribute("aria-current"));
+  const row = list.children[page.at].firstChild, top = row.offsetTop;
+  row.setAttribute("aria-current", "step");
+  if (top < list.scrollTop || top + row.offsetHeight > list.scrollTop + list.clientHeight) list.scrollTop = top - 60;
+}
+
+// Whether a script is one of `bsdudp run` as it stands, and not one that people wrote.
+const isPlainScript = () => page.mode !== "run" || (Boolean(page.known) && page.known.kind !== "exercises")
+  || page.isPlain;
+
 // Plays the script anew, after any change of it.
 function replay(place) {
-  page.notes = readNotes(byId("script").value);
-  page.config = configOf(page.options);
+  page.text = byId("script").value;
+  page.notes = readNotes(page.text, !isPlainScript());
+  page.config = configOf({ ...page.options, ...page.notes.options });
   page.held.clear();
   page.drawn.clear();
-  const { code, steps, hosts } = page.config.wrong ? { code: 0, steps: [] }
-    : PLAYS[page.mode].trace(page.engine, page.config, page.notes.lines);
-  Object.assign(page, { steps, hosts });
+  page.memories.clear();
+  page.chains = [];
+  const { code, steps, hosts, own, ends } = page.config.wrong ? { code: 0, steps: [] }
+    : PLAYS[page.mode].trace(page.engine, page.config, page.notes.lines, isPlainScript());
+  Object.assign(page, { steps, hosts, own, ends });
   byId("trouble").textContent = page.config.wrong ? `--${page.config.wrong}: no number in its range` : FAULTS[code];
   byId("gutter").replaceChildren(...page.notes.all.map((line, i) =>
     h("span", { class: line.startsWith("#") ? "note-line" : null }, String(i + 1))));
-  byId("rows").replaceChildren(...steps.map(rowOf));
   byId("command").textContent = hosts
     ? [...hosts.values()].map(it => `${it.name}: bsdudp run${optionWords(it.options)}`).join("\n")
-    : `bsdudp ${page.mode}${optionWords(page.options)} < script.txt`;
+    : isPlainScript() ? `bsdudp ${page.mode}${optionWords(page.options)} < script.txt`
+      : `bsdplay${optionWords(page.options)} script.txt`;
   for (const part of ["look", "curve"]) byId(part).replaceChildren();
+  refreshRows();
+  showScore();
+  showMachine();
   select(place);
 }
 
-// The options that stand in the head; machines on a wire have theirs in the script.
+// The options that stand beside the script; machines on a wire have theirs in the script.
 const USED = { run: Object.keys(DEFAULTS), chain: ["mbufs", "clusters"], wire: [] };
 const usedOptions = () => USED[page.mode];
 const optionWords = options => Object.keys(DEFAULTS).filter(name => options[name] !== DEFAULTS[name])
@@ -120,41 +201,69 @@ function showOptions() {
     h("label", { class: name === "addr" || name === "bcast" ? "long" : null }, `--${name} `, inputOf(name))));
 }
 
-function showScripts() {
-  const { lessons, examples } = SCRIPTS[page.mode];
-  const option = ({ name, title }) => h("option", { value: name }, title);
-  byId("choice").replaceChildren(h("option", { value: "" }, "your own script"),
-    h("optgroup", { label: "Lessons" }, lessons.map(option)),
-      examples.length ? h("optgroup", { label: "Examples" }, examples.map(option)) : "");
-  byId("choice").value = page.name;
+function showMachine() {
+  const { addr, mtu, mbufs, clusters } = { ...page.options, ...page.notes.options };
+  byId("machine").hidden = !usedOptions().length;
+  byId("machine-says").textContent = `${page.mode === "run" ? `The machine: ${addr}, MTU ${mtu}, ` : "The pool: "}`
+    + `${mbufs} mbufs, ${clusters} clusters`;
 }
 
 // ---- what is chosen
 
-// Opens a script: one of the page's own by its name, or a text.
-function open(mode, { name = "", text = "", options = DEFAULTS, place = 0 }) {
-  const known = [...SCRIPTS[mode].lessons, ...SCRIPTS[mode].examples].find(it => it.name === name);
-  page.mode = mode;
-  page.name = known ? name : "";
-  page.options = known ? optionsOf(known.words) : { ...DEFAULTS, ...options };
-  byId("script").value = known ? known.text : text;
+// Opens a script: one of the page's own by its name, or a text. `isPlain`: as it stands, for `bsdudp run`.
+function open(mode, { name = "", text = "", options = DEFAULTS, place = 0, isPlain = false }) {
+  const known = scriptNamed(mode, name) || null;
+  Object.assign(page, { mode, known, isPlain, guesses: new Map(), drawsAll: false,
+    options: known ? optionsOf(known.words) : { ...DEFAULTS, ...options } });
+  const own = known && (known.kind === "exercises" ? kept(`text.${known.name}`) || unsolved(known.text) : known.text);
+  byId("script").value = known ? own : text;
   byId("script").scrollTop = 0;
   document.body.dataset.mode = mode;
   for (const tab of document.querySelectorAll("[data-tab]")) tab.setAttribute("aria-pressed",
     String(tab.dataset.tab === mode));
-  showScripts();
+  showLeft(known || text ? "read" : "edit");
   showOptions();
+  showTitle();
   replay(place);
+  keepText();
 }
 
-const openFirst = mode => open(mode, { name: SCRIPTS[mode].lessons[0].name });
+const openFirst = mode => open(mode, { name: LISTS.lessons.find(it => it.mode === mode).name });
 
-// After a key in the script or in an option, when no other follows at once.
+// The script is read line by line, or edited.
+function showLeft(how) {
+  document.body.dataset.left = how;
+  for (const name of ["read", "edit"]) byId(name).setAttribute("aria-pressed", String(name === how));
+}
+
+// Your own text stays in this browser; so does an exercise that was begun, and which script was open last.
+function keepText() {
+  const { mode, known, options } = page, text = byId("script").value;
+  keep("last", { mode, name: known ? known.name : "" });
+  if (!known) keep("own", { mode, text, options });
+  else if (isExercise() && text !== unsolved(known.text)) keep(`text.${known.name}`, text);
+}
+
+function openOwn() {
+  const own = kept("own");
+  if (own && own.text && Object.hasOwn(PLAYS, own.mode)) open(own.mode, own);
+  else open("run", { text: "" });
+  showLeft("edit");
+  byId("script").focus();
+}
+
+// After a key in the script or in an option, when no other follows at once. A lesson that is changed is your own text.
 let timer = 0;
 function later() {
-  page.name = byId("choice").value = "";
+  if (!isExercise()) {
+    page.known = null;
+    showTitle();
+  }
   clearTimeout(timer);
-  timer = setTimeout(() => replay(page.at), 150);
+  timer = setTimeout(() => {
+    replay(page.at);
+    keepText();
+  }, 150);
 }
 
 // The line of the script in which the cursor stands is looked at.
@@ -166,13 +275,34 @@ function follow() {
 
 // ---- a packet made by hand
 
+// What is wrong with a field of the form, or nothing.
+function packetFault(value) {
+  const numbers = { "source-port": "the first port", "destination-port": "the second port", id: "the identification" };
+  for (const [name, what] of [["source", "from"], ["destination", "to"]]) {
+    const isAddress = addressIn(value(name)) !== null;
+    if (!isAddress) return [name, `“${what}” is no address: four numbers of 0 to 255 with dots between, as 10.0.0.2`];
+  }
+  for (const [name, what] of Object.entries(numbers)) {
+    if (numberIn(value(name), 65535) === null) return [name, `${what} is no number of 0 to 65,535`];
+  }
+  return null;
+}
+
 function putPacket() {
-  const value = name => byId(`packet-${name}`).value,
-    number = name => Math.min(65535, Math.max(0, Math.floor(+value(name)) || 0));
+  const value = name => byId(`packet-${name}`).value.trim(), fault = packetFault(value);
+  const says = byId("packet-fault-says");
+  says.hidden = !fault;
+  for (const it of byId("packet").querySelectorAll("[aria-invalid]")) it.removeAttribute("aria-invalid");
+  if (fault) {
+    says.textContent = `Refused: ${fault[1]}.`;
+    byId(`packet-${fault[0]}`).setAttribute("aria-invalid", "true");
+    byId(`packet-${fault[0]}`).focus();
+    return;
+  }
   const bytes = makePacket({
-    source: undotted(value("source")), sourcePort: number("source-port"), destination: undotted(value("destination")),
-    destinationPort: number("destination-port"), id: number("id"), data: new TextEncoder().encode(value("data")),
-      fault: value("fault"),
+    source: addressIn(value("source")), sourcePort: +value("source-port"),
+    destination: addressIn(value("destination")), destinationPort: +value("destination-port"), id: +value("id"),
+    data: new TextEncoder().encode(byId("packet-data").value), fault: value("fault"),
   });
   byId("maker").close();
   putLine("rx " + hexOf(bytes));
@@ -183,8 +313,10 @@ function putLine(line, focus) {
   const all = page.notes.all, isEmpty = !page.steps.length;
   const place = isEmpty ? all.length : page.notes.places[page.at] + 1;
   byId("script").value = [...all.slice(0, place), line, ...all.slice(place), ""].join("\n");
-  page.name = byId("choice").value = "";
+  page.known = null;
+  showTitle();
   replay(isEmpty ? 0 : page.at + 1);
+  keepText();
   const there = focus && (byId(focus) || document.querySelector(".puts button"));
   if (there) there.focus();
 }
@@ -195,7 +327,8 @@ function putLine(line, focus) {
 function link() {
   const changed = usedOptions().filter(name => page.options[name] !== DEFAULTS[name])
     .map(name => [name, page.options[name]]);
-  const asked = new URLSearchParams([["mode", page.mode], ...changed, ["line", page.at + 1],
+  const plain = page.mode === "run" && isPlainScript() ? [["plain", "1"]] : [];
+  const asked = new URLSearchParams([["mode", page.mode], ...changed, ...plain, ["line", page.at + 1],
     ["script", byId("script").value]]);
   history.replaceState(null, "", `#${asked}`);
   if (navigator.clipboard) navigator.clipboard.writeText(location.href).catch(() => {});
@@ -210,20 +343,36 @@ function openLink() {
   const place = Math.max(0, (+asked.get("line") || 1) - 1);
   if (asked.has("script")) {
     const options = Object.fromEntries([...asked].filter(([name]) => name in DEFAULTS));
-    open(mode, { text: asked.get("script"), options, place });
+    open(mode, { text: asked.get("script"), options, place, isPlain: asked.has("plain") });
   } else if (asked.has("name")) open(mode, { name: asked.get("name"), place });
-  else openFirst(mode);
+  else openLast();
+}
+
+// Without a link: what was open last, or the first lesson with a card that says what this is.
+function openLast() {
+  const last = kept("last") || {}, own = kept("own");
+  showStart(!kept("last"));
+  if (scriptNamed(last.mode, last.name)) open(last.mode, { name: last.name });
+  else if (last.name === "" && own && own.text && Object.hasOwn(PLAYS, own.mode)) open(own.mode, own);
+  else openNamed(LISTS.lessons[0]);
+}
+
+const openNamed = ({ mode, name }) => open(mode, { name });
+
+function showStart(isShown) {
+  byId("start").hidden = !isShown;
+  byId("help").setAttribute("aria-expanded", String(isShown));
 }
 
 function save() {
   const url = URL.createObjectURL(new Blob([byId("script").value], { type: "text/plain" }));
-  h("a", { href: url, download: `${page.name || "script"}.txt` }).click();
+  h("a", { href: url, download: `${page.known ? page.known.name : "script"}.txt` }).click();
   setTimeout(() => URL.revokeObjectURL(url), 1000);
 }
 
 async function load(event) {
   const file = event.target.files[0];
-  if (file) open(page.mode, { text: await file.text(), options: page.options });
+  if (file) await openFile(file);
   event.target.value = "";
 }
 
@@ -242,7 +391,29 @@ function listen() {
   on("script", "click", follow);
   on("script", "keyup", event => event.key.startsWith("Arrow") && follow());
   on("script", "scroll", () => (byId("gutter").style.transform = `translateY(${-byId("script").scrollTop}px)`));
-  on("choice", "change", event => event.target.value && open(page.mode, { name: event.target.value }));
+  on("choice", "change", event => {
+    const [mode, name] = event.target.value.split("/");
+    if (name) open(mode, { name });
+    else openOwn();
+  });
+  on("next-lesson", "click", openNext);
+  on("read", "click", () => showLeft("read"));
+  on("edit", "click", () => showLeft("edit"));
+  on("help", "click", () => showStart(byId("start").hidden));
+  on("leave", "click", () => {
+    showStart(false);
+    byId("help").focus();
+  });
+  on("begin", "click", () => {
+    showStart(false);
+    openNamed(LISTS.lessons[0]);
+    byId("forth").focus();
+  });
+  on("own", "click", () => {
+    showStart(false);
+    openOwn();
+  });
+  on("capture", "click", () => byId("load").click());
   on("first", "click", () => select(0));
   on("back", "click", () => select(page.at - 1));
   on("forth", "click", () => select(page.at + 1));
@@ -258,7 +429,7 @@ function listen() {
   on("theme", "click", () => setTheme(document.documentElement.dataset.theme === "dark" ? "light" : "dark"));
   for (const tab of document.querySelectorAll("[data-tab]")) tab.addEventListener("click",
     () => openFirst(tab.dataset.tab));
-  isNarrow.addEventListener("change", () => select(page.at));
+  listenForFiles();
   addEventListener("hashchange", openLink);
   addEventListener("keydown", stepByKey);
 }
@@ -282,6 +453,7 @@ async function begin() {
     byId("trouble").textContent = `This browser doesn't run the program: ${fault.message}`;
     return;
   }
+  showScripts();
   listen();
   openLink();
   document.body.dataset.ready = "yes";

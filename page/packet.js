@@ -8,12 +8,15 @@ const dotted = ip => [24, 16, 8, 0].map(shift => (ip >>> shift) & 255).join(".")
 const hex16 = n => "0x" + n.toString(16).padStart(4, "0");
 const plural = (n, one, many = one + "s") => `${n.toLocaleString("en")} ${n === 1 ? one : many}`;
 
-// An address as a number. What is none counts as 0.0.0.0, as it does for the program.
-function undotted(text) {
+// An address as a number, or null if the text is none.
+function addressIn(text) {
   const parts = text.split(".");
   const isOne = parts.length === 4 && parts.every(part => /^(0|[1-9]\d{0,2})$/.test(part) && +part < 256);
-  return isOne ? parts.reduce((ip, part) => (ip * 256 + +part) >>> 0, 0) : 0;
+  return isOne ? parts.reduce((ip, part) => (ip * 256 + +part) >>> 0, 0) : null;
 }
+
+// The same where what is none counts as 0.0.0.0, as it does for the program.
+const undotted = text => addressIn(text) || 0;
 
 // Bytes that aren't there count as 0, as they do in a checksum.
 const word16 = (bytes, at) => ((bytes[at] || 0) << 8) | (bytes[at + 1] || 0);
@@ -25,6 +28,13 @@ function foldedSum(bytes, start = 0) {
   for (let at = 0; at < bytes.length; at += 2) sum += word16(bytes, at);
   while (sum > 65535) sum = (sum & 65535) + (sum >>> 16);
   return sum;
+}
+
+// The checksum that a field of two bytes has to have, so that all of these sum up to 65,535.
+function rightSum(bytes, at, start = 0) {
+  const blank = Uint8Array.from(bytes);
+  blank.fill(0, at, at + 2);
+  return 65535 - foldedSum(blank, start);
 }
 
 // What UDP's checksum covers beside the datagram.
@@ -54,8 +64,14 @@ class Packet {
     this.readData();
   }
 
-  add(name, at, size, kind, value, bits, isWrong = false, isRight = false) {
-    this.fields.push({ name, at, size, kind, value: String(value), bits, isWrong, isRight });
+  add(name, at, size, kind, value, bits, isWrong = false, isRight = false, right = null) {
+    this.fields.push({ name, at, size, kind, value: String(value), bits, isWrong, isRight, right });
+  }
+
+  // What stands in a checksum that is wrong, and what would be right; or null.
+  get wrongSum() {
+    const field = this.fields.find(it => it.isWrong && it.right);
+    return field ? `${field.value} came, and ${field.right} would be right` : null;
   }
 
   readHead() {
@@ -74,7 +90,7 @@ class Packet {
 
   addHead() {
     const bytes = this.bytes, version = bytes[0] >> 4, words = bytes[0] & 15;
-    const isRight = foldedSum(bytes.subarray(0, Math.max(this.header, 20))) === 65535;
+    const head = bytes.subarray(0, Math.max(this.header, 20)), isRight = foldedSum(head) === 65535;
     this.add("version", 0, 1, "size", version, 4, version !== 4);
     this.add("IHL", 0, 1, "size", words, 4, words !== 5);
     this.add("type of service", 1, 1, "other", bytes[1], 8);
@@ -84,7 +100,8 @@ class Packet {
     this.add("fragment offset", 6, 2, "fragment", this.offset ? `${this.offset} (${this.offset / 8} × 8)` : 0, 13);
     this.add("time to live", 8, 1, "other", bytes[8], 8);
     this.add("protocol", 9, 1, "other", this.protocol === 17 ? "17 UDP" : this.protocol, 8, this.protocol !== 17);
-    this.add("header checksum", 10, 2, "sum", hex16(word16(bytes, 10)), 16, !isRight, isRight);
+    this.add("header checksum", 10, 2, "sum", hex16(word16(bytes, 10)), 16, !isRight, isRight,
+      hex16(rightSum(head, 10)));
     this.add("source address", 12, 4, "source", dotted(this.source), 32);
     this.add("destination address", 16, 4, "destination", dotted(this.destination), 32);
   }
@@ -114,11 +131,13 @@ class Packet {
     this.destinationPort = word16(bytes, at + 2);
     const isTested = fits && !this.isFragment && sum !== 0;
     const pseudo = pseudoSum(this.source, this.destination, length);
-    const isRight = isTested && foldedSum(bytes.subarray(at, at + length), pseudo) === 65535;
+    const datagram = bytes.subarray(at, at + length), isRight = isTested && foldedSum(datagram, pseudo) === 65535;
+    const right = isTested && !isRight ? hex16(rightSum(datagram, 6, pseudo) || 65535) : null;
     this.add("source port", at, 2, "source", this.sourcePort, 16);
     this.add("destination port", at + 2, 2, "destination", this.destinationPort, 16);
     this.add("UDP length", at + 4, 2, "size", length, 16, !this.isFragment && !fits);
-    this.add("UDP checksum", at + 6, 2, "sum", sum === 0 ? "none" : hex16(sum), 16, isTested && !isRight, isRight);
+    this.add("UDP checksum", at + 6, 2, "sum", sum === 0 ? "none" : hex16(sum), 16, isTested && !isRight, isRight,
+      right);
     return this.isFragment || !fits ? end : at + length;
   }
 
@@ -142,22 +161,31 @@ class Packet {
 
 // ---- a packet made by hand
 
+const put16 = (to, at, n) => to.set([(n >> 8) & 255, n & 255], at);
+
+// A packet that carries these bytes, with a right header. `flags` are the three of the header, `offset` counts units of
+// eight bytes.
+function headed({ source, destination, id, ttl = 64, flags = 0, offset = 0 }, carried) {
+  const bytes = new Uint8Array(20 + carried.length);
+  bytes[0] = 0x45;
+  [bytes.length, id, (flags << 13) | offset].forEach((n, i) => put16(bytes, 2 + 2 * i, n));
+  bytes[8] = ttl;
+  bytes[9] = 17;
+  const ends = [source >>> 16, source & 65535, destination >>> 16, destination & 65535];
+  ends.forEach((n, i) => put16(bytes, 12 + 2 * i, n));
+  put16(bytes, 10, rightSum(bytes.subarray(0, 20), 10));
+  bytes.set(carried, 20);
+  return bytes;
+}
+
 // A packet with right lengths and checksums, but for the fault that is chosen.
 function makePacket({ source, sourcePort, destination, destinationPort, id, data, fault }) {
-  const udp = new Uint8Array(8 + data.length), bytes = new Uint8Array(28 + data.length);
-  const put = (to, at, n) => to.set([(n >> 8) & 255, n & 255], at);
-  [sourcePort, destinationPort, udp.length].forEach((n, i) => put(udp, 2 * i, n));
-  udp.set(data, 8);
-  put(udp, 6, 65535 - foldedSum(udp, pseudoSum(source, destination, udp.length)) || 65535);
+  const udp = datagramOf({ ip: source, port: sourcePort }, { ip: destination, port: destinationPort }, data, {});
   if (fault === "udp sum") udp[6] ^= 0x55;
-  bytes[0] = fault === "version" ? 0x65 : 0x45;
-  put(bytes, 2, bytes.length);
-  put(bytes, 4, id);
-  bytes[8] = 64;
-  bytes[9] = fault === "protocol" ? 6 : 17;
-  [source >>> 16, source & 65535, destination >>> 16, destination & 65535].forEach((n, i) => put(bytes, 12 + 2 * i, n));
-  put(bytes, 10, 65535 - foldedSum(bytes.subarray(0, 20)));
-  bytes.set(udp, 20);
+  const bytes = headed({ source, destination, id }, udp);
+  if (fault === "version") bytes[0] = 0x65;
+  if (fault === "protocol") bytes[9] = 6;
+  if (fault === "version" || fault === "protocol") put16(bytes, 10, rightSum(bytes.subarray(0, 20), 10));
   if (fault === "ip sum") bytes[10] ^= 0x55;
   return fault === "short" ? bytes.subarray(0, -1) : bytes;
 }

@@ -122,7 +122,8 @@ const at = (ip, port) => `${ip}:${port}`;
 const portName = port => (port === "0" ? "a port of the machine's choice" : `port ${port}`);
 const STACK_TELLS = {
   socket: (w, step) => ["call", step.reply.startsWith("ok") ? `descriptor ${step.reply.slice(3)}` : "a socket"],
-  bind: w => ["call", `socket ${w[1]} hears ${w[2] === "0.0.0.0" ? "every address" : w[2]}, ${portName(w[3])}`],
+  bind: (w, step) => ["call", `socket ${w[1]} ${step.reply === "ok" ? "hears" : "asks for"} `
+    + `${w[2] === "0.0.0.0" ? "every address" : w[2]}, ${portName(w[3])}`],
   connect: w => ["call", `socket ${w[1]} with ${at(w[2], w[3])}`],
   sendto: w => ["send", `socket ${w[1]} sends ${plural(bytesOf(w[4]).length, "byte")} to ${at(w[2], w[3])}`],
   send: w => ["send", `socket ${w[1]} sends ${plural(bytesOf(w[2]).length, "byte")} to its peer`],
@@ -268,4 +269,10 @@ function addPiece(all, key, packet, step) {
   it.pieces.push({ from: packet.offset, to: end, line: step.number });
   if (!packet.hasMore) it.end = end;
   all.set(key, it);
+}
+
+// Sockets in whose queue more waits than before.
+function grownIn(before, now) {
+  const was = fd => before.sockets.find(socket => socket.fd === fd);
+  return now.sockets.filter(socket => socket.queue.length > (was(socket.fd) ? was(socket.fd).queue.length : 0));
 }

@@ -68,7 +68,10 @@ function hostView(page, step, host) {
     .filter(it => it.host === host.name);
   const [before, now] = heldAround(page, step, host);
   const title = [`machine ${host.name} `, h("span", { class: "faint" }, host.options.addr)];
-  return h("div", { class: "column" }, machineView({ pool }, host.steps.slice(0, n), before, now, title),
+  const isChanged = n > (step.was.get(host.name) || 0);
+  const around = [step.was.get(host.name) || 0, n].map(count => page.memoryOf(host, count));
+  return h("div", { class: "column" }, isChanged && memoryView(...around, `The mbufs of ${host.name}`),
+    machineView({ pool }, host.steps.slice(0, n), before, now, title),
     countersView({ counters, changed }, `Counters of ${host.name}`));
 }
 

@@ -2,8 +2,9 @@
 """Plays each example and each lesson in the page itself, in headless
 Chromium, and looks at its lines. The page's replies have to be those that are wanted. Its console has to be silent, and
 it may ask the network for nothing. What takes input has to be reached by the keyboard alone. Nothing may overlap or be
-cut off at widths of 360, 768 and 1,600 pixels, and each text has to have a contrast of 4.5 at least, in light and in
-dark. Screenshots are kept in the folder SHOTS. It's silent where all is well."""
+cut off at widths of 360, 640, 768 and 1,600 pixels, and each text has to have a contrast of 4.5 at least, in light and
+in dark. All that takes input has a name in the accessibility tree. Screenshots are kept in the folder SHOTS. It's
+silent where all is well."""
 import base64
 import json
 import os
@@ -23,7 +24,9 @@ UNTIL_READY = """new Promise(done => {
     const look = () => (document.body && document.body.dataset.ready ? done() : setTimeout(look, 20));
     look();
 })"""
-WIDTHS = {360: 800, 768: 1024, 1600: 1000}
+WIDTHS = {360: 800, 640: 450, 768: 1024, 1600: 1000}
+# The width that a window of 1,280 pixels has at 200 %.
+DOUBLE = 640
 # the pictures that are kept; the others are only looked at
 SHOT = [("light", 1600), ("dark", 1600), ("light", 360)]
 NAMES = ["chromium", "chromium-browser", "google-chrome"]
@@ -57,7 +60,7 @@ class Browser:
         self.number, self.rest, self.session, self.events = 0, b"", None, []
         page = next(it for it in self.ask("Target.getTargets")["targetInfos"] if it["type"] == "page")
         self.session = self.ask("Target.attachToTarget", targetId=page["targetId"], flatten=True)["sessionId"]
-        for part in ("Page", "Runtime", "Log", "Network"):
+        for part in ("Page", "Runtime", "Log", "Network", "Accessibility"):
             self.ask(f"{part}.enable")
 
     def ask(self, method, **params):
@@ -97,7 +100,8 @@ class Browser:
         return got["result"].get("value")
 
     def resize(self, width):
-        size = {"width": width, "height": WIDTHS[width], "deviceScaleFactor": 1, "mobile": False}
+        scale = 2 if width == DOUBLE else 1
+        size = {"width": width, "height": WIDTHS[width], "deviceScaleFactor": scale, "mobile": False}
         self.ask("Emulation.setDeviceMetricsOverride", **size)
 
     def shoot(self, file):
@@ -161,10 +165,49 @@ VIEWS = [
 ]
 
 
+# Roles that a screen reader names.
+NAMED = {"button", "checkbox", "combobox", "image", "link", "radio", "searchbox", "textbox"}
+
+
+def unnamed(browser, what):
+    """Whatever in the accessibility tree is to be named has a name there."""
+    for node in browser.ask("Accessibility.getFullAXTree")["nodes"]:
+        role, name = (node.get(it, {}).get("value", "") for it in ("role", "name"))
+        if not node.get("ignored") and role in NAMED and not name.strip():
+            yield f"{what}: a {role} has no name in the accessibility tree"
+
+
+# Other views: what brings them about.
+BESIDE = {
+    "start": "open('run', { name: '01_a_datagram' }); showStart(true)",
+    "question": "showStart(false); open('run', { name: '01_a_datagram', place: 2 })",
+    "edit": "showLeft('edit')",
+    "exercise": "open('run', { name: 'exercise_02_why_dropped', place: 3 }); expectHere(2, 'ok'); select(2)",
+    "all": "open('run', { name: '09_broadcast_to_two', place: 6 }); page.drawsAll = true; revealAll()",
+}
+
+
+def look_beside(browser, shots):
+    """The card at the beginning, a question, the editor, an exercise, and all queues."""
+    for name, code in BESIDE.items():
+        browser.run(code)
+        yield from unnamed(browser, name)
+        for theme in ("light", "dark"):
+            browser.run(f"setTheme('{theme}')")
+            for width in WIDTHS:
+                browser.resize(width)
+                for fault in browser.run("faultsOfLayout()"):
+                    yield f"{name}, {width} pixels, {theme}: {fault}"
+                if (theme, width) in SHOT:
+                    browser.shoot(shots / f"{name}-{theme}-{width}.png")
+    browser.run("anew(); setTheme('light')") if browser.run("isExercise()") else browser.run("setTheme('light')")
+
+
 def look_all(browser, shots):
     """Looks at the page's layout and colours at each width."""
     for command, name, line in VIEWS:
-        browser.run(f"open({json.dumps(command)}, {{ name: {json.dumps(name)}, place: {line} }})")
+        browser.run(f"open({json.dumps(command)}, {{ name: {json.dumps(name)}, place: {line} }}); revealAll()")
+        yield from unnamed(browser, name)
         for theme in ("light", "dark"):
             browser.run(f"setTheme('{theme}')")
             for width in WIDTHS:
@@ -176,6 +219,7 @@ def look_all(browser, shots):
                 if command == "chain" and width == 360:
                     browser.run("document.querySelector('.wide').scrollIntoView()")
                     browser.shoot(shots / f"{name}-{theme}-{width}-picture.png")
+    yield from look_beside(browser, shots)
     for dialog in ("make", "about"):
         browser.run(f"open('run', {{ name: '01_a_datagram' }}); byId('{dialog}').click()")
         for width in WIDTHS:
@@ -186,6 +230,11 @@ def look_all(browser, shots):
         browser.run("document.querySelector('dialog[open]').close()")
 
 
+# A classic capture of one record: Ethernet, and a datagram of two bytes to 10.0.0.1, port 7.
+CAPTURE = (
+    "d4c3b2a1020004000000000000000000ffff00000100000000000000000000002c0000002c000000" + "02" * 12 + "0800"
+    "4500001e00010000401166cc0a0000020a00000113880007000a6fdf6869"
+)
 KEYS = {"Tab": 9, "Enter": 13, "Escape": 27}
 
 
@@ -227,6 +276,7 @@ def try_keys(browser):
             yield f"{dialog} isn't closed by Escape, or the keyboard isn't where it was"
     yield from browser.run("faultsOfKeys()")
     yield from browser.run("faultsOfSaving()")
+    yield from browser.run(f"faultsOfCapture({json.dumps(CAPTURE)})")
 
 
 def main():

@@ -7,11 +7,12 @@ const LOOKS = 25;
 // Plays a script in the page and looks at its lines: at each of a lesson, and of an example that isn't too long.
 function playInPage(mode, text, words, wanted) {
   const faults = [];
-  open(mode, { text, options: optionsOf(words) });
+  open(mode, { text, options: optionsOf(words), isPlain: true });
+  revealAll();
   const replies = page.steps.map(step => step.reply);
   // of machines on a wire each one's own script
   const played = mode === "wire" ? [...page.hosts.values()].map(it => [it.config, it.lines, it.steps])
-    : [[page.config, page.notes.lines, page.steps]];
+    : [[page.config, page.notes.lines, page.own || page.steps]];
   for (const [config, lines, steps] of played) {
     const outcome = page.engine[mode === "chain" ? "chain" : "run"](config, lines.map(line => line + "\n").join(""));
     const isSame = outcome.replies.join("\n") === steps.map(step => step.reply).join("\n");
@@ -33,11 +34,32 @@ function playInPage(mode, text, words, wanted) {
   return faults;
 }
 
+// Answers all questions, so that each line shows what it did.
+function revealAll() {
+  page.steps.forEach((_, i) => page.guesses.set(i, null));
+  refreshRows();
+  select(page.at);
+}
+
 // The buffers of all owners are those that aren't free, but for those that owners share.
 function faultsOfOwners(i) {
   const step = page.steps[i], held = page.heldAfter(step.number);
   const own = held.total("mbufs") + sumOf(held.output, "mbufs") + held.unfinished.mbufs;
-  return own === step.pool.used ? [] : [`line ${i + 1}: ${own} mbufs have an owner, and ${step.pool.used} are in use`];
+  const faults = own === step.pool.used ? []
+    : [`line ${i + 1}: ${own} mbufs have an owner, and ${step.pool.used} are in use`];
+  return [...faults, ...faultsOfMemory(i, held)];
+}
+
+// Where the bytes lie is drawn, and of each datagram and packet that waits they are as many as the program says.
+function faultsOfMemory(i, held) {
+  const state = page.memoryAfter(page.steps[i].number), isDrawn = document.querySelector("#look .mbuf-figure");
+  const isSame = Boolean(state) === Boolean(isDrawn);
+  if (!isSame) return [`line ${i + 1}: mbufs are ${state ? "known, and not" : "unknown, and"} drawn`];
+  if (!state) return [];
+  const waits = held.sockets.reduce((n, it) => n + it.queue.reduce((m, one) => m + one.data.length + 16, 0), 0);
+  const drawn = state.sockets.reduce((n, it) => n + it.cc, 0);
+  return waits === drawn && state.output.len === held.output.length ? []
+    : [`line ${i + 1}: ${drawn} bytes are drawn in sockets, and ${waits} wait; or packets`];
 }
 
 // The same of each machine on a wire; and each has a place in the view.
@@ -61,8 +83,12 @@ function faultsOfDrawing(i) {
   const shown = JSON.stringify([...step.chains]
     .map(([slot, { mbufs }]) => [slot, mbufs.map(it => [it.isCluster, it.bytes, it.count])]));
   if (drawn !== shown) return [`line ${i + 1}: ${drawn} is drawn, and ${shown} shown`];
-  const isDrawn = !chains.size || document.querySelector("#look .picture");
-  return isDrawn ? [] : [`line ${i + 1} has no picture`];
+  const state = page.chainsAfter(step.number), all = [...chains.values()].flat();
+  if (state.mbufs.length !== all.length || new Set(state.mbufs.map(it => it.n)).size !== all.length) {
+    return [`line ${i + 1}: the figure has other mbufs`];
+  }
+  const isDrawn = !chains.size || document.querySelector("#look .mbuf-figure svg");
+  return isDrawn ? [] : [`line ${i + 1} has no figure`];
 }
 
 // ---- layout and colours
@@ -70,7 +96,7 @@ function faultsOfDrawing(i) {
 const isSeen = it => {
   const box = it.getBoundingClientRect(), style = getComputedStyle(it);
   return box.width > 0 && box.height > 0 && style.visibility !== "hidden" && !it.closest(".unseen")
-    && !it.matches("input[type=file]");
+    && !it.matches("input[type=file]") && !it.closest("details:not([open]) > :not(summary)");
 };
 const nameOf = it =>
   `${it.tagName.toLowerCase()}${it.id ? "#" + it.id : it.classList.length ? "." + it.classList[0] : ""}`;
@@ -104,8 +130,7 @@ function solid() {
 }
 
 function faultsOfOverlap() {
-  const isSticky = it => getComputedStyle(document.querySelector("#middle .head")).position === "sticky"
-    && it.closest("#middle .head") !== null;
+  const isSticky = it => it.closest(".bar-of") !== null;
   const all = solid().flatMap(it => seenBoxes(it).map(box => ({ it, box, isHead: isSticky(it) })));
   all.sort((a, b) => a.box.top - b.box.top);
   const faults = new Set();
@@ -122,12 +147,13 @@ function faultsOfOverlap() {
 // The texts of a drawn mbuf or cluster stand in its box, and none lies over another.
 function faultsOfPicture() {
   const faults = new Set();
-  for (const group of document.querySelectorAll(".picture g")) {
+  for (const group of document.querySelectorAll(".mbuf-figure g[role=img]")) {
     const box = group.querySelector(".box").getBoundingClientRect();
-    const texts = [...group.querySelectorAll("text")].filter(it => it.textContent)
+    if (!box.width) continue;
+    const texts = [...group.querySelectorAll("text")].filter(it => it.textContent.trim())
       .map(it => ({ text: it.textContent, box: it.getBoundingClientRect() }));
     texts.forEach((a, i) => {
-      if (a.box.left < box.left || a.box.right > box.right || a.box.bottom > box.bottom) {
+      if (a.box.left < box.left - 1 || a.box.right > box.right + 1 || a.box.bottom > box.bottom + 1) {
         faults.add(`“${a.text}” stands out of its box`);
       }
       const other = texts.slice(i + 1).find(b => doOverlap(a.box, b.box) && Math.abs(b.box.top - a.box.top) < 4);
@@ -174,16 +200,24 @@ function faultsOfContrast() {
     const contrast = (Math.max(a, b) + 0.05) / (Math.min(a, b) + 0.05);
     if (contrast < 4.5) faults.push(`${nameOf(it)} has a contrast of ${contrast.toFixed(1)}`);
   }
-  for (const text of document.querySelectorAll(".picture text")) {
-    const group = text.closest("g"),
-      box = group && group.querySelector(text.matches(".count-text") ? ".count" : ".box");
-    const [a, b] = [channels(getComputedStyle(text).fill),
-      box ? channels(getComputedStyle(box).fill) : behind(text.closest("svg"))].map(light);
+  for (const text of document.querySelectorAll(".mbuf-figure text")) {
+    const [a, b] = [channels(getComputedStyle(text).fill), underText(text)].map(light);
     const contrast = (Math.max(a, b) + 0.05) / (Math.min(a, b) + 0.05);
     const name = text.getAttribute("class");
-    if (contrast < 4.5) faults.push(`${name} in the picture has a contrast of ${contrast.toFixed(1)}`);
+    if (contrast < 4.5) faults.push(`${name} in the figure has a contrast of ${contrast.toFixed(1)}`);
   }
   return [...new Set(faults), ...faultsOfBorders()].slice(0, 8);
+}
+
+// What is behind a text of a figure: the last shape drawn there before it. A text on a pattern has an edge of its own.
+function underText(text) {
+  const box = text.getBoundingClientRect(), x = box.left + box.width / 2, y = box.top + box.height / 2;
+  if (text.matches(".free, .unused")) return channels(getComputedStyle(text).stroke);
+  const shapes = [...text.ownerSVGElement.querySelectorAll("rect.paper, rect.row, rect.part")].filter(it => {
+    const at = it.getBoundingClientRect();
+    return at.left <= x && x <= at.right && at.top <= y && y <= at.bottom;
+  }).map(it => channels(getComputedStyle(it).fill)).filter(it => it.length >= 3);
+  return shapes.length ? shapes[shapes.length - 1] : behind(text.ownerSVGElement.parentElement);
 }
 
 // WCAG 2.1, 1.4.11: where a field is, is seen by its border.
@@ -227,7 +261,108 @@ function faultsOfKeys() {
   byId("make").click();
   putPacket();
   if (page.steps[3].verb !== "rx" || page.at !== 3) faults.push("a packet that was made isn't put in");
-  return [...faults, ...faultsOfWire()];
+  return [...faults, ...faultsOfMaking(), ...faultsOfWire(), ...faultsOfGuide(), ...faultsOfExercises()];
+}
+
+// What is no address or no port is refused with the reason, and nothing is put in.
+function faultsOfMaking() {
+  const faults = [];
+  for (const [field, value, right] of [["source", "300.1.1.1", "10.0.0.2"], ["destination-port", "99999", "7"],
+    ["id", "-1", "1"]]) {
+    open("run", { name: "01_a_datagram" });
+    byId("make").click();
+    byId(`packet-${field}`).value = value;
+    putPacket();
+    const isSaid = !byId("packet-fault-says").hidden && byId("packet-fault-says").textContent.includes("Refused");
+    if (page.steps.length !== 12 || !byId("maker").open || !isSaid) faults.push(`${field} ${value} isn't refused`);
+    byId(`packet-${field}`).value = right;
+    putPacket();
+    if (page.steps.length !== 13 || byId("maker").open) faults.push(`${field} ${right} isn't put in`);
+  }
+  return faults;
+}
+
+// The lessons follow one another over all tabs; a question hides the reply; your own text comes back.
+function faultsOfGuide() {
+  const faults = [], names = [];
+  openNamed(LISTS.lessons[0]);
+  for (; page.known && names.length < 99; openNext()) {
+    if (names.includes(page.known.name)) break;
+    names.push(page.known.name);
+    if (byId("next-lesson").hidden) break;
+  }
+  if (names.join() !== LISTS.lessons.map(it => it.name).join()) faults.push(`the lessons follow as ${names.join()}`);
+  for (const lesson of LISTS.lessons) faults.push(...faultsOfQuestions(lesson));
+  open("run", { text: "socket\n" });
+  byId("script").value += "bind 3 0.0.0.0 7\n";
+  later();
+  clearTimeout(timer);
+  replay(0);
+  keepText();
+  open("chain", { name: "03_sharing_without_copying" });
+  openOwn();
+  if (page.mode !== "run" || page.steps.length !== 2) faults.push("your own text isn't kept");
+  open("run", { text: "rx udp 10.0.0.2:5000 > 10.0.0.1:7 \"hi\" badudp\n" });
+  if (!/0x6fe0 came, and 0x6fdf would be right/.test(byId("look").textContent)) {
+    faults.push("beside a wrong checksum the right one isn't shown");
+  }
+  const said = byId("said").textContent;
+  if (!/^line 1: .*Dropped: .*0x6fdf/.test(said)) faults.push(`a screen reader hears: ${said}`);
+  return faults;
+}
+
+// Until it's answered, a question's reply, note and state can't be seen; a wrong guess is told with the right one.
+function faultsOfQuestions({ mode, name, title }) {
+  open(mode, { name });
+  const i = page.firstQuestion;
+  if (i === null) return [`${title} asks nothing`];
+  select(i);
+  const row = byId("rows").children[i], isHidden = !row.textContent.includes(page.steps[i].reply)
+    && !document.querySelector("#look .mbuf-figure, #look .reply") && document.querySelector("#look .predict");
+  const wrong = page.notes.questions[i].answers.findIndex(it => !it.isRight);
+  document.querySelectorAll(".predict input")[wrong].click();
+  document.querySelector(".predict .main").click();
+  const isTold = document.querySelector("#look .verdict.no") && document.querySelector("#look .reply");
+  return [...(isHidden ? [] : [`${title}: the reply is seen before it's guessed`]),
+    ...(isTold ? [] : [`${title}: a wrong guess isn't told`])];
+}
+
+// An exercise has no reply until it's predicted; the right ones are found right, and a wrong one is told.
+function faultsOfExercises() {
+  const faults = [];
+  for (const { mode, name, title, text } of LISTS.exercises) {
+    keep(`text.${name}`, null);
+    open(mode, { name });
+    if (/=>/.test(byId("script").value)) faults.push(`exercise ${title} has replies in it`);
+    const wanted = readNotes(text, true).lines.map(line => readLine(line).expected);
+    wanted.forEach((reply, i) => expectHere(i, reply));
+    if (!byId("score").textContent.startsWith(`${wanted.length} of ${wanted.length} `)) {
+      faults.push(`exercise ${title} isn't found right: ${byId("score").textContent}`);
+    }
+    open("run", { name: "01_a_datagram" });
+    open(mode, { name });
+    if (!byId("score").textContent.startsWith(`${wanted.length} of`)) faults.push(`exercise ${title} isn't kept`);
+    anew();
+    expectHere(0, "error 99");
+    if (!/^0 of 1 /.test(byId("score").textContent)) faults.push(`exercise ${title}: a wrong reply is taken`);
+    anew();
+  }
+  return faults;
+}
+
+// A capture that's dropped on the page is played; what is none is refused.
+async function faultsOfCapture(hex) {
+  const file = (bytes, name) => new File([bytes], name), faults = [];
+  await openFile(file(bytesOf(hex), "a.pcap"));
+  const taken = page.steps.filter(step => step.verb === "rx").length;
+  const isRecord = page.mode === "run" && taken && page.noteOf(page.steps[page.at]).startsWith("Record ");
+  if (!isRecord) faults.push("a capture isn't opened");
+  const before = byId("script").value;
+  await openFile(file(new Uint8Array(99), "b.pcap"));
+  if (byId("script").value !== before || !byId("trouble").textContent.startsWith("b.pcap: ")) {
+    faults.push("what is no capture isn't refused");
+  }
+  return faults;
 }
 
 // The buttons of a wire put a line behind the one that is looked at, and the keyboard stays at them.
@@ -260,9 +395,10 @@ async function faultsOfSaving() {
   Object.assign(URL, { createObjectURL });
   HTMLAnchorElement.prototype.click = click;
   open("chain", { text: "" });
-  await load({ target: { files: [saved.file], value: saved.name } });
+  await load({ target: { files: [new File([saved.file], saved.name, { type: "text/plain" })], value: saved.name } });
   const isSame = byId("script").value === before && page.mode === "chain" && page.steps.length === 18;
-  return isSame && saved.name === "03_sharing_without_copying.txt" ? [] : ["a script that was saved isn't opened again"];
+  const isNamed = saved.name === "03_sharing_without_copying.txt";
+  return isSame && isNamed ? [] : ["a script that was saved isn't opened again"];
 }
 
 // ---- by keyboard alone

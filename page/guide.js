@@ -1,0 +1,195 @@
+"use strict";
+// What leads through the page: the lessons in their order, the questions that come before a reply, the exercises, and
+// what is kept in the browser.
+
+// ---- what is kept in this browser
+
+const KEPT = "bsdudp.";
+const keep = (name, value) => {
+  try {
+    if (value === null) localStorage.removeItem(KEPT + name);
+    else localStorage.setItem(KEPT + name, JSON.stringify(value));
+  } catch (fault) {
+    // a browser that keeps nothing
+  }
+};
+const kept = name => {
+  try {
+    return JSON.parse(localStorage.getItem(KEPT + name));
+  } catch (fault) {
+    return null;
+  }
+};
+
+// ---- one list of all scripts
+
+const MODES = ["run", "chain", "wire"];
+const allOf = kind => MODES.flatMap(mode => SCRIPTS[mode][kind].map(it => ({ ...it, mode, kind })));
+// The lessons of all tabs, in their order; the exercises; and the examples.
+const LISTS = { lessons: allOf("lessons").sort((a, b) => (a.name < b.name ? -1 : 1)), exercises: allOf("exercises"),
+  examples: allOf("examples") };
+const scriptNamed = (mode, name) =>
+  Object.values(LISTS).flat().find(it => it.mode === mode && it.name === name);
+
+function showScripts() {
+  const option = ({ mode, name, title }) => h("option", { value: `${mode}/${name}` }, title);
+  const group = ([label, all]) => h("optgroup", { label }, all.map(option));
+  const groups = [["Lessons", LISTS.lessons], ["Exercises", LISTS.exercises],
+    ["Examples: the stack", LISTS.examples.filter(it => it.mode === "run")],
+    ["Examples: mbuf chains", LISTS.examples.filter(it => it.mode === "chain")]];
+  byId("choice").replaceChildren(h("option", { value: "" }, "your own script"), ...groups.map(group));
+  byId("how-many").textContent = String(LISTS.lessons.length);
+}
+
+// The lesson or the exercise behind this one.
+function following() {
+  const list = page.known && (page.known.kind === "examples" ? null : LISTS[page.known.kind]);
+  return list ? list[list.findIndex(it => it.name === page.known.name) + 1] : LISTS.lessons[0];
+}
+
+function showTitle() {
+  const { known } = page, next = following();
+  const kind = { lessons: "Lesson", exercises: "Exercise", examples: "Example:" };
+  byId("head-script").textContent = known ? `${kind[known.kind]} ${known.title}` : "Your own script";
+  byId("next-lesson").hidden = !next;
+  byId("next-lesson").textContent = !known || known.kind === "examples" ? "First lesson"
+    : known.kind === "lessons" ? "Next lesson" : "Next exercise";
+  byId("choice").value = known ? `${known.mode}/${known.name}` : "";
+}
+
+function openNext() {
+  const next = following();
+  if (next) open(next.mode, { name: next.name });
+  byId("rows").querySelector("button").focus();
+}
+
+// ---- predict, then reveal
+
+const isExercise = () => Boolean(page.known) && page.known.kind === "exercises";
+
+// What is asked of a line before its reply is shown: a question of a lesson, or of an exercise each reply.
+function questionOf(i) {
+  if (page.guesses.has(i)) return null;
+  if (isExercise()) return page.steps[i].expected === null ? { text: "What does it reply?", answers: null } : null;
+  return page.notes.questions[i];
+}
+
+// Whether a row comes behind a question that wasn't answered, so that its reply could tell the answer.
+const isBehindQuestion = i => page.firstQuestion !== null && i > page.firstQuestion;
+
+function findQuestion() {
+  const i = page.steps.findIndex((_, at) => questionOf(at));
+  page.firstQuestion = i < 0 ? null : i;
+}
+
+function answered(i, guess) {
+  page.guesses.set(i, guess);
+  refreshRows();
+  select(i);
+  byId("forth").focus();
+}
+
+// A question with its answers, or with a field.
+function questionView(step, i, question) {
+  const form = h("form", { class: "predict" });
+  const choices = question.answers && question.answers.map((answer, k) =>
+    h("label", {}, h("input", { type: "radio", name: "guess", value: String(k) }), " ", answer.text));
+  const input = h("input", { name: "guess", autocomplete: "off", spellcheck: "false" });
+  const field = !choices && h("label", {}, "the reply, as ", h("code", {}, "ok"), " or ",
+    h("code", {}, "dropped wrong header checksum"), input);
+  form.append(h("fieldset", {}, h("legend", {}, question.text), choices || field,
+    h("p", { class: "answers" }, h("button", { type: "submit", class: "main" }, "Check"),
+      h("button", { type: "button", onclick: () => answered(i, null) }, "Show me"))));
+  form.addEventListener("submit", event => {
+    event.preventDefault();
+    const guess = new FormData(form).get("guess");
+    if (guess === null || guess === "") return;
+    if (choices) answered(i, question.answers[+guess]);
+    else expectHere(i, guess);
+  });
+  return h("section", { class: "panel lead" },
+    h("h3", {}, h("span", {}, askedLine(step))),
+    isExercise() && page.noteOf(step) && h("p", { class: "note" }, page.noteOf(step)), form);
+}
+
+// What was guessed, and whether it was right.
+function guessView(i) {
+  const guess = page.guesses.get(i), question = page.notes.questions[i];
+  if (!guess || !question) return null;
+  const right = question.answers.find(it => it.isRight);
+  return guess.isRight ? verdict("yes", h("b", {}, "Right: "), `${guess.text}.`)
+    : verdict("no", h("b", {}, "Not so. "), `You said: ${guess.text}. It is: ${right.text}.`);
+}
+
+// ---- exercises
+
+// The script of an exercise without what is expected: that is to be found.
+const unsolved = text => linesOf(text).filter(line => !line.startsWith("##"))
+  .map(line => (line.startsWith("#") ? line : withoutReply(line))).join("\n") + "\n";
+
+function withoutReply(text) {
+  const { line, expected } = readLine(text);
+  return expected === null ? text : line;
+}
+
+// Writes what is expected behind a line, so that it's in the file that is handed in.
+function expectHere(i, guess) {
+  const all = page.notes.all, place = page.notes.places[i];
+  const lines = all.map((line, k) => (k === place ? `${line.trimEnd()} => ${guess.trim()}` : line));
+  byId("script").value = lines.join("\n") + "\n";
+  replay(i);
+  keepText();
+  byId("forth").focus();
+}
+
+// How many replies were predicted, and how many of them came.
+function showScore() {
+  const all = page.steps.filter(step => step.expected);
+  const right = all.filter(step => isExpected(step.expected, step.says));
+  const isShown = isExercise() || all.length > 0;
+  byId("score").hidden = !isShown;
+  if (!isShown) return;
+  const said = `${right.length} of ${all.length} expected replies came; `
+    + `${page.steps.length - all.length} lines have none.`;
+  byId("score").replaceChildren(said, " ", isExercise() && page.text !== unsolved(page.known.text)
+    ? h("button", { type: "button", onclick: anew }, "Begin again") : "");
+}
+
+function anew() {
+  keep(`text.${page.known.name}`, null);
+  open(page.known.mode, { name: page.known.name });
+}
+
+// ---- captures
+
+async function openFile(file) {
+  const bytes = new Uint8Array(await file.arrayBuffer());
+  const isText = /\.txt$/i.test(file.name) || (file.type === "text/plain" && !/cap/i.test(file.name));
+  if (isText) {
+    open(page.mode, { text: new TextDecoder().decode(bytes).replace(/^\ufeff/, ""), options: page.options });
+    return;
+  }
+  const { fault, records } = readCapture(bytes), script = records && captureScript(page.engine, records);
+  const wrong = fault || script.fault;
+  if (wrong) {
+    byId("trouble").textContent = `${file.name}: ${wrong}`;
+    return;
+  }
+  const { taken, all, ip } = script.counts;
+  const head = `# ${file.name}: ${taken} of its ${all} records are for ${script.options.addr}; ${ip} have IPv4.\n`;
+  open("run", { text: head + script.text, options: script.options, place: script.place });
+}
+
+function listenForFiles() {
+  const drop = byId("drop"), show = isShown => (drop.hidden = !isShown);
+  addEventListener("dragover", event => {
+    event.preventDefault();
+    show(true);
+  });
+  addEventListener("dragleave", event => event.relatedTarget || show(false));
+  addEventListener("drop", event => {
+    event.preventDefault();
+    show(false);
+    if (event.dataTransfer.files[0]) openFile(event.dataTransfer.files[0]);
+  });
+}
