@@ -1,5 +1,5 @@
-"""The words of a script, read by argparse: `--help` prints its docstring, and a wrong word ends it with a usage line and
-status 2."""
+"""The words of a script, read by argparse: `--help` prints its docstring, and a wrong word ends it with a usage line
+and status 2."""
 from __future__ import annotations
 
 import argparse

@@ -1,0 +1,87 @@
+"""What the gate has built, as files of an installation: each by its place below a prefix, with its bytes and whether it
+can be run."""
+from __future__ import annotations
+
+import os
+import pathlib
+import re
+import subprocess
+import tempfile
+from typing import Dict, Iterator, Tuple
+
+TOP = pathlib.Path(__file__).resolve().parent.parent
+PROGRAMS = {name: TOP / f"crates/{name}/out/{name}" for name in ("bsdudp", "bsdplay")}
+CORE = TOP / "crates/libbsdudp/out/liblibbsdudp.a"
+PAGE = TOP / "page/out/bsdudp.html"
+PORTABLE = TOP / "portable/out/bsdudp_portable.c"
+TARGETS = TOP / "portable/out/core"
+DOCUMENTS = "share/doc/bsdudp"
+# Pages for who works on the sources, which the archive doesn't have.
+OF_THE_SOURCES = [f"docs/{it}.md" for it in ("DECISIONS", "gate-times", "recipes-maintainers", "testing")]
+
+# The bytes of a file, and whether it can be run.
+File = Tuple[bytes, bool]
+
+
+class Lacking(Exception):
+    """What lacks, as one line for the reader."""
+
+
+def files_below(folder: str) -> list[str]:
+    """The files of a folder, without what was built there."""
+    paths = (path.relative_to(TOP) for path in (TOP / folder).rglob("*") if path.is_file())
+    return sorted(str(path) for path in paths if not {"out", "__pycache__"} & set(path.parts))
+
+
+def manual_pages() -> Iterator[tuple[str, File]]:
+    """The manual pages of the programs."""
+    with tempfile.TemporaryDirectory() as room:
+        subprocess.run([TOP / "dist/man", room], check=True)
+        for path in sorted(pathlib.Path(room).iterdir()):
+            yield f"share/man/man1/{path.name}", (path.read_bytes(), False)
+
+
+def programs() -> Iterator[tuple[str, File]]:
+    """bsdudp and bsdplay."""
+    for name, program in PROGRAMS.items():
+        if not program.is_file():
+            raise Lacking(f"{program.relative_to(TOP)} isn't built: `rt run` in crates/{name} makes it")
+        yield f"bin/{name}", (program.read_bytes(), True)
+
+
+def judge() -> Iterator[tuple[str, File]]:
+    """The command bsdudp-conform with its package, and the adapters of other stacks."""
+    starter = (TOP / "conform/bsdudp-conform").read_bytes()
+    yield "bin/bsdudp-conform", (starter, True)
+    scripts = ("conform/stacks", "conform/adapters/build")
+    folders = ("conform/bsdudp_conform", "conform/adapters", "python/bsdudp")
+    for name in ("conform/stacks", *(name for folder in folders for name in files_below(folder))):
+        yield f"share/bsdudp/{name}", ((TOP / name).read_bytes(), name in scripts)
+
+
+def documents() -> Dict[str, File]:
+    """The documents for users, the examples, and what simulators take, below DOCUMENTS."""
+    named = ["LICENSE", "CHANGELOG.md", "CITATION.cff", *(it for it in files_below("docs") if it not in OF_THE_SOURCES)]
+    named += [*files_below("examples"), *files_below("simulators")]
+    files: Dict[str, File] = {f"{DOCUMENTS}/{name}": ((TOP / name).read_bytes(), False) for name in named}
+    if PAGE.is_file():  # it's made where binaryen is installed
+        files[f"{DOCUMENTS}/bsdudp.html"] = (PAGE.read_bytes(), False)
+    return files
+
+
+def portable_c() -> Dict[str, File]:
+    """The portable C with its header, if it's made: where wabt is installed."""
+    if not PORTABLE.is_file():
+        return {}
+    files = {"bsdudp_portable.c": PORTABLE, "bsdudp.h": TOP / "capi/include/bsdudp.h"}
+    return {f"share/bsdudp/{name}": (path.read_bytes(), False) for name, path in files.items()}
+
+
+def with_links_of(files: Dict[str, File], name: str, page: bytes) -> bytes:
+    """A page in which a link to what isn't among the files is its text alone."""
+
+    def link(found: re.Match[str]) -> str:
+        there = os.path.normpath(os.path.join(os.path.dirname(name), found[2]))
+        return found[0] if any(it == there or it.startswith(f"{there}/") for it in files) else found[1]
+
+    return re.sub(r"\[([^\]]+)\]\((?!\w+:|#)([^)#\s]+)[^)]*\)", link, page.decode()).encode()
