@@ -2,8 +2,11 @@
 program doesn't end with status 0 has its status in its name, since rt prints statuses and doesn't compare them."""
 from __future__ import annotations
 
+import concurrent.futures
+import os
 import pathlib
 import re
+import subprocess
 from typing import Iterable
 
 STATUS = re.compile(r"_status_(\d+)$")
@@ -30,3 +33,20 @@ def faults(said: str) -> list[str]:
         elif told.get("status") != wanted:
             found.append(f"{name}: status {told.get('status')}, where it's {wanted}")
     return found
+
+
+def played(folder: pathlib.Path, program: pathlib.Path) -> list[str]:
+    """The cases of a folder that come out otherwise by a built program."""
+
+    def fault(case: pathlib.Path) -> str | None:
+        words = case.with_name(f"{case.name}.args").read_text(encoding="utf-8").splitlines()
+        with case.open("rb") as script:
+            ran = subprocess.run([program, *words], stdin=script, capture_output=True, check=False)
+        wanted = int(it[1]) if (it := STATUS.search(case.name)) else 0
+        if ran.stdout != case.with_name(f"{case.name}.stdout").read_bytes():
+            return f"{case.name}: it prints something else"
+        return None if ran.returncode == wanted else f"{case.name}: status {ran.returncode}, where it's {wanted}"
+
+    names = sorted(it for it in folder.iterdir() if not it.name.endswith((".args", ".stdout")))
+    with concurrent.futures.ThreadPoolExecutor(os.cpu_count()) as pool:
+        return [it for it in pool.map(fault, names) if it]
