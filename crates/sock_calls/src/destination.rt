@@ -5,7 +5,7 @@ ghost use Rattle.pcb_table.specs.Table.{block_at};
 ghost use Rattle.sock_calls.specs.Inside.Destination.{early_faults, broadcast_faults, FindsTarget, ChecksSend};
 
 use flat_model::{Addr, Errno};
-use params::{IP_UDP_HEADERS, UDP_SEND_SPACE};
+use params::{FIRST_MULTICAST, IP_UDP_HEADERS, LOOPBACK, UDP_SEND_SPACE};
 use pcb_table::{Block, Pcbs};
 
 /// What is asked before the address is looked at: that there is one, and that the bytes aren't too many.
@@ -49,6 +49,21 @@ fn broadcast_fault(to_all: bool, allowed: bool, mtu: u16, len: usize) -> Option<
         return Some(Errno::MessageSize);
     }
     None
+}
+
+/// Whether a send to the address is worth asking for one packet first: it's reached by the link, and isn't read as
+/// another. A question of speed alone.
+#[inline(always)]
+pub(crate) fn is_plain(pcbs: &Pcbs, to: Option<Addr>) -> bool {
+    let Some(Addr { ip, port }) = to else {
+        return true;
+    };
+    let network = ip >> 24;
+    network != 0
+        && network != LOOPBACK >> 24
+        && ip < FIRST_MULTICAST
+        && port != 0
+        && ip != pcbs.addr()
 }
 
 /// Where a send of `len` bytes by the socket of a block goes: to the address given, as it's read, or else to its peer.

@@ -9,6 +9,7 @@ mod delivery;
 mod destination;
 mod ending;
 mod net;
+mod one_packet;
 mod packets;
 mod parts;
 mod questions;

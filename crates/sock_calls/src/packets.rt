@@ -1,8 +1,9 @@
 //! The packets of a send that has its buffers.
-ghost use Rattle.std.specs.Prelude.{◌≡◌, ◌+◌, ◌≤◌, ◌++◌, IfSome, drop, length};
-ghost use Rattle.flat_model.specs.Amounts.Layout.{need, sent};
+ghost use Rattle.std.specs.Prelude.{◌≡◌, ◌+◌, ◌≤◌, ◌++◌, drop, length};
+ghost use Rattle.flat_model.specs.Amounts.Layout.{sent};
 ghost use Rattle.mbuf_chain.specs.Chain.{chain_of, string};
 ghost use Rattle.flat_model.specs.Machine.Send.{need_to};
+ghost use Rattle.flat_model.specs.Machine.Sending as flat;
 ghost use Rattle.flat_model.specs.Machine.Sending.{is_looped, mtu_to};
 ghost use Rattle.chain_ops.specs.Stored.{Has};
 ghost use Rattle.sock_calls.specs.Inside.Putting.{config_of, head_as, sent_as, IsBuilt, IsStored, way_of};
@@ -13,8 +14,8 @@ use flat_model::{Addr, Need};
 use ip_out::{IpHead, Way, need, need_bcast};
 use mbuf_chain::{Chain, Pool};
 use params::{
-    CLUSTER_LEADING_SPACE, IP_DEFAULT_TTL, IP_HEADER, IP_UDP_HEADERS, LOOPBACK, LOOPBACK_MTU,
-    MCLBYTES, MHLEN, MIN_MTU, MINCLSIZE, PROTOCOL_UDP, UDP_HEADER, UDP_SEND_SPACE,
+    IP_DEFAULT_TTL, IP_HEADER, IP_UDP_HEADERS, LOOPBACK, LOOPBACK_MTU, MIN_MTU, PROTOCOL_UDP,
+    UDP_HEADER, UDP_SEND_SPACE,
 };
 use pcb_table::Pcbs;
 use udp::header_for;
@@ -79,31 +80,6 @@ pub(crate) fn need_to(pcbs: &Pcbs, mtu: u16, ip: u32, len: u32) -> Need
     need(len, mtu)
 }
 
-/// How many free buffers a send of `len` bytes takes that makes one packet for a link with this MTU, and lies in one
-/// mbuf beside its headers or behind them; `None` for any other.
-#[inline(always)]
-pub(crate) fn one_packet(len: u32, mtu: u16) -> Option<Need>
-    ensures need { IfSome result (λ n. n ≡ need len mtu) }
-    ensures fits { IfSome result (λ n. len + IP_UDP_HEADERS ≤ mtu) }
-{
-    if len > UDP_SEND_SPACE || len + IP_UDP_HEADERS > u32::from(mtu) {
-        return None;
-    }
-    if len <= MHLEN - IP_UDP_HEADERS {
-        return Some(Need {
-            mbufs: 1,
-            clusters: 0,
-        });
-    }
-    if len < MINCLSIZE || len > MCLBYTES - CLUSTER_LEADING_SPACE {
-        return None;
-    }
-    Some(Need {
-        mbufs: 2,
-        clusters: 1,
-    })
-}
-
 /// A chain of the bytes after the 28 bytes of the headers.
 #[inline(always)]
 fn with_headers(pool: &mut Pool, headers: &[u8; IP_UDP_HEADERS as usize], bytes: &[u8]) -> Chain
@@ -133,30 +109,28 @@ fn headers_with(udp: &[u8; UDP_HEADER as usize]) -> [u8; IP_UDP_HEADERS as usize
     headers
 }
 
-/// The datagram, with its header, after 20 bytes for that of IP.
-// Its header is made first, from the bytes where they lie, so that it's written once.
+/// Both headers of its first packet: 20 zeros for that of IP, and that of UDP.
+// It's made from the bytes where they lie, so that it's written once.
 #[inline(always)]
-pub(crate) fn datagram(pool: &mut Pool, heading: Heading, bytes: &[u8]) -> Chain
-    requires most { length bytes.now ≤ UDP_SEND_SPACE }
-    requires free { Has pool.old (sent (length bytes.now)) }
-    ensures { IsBuilt pool.old (sent_as heading bytes.now) pool.new result }
+pub(crate) fn headers_of(heading: Heading, bytes: &[u8]) -> [u8; IP_UDP_HEADERS as usize]
+    requires { length bytes.now ≤ UDP_SEND_SPACE }
+    ensures { drop IP_HEADER result ++ bytes.now ≡ flat.datagram (sent_as heading bytes.now) }
 {
     let from = Addr {
         ip: heading.source,
         port: heading.port,
     };
-    let headers = headers_with(&header_for(from, heading.to, bytes));
-    with_headers(pool, &headers, bytes)
+    headers_with(&header_for(from, heading.to, bytes))
 }
 
-/// `datagram`, as code that stands apart.
+/// The datagram, with its header, after 20 bytes for that of IP.
 #[inline(never)]
-pub(crate) fn datagram_apart(pool: &mut Pool, heading: Heading, bytes: &[u8]) -> Chain
+pub(crate) fn datagram(pool: &mut Pool, heading: Heading, bytes: &[u8]) -> Chain
     requires most { length bytes.now ≤ UDP_SEND_SPACE }
     requires free { Has pool.old (sent (length bytes.now)) }
     ensures { IsBuilt pool.old (sent_as heading bytes.now) pool.new result }
 {
-    datagram(pool, heading, bytes)
+    with_headers(pool, &headers_of(heading, bytes), bytes)
 }
 
 /// The IP header of all its packets, but for their lengths and offsets.

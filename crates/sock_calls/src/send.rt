@@ -7,11 +7,10 @@ ghost use Rattle.sock_calls.specs.Outgoing.{sending, CanSend, IsSent};
 ghost use Rattle.sock_calls.specs.Inside.Parts.{shown};
 ghost use Rattle.sock_calls.specs.Inside.Putting.{config_of, counts_sent, way_of, IsFreeFor, IsPut, IsRouted};
 
-use crate::destination::send_target;
+use crate::destination::{is_plain, send_target};
 use crate::net::Net;
-use crate::packets::{
-    Heading, Route, datagram, datagram_apart, ip_head, need_to, one_packet, way_to,
-};
+use crate::one_packet::{datagram_of_one, need_of_one};
+use crate::packets::{Heading, Route, datagram, ip_head, need_to, way_to};
 use crate::parts::Parts;
 use flat_model::{Addr, Counter, Counters, Errno, Lack};
 use ip_out::{Sent, Way};
@@ -64,7 +63,7 @@ impl Parts {
             port: self.pcbs.ensure_port_of(block),
             to: route.to,
         };
-        let chain = datagram_apart(pool, heading, bytes);
+        let chain = datagram(pool, heading, bytes);
         let head = ip_head(heading);
         let Sent {
             looped,
@@ -99,7 +98,10 @@ impl Parts {
             (Ok (length bytes.now)) (sending pool.new (shown self.now) net.new) }
         ensures same { result ≡ false → (pool.new ≡ pool.old) × (net.new ≡ net.old) }
     {
-        if net.out.len() >= OUTPUT_QUEUE_PACKETS {
+        let Some(wants) = need_of_one(bytes.len(), net.mtu) else {
+            return false;
+        };
+        if !is_plain(&self.pcbs, to) || net.out.len() >= OUTPUT_QUEUE_PACKETS {
             return false;
         }
         let Some(block) = self.pcbs.noted(fd) else {
@@ -111,11 +113,7 @@ impl Parts {
         let Ok(target) = send_target(&self.pcbs, net.mtu, block, to, bytes.len()) else {
             return false;
         };
-        let (Way::Link, mtu) = way_to(&self.pcbs, net.mtu, target.ip) else {
-            return false;
-        };
-        let len = bytes.len() as u32;
-        let Some(wants) = one_packet(len, mtu) else {
+        let (Way::Link, _) = way_to(&self.pcbs, net.mtu, target.ip) else {
             return false;
         };
         if !are_free(pool, wants.mbufs, wants.clusters) {
@@ -127,9 +125,9 @@ impl Parts {
             port,
             to: target,
         };
-        let chain = datagram(pool, heading, bytes);
-        net.out
-            .push_one(pool, chain, ip_head(heading), len + IP_UDP_HEADERS);
+        let chain = datagram_of_one(pool, heading, bytes);
+        let len = bytes.len() as u32 + IP_UDP_HEADERS;
+        net.out.push_one(pool, chain, ip_head(heading), len);
         net.next_id = heading.id.wrapping_add(1);
         net.counters.count(Counter::IpLocalout);
         true

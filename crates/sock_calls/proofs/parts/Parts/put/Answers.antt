@@ -8,29 +8,29 @@ use Rattle.sock_calls.proofs.Queueing.{put_is}
 use Rattle.sock_calls.proofs.parts.Parts.put.Goals as goal
 
 pub send_packets-requires-clause-datagram : goal.send_packets-requires-clause-datagram
-send_packets-requires-clause-datagram c = ready c.datagram_apart-chain.ensures.lies c.requires.most
+send_packets-requires-clause-datagram c = ready c.datagram-chain.ensures.lies c.requires.most
 
 pub send_packets-requires-clause-queue : goal.send_packets-requires-clause-queue
 send_packets-requires-clause-queue c = record {
-  held = (beside_adds c.args.net.now.out c.datagram_apart-chain.ensures.lies.made c.requires.queue.held).held;
+  held = (beside_adds c.args.net.now.out c.datagram-chain.ensures.lies.made c.requires.queue.held).held;
   room = c.requires.queue.room;
 }
 
 pub send_packets-requires-clause-apart : goal.send_packets-requires-clause-apart
-send_packets-requires-clause-apart c = apart_adds c.args.net.now.out c.datagram_apart-chain.ensures.lies.made c.requires.queue.held
+send_packets-requires-clause-apart c = apart_adds c.args.net.now.out c.datagram-chain.ensures.lies.made c.requires.queue.held
 
 pub unreachable-requires : goal.unreachable-requires
 unreachable-requires c =
     let h : Heading = record { id = c.args.net.now.next_id; source = c.source_of.result; port = c.ensure_port_of.result; to = c.args.route.to } in
     packets_fit (config_of c.args.self.now.pcbs c.args.net.now.mtu) (sent_as h c.args.bytes.now) c.requires.routed
-    c.requires.uncut c.requires.free c.datagram_apart-chain.ensures c.requires.way c.requires.longest c.in-Err.ensures.err
+    c.requires.uncut c.requires.free c.datagram-chain.ensures c.requires.way c.requires.longest c.in-Err.ensures.err
 
 pub returns-clause-put : goal.returns-clause-put
 returns-clause-put c =
     let h : Heading = record { id = c.args.net.now.next_id; source = c.source_of.result; port = c.ensure_port_of.result; to = c.args.route.to } in
     put_is h refl refl c.source_of.ensures c.ensure_port_of.ensures.port c.ensure_port_of.ensures.descriptors
     (packets_made (config_of c.args.self.now.pcbs c.args.net.now.mtu) (sent_as h c.args.bytes.now)
-    c.datagram_apart-chain.ensures c.requires.way c.requires.longest c.ip_head-head.ensures c.requires.queue.held
+    c.datagram-chain.ensures c.requires.way c.requires.longest c.ip_head-head.ensures c.requires.queue.held
     c.in-Ok.ensures.link c.in-Ok.ensures.lost c.in-Ok.ensures.looped c.in-Ok.ensures.cut c.in-Ok.ensures.held
     c.in-Ok.ensures.plain c.in-Ok.ensures.queue c.in-Ok.ensures.moves)
     c.count_send.ensures c.replace.ensures.after
