@@ -74,7 +74,7 @@ module _ (S A B mtu : ℕ) (P : Sending → Part → Type 0) (Answered : Sending
     pub closed : (offset : ℕ) (h : Held) → bytes offset ≡ Some h → h.piece.more ≡ false → Answered x
 
   pub record IsGoodKey (k : Key) (bytes : Map) : Type 0 where
-    pub of : k.source ≡ S → (x : Sending) (p : Part) → P x p → x.id ≡ k.id → IsGoodMap x bytes
+    pub of : k.source ≡ S → k.protocol ≡ 17 → (x : Sending) (p : Part) → P x p → x.id ≡ k.id → IsGoodMap x bytes
 
   abbrev pub IsGoodUnfinished : Unfinished → Type 0
   IsGoodUnfinished u = IsGoodKey u.key u.bytes
@@ -224,12 +224,12 @@ module _ (S A B mtu : ℕ) (P : Sending → Part → Type 0) (Answered : Sending
         each [] h = tt
         each (x ∷ xs) h = (λ w. subst (λ p. IsGoodDatagram p (record { sender = sender; item = record item { weight = w } })) (sym h.0) (is w), each xs h.1)
 
-    pub good_whole : (held : Weight) (source destination protocol : ℕ) (item : Item) (old new : State) → IsGood ports old → (source ≡ S → IsWholeOf destination item.bytes)
+    pub good_whole : (held : Weight) (source destination protocol : ℕ) (item : Item) (old new : State) → IsGood ports old → (source ≡ S → protocol ≡ 17 → IsWholeOf destination item.bytes)
         → Arrival.WholeArrives M held source destination protocol item old new → IsGood ports new
     good_whole held source destination protocol item old new good is h =
         by_choice h
-        (λ e c. by_case c
-        (λ e g. good_goes held _ _ destination (u16_at 2 item.bytes) _ old new good (each_hearer old destination _ (u16_at 2 item.bytes) refl good) (λ w. record { sent = λ at. sent w (is at) }) g)
+        (λ t c. by_case c
+        (λ e g. good_goes held _ _ destination (u16_at 2 item.bytes) _ old new good (each_hearer old destination _ (u16_at 2 item.bytes) refl good) (λ w. record { sent = λ at. sent w (is at (eqb-true protocol 17 t)) }) g)
         (λ why e g. good_ends old good new why g))
         (λ e g. good_ends old good new _ g)
       where
@@ -262,13 +262,16 @@ module _ (S A B mtu : ℕ) (P : Sending → Part → Type 0) (Answered : Sending
     key_source : (k : Key) (u : Unfinished) → is_key k u ≡ true → u.key.source ≡ k.source
     key_source k u e = ap (λ (x : Key). x.source) ((whole_key k u).0 e)
 
+    key_protocol : (k : Key) (u : Unfinished) → is_key k u ≡ true → u.key.protocol ≡ k.protocol
+    key_protocol k u e = ap (λ (x : Key). x.protocol) ((whole_key k u).0 e)
+
     key_id : (k : Key) (u : Unfinished) → is_key k u ≡ true → u.key.id ≡ k.id
     key_id k u e = ap (λ (x : Key). x.id) ((whole_key k u).0 e)
 
     good_at : (k : Key) (s : State) (u : Unfinished) → IsGood ports s → unfinished_at k s ≡ Some u → IsGoodKey k u.bytes
     good_at k s u good e =
         let found = each-find IsGoodUnfinished (is_key k) s.unfinished u good.unfinished e in
-        record { of = λ from x p given id. found.0.of (key_source k u found.1 ∙ from) x p given (id ∙ sym (key_id k u found.1)) }
+        record { of = λ from udp x p given id. found.0.of (key_source k u found.1 ∙ from) (key_protocol k u found.1 ∙ udp) x p given (id ∙ sym (key_id k u found.1)) }
 
     good_set : (k : Key) (bytes : Map) (s : State) → IsGood ports s → IsGoodKey k bytes → IsGood ports (set_bytes k bytes s)
     good_set k bytes s good is = record {
@@ -280,7 +283,7 @@ module _ (S A B mtu : ℕ) (P : Sending → Part → Type 0) (Answered : Sending
       where
         go : (u : Unfinished) → IsGoodUnfinished u → (b : Bool) → is_key k u ≡ b → IsGoodUnfinished (cond b (record u { bytes = bytes }) u)
         go u g false e = g
-        go u g true e = record { of = λ from x p given id. is.of (sym (key_source k u e) ∙ from) x p given (id ∙ key_id k u e) }
+        go u g true e = record { of = λ from udp x p given id. is.of (sym (key_source k u e) ∙ from) (sym (key_protocol k u e) ∙ udp) x p given (id ∙ key_id k u e) }
 
     good_end : (k : Key) (s : State) → IsGood ports s → IsGood ports (Arrival.counts_reassembled (end_unfinished k s))
     good_end k s good = record {
@@ -291,7 +294,7 @@ module _ (S A B mtu : ℕ) (P : Sending → Part → Type 0) (Answered : Sending
     }
 
     good_begun : (k : Key) → IsGoodKey k empty
-    good_begun k = record { of = λ from x p given id. nothing_held x }
+    good_begun k = record { of = λ from udp x p given id. nothing_held x }
       where
         nothing_held : (x : Sending) → IsGoodMap x empty
         nothing_held x = record {
@@ -317,8 +320,8 @@ module _ (S A B mtu : ℕ) (P : Sending → Part → Type 0) (Answered : Sending
           (omega (arith, length-udp o.sending.source o.sending.to.ip o.sending.port o.sending.to.port o.sending.bytes))
           low (log.part o.sending o.part o.given) o.offset o.bytes o.more
 
-      good_overlay : (k : Key) (f : Fragment) (bytes : Map) → IsGoodKey k bytes → (k.source ≡ S → IsPartOf k f) → IsGoodKey k (overlay bytes f)
-      good_overlay k f bytes good is = record { of = λ from x p given id. go x (good.of from x p given id) (is from) (log.unique (is from).sending x (is from).part p (is from).given given ((is from).id ∙ sym id)) }
+      good_overlay : (k : Key) (f : Fragment) (bytes : Map) → IsGoodKey k bytes → (k.source ≡ S → k.protocol ≡ 17 → IsPartOf k f) → IsGoodKey k (overlay bytes f)
+      good_overlay k f bytes good is = record { of = λ from udp x p given id. go x (good.of from udp x p given id) (is from udp) (log.unique (is from udp).sending x (is from udp).part p (is from udp).given given ((is from udp).id ∙ sym id)) }
         where
           go : (x : Sending) → IsGoodMap x bytes → (o : IsPartOf k f) → o.sending ≡ x → IsGoodMap x (overlay bytes f)
           go x g o same = record {
@@ -326,7 +329,7 @@ module _ (S A B mtu : ℕ) (P : Sending → Part → Type 0) (Answered : Sending
             closed = overlay_closed bytes f (Answered x) g.closed (λ e. subst Answered same (log.answered o.sending o.part o.given (sym o.more ∙ e)));
           }
 
-      good_lays : (held : Weight) (k : Key) (f : Fragment) (u : Unfinished) (old new : State) → IsGood ports old → IsGoodKey k u.bytes → (k.source ≡ S → IsPartOf k f)
+      good_lays : (held : Weight) (k : Key) (f : Fragment) (u : Unfinished) (old new : State) → IsGood ports old → IsGoodKey k u.bytes → (k.source ≡ S → k.protocol ≡ 17 → IsPartOf k f)
           → Arrival.Lays M held k f u old new → IsGood ports new
       good_lays held k f u old new good at is h =
           by_choice h
@@ -336,10 +339,10 @@ module _ (S A B mtu : ℕ) (P : Sending → Part → Type 0) (Answered : Sending
           laid : IsGoodKey k (overlay u.bytes f)
           laid = good_overlay k f u.bytes at is
 
-          whole : (n : ℕ) → IsWhole (overlay u.bytes f) n → k.source ≡ S → IsWholeOf k.destination (bytes_below (overlay u.bytes f) n)
-          whole n w from =
-              let o : IsPartOf k f = is from in
-              let g : IsGoodMap o.sending (overlay u.bytes f) = laid.of from o.sending o.part o.given o.id in
+          whole : (n : ℕ) → IsWhole (overlay u.bytes f) n → k.source ≡ S → k.protocol ≡ 17 → IsWholeOf k.destination (bytes_below (overlay u.bytes f) n)
+          whole n w from udp =
+              let o : IsPartOf k f = is from udp in
+              let g : IsGoodMap o.sending (overlay u.bytes f) = laid.of from udp o.sending o.part o.given o.id in
               record {
                 sending = o.sending;
                 answered = whole_closed (overlay u.bytes f) n w (Answered o.sending) g.closed;
@@ -352,7 +355,7 @@ module _ (S A B mtu : ℕ) (P : Sending → Part → Type 0) (Answered : Sending
           go (inl (n, w, joined, j, arrives)) = good_whole held k.source k.destination k.protocol _ _ new (good_end k old good) (whole n w) arrives
           go (inr (unwhole, e)) = subst (IsGood ports) (sym e) (good_set k (overlay u.bytes f) old good laid)
 
-      good_joins : (held : Weight) (k : Key) (f : Fragment) (old new : State) → IsGood ports old → (k.source ≡ S → IsPartOf k f) → Arrival.Joins M held k f old new → IsGood ports new
+      good_joins : (held : Weight) (k : Key) (f : Fragment) (old new : State) → IsGood ports old → (k.source ≡ S → k.protocol ≡ 17 → IsPartOf k f) → Arrival.Joins M held k f old new → IsGood ports new
       good_joins held k f old new good is h =
           by_case h
           (λ e t. good_tests old new (held ⊕ f.weight) 1 _ good (λ mid at r. let begins : IsGood ports (begin_unfinished k mid) = good_begin k mid at in good_lays held k f (begun k) (begin_unfinished k mid) new begins (good_begun k) is r) t)
@@ -365,7 +368,7 @@ module _ (S A B mtu : ℕ) (P : Sending → Part → Type 0) (Answered : Sending
           by_choice h (λ e t. good_tests old new (held ⊕ w) 1 _ good (λ mid at r. goes _ mid at r) t) (λ e r. goes w old good r)
 
       good_fragment : (origin : Origin) (held : Weight) (head : Head) (item : Item) (old new : State) → IsGood ports old
-          → ((w : Weight) → head.source ≡ S → IsPartOf (Arrival.key_of head) (record { offset = head.offset; bytes = item.bytes; more = head.more; weight = w }))
+          → ((w : Weight) → head.source ≡ S → head.protocol ≡ 17 → IsPartOf (Arrival.key_of head) (record { offset = head.offset; bytes = item.bytes; more = head.more; weight = w }))
           → Arrival.FragmentArrives M origin held head item old new → IsGood ports new
       good_fragment origin held head item old new good is h =
           by_choice h
@@ -430,12 +433,12 @@ module _ (S A B mtu : ℕ) (P : Sending → Part → Type 0) (Answered : Sending
       good_passes origin held item old new good whole is h =
           by_choice h
           (λ ours c. by_choice c
-          (λ e f. good_fragment origin held (head_of item.bytes) (Arrival.carried item) old new good (λ w from. let o = is (named from) in part_read item old good o.0 o.1 o.2 o.3 ours w) f)
-          (λ e w. good_whole held _ _ _ (Arrival.carried item) old new good (λ from. let o = is (named from) in whole_read item old good o.0 o.1 o.2 o.3 ours e) w))
+          (λ e f. good_fragment origin held (head_of item.bytes) (Arrival.carried item) old new good (λ w from udp. let o = is (named from udp) in part_read item old good o.0 o.1 o.2 o.3 ours w) f)
+          (λ e w. good_whole held _ _ _ (Arrival.carried item) old new good (λ from udp. let o = is (named from udp) in whole_read item old good o.0 o.1 o.2 o.3 ours e) w))
           (λ e g. good_ends old good new _ g)
         where
-          named : (head_of item.bytes).source ≡ S → ComesFrom S item.bytes
-          named from = record { long = omega arith; source = from }
+          named : (head_of item.bytes).source ≡ S → (head_of item.bytes).protocol ≡ 17 → ComesFrom S item.bytes
+          named from udp = record { long = omega arith; source = from; udp = udp }
 
       pub good_arrives : (origin : Origin) (held : Weight) (item : Item) (old new : State) → IsGood ports old → IsGoodPacket item.bytes → Arrival.Arrives M origin held item old new → IsGood ports new
       good_arrives origin held item old new good is h =

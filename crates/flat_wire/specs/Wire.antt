@@ -1,6 +1,7 @@
 -- Two machines on one wire (this project's own). The wire loses, repeats and reorders packets, and others send on it
 -- too, but nobody forges the first machine's address.
-use Rattle.std.specs.Prelude.{◌≡◌, ◌≢◌, ◌⊎◌, ℕ, ◌<◌, ◌≤◌, ◌^◌, List, ◌∷◌, ◌++◌, length, take, filter_map, All, Contains, Option, Some, None}
+use Rattle.std.specs.Prelude.{◌≡◌, ◌≢◌, ◌⊎◌, ℕ, ◌<◌, ◌≤◌, ◌^◌, List, ◌∷◌, ◌++◌, length, take, slice_index, filter_map, All, Contains, Option, Some, None}
+use Rattle.params.specs.declared.TheConstants.{PROTOCOL_UDP}
 use Rattle.flat_model.specs.Machine.Count.{value_of}
 use Rattle.flat_model.specs.declared.counter.Counter.TheVariants.{IpLocalout}
 use Rattle.flat_model.specs.Packets.Header.{u32_at}
@@ -35,10 +36,12 @@ packet_in turn = came_in turn.event
 abbrev pub source_of : List ℕ → ℕ
 source_of packet = u32_at 12 packet
 
--- the packet names this source; one that is too short for the field names none
+-- A packet of UDP that names this source; one that is too short for the field names none. What other protocols carry
+-- reaches no queue, whoever sends it.
 pub record ComesFrom (address : ℕ) (packet : List ℕ) : Type 0 where
   pub long : 16 ≤ length packet
   pub source : source_of packet ≡ address
+  pub udp : slice_index packet 9 ≡ PROTOCOL_UDP
 
 -- A send that the run of these turns to `last` answered with its number of bytes: from which port, and where to,
 -- 0.0.0.0 and 255.255.255.255 read as the machine reads them.

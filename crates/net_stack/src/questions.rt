@@ -1,12 +1,13 @@
 //! What a caller may ask of a stack. A question changes nothing, and takes no step.
 ghost use Rattle.std.specs.Prelude.{◌≡◌, ◌≤◌, drop, length, take, option_map, IfNone, IfSome};
+ghost use Rattle.flat_model.specs.Machine.Count.{value_of};
 ghost use Rattle.ip_out.specs.Questions.{nth_packet, oldest_length};
 ghost use Rattle.ip_reass.specs.Questions.{nth_range, nth_unfinished};
 ghost use Rattle.sock_calls.specs.Questions.{bytes_queued, next_datagram, readable, socket_name};
 ghost use Rattle.net_stack.specs.Stack.{state_of};
 
 use crate::stack::Stack;
-use flat_model::Errno;
+use flat_model::{Counter, Errno};
 use ip_reass::{HeldRange, UnfinishedDatagram};
 use sock_calls::{NextDatagram, SocketName};
 
@@ -43,6 +44,14 @@ impl Stack {
         ensures { result ≡ readable (state_of self.now) }
     {
         self.host.socks.readable()
+    }
+
+    /// What one counter has counted since boot, 0 to 2 to the 64th less 1, where it stays. It's that field of `counters`,
+    /// without a copy of all.
+    pub fn counter(&self, counter: Counter) -> u64
+        ensures { result ≡ value_of counter (state_of self.now).counters }
+    {
+        self.host.net.counters.value(counter)
     }
 
     /// The bytes of the longest packet that the link takes, 68 to 4,352, as boot was told. It's room enough for each

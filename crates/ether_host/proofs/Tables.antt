@@ -1,0 +1,67 @@
+-- The table of neighbours, a tick later.
+use Rattle.std.proofs.Common.{◌≡◌, ℕ, ◌≤◌, Bool, true, false, cond, List, [], ◌∷◌, ◌++◌, ◌+◌, length, map, take, drop, zero, suc, refl, sym, ap, ◌∙◌, arith, length-take, min, get_or, ◌<◌, Some}
+use Rattle.std.specs.Prelude.{filter, is_some, remove, slice_get}
+use Rattle.flat_ether.specs.Links.{aged, has_hope, place_of, stays}
+use Rattle.flat_ether.specs.declared.neighbour.Neighbour.{Neighbour}
+use Rattle.ether_host.specs.Buffers.{has_hope_in, held_in}
+use Rattle.ether_host.specs.declared.buffer.PacketBuffer.{PacketBuffer}
+
+few_pass : (xs : List Neighbour) → length (filter stays (map aged xs)) ≤ length xs
+few_pass [] = omega arith
+few_pass (x ∷ xs) = go (stays (aged x)) (few_pass xs)
+  where
+    go : (b : Bool) → length (filter stays (map aged xs)) ≤ length xs → length (cond b (aged x ∷ filter stays (map aged xs)) (filter stays (map aged xs))) ≤ length (x ∷ xs)
+    go true h = omega arith
+    go false h = omega arith
+
+pub few_stay : (ns : List Neighbour) (i : ℕ) (kept : List Neighbour) → kept ≡ filter stays (map aged (take i ns)) → length kept ≤ i
+few_stay ns i kept e =
+    let few : length (filter stays (map aged (take i ns))) ≤ length (take i ns) = few_pass (take i ns) in
+    let same : length kept ≡ length (filter stays (map aged (take i ns))) = ap length e in
+    let long : length (take i ns) ≡ min i (length ns) = length-take i ns in
+    omega arith
+
+-- packets that are kept, as they're seen
+pub held_filter : (ns : List Neighbour) (ps : List PacketBuffer) → map held_in (filter (has_hope_in ns) ps) ≡ filter (has_hope ns) (map held_in ps)
+held_filter ns [] = refl
+held_filter ns (p ∷ ps) = go (is_some (place_of p.hop ns)) (held_filter ns ps)
+  where
+    go : (b : Bool) → map held_in (filter (has_hope_in ns) ps) ≡ filter (has_hope ns) (map held_in ps)
+        → map held_in (cond b (p ∷ filter (has_hope_in ns) ps) (filter (has_hope_in ns) ps)) ≡ cond b (held_in p ∷ filter (has_hope ns) (map held_in ps)) (filter (has_hope ns) (map held_in ps))
+    go true h = ap (λ xs. held_in p ∷ xs) h
+    go false h = h
+
+pub held_at : (ps : List PacketBuffer) (i : ℕ) (p : PacketBuffer) → i < length ps → p ≡ get_or ps i p → slice_get (map held_in ps) i ≡ Some (held_in p)
+held_at [] i p h e = absurd (omega arith)
+held_at (q ∷ ps) zero p h e = ap (λ (x : PacketBuffer). Some (held_in x)) (sym e)
+held_at (q ∷ ps) (suc i) p h e = held_at ps i p (omega arith) e
+
+pub held_remove : (ps : List PacketBuffer) (i : ℕ) → map held_in (remove ps i) ≡ remove (map held_in ps) i
+held_remove [] zero = refl
+held_remove [] (suc i) = refl
+held_remove (p ∷ ps) zero = refl
+held_remove (p ∷ ps) (suc i) = ap (λ xs. held_in p ∷ xs) (held_remove ps i)
+
+-- ---- packets that are kept, one by one
+
+-- what is kept of those in front, and what will be of the others
+abbrev pub kept_from : List Neighbour → List PacketBuffer → ℕ → List PacketBuffer
+kept_from ns ps i = take i ps ++ filter (has_hope_in ns) (drop i ps)
+
+pub kept_on : (ns : List Neighbour) (ps : List PacketBuffer) (i : ℕ) (p : PacketBuffer) → i < length ps → p ≡ get_or ps i p → has_hope_in ns p ≡ true → kept_from ns ps i ≡ kept_from ns ps (i + 1)
+kept_on ns [] i p h e t = absurd (omega arith)
+kept_on ns (q ∷ ps) zero p h e t = ap (λ b. cond b (q ∷ filter (has_hope_in ns) ps) (filter (has_hope_in ns) ps)) (ap (has_hope_in ns) (sym e) ∙ t)
+kept_on ns (q ∷ ps) (suc i) p h e t =
+    let m : suc (i + 1) ≡ suc i + 1 = omega arith in
+    ap (λ xs. q ∷ xs) (kept_on ns ps i p (omega arith) e t) ∙ ap (kept_from ns (q ∷ ps)) m
+
+pub kept_off : (ns : List Neighbour) (ps : List PacketBuffer) (i : ℕ) (p : PacketBuffer) → i < length ps → p ≡ get_or ps i p → has_hope_in ns p ≡ false → kept_from ns ps i ≡ kept_from ns (remove ps i) i
+kept_off ns [] i p h e t = absurd (omega arith)
+kept_off ns (q ∷ ps) zero p h e t = ap (λ b. cond b (q ∷ filter (has_hope_in ns) ps) (filter (has_hope_in ns) ps)) (ap (has_hope_in ns) (sym e) ∙ t)
+kept_off ns (q ∷ ps) (suc i) p h e t = ap (λ xs. q ∷ xs) (kept_off ns ps i p (omega arith) e t)
+
+pub kept_all : (ns : List Neighbour) (ps : List PacketBuffer) (i : ℕ) → length ps ≤ i → kept_from ns ps i ≡ ps
+kept_all ns [] zero h = refl
+kept_all ns [] (suc i) h = refl
+kept_all ns (p ∷ ps) zero h = absurd (omega arith)
+kept_all ns (p ∷ ps) (suc i) h = ap (λ xs. p ∷ xs) (kept_all ns ps i (omega arith))

@@ -1,0 +1,21 @@
+-- How the fields mean the link's state (this project's own).
+use Rattle.std.specs.Prelude.{ℕ, ◌+◌, List, ◌++◌, length, map, take, drop, if◌then◌else◌, Some, None}
+use Rattle.flat_ether.specs.Links.{LinkState}
+use Rattle.ether_host.specs.Buffers.{held_in}
+use Rattle.ether_host.specs.declared.layer.LinkLayer.{LinkLayer}
+
+-- bytes written over others, from a place on
+abbrev pub written : List ℕ → ℕ → List ℕ → List ℕ
+written bytes at new = take at bytes ++ (new ++ drop (at + length new) bytes)
+
+-- what a link shows
+abbrev pub seen : LinkLayer → LinkState
+seen l = record {
+  config = l.config;
+  link = l.link;
+  neighbours = l.neighbours.items;
+  replies = l.replies.items;
+  held = map held_in l.held.items;
+  answer = if l.answered then Some (held_in l.answer).packet else None;
+  tallies = l.tallies;
+}

@@ -1,0 +1,5 @@
+pub mod Buffers
+pub mod Fronts
+pub mod Answers
+pub mod Inside
+pub mod View

@@ -1,0 +1,36 @@
+-- What a host shows, and the state that it means (this project's own).
+use Rattle.std.specs.Prelude.{◌≡◌, true, false}
+use Rattle.std.specs.Borrow.{Lends, MutBor, Fml}
+use Rattle.flat_model.specs.declared.config.Config.{Config}
+use Rattle.flat_ether.specs.Hosts.{Host}
+use Rattle.flat_ether.specs.Links.{LinkState}
+use Rattle.flat_ether.specs.Routes.{is_link}
+use Rattle.flat_ether.specs.declared.link.Link.{Link}
+use Rattle.net_stack.specs.Boots as boots
+use Rattle.net_stack.specs.Stack.{StackView, state_of}
+use Rattle.net_stack.specs.contracts.stack.Stack.{the_row as stack_row}
+use Rattle.ether_host.specs.contracts.host.EtherHost.{the_row}
+use Rattle.ether_host.specs.Inside.{seen}
+use Rattle.ether_host.specs.declared.host.EtherHost.{EtherHost}
+use Rattle.ether_host.specs.declared.host.EtherFault.{EtherFault}
+use Rattle.ether_host.specs.declared.host.EtherFault.TheVariants.{BadLink, Unbooted}
+
+pub record HostView : Type 0 where
+  pub stack : StackView
+  pub link : LinkState
+
+abbrev pub view : EtherHost → HostView
+view h = record { stack = h.stack; link = seen h.layer }
+
+-- the host that it means
+abbrev pub host_of : HostView → Host
+host_of v = record { machine = state_of v.stack; link = v.link }
+
+-- the host ends with the last value behind the reference as its stack
+abbrev pub LendsStack : MutBor EtherHost → MutBor StackView → Fml
+LendsStack h r = Lends the_row stack_row h r (λ s. record h.now { stack = s })
+
+-- why there is no host: the link is tested first
+abbrev pub IsUnbooted : Config → Link → EtherFault → Type 0
+IsUnbooted c l BadLink = is_link c l ≡ false
+IsUnbooted c l (Unbooted fault) = (is_link c l ≡ true) × boots.IsUnbooted c fault

@@ -1,0 +1,52 @@
+//! A packet in memory of its own.
+ghost use Rattle.std.specs.Prelude.{◌≡◌, ◌≤◌, length, take};
+ghost use Rattle.flat_ether.specs.declared.sizes.TheConstants.{ETHER_MTU};
+
+use crate::bytes::put_bytes;
+use flat_ether::ETHER_MTU;
+
+/// The room for a packet of an Ethernet.
+pub(crate) const ROOM: usize = ETHER_MTU as usize;
+
+/// A packet, and the next hop for whose hardware address it waits.
+#[derive(Clone, Copy)]
+pub(crate) struct PacketBuffer {
+    pub(crate) hop: u32,
+    pub(crate) len: usize,
+    pub(crate) room: [u8; ROOM],
+    ghost within: { len ≤ ETHER_MTU },
+}
+
+impl PacketBuffer {
+    ghost use Rattle.ether_host.specs.Buffers.{held_in};
+
+    /// One with no bytes.
+    pub(crate) fn blank() -> PacketBuffer {
+        PacketBuffer {
+            hop: 0,
+            len: 0,
+            room: [0; ROOM],
+        }
+    }
+
+    /// One with these bytes.
+    #[tactic(auto, using(crate::proofs::Rooms::written_front))]
+    pub(crate) fn of(hop: u32, packet: &[u8]) -> PacketBuffer
+        requires { length packet.now ≤ ETHER_MTU }
+        ensures { held_in result ≡ record { hop = hop; packet = packet.now } }
+    {
+        let mut buffer = PacketBuffer::blank();
+        buffer.hop = hop;
+        buffer.len = packet.len();
+        put_bytes(&mut buffer.room, 0, packet);
+        buffer
+    }
+
+    /// Its bytes.
+    pub(crate) fn bytes(&self) -> &[u8]
+        ensures is { result.now ≡ take self.now.len self.now.room }
+        ensures most { length result.now ≤ ETHER_MTU }
+    {
+        &self.room[..self.len]
+    }
+}

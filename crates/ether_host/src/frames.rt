@@ -1,0 +1,121 @@
+//! Frames and ARP packets, read and written.
+ghost use Rattle.std.specs.Prelude.{◌≡◌, ◌≤◌, ◌+◌, drop, length, take, if◌then◌else◌};
+ghost use Rattle.flat_ether.specs.declared.sizes.TheConstants.{ETHER_HEADER};
+ghost use Rattle.flat_ether.specs.Frames.{arp_bytes, arp_of, body_of, frame, header, is_arp, kind_of};
+
+use crate::bytes::{mac_at, put_bytes, put_u16, put_u32, u16_at, u32_at};
+use flat_ether::{
+    ARP_BYTES, ARP_REPLY, ARP_REQUEST, Arp, ETHER_BROADCAST, ETHER_HEADER, ETHER_TYPE_ARP,
+    ETHER_TYPE_IP, FrameKind, Mac,
+};
+
+/// Where the body of a frame begins.
+pub(crate) const BODY: usize = ETHER_HEADER as usize;
+
+/// Bytes of an ARP packet, as the length of an array.
+pub(crate) const ARP: usize = ARP_BYTES as usize;
+
+/// The hardware type of Ethernet (RFC 826).
+const HARDWARE_ETHERNET: u16 = 1;
+
+/// Addresses of 6 and of 4 bytes.
+const LENGTHS: u16 = 0x0604;
+
+/// What a frame is for the host with this hardware address.
+pub(crate) fn kind_of(mac: Mac, frame: &[u8]) -> FrameKind
+    ensures { result ≡ kind_of mac frame.now }
+{
+    if frame.len() < BODY {
+        return FrameKind::Other;
+    }
+    let destination = mac_at(frame, 0);
+    if !destination.is(mac) && !destination.is(ETHER_BROADCAST) {
+        return FrameKind::Other;
+    }
+    match u16_at(frame, 12) {
+        ETHER_TYPE_IP => FrameKind::Packet,
+        ETHER_TYPE_ARP => FrameKind::Arp,
+        _ => FrameKind::Other,
+    }
+}
+
+/// The header of a frame.
+fn header(destination: Mac, source: Mac, kind: u16) -> [u8; BODY]
+    ensures { result ≡ header destination source kind }
+{
+    let mut bytes = [0; BODY];
+    put_u16(&mut bytes, 0, destination.high);
+    put_u32(&mut bytes, 2, destination.low);
+    put_u16(&mut bytes, 6, source.high);
+    put_u32(&mut bytes, 8, source.low);
+    put_u16(&mut bytes, 12, kind);
+    bytes
+}
+
+/// Writes the header of a frame in front of its body of so many bytes, which stands in the room already. The answer is
+/// how many bytes the frame has.
+pub(crate) fn put_frame(
+    room: &mut [u8],
+    destination: Mac,
+    source: Mac,
+    kind: u16,
+    len: usize,
+) -> usize
+    requires { ETHER_HEADER + len ≤ length room.old }
+    ensures frame { take result room.new ≡ frame destination source kind (take len (drop ETHER_HEADER room.old)) }
+    ensures long { result ≡ ETHER_HEADER + len }
+{
+    let header = header(destination, source, kind);
+    put_bytes(room, 0, &header);
+    BODY + len
+}
+
+/// The body of a frame.
+#[tactic(auto, using(crate::proofs::Rooms::rest_is))]
+pub(crate) fn body_of(frame: &[u8]) -> &[u8]
+    requires { ETHER_HEADER ≤ length frame.now }
+    ensures { result.now ≡ body_of frame.now }
+{
+    &frame[BODY..]
+}
+
+/// What an ARP packet says, if it's one of Ethernet and IPv4.
+pub(crate) fn read_arp(body: &[u8]) -> Option<Arp>
+    ensures { result ≡ (if is_arp body.now then Some (arp_of body.now) else None) }
+{
+    if body.len() < ARP
+        || u16_at(body, 0) != HARDWARE_ETHERNET
+        || u16_at(body, 2) != ETHER_TYPE_IP
+        || u16_at(body, 4) != LENGTHS
+    {
+        return None;
+    }
+    let op = u16_at(body, 6);
+    if op != ARP_REQUEST && op != ARP_REPLY {
+        return None;
+    }
+    Some(Arp {
+        op,
+        mac: mac_at(body, 8),
+        ip: u32_at(body, 14),
+        target: u32_at(body, 24),
+    })
+}
+
+/// The bytes of an ARP packet.
+pub(crate) fn arp_bytes(op: u16, mac: Mac, ip: u32, target_mac: Mac, target: u32) -> [u8; ARP]
+    ensures { result ≡ arp_bytes op mac ip target_mac target }
+{
+    let mut bytes = [0; ARP];
+    put_u16(&mut bytes, 0, HARDWARE_ETHERNET);
+    put_u16(&mut bytes, 2, ETHER_TYPE_IP);
+    put_u16(&mut bytes, 4, LENGTHS);
+    put_u16(&mut bytes, 6, op);
+    put_u16(&mut bytes, 8, mac.high);
+    put_u32(&mut bytes, 10, mac.low);
+    put_u32(&mut bytes, 14, ip);
+    put_u16(&mut bytes, 18, target_mac.high);
+    put_u32(&mut bytes, 20, target_mac.low);
+    put_u32(&mut bytes, 24, target);
+    bytes
+}

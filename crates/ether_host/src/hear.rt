@@ -1,0 +1,123 @@
+//! What comes: ARP packets, and the answers to others.
+ghost use Rattle.std.specs.Prelude.{◌≡◌, if◌then◌else◌};
+ghost use Rattle.flat_ether.specs.Frames.{arp_of};
+ghost use Rattle.ether_host.specs.Answers.{CanAnswer};
+ghost use Rattle.flat_ether.specs.Links.{answers_with, finds_conflict, hears_arp, ignores, learns, owes, is_sound_arp};
+
+use crate::answer::{echo_reply, port_unreachable};
+use crate::frames::read_arp;
+use crate::layer::LinkLayer;
+use crate::table::{place_of, put};
+use flat_ether::{
+    ARP_KEEP_TICKS, ARP_REQUEST, Answer, Arp, ETHER_BROADCAST, Neighbour, PENDING_REPLIES,
+    PendingReply,
+};
+
+impl LinkLayer {
+    ghost use Rattle.ether_host.specs.Inside.{seen};
+
+    /// A frame that nobody looks at.
+    pub(crate) fn ignore(&mut self)
+        ensures { seen self.new ≡ ignores (seen self.old) }
+    {
+        self.tallies.ignored = self.tallies.ignored.saturating_add(1);
+    }
+
+    /// Learns the sender of an ARP packet, if it's known or asks for this host (RFC 826, "Packet Reception").
+    fn learn(&mut self, arp: Arp)
+        ensures { seen self.new ≡ learns arp (seen self.old) }
+    {
+        if !self.link.is_neighbour(&self.config, arp.ip) {
+            return;
+        }
+        let known = place_of(self.neighbours.as_slice(), arp.ip).is_some();
+        if known || arp.target == self.config.addr {
+            put(
+                &mut self.neighbours,
+                Neighbour {
+                    ip: arp.ip,
+                    mac: Some(arp.mac),
+                    ticks: ARP_KEEP_TICKS,
+                    tries: 0,
+                },
+            );
+        }
+    }
+
+    /// A request for this host's address is owed a reply.
+    fn owe(&mut self, arp: Arp)
+        ensures { seen self.new ≡ owes arp (seen self.old) }
+    {
+        if arp.op != ARP_REQUEST || arp.target != self.config.addr {
+            return;
+        }
+        if self.replies.len() < PENDING_REPLIES {
+            self.replies.push(PendingReply {
+                mac: arp.mac,
+                ip: arp.ip,
+            });
+        } else {
+            self.tallies.replies_dropped = self.tallies.replies_dropped.saturating_add(1);
+        }
+    }
+
+    /// Another host claims this one's address.
+    fn claim(&mut self)
+        ensures { seen self.new ≡ finds_conflict (seen self.old) }
+    {
+        self.tallies.conflicts = self.tallies.conflicts.saturating_add(1);
+    }
+
+    /// An ARP packet that is from another host.
+    fn sound_arp(&self, body: &[u8]) -> Option<Arp>
+        ensures { result ≡ (if is_sound_arp (seen self.now) body.now then Some (arp_of body.now) else None) }
+    {
+        let arp = read_arp(body)?;
+        if arp.mac.is(self.link.mac) || arp.mac.is(ETHER_BROADCAST) {
+            return None;
+        }
+        Some(arp)
+    }
+
+    /// An ARP packet comes (`in_arpinput` of volume 2, chapter 21).
+    pub(crate) fn hear_arp(&mut self, body: &[u8])
+        ensures { seen self.new ≡ hears_arp body.now (seen self.old) }
+    {
+        let Some(arp) = self.sound_arp(body) else {
+            self.tallies.bad_arp = self.tallies.bad_arp.saturating_add(1);
+            return;
+        };
+        if arp.ip == self.config.addr {
+            self.claim();
+        } else {
+            self.learn(arp);
+        }
+        self.owe(arp);
+    }
+
+    /// A packet is answered, if the place for an answer is free.
+    pub(crate) fn answer_with(&mut self, answer: Answer, came: &[u8])
+        requires { CanAnswer answer came.now }
+        ensures { seen self.new ≡ answers_with answer came.now (seen self.old) }
+    {
+        if answer == Answer::Silence {
+            return;
+        }
+        if self.answered {
+            self.tallies.icmp_dropped = self.tallies.icmp_dropped.saturating_add(1);
+            return;
+        }
+        match answer {
+            Answer::Echo => {
+                echo_reply(&mut self.answer, &self.config, came);
+                self.tallies.echoes = self.tallies.echoes.saturating_add(1);
+            }
+            Answer::Unreachable => {
+                port_unreachable(&mut self.answer, &self.config, came);
+                self.tallies.unreachable = self.tallies.unreachable.saturating_add(1);
+            }
+            Answer::Silence => {}
+        }
+        self.answered = true;
+    }
+}

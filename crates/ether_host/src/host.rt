@@ -1,0 +1,129 @@
+//! The host: its stack, and the link below it.
+ghost use Rattle.std.specs.Prelude.{◌≡◌, ◌+◌, ◌≤◌, length, IfSome, MatchResult};
+ghost use Rattle.std.specs.Borrow.{sem};
+ghost use Rattle.params.specs.declared.TheConstants.{IP_MAX_PACKET};
+ghost use Rattle.flat_ether.specs.Hosts.{Hears, Ticks, gives, host_up};
+ghost use Rattle.flat_ether.specs.declared.sizes.TheConstants.{ETHER_HEADER, ETHER_MTU};
+ghost use Rattle.net_stack.specs.Boots.{free_pool};
+ghost use Rattle.ether_host.specs.Fronts.{front};
+ghost use Rattle.ether_host.specs.View.{IsUnbooted, LendsStack, host_of, view};
+
+use crate::frames::{body_of, kind_of};
+use crate::layer::LinkLayer;
+use crate::packets::{drain, take_packet};
+use flat_ether::{FrameKind, Link, Neighbour, Tallies};
+use flat_model::Config;
+use mbuf_chain::Pool;
+use net_stack::{BootFault, Stack};
+use std::alloc::Global;
+use thiserror::Error;
+
+/// Why a host isn't booted.
+#[derive(Clone, Copy, Debug, PartialEq, Eq, Error)]
+pub enum EtherFault {
+    /// The MTU is above 1,500, the hardware address is that of a group, or the gateway is no neighbour.
+    #[error("bad link")]
+    BadLink,
+    /// Its stack isn't booted.
+    #[error(transparent)]
+    Unbooted(BootFault),
+}
+
+/// A host on an Ethernet: a stack, and its link. It must be spent, by `end`.
+pub struct EtherHost {
+    pub(crate) stack: Stack,
+    pub(crate) layer: LinkLayer,
+}
+
+impl EtherHost {
+    /// A host that has just started, and knows no neighbour. All memory that it will ever need is taken here.
+    ///
+    /// # Errors
+    ///
+    /// `BadLink`; else `Unbooted`, if there is no stack by this configuration, or host memory was refused.
+    pub fn boot(alloc: Global, config: Config, link: Link) -> Result<EtherHost, EtherFault>
+        ensures { MatchResult result (λ h. host_of (view h) ≡ host_up config link) (IsUnbooted config link) }
+    {
+        if !link.check(&config) {
+            return Err(EtherFault::BadLink);
+        }
+        let stack = match Stack::boot(alloc, config) {
+            Ok(stack) => stack,
+            Err(fault) => return Err(EtherFault::Unbooted(fault)),
+        };
+        match LinkLayer::boot(alloc, config, link) {
+            Ok(layer) => Ok(EtherHost { stack, layer }),
+            Err(_) => {
+                let _ = stack.end();
+                Err(EtherFault::Unbooted(BootFault::Memory))
+            }
+        }
+    }
+
+    /// The stack, for any call on it. A packet that is handed to its `rx` comes past the link, and one that its `tx`
+    /// gives doesn't go through it.
+    pub fn stack(&mut self) -> &mut Stack
+        ensures* writes_back { sem 𝓛 (LendsStack self.entry result) }
+        ensures value { result.now ≡ (view self.entry.now).stack }
+    {
+        &mut self.stack
+    }
+
+    /// A frame comes, without its check sequence. An IPv4 packet goes to the stack as it is, and may be answered; an ARP
+    /// packet is heard; all else is ignored.
+    pub fn receive(&mut self, frame: &[u8])
+        requires { length frame.now ≤ ETHER_HEADER + IP_MAX_PACKET }
+        ensures { Hears frame.now (host_of (view self.old)) (host_of (view self.new)) }
+    {
+        match kind_of(self.layer.link.mac, frame) {
+            FrameKind::Packet => take_packet(&mut self.stack, &mut self.layer, frame),
+            FrameKind::Arp => self.layer.hear_arp(body_of(frame)),
+            FrameKind::Other => self.layer.ignore(),
+        }
+    }
+
+    /// The next frame for the link: its bytes stand in front of the room, and the answer is how many they are. The room
+    /// has 1,514 bytes or more. What stands behind the frame in the room may be anything, and all of it if there is
+    /// none. The network card appends what a short frame lacks, and the check sequence.
+    pub fn transmit(&mut self, room: &mut [u8]) -> Option<usize>
+        requires mtu { (view self.old).stack.config.mtu ≤ ETHER_MTU }
+        requires room { ETHER_HEADER + ETHER_MTU ≤ length room.old }
+        ensures step { (front result room.new, host_of (view self.new)) ≡ gives (host_of (view self.old)) }
+        ensures fits { IfSome result (λ n. n ≤ length room.new) }
+    {
+        if let Some(len) = self.layer.give_own(room) {
+            return Some(len);
+        }
+        drain(&mut self.stack, &mut self.layer, room)
+    }
+
+    /// The clock ticks, each half second.
+    pub fn tick(&mut self)
+        ensures { Ticks (host_of (view self.old)) (host_of (view self.new)) }
+    {
+        self.stack.tick();
+        self.layer.tick();
+    }
+
+    /// What was counted of the link.
+    pub fn tallies(&self) -> Tallies
+        ensures { result ≡ (view self.now).link.tallies }
+    {
+        self.layer.tallies
+    }
+
+    /// The neighbours that are known or asked for, the one that was put last at the end.
+    pub fn neighbours(&self) -> &[Neighbour]
+        ensures { result.now ≡ (view self.now).link.neighbours }
+    {
+        self.layer.neighbours.as_slice()
+    }
+
+    /// Frees all that the host holds, and gives back the pool of its stack, of which everything is free then.
+    pub fn end(self) -> Pool
+        ensures { result ≡ free_pool (view self).stack.config }
+    {
+        let EtherHost { stack, layer: _ } = self;
+        stack.end()
+    }
+}

@@ -1,0 +1,47 @@
+//! What a host keeps of its link beside the stack.
+ghost use Rattle.std.specs.Prelude.{◌≡◌, ◌≤◌, IfOk, vec_capacity};
+ghost use Rattle.flat_ether.specs.declared.sizes.TheConstants.{HELD_PACKETS};
+
+use crate::buffer::PacketBuffer;
+use arrayvec::ArrayVec;
+use flat_ether::{
+    HELD_PACKETS, Link, NEIGHBOURS, Neighbour, PENDING_REPLIES, PendingReply, Tallies,
+};
+use flat_model::Config;
+use std::alloc::{AllocError, Global};
+
+/// The link's state. All its memory is taken at boot.
+#[derive(Drop)]
+pub(crate) struct LinkLayer {
+    pub(crate) config: Config,
+    pub(crate) link: Link,
+    pub(crate) neighbours: ArrayVec<Neighbour, NEIGHBOURS>,
+    pub(crate) replies: ArrayVec<PendingReply, PENDING_REPLIES>,
+    pub(crate) held: Vec<PacketBuffer>,
+    pub(crate) answer: PacketBuffer,
+    pub(crate) answered: bool,
+    pub(crate) tallies: Tallies,
+    ghost places: { HELD_PACKETS ≤ vec_capacity held },
+}
+
+impl LinkLayer {
+    ghost use Rattle.flat_ether.specs.Links.{link_up};
+    ghost use Rattle.ether_host.specs.Inside.{seen};
+
+    /// A link of which nothing is known. `AllocError` comes if the host has no memory for the packets that it may hold.
+    pub(crate) fn boot(alloc: Global, config: Config, link: Link) -> Result<LinkLayer, AllocError>
+        ensures { IfOk result (λ l. seen l ≡ link_up config link) }
+    {
+        let held = Vec::with_capacity(alloc, HELD_PACKETS)?;
+        Ok(LinkLayer {
+            config,
+            link,
+            neighbours: ArrayVec::new(),
+            replies: ArrayVec::new(),
+            held,
+            answer: PacketBuffer::blank(),
+            answered: false,
+            tallies: Tallies::default(),
+        })
+    }
+}

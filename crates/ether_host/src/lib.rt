@@ -1,0 +1,19 @@
+//! A stack on an Ethernet: frames in and out, ARP, and the answers of ICMP (TCP/IP Illustrated volume 2, chapters 4, 11
+//! and 21).
+#![tactic(auto)]
+
+mod answer;
+mod buffer;
+mod bytes;
+mod frames;
+mod hear;
+mod host;
+mod layer;
+mod own;
+mod packets;
+mod send;
+mod table;
+mod tick;
+
+pub use flat_ether::{Link, Mac, Neighbour, Tallies};
+pub use host::{EtherFault, EtherHost};

@@ -1,0 +1,137 @@
+//! What the link gives of its own accord: ARP replies and requests, packets that waited, and the ICMP answer.
+ghost use Rattle.std.specs.Prelude.{◌≡◌, ◌+◌, ◌<◌, ◌≤◌, drop, length, map, take, IfSome};
+ghost use Rattle.flat_ether.specs.declared.sizes.TheConstants.{ETHER_HEADER, ETHER_MTU};
+ghost use Rattle.flat_ether.specs.Links.{first_ready, gives_answer, gives_held, gives_own, gives_reply, gives_request};
+ghost use Rattle.ether_host.specs.Fronts.{front};
+ghost use Rattle.ether_host.specs.Buffers.{held_in};
+
+use crate::buffer::PacketBuffer;
+use crate::bytes::put_bytes;
+use crate::frames::{ARP, BODY, arp_bytes, put_frame};
+use crate::layer::LinkLayer;
+use crate::table::{due, mac_of};
+use flat_ether::{
+    ARP_REPLY, ARP_REQUEST, ARP_RETRY_TICKS, ETHER_BROADCAST, ETHER_TYPE_ARP, Mac, NO_MAC,
+    Neighbour,
+};
+
+/// Where the first packet stands whose next hop is known, and that hop's hardware address.
+fn first_ready(neighbours: &[Neighbour], held: &[PacketBuffer]) -> Option<(usize, Mac)>
+    ensures is { result ≡ first_ready neighbours.now (map held_in held.now) }
+    ensures within { IfSome result (λ found. found.0 < length held.now) }
+{
+    for at in 0..held.len() {
+        if let Some(mac) = mac_of(neighbours, held[at].hop) {
+            return Some((at, mac));
+        }
+    }
+    None
+}
+
+/// Writes the body of a frame behind the place of its header.
+fn put_body(room: &mut [u8], body: &[u8])
+    requires { ETHER_HEADER + length body.now ≤ length room.old }
+    ensures { take (length body.now) (drop ETHER_HEADER room.new) ≡ body.now }
+{
+    put_bytes(room, BODY, body);
+}
+
+impl LinkLayer {
+    ghost use Rattle.ether_host.specs.Inside.{seen};
+
+    /// The ARP reply that is owed longest.
+    fn give_reply(&mut self, room: &mut [u8]) -> Option<usize>
+        requires { ETHER_HEADER + ETHER_MTU ≤ length room.old }
+        ensures frame { front result room.new ≡ (gives_reply (seen self.old)).0 }
+        ensures link { seen self.new ≡ (gives_reply (seen self.old)).1 }
+        ensures fits { IfSome result (λ n. n ≤ length room.new) }
+    {
+        if self.replies.is_empty() {
+            return None;
+        }
+        let replies = self.replies.remove(0);
+        let body = arp_bytes(
+            ARP_REPLY,
+            self.link.mac,
+            self.config.addr,
+            replies.mac,
+            replies.ip,
+        );
+        put_body(room, &body);
+        Some(put_frame(room, replies.mac, self.link.mac, ETHER_TYPE_ARP, ARP))
+    }
+
+    /// A request for the first neighbour for which one is due.
+    fn give_request(&mut self, room: &mut [u8]) -> Option<usize>
+        requires { ETHER_HEADER + ETHER_MTU ≤ length room.old }
+        ensures frame { front result room.new ≡ (gives_request (seen self.old)).0 }
+        ensures link { seen self.new ≡ (gives_request (seen self.old)).1 }
+        ensures fits { IfSome result (λ n. n ≤ length room.new) }
+    {
+        let at = due(self.neighbours.as_slice())?;
+        let mut neighbour = self.neighbours[at];
+        let body = arp_bytes(
+            ARP_REQUEST,
+            self.link.mac,
+            self.config.addr,
+            NO_MAC,
+            neighbour.ip,
+        );
+        neighbour.ticks = ARP_RETRY_TICKS;
+        neighbour.tries = neighbour.tries.saturating_add(1);
+        self.neighbours[at] = neighbour;
+        put_body(room, &body);
+        Some(put_frame(room, ETHER_BROADCAST, self.link.mac, ETHER_TYPE_ARP, ARP))
+    }
+
+    /// The first packet that waited and whose next hop is known now.
+    fn give_held(&mut self, room: &mut [u8]) -> Option<usize>
+        requires { ETHER_HEADER + ETHER_MTU ≤ length room.old }
+        ensures frame { front result room.new ≡ (gives_held (seen self.old)).0 }
+        ensures link { seen self.new ≡ (gives_held (seen self.old)).1 }
+        ensures fits { IfSome result (λ n. n ≤ length room.new) }
+    {
+        let (at, mac) = first_ready(self.neighbours.as_slice(), self.held.as_slice())?;
+        let buffer = &self.held[at];
+        let bytes = buffer.bytes();
+        let len = bytes.len();
+        put_body(room, bytes);
+        self.held.remove(at);
+        Some(self.framed(room, mac, len))
+    }
+
+    /// The answer that waits goes as each packet does.
+    fn give_answer(&mut self, room: &mut [u8]) -> Option<usize>
+        requires { ETHER_HEADER + ETHER_MTU ≤ length room.old }
+        ensures frame { front result room.new ≡ (gives_answer (seen self.old)).0 }
+        ensures link { seen self.new ≡ (gives_answer (seen self.old)).1 }
+        ensures fits { IfSome result (λ n. n ≤ length room.new) }
+    {
+        if !self.answered {
+            return None;
+        }
+        self.answered = false;
+        let len = self.answer.len;
+        put_body(room, self.answer.bytes());
+        self.send(room, len)
+    }
+
+    /// The next of these.
+    pub(crate) fn give_own(&mut self, room: &mut [u8]) -> Option<usize>
+        requires { ETHER_HEADER + ETHER_MTU ≤ length room.old }
+        ensures frame { front result room.new ≡ (gives_own (seen self.old)).0 }
+        ensures link { seen self.new ≡ (gives_own (seen self.old)).1 }
+        ensures fits { IfSome result (λ n. n ≤ length room.new) }
+    {
+        if let Some(len) = self.give_reply(room) {
+            return Some(len);
+        }
+        if let Some(len) = self.give_request(room) {
+            return Some(len);
+        }
+        if let Some(len) = self.give_held(room) {
+            return Some(len);
+        }
+        self.give_answer(room)
+    }
+}

@@ -1,0 +1,81 @@
+//! The ways of packets: from a frame to the stack, and from the stack into frames.
+ghost use Rattle.std.specs.Prelude.{◌≡◌, ◌+◌, ◌≤◌, drop, length, IfSome};
+ghost use Rattle.params.specs.declared.TheConstants.{IP_MAX_PACKET};
+ghost use Rattle.flat_model.specs.Machine.Event.{Comes, Done, Transmit};
+ghost use Rattle.flat_model.specs.Machine.Replies.{given_reply};
+ghost use Rattle.flat_model.specs.Machine.Step.{Step};
+ghost use Rattle.flat_model.specs.declared.counter.Counter.TheVariants.{IpNoproto, UdpNoport};
+ghost use Rattle.flat_ether.specs.Frames.{body_of};
+ghost use Rattle.flat_ether.specs.Icmp.{counted_more};
+ghost use Rattle.flat_ether.specs.Hosts.{answers, drained, with_output};
+ghost use Rattle.flat_ether.specs.declared.sizes.TheConstants.{ETHER_HEADER, ETHER_MTU};
+ghost use Rattle.net_stack.specs.Stack.{state_of};
+ghost use Rattle.ether_host.specs.Fronts.{front};
+ghost use Rattle.ether_host.specs.Inside.{seen};
+
+use crate::answer::answer_by;
+use crate::bytes::mac_at;
+use crate::frames::{BODY, body_of};
+use crate::layer::LinkLayer;
+use flat_model::Counter;
+use net_stack::Stack;
+
+/// The stack takes a packet. Whether it ended as a datagram that no socket takes, and as one of a protocol that it doesn't
+/// know.
+fn arrive(stack: &mut Stack, packet: &[u8]) -> (bool, bool)
+    requires { length packet.now ≤ IP_MAX_PACKET }
+    ensures step { Step (state_of stack.old) (Comes packet.now) Done (state_of stack.new) }
+    ensures no_port { result.0 ≡ counted_more UdpNoport (state_of stack.old) (state_of stack.new) }
+    ensures no_protocol { result.1 ≡ counted_more IpNoproto (state_of stack.old) (state_of stack.new) }
+{
+    let ports = stack.counter(Counter::UdpNoport);
+    let protocols = stack.counter(Counter::IpNoproto);
+    stack.rx(packet);
+    let no_port = stack.counter(Counter::UdpNoport) != ports;
+    let no_protocol = stack.counter(Counter::IpNoproto) != protocols;
+    (no_port, no_protocol)
+}
+
+/// A frame with a packet comes: the stack takes the packet, and the link may answer it.
+pub(crate) fn take_packet(stack: &mut Stack, layer: &mut LinkLayer, frame: &[u8])
+    requires long { ETHER_HEADER ≤ length frame.now }
+    requires most { length frame.now ≤ ETHER_HEADER + IP_MAX_PACKET }
+    ensures step { Step (state_of stack.old) (Comes (body_of frame.now)) Done (state_of stack.new) }
+    ensures link { seen layer.new ≡ answers frame.now (state_of stack.old) (state_of stack.new) (seen layer.old) }
+{
+    let packet = body_of(frame);
+    let (no_port, no_protocol) = arrive(stack, packet);
+    if mac_at(frame, 0).is(layer.link.mac) {
+        let answer = answer_by(&layer.config, packet, no_port, no_protocol);
+        layer.answer_with(answer, packet);
+    }
+}
+
+/// Takes the packet that has waited longest from the stack, and puts it behind the place of a header.
+fn take(stack: &mut Stack, room: &mut [u8]) -> Option<usize>
+    requires mtu { stack.old.config.mtu ≤ ETHER_MTU }
+    requires room { ETHER_HEADER + ETHER_MTU ≤ length room.old }
+    ensures step { Step (state_of stack.old) Transmit (given_reply result (drop ETHER_HEADER room.new))
+        (state_of stack.new) }
+    ensures fits { IfSome result (λ n. ETHER_HEADER + n ≤ length room.new) }
+{
+    stack.tx(&mut room[BODY..])
+}
+
+/// Takes packets from the stack until one goes out.
+pub(crate) fn drain(stack: &mut Stack, layer: &mut LinkLayer, room: &mut [u8]) -> Option<usize>
+    requires mtu { stack.old.config.mtu ≤ ETHER_MTU }
+    requires room { ETHER_HEADER + ETHER_MTU ≤ length room.old }
+    ensures frame { front result room.new ≡ (drained (state_of stack.old).output (seen layer.old)).frame }
+    ensures link { seen layer.new ≡ (drained (state_of stack.old).output (seen layer.old)).link }
+    ensures stack { state_of stack.new
+        ≡ with_output (state_of stack.old) (drained (state_of stack.old).output (seen layer.old)).output }
+    ensures fits { IfSome result (λ n. n ≤ length room.new) }
+{
+    while let Some(len) = take(stack, room) {
+        if let Some(len) = layer.send(room, len) {
+            return Some(len);
+        }
+    }
+    None
+}

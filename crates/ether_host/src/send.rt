@@ -1,0 +1,99 @@
+//! A packet that goes out: to its next hop, or into a place where it waits.
+ghost use Rattle.std.specs.Prelude.{◌≡◌, ◌+◌, ◌≤◌, length, take, drop, IfSome};
+ghost use Rattle.params.specs.declared.TheConstants.{IP_HEADER};
+ghost use Rattle.flat_ether.specs.declared.sizes.TheConstants.{ETHER_HEADER, ETHER_TYPE_IP};
+ghost use Rattle.flat_ether.specs.Frames.{frame};
+ghost use Rattle.flat_ether.specs.Links.{asks, holds, sends, route_of};
+ghost use Rattle.ether_host.specs.Fronts.{front};
+
+use crate::buffer::{PacketBuffer, ROOM};
+use crate::bytes::u32_at;
+use crate::frames::{BODY, put_frame};
+use crate::layer::LinkLayer;
+use crate::table::{mac_of, place_of, put};
+use flat_ether::{ETHER_BROADCAST, ETHER_TYPE_IP, HELD_PACKETS, Mac, Neighbour, Route};
+use params::IP_HEADER;
+
+impl LinkLayer {
+    ghost use Rattle.ether_host.specs.Inside.{seen};
+
+    /// A packet waits for the hardware address of its next hop; where no place is free, the one that has waited longest
+    /// is dropped.
+    fn hold(&mut self, hop: u32, packet: &[u8])
+        ensures { seen self.new ≡ holds hop packet.now (seen self.old) }
+    {
+        if packet.len() > ROOM {
+            self.tallies.too_long = self.tallies.too_long.saturating_add(1);
+            return;
+        }
+        if self.held.len() >= HELD_PACKETS {
+            self.held.remove(0);
+            self.tallies.held_dropped = self.tallies.held_dropped.saturating_add(1);
+        }
+        self.held.push_reserved(PacketBuffer::of(hop, packet));
+    }
+
+    /// A next hop that isn't known is asked for.
+    fn ask(&mut self, hop: u32)
+        ensures { seen self.new ≡ asks hop (seen self.old) }
+    {
+        if place_of(self.neighbours.as_slice(), hop).is_none() {
+            put(
+                &mut self.neighbours,
+                Neighbour {
+                    ip: hop,
+                    mac: None,
+                    ticks: 0,
+                    tries: 0,
+                },
+            );
+        }
+    }
+
+    /// The way of a packet; one without a header has none.
+    fn route_of(&self, packet: &[u8]) -> Route
+        ensures { result ≡ route_of (seen self.now) packet.now }
+    {
+        if packet.len() < IP_HEADER as usize {
+            return Route::NoRoute;
+        }
+        self.link.route(&self.config, u32_at(packet, 16))
+    }
+
+    /// Sends the packet of so many bytes that stands in the room behind the place of a header: the answer is how many
+    /// bytes the frame has, or `None` if it waits, or has no way.
+    pub(crate) fn send(&mut self, room: &mut [u8], len: usize) -> Option<usize>
+        requires { ETHER_HEADER + len ≤ length room.old }
+        ensures frame { front result room.new ≡ (sends (take len (drop ETHER_HEADER room.old)) (seen self.old)).0 }
+        ensures link { seen self.new ≡ (sends (take len (drop ETHER_HEADER room.old)) (seen self.old)).1 }
+        ensures fits { IfSome result (λ n. n ≤ length room.new) }
+    {
+        let route = self.route_of(&room[BODY..BODY + len]);
+        let hop = match route {
+            Route::All => return Some(self.framed(room, ETHER_BROADCAST, len)),
+            Route::Hop(hop) => hop,
+            Route::NoRoute => {
+                self.tallies.no_route = self.tallies.no_route.saturating_add(1);
+                return None;
+            }
+        };
+        match mac_of(self.neighbours.as_slice(), hop) {
+            Some(mac) => Some(self.framed(room, mac, len)),
+            None => {
+                self.hold(hop, &room[BODY..BODY + len]);
+                self.ask(hop);
+                None
+            }
+        }
+    }
+
+    /// Makes a frame of the packet of so many bytes in the room.
+    pub(crate) fn framed(&self, room: &mut [u8], mac: Mac, len: usize) -> usize
+        requires { ETHER_HEADER + len ≤ length room.old }
+        ensures frame { take result room.new
+            ≡ frame mac self.now.link.mac ETHER_TYPE_IP (take len (drop ETHER_HEADER room.old)) }
+        ensures long { result ≡ ETHER_HEADER + len }
+    {
+        put_frame(room, mac, self.link.mac, ETHER_TYPE_IP, len)
+    }
+}

@@ -1,0 +1,71 @@
+//! The clock.
+ghost use Rattle.std.specs.Prelude.{◌≡◌, ◌≤◌, filter, length, map, vec_capacity};
+ghost use Rattle.flat_ether.specs.Links.{aged, stays, ticks};
+ghost use Rattle.ether_host.specs.Buffers.{has_hope_in};
+
+use crate::buffer::PacketBuffer;
+use crate::layer::LinkLayer;
+use crate::table::place_of;
+use arrayvec::ArrayVec;
+use flat_ether::{ARP_TRIES, NEIGHBOURS, Neighbour};
+
+/// A neighbour a tick later.
+fn aged(neighbour: Neighbour) -> Neighbour
+    ensures { result ≡ aged neighbour }
+{
+    let ticks = neighbour.ticks.saturating_sub(1);
+    Neighbour { ticks, ..neighbour }
+}
+
+/// Whether it's known still, or another request may go out.
+fn stays(neighbour: &Neighbour) -> bool
+    ensures { result ≡ stays neighbour.now }
+{
+    neighbour.ticks > 0 || (neighbour.mac.is_none() && neighbour.tries < ARP_TRIES)
+}
+
+/// The neighbours a tick later.
+fn age(neighbours: &[Neighbour]) -> ArrayVec<Neighbour, NEIGHBOURS>
+    requires { length neighbours.now ≤ NEIGHBOURS }
+    ensures { result.items ≡ filter stays (map aged neighbours.now) }
+{
+    let mut kept = ArrayVec::new();
+    for at in 0..neighbours.len() {
+        let older = aged(neighbours[at]);
+        if stays(&older) {
+            kept.push(older);
+        }
+    }
+    kept
+}
+
+/// Drops the packets whose next hop is neither known nor asked for.
+fn keep(held: &mut Vec<PacketBuffer>, neighbours: &[Neighbour])
+    ensures kept { held.new.items ≡ filter (has_hope_in neighbours.now) held.old.items }
+    ensures room { vec_capacity held.new ≡ vec_capacity held.old }
+{
+    let mut at = 0;
+    'walk: while at < held.len() {
+        if place_of(neighbours, held[at].hop).is_some() {
+            at += 1;
+        } else {
+            held.remove(at);
+        }
+    }
+}
+
+impl LinkLayer {
+    ghost use Rattle.ether_host.specs.Inside.{seen};
+
+    /// A tick: what isn't known any more is forgotten, and the packets that waited for it are given up (`arptimer` of
+    /// volume 2, chapter 21).
+    pub(crate) fn tick(&mut self)
+        ensures { seen self.new ≡ ticks (seen self.old) }
+    {
+        self.neighbours = age(self.neighbours.as_slice());
+        let before = self.held.len();
+        keep(&mut self.held, self.neighbours.as_slice());
+        let lost = before.saturating_sub(self.held.len());
+        self.tallies.unresolved = self.tallies.unresolved.saturating_add(lost as u64);
+    }
+}

@@ -1,0 +1,64 @@
+-- The bytes of frames and of ARP packets (RFC 894, RFC 826). All numbers are big-endian.
+use Rattle.std.specs.Prelude.{ℕ, ◌+◌, nat_le, Bool, ◌==◌, ◌&&◌, ◌||◌, if◌then◌else◌, List, ◌++◌, length, drop}
+use Rattle.flat_model.specs.Packets.Header.{two_bytes, four_bytes, u16_at, u32_at}
+use Rattle.flat_ether.specs.declared.mac.Mac.{Mac}
+use Rattle.flat_ether.specs.declared.arp.Arp.{Arp}
+use Rattle.flat_ether.specs.declared.link.FrameKind.{FrameKind}
+use Rattle.flat_ether.specs.declared.link.FrameKind.TheVariants.{Packet, Arp as Of_arp, Other}
+use Rattle.flat_ether.specs.declared.sizes.TheConstants.{ETHER_HEADER, ETHER_TYPE_IP, ETHER_TYPE_ARP, ARP_BYTES}
+
+-- ---- hardware addresses
+
+abbrev pub mac_bytes : Mac → List ℕ
+mac_bytes m = two_bytes m.high ++ four_bytes m.low
+
+-- the one in the six bytes from a place on
+abbrev pub mac_at : ℕ → List ℕ → Mac
+mac_at at bytes = record { high = u16_at at bytes; low = u32_at (at + 2) bytes }
+
+abbrev pub same_mac : Mac → Mac → Bool
+same_mac a b = (a.high == b.high) && (a.low == b.low)
+
+-- ff:ff:ff:ff:ff:ff
+abbrev pub ether_broadcast : Mac
+ether_broadcast = record { high = 0xffff; low = 0xffffffff }
+
+-- what a request has in place of the address that it asks for
+abbrev pub no_mac : Mac
+no_mac = record { high = 0; low = 0 }
+
+-- ---- frames
+
+abbrev pub header : Mac → Mac → ℕ → List ℕ
+header destination source kind = mac_bytes destination ++ mac_bytes source ++ two_bytes kind
+
+abbrev pub frame : Mac → Mac → ℕ → List ℕ → List ℕ
+frame destination source kind body = header destination source kind ++ body
+
+abbrev pub body_of : List ℕ → List ℕ
+body_of f = drop ETHER_HEADER f
+
+-- it has a header, and goes to this hardware address or to all
+abbrev pub is_heard : Mac → List ℕ → Bool
+is_heard mac f = nat_le ETHER_HEADER (length f) && (same_mac (mac_at 0 f) mac || same_mac (mac_at 0 f) ether_broadcast)
+
+abbrev pub kind_of : Mac → List ℕ → FrameKind
+kind_of mac f =
+    if is_heard mac f
+    then (if u16_at 12 f == ETHER_TYPE_IP then Packet else if u16_at 12 f == ETHER_TYPE_ARP then Of_arp else Other)
+    else Other
+
+-- ---- ARP
+
+abbrev pub arp_bytes : ℕ → Mac → ℕ → Mac → ℕ → List ℕ
+arp_bytes op mac ip target_mac target =
+    two_bytes 1 ++ two_bytes ETHER_TYPE_IP ++ two_bytes 0x0604 ++ two_bytes op ++ mac_bytes mac ++ four_bytes ip ++ mac_bytes target_mac ++ four_bytes target
+
+abbrev pub arp_of : List ℕ → Arp
+arp_of b = record { op = u16_at 6 b; mac = mac_at 8 b; ip = u32_at 14 b; target = u32_at 24 b }
+
+-- a request or a reply of Ethernet and IPv4, with addresses of 6 and 4 bytes
+abbrev pub is_arp : List ℕ → Bool
+is_arp b =
+    nat_le ARP_BYTES (length b)
+    && ((u16_at 0 b == 1) && ((u16_at 2 b == ETHER_TYPE_IP) && ((u16_at 4 b == 0x0604) && ((u16_at 6 b == 1) || (u16_at 6 b == 2)))))

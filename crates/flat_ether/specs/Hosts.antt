@@ -1,0 +1,108 @@
+-- A host on an Ethernet: the flat machine and its link, and each step of both (this project's own).
+use Rattle.std.specs.Prelude.{◌≡◌, ℕ, ◌+◌, ◌≤◌, Bool, if◌then◌else◌, List, [], ◌∷◌, length, is_some, Option, Some, None}
+use Rattle.params.specs.declared.TheConstants.{IP_MAX_PACKET}
+use Rattle.flat_model.specs.Amounts.Weight.{Item}
+use Rattle.flat_model.specs.Machine.Event.{Comes, Tick, Done, IsEvent, IsBytes}
+use Rattle.flat_model.specs.Machine.State.{State, boot}
+use Rattle.flat_model.specs.Machine.Step.{Step}
+use Rattle.flat_model.specs.Runs.Run.{Turn}
+use Rattle.flat_model.specs.declared.config.Config.{Config}
+use Rattle.flat_ether.specs.Frames.{body_of, mac_at, same_mac, kind_of}
+use Rattle.flat_ether.specs.Icmp.{answer_to}
+use Rattle.flat_ether.specs.Links.{LinkState, Gives, answers_with, gives_own, hears_arp, ignores, link_up, sends, ticks}
+use Rattle.flat_ether.specs.declared.link.Link.{Link}
+use Rattle.flat_ether.specs.declared.link.FrameKind.{FrameKind}
+use Rattle.flat_ether.specs.declared.link.FrameKind.TheVariants.{Packet, Arp, Other}
+use Rattle.flat_ether.specs.declared.sizes.TheConstants.{ETHER_HEADER}
+
+pub record Host : Type 0 where
+  pub machine : State
+  pub link : LinkState
+
+abbrev pub host_up : Config → Link → Host
+host_up c l = record { machine = boot c; link = link_up c l }
+
+-- ---- a frame comes
+
+-- the frame names this host alone
+abbrev pub is_to_us : LinkState → List ℕ → Bool
+is_to_us s f = same_mac (mac_at 0 f) s.link.mac
+
+-- what the link does once the machine has taken the packet of a frame: one that came to all is never answered
+abbrev pub answers : List ℕ → State → State → LinkState → LinkState
+answers f old new s = if is_to_us s f then answers_with (answer_to s.config (body_of f) old new) (body_of f) s else s
+
+-- a packet comes to the machine as it is in the frame
+pub record TakesPacket (f : List ℕ) (old new : Host) : Type 0 where
+  pub machine : Step old.machine (Comes (body_of f)) Done new.machine
+  pub link : new.link ≡ answers f old.machine new.machine old.link
+
+abbrev pub HearsKind : FrameKind → List ℕ → Host → Host → Type 0
+HearsKind Packet f old new = TakesPacket f old new
+HearsKind Arp f old new = new ≡ record old { link = hears_arp (body_of f) old.link }
+HearsKind Other f old new = new ≡ record old { link = ignores old.link }
+
+abbrev pub Hears : List ℕ → Host → Host → Type 0
+Hears f old new = HearsKind (kind_of old.link.link.mac f) f old new
+
+-- ---- a frame goes
+
+-- what the machine's packets come to, one after another, until one goes out: the frame, the packets that still wait
+-- for the link, and the link then
+pub record Drained : Type 0 where
+  pub frame : Option (List ℕ)
+  pub output : List Item
+  pub link : LinkState
+
+abbrev pub or_drains : Gives → List Item → Drained → Drained
+or_drains (None, s) later rest = rest
+or_drains (Some frame, s) later rest = record { frame = Some frame; output = later; link = s }
+
+abbrev pub drained : List Item → LinkState → Drained
+drained [] s = record { frame = None; output = []; link = s }
+drained (item ∷ later) s = or_drains (sends item.bytes s) later (drained later (sends item.bytes s).1)
+
+-- the machine whose output queue has these packets left
+abbrev pub with_output : State → List Item → State
+with_output s output = record s { output = output }
+
+abbrev pub gives_drained : Host → LinkState → Option (List ℕ) × Host
+gives_drained h s =
+    let d = drained h.machine.output s in
+    (d.frame, record { machine = with_output h.machine d.output; link = d.link })
+
+-- the next frame for the link, and the host then: the link's own first, then what the machine gives
+abbrev pub gives : Host → Option (List ℕ) × Host
+gives h =
+    let own = gives_own h.link in
+    if is_some own.0 then (own.0, record h { link = own.1 }) else gives_drained h own.1
+
+-- ---- the clock
+
+pub record Ticks (old new : Host) : Type 0 where
+  pub machine : Step old.machine Tick Done new.machine
+  pub link : new.link ≡ ticks old.link
+
+-- ---- whole runs
+
+-- what is done with a host: a frame comes, the link takes the next one, the clock ticks, or a call is made on its stack
+pub data Act : Type 0 where
+  Comes_in : (frame : List ℕ) → Act
+  Goes_out : (frame : Option (List ℕ)) → Act
+  Clock : Act
+  Calls : (turn : Turn) → Act
+
+pub record CallsMachine (turn : Turn) (old new : Host) : Type 0 where
+  pub event : IsEvent turn.event
+  pub machine : Step old.machine turn.event turn.reply new.machine
+  pub link : new.link ≡ old.link
+
+abbrev pub IsAct : Host → Act → Host → Type 0
+IsAct old (Comes_in f) new = IsBytes f × (length f ≤ ETHER_HEADER + IP_MAX_PACKET) × Hears f old new
+IsAct old (Goes_out f) new = (f, new) ≡ gives old
+IsAct old Clock new = Ticks old new
+IsAct old (Calls turn) new = CallsMachine turn old new
+
+abbrev pub AreActs : Host → List Act → Host → Type 0
+AreActs old [] new = new ≡ old
+AreActs old (act ∷ acts) new = (mid : Host) × IsAct old act mid × AreActs mid acts new

@@ -1,0 +1,138 @@
+-- What holds of whole runs of a host (this project's own).
+use Rattle.std.specs.Prelude.{◌≡◌, ◌≢◌, ◌⊎◌, ℕ, ◌<◌, ◌^◌, true, List, [], ◌∷◌, ◌++◌, filter_map, option_to_list, All, Contains, Some}
+use Rattle.flat_model.specs.Machine.Ledger.{exact_ledger}
+use Rattle.flat_model.specs.Machine.Count.{value_of}
+use Rattle.flat_model.specs.Packets.Header.{u16_at}
+use Rattle.flat_model.specs.declared.address.Addr.{Addr}
+use Rattle.flat_model.specs.declared.counter.Counter.TheVariants.{IpLocalout}
+use Rattle.flat_model.specs.Machine.State.{IsConfig, Socket, Datagram, boot}
+use Rattle.flat_model.specs.Runs.Run.{Turn, Leads}
+use Rattle.flat_wire.specs.Wire.{ComesFrom, IsAnswered, packet_in, packet_out}
+use Rattle.flat_ether.specs.Frames.{arp_bytes, arp_of, body_of, ether_broadcast, frame, is_arp, kind_of}
+use Rattle.flat_ether.specs.Icmp.{echo_reply, port_unreachable}
+use Rattle.flat_ether.specs.Hosts.{Act, AreActs, Host, host_up, Comes_in, Goes_out, Clock, Calls}
+use Rattle.flat_ether.specs.Links.{route_to}
+use Rattle.flat_model.specs.declared.config.Config.{Config}
+use Rattle.flat_ether.specs.declared.link.Link.{Link}
+use Rattle.flat_ether.specs.declared.link.FrameKind.{FrameKind}
+use Rattle.flat_ether.specs.declared.link.FrameKind.TheVariants.{Packet, Arp, Other}
+use Rattle.flat_ether.specs.declared.link.Route.TheVariants.{All as To_all, Hop}
+use Rattle.flat_ether.specs.declared.mac.Mac.{Mac}
+use Rattle.flat_ether.specs.declared.sizes.TheConstants.{ETHER_TYPE_ARP, ETHER_TYPE_IP}
+
+-- ---- what comes
+
+-- the packet of a frame of this sort
+abbrev pub packet_if : FrameKind → List ℕ → List (List ℕ)
+packet_if Packet f = body_of f ∷ []
+packet_if Arp f = []
+packet_if Other f = []
+
+-- the packets that come to the machine in an act: that of a frame for the host, or one that the program hands to `rx`
+abbrev pub packets_in : Mac → Act → List (List ℕ)
+packets_in mac (Comes_in f) = packet_if (kind_of mac f) f
+packets_in mac (Goes_out f) = []
+packets_in mac Clock = []
+packets_in mac (Calls turn) = filter_map packet_in (turn ∷ [])
+
+abbrev pub packets_to : Mac → List Act → List (List ℕ)
+packets_to mac [] = []
+packets_to mac (act ∷ acts) = packets_in mac act ++ packets_to mac acts
+
+-- ---- what goes
+
+abbrev pub frame_in : Act → List (List ℕ)
+frame_in (Comes_in f) = f ∷ []
+frame_in (Goes_out f) = []
+frame_in Clock = []
+frame_in (Calls turn) = []
+
+-- the frames that came
+abbrev pub frames_in : List Act → List (List ℕ)
+frames_in [] = []
+frames_in (act ∷ acts) = frame_in act ++ frames_in acts
+
+abbrev pub frame_out : Act → List (List ℕ)
+frame_out (Comes_in f) = []
+frame_out (Goes_out f) = option_to_list f
+frame_out Clock = []
+frame_out (Calls turn) = []
+
+-- the frames that went
+abbrev pub frames_out : List Act → List (List ℕ)
+frames_out [] = []
+frames_out (act ∷ acts) = frame_out act ++ frames_out acts
+
+-- an ARP packet in one of these frames said that the address has this hardware address
+pub record IsTold (frames : List (List ℕ)) (ip : ℕ) (mac : Mac) : Type 0 where
+  pub frame : List ℕ
+  pub came : Contains frames frame
+  pub form : is_arp (body_of frame) ≡ true
+  pub ip_is : (arp_of (body_of frame)).ip ≡ ip
+  pub mac_is : (arp_of (body_of frame)).mac ≡ mac
+
+-- the machine gave the packet, or it answers that of a frame which came
+abbrev pub IsMade : Config → List (List ℕ) → List (List ℕ) → List ℕ → Type 0
+IsMade c frames given packet =
+    Contains given packet
+    ⊎ ((frame : List ℕ) × Contains frames frame × ((packet ≡ echo_reply c (body_of frame)) ⊎ (packet ≡ port_unreachable c (body_of frame))))
+
+-- to all, where that is the packet's way; else to a hardware address that was told for its next hop
+abbrev pub IsRoute : Config → Link → List (List ℕ) → List ℕ → Mac → Type 0
+IsRoute c l frames packet mac =
+    ((route_to c l packet ≡ To_all) × (mac ≡ ether_broadcast)) ⊎ ((hop : ℕ) × (route_to c l packet ≡ Hop hop) × IsTold frames hop mac)
+
+-- the frame has such a packet, whole
+pub record CarriesPacket (c : Config) (l : Link) (frames given : List (List ℕ)) (f : List ℕ) : Type 0 where
+  pub packet : List ℕ
+  pub mac : Mac
+  pub frame_is : f ≡ frame mac l.mac ETHER_TYPE_IP packet
+  pub made : IsMade c frames given packet
+  pub route : IsRoute c l frames packet mac
+
+-- a frame with an ARP packet of the host
+pub record IsOwnArp (c : Config) (l : Link) (f : List ℕ) : Type 0 where
+  pub op : ℕ
+  pub to : Mac
+  pub target_mac : Mac
+  pub target : ℕ
+  pub frame_is : f ≡ frame to l.mac ETHER_TYPE_ARP (arp_bytes op l.mac c.addr target_mac target)
+
+abbrev pub IsSent : Config → Link → List (List ℕ) → List (List ℕ) → List ℕ → Type 0
+IsSent c l frames given f = IsOwnArp c l f ⊎ CarriesPacket c l frames given f
+
+-- These acts are turns of the machine. What came in these are the packets of the frames for the host, in their order;
+-- and each frame that went is an ARP packet of the host, or has a packet that the machine gave or that answers one.
+pub record MakesTurns (c : Config) (l : Link) (acts : List Act) (new : Host) : Type 0 where
+  pub turns : List Turn
+  pub leads : Leads exact_ledger (boot c) turns new.machine
+  pub came : filter_map packet_in turns ≡ packets_to l.mac acts
+  pub went : All (IsSent c l (frames_in acts) (filter_map packet_out turns)) (frames_out acts)
+
+-- ---- two hosts
+
+-- one of these frames has the packet
+abbrev pub IsCarried : List (List ℕ) → List ℕ → Type 0
+IsCarried frames packet = (f : List ℕ) × Contains frames f × (u16_at 12 f ≡ ETHER_TYPE_IP) × (body_of f ≡ packet)
+
+-- Two hosts from their start. What came to the second as a packet of UDP with the first's address stood in a frame that
+-- the first gave, in any order and any number of times; the first sent fewer than 65,536 times; and the second doesn't
+-- have the first's address.
+pub record AreOnEthernet (c d : Config) (l m : Link) (sent came : List Act) (s t : Host) : Type 0 where
+  pub first_boots : IsConfig c
+  pub second_boots : IsConfig d
+  pub first_acts : AreActs (host_up c l) sent s
+  pub second_acts : AreActs (host_up d m) came t
+  pub not_addr : c.addr ≢ d.addr
+  pub not_bcast : c.addr ≢ d.bcast
+  pub few : value_of IpLocalout s.machine.counters < 2 ^ 16
+  pub wire : All (λ packet. ComesFrom c.addr packet → IsCarried (frames_out sent) packet) (packets_to m.mac came)
+
+-- Then a datagram that waits in a queue of the second with the first's address as its sender was sent so, by turns that
+-- the first's acts are.
+pub record WasSentOnEthernet (c d : Config) (l : Link) (sent : List Act) (s : Host) (socket : Socket) (datagram : Datagram) : Type 0 where
+  pub makes : MakesTurns c l sent s
+  pub to : Addr
+  pub answered : IsAnswered exact_ledger c makes.turns s.machine datagram.sender.port to datagram.item.bytes
+  pub port : socket.port ≡ Some to.port
+  pub here : (to.ip ≡ d.addr) ⊎ (to.ip ≡ d.bcast)

@@ -1,0 +1,6 @@
+pub mod Frames
+pub mod Routes
+pub mod Icmp
+pub mod Links
+pub mod Hosts
+pub mod Laws

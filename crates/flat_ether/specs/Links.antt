@@ -1,0 +1,287 @@
+-- What a host keeps of its link beside the machine, and what becomes of it (volume 2, chapters 4 and 21; RFC 826). All
+-- of it is functions: nothing is left open.
+use Rattle.std.specs.Prelude.{ℕ, ◌+◌, ◌-◌, nat_lt, Bool, ◌==◌, ◌&&◌, ◌||◌, not, if◌then◌else◌, List, [], ◌∷◌, ◌++◌, length, min, map, filter, position, drop, remove, slice_get, slice_index_or, slice_set, Option, Some, None, is_some}
+use Rattle.params.specs.declared.TheConstants.{IP_HEADER}
+use Rattle.flat_model.specs.Packets.Header.{u32_at}
+use Rattle.flat_model.specs.Machine.Count.{more_by}
+use Rattle.flat_model.specs.declared.config.Config.{Config}
+use Rattle.flat_ether.specs.Frames.{frame, ether_broadcast, no_mac, arp_bytes, arp_of, is_arp, same_mac}
+use Rattle.flat_ether.specs.Routes.{is_neighbour, route}
+use Rattle.flat_ether.specs.Icmp.{echo_reply, port_unreachable}
+use Rattle.flat_ether.specs.declared.answer.Answer.{Answer}
+use Rattle.flat_ether.specs.declared.answer.Answer.TheVariants.{Echo, Unreachable, Silence}
+use Rattle.flat_ether.specs.declared.arp.Arp.{Arp}
+use Rattle.flat_ether.specs.declared.link.Link.{Link}
+use Rattle.flat_ether.specs.declared.link.Route.{Route}
+use Rattle.flat_ether.specs.declared.link.Route.TheVariants.{All, Hop, NoRoute}
+use Rattle.flat_ether.specs.declared.mac.Mac.{Mac}
+use Rattle.flat_ether.specs.declared.neighbour.Neighbour.{Neighbour}
+use Rattle.flat_ether.specs.declared.neighbour.PendingReply.{PendingReply}
+use Rattle.flat_ether.specs.declared.tallies.Tallies.{Tallies}
+use Rattle.flat_ether.specs.declared.sizes.TheConstants.{ETHER_MTU, ETHER_TYPE_IP, ETHER_TYPE_ARP, ARP_REQUEST, ARP_REPLY, NEIGHBOURS, ARP_KEEP_TICKS, ARP_RETRY_TICKS, ARP_TRIES, HELD_PACKETS, PENDING_REPLIES}
+
+-- a packet that waits for the hardware address of its next hop
+pub record Held : Type 0 where
+  pub hop : ℕ
+  pub packet : List ℕ
+
+-- The machine's configuration and its link; the neighbours, the one that was put last at the end; who is owed an ARP
+-- reply; the packets that wait, the oldest first; the ICMP answer that waits; and what was counted.
+pub record LinkState : Type 0 where
+  pub config : Config
+  pub link : Link
+  pub neighbours : List Neighbour
+  pub replies : List PendingReply
+  pub held : List Held
+  pub answer : Option (List ℕ)
+  pub tallies : Tallies
+
+-- nothing was counted
+abbrev pub no_tallies : Tallies
+no_tallies = record { ignored = 0; bad_arp = 0; conflicts = 0; replies_dropped = 0; no_route = 0; held_dropped = 0; unresolved = 0; too_long = 0; echoes = 0; unreachable = 0; icmp_dropped = 0 }
+
+-- a link that has just started
+abbrev pub link_up : Config → Link → LinkState
+link_up c l = record { config = c; link = l; neighbours = []; replies = []; held = []; answer = None; tallies = no_tallies }
+
+abbrev pub ignores : LinkState → LinkState
+ignores s = record s { tallies = record s.tallies { ignored = more_by 1 s.tallies.ignored } }
+
+-- ---- the table
+
+abbrev pub has_ip : ℕ → Neighbour → Bool
+has_ip ip n = n.ip == ip
+
+abbrev pub place_of : ℕ → List Neighbour → Option ℕ
+place_of ip ns = position (has_ip ip) ns
+
+abbrev pub mac_in : Option Neighbour → Option Mac
+mac_in None = None
+mac_in (Some n) = n.mac
+
+abbrev pub mac_at : Option ℕ → List Neighbour → Option Mac
+mac_at None ns = None
+mac_at (Some at) ns = mac_in (slice_get ns at)
+
+-- the hardware address last heard for an address
+abbrev pub mac_of : ℕ → List Neighbour → Option Mac
+mac_of ip ns = mac_at (place_of ip ns) ns
+
+-- a full table loses its first
+abbrev pub with_room : List Neighbour → List Neighbour
+with_room ns = if nat_lt (length ns) NEIGHBOURS then ns else drop 1 ns
+
+abbrev pub put_at : Option ℕ → Neighbour → List Neighbour → List Neighbour
+put_at None n ns = with_room ns ++ n ∷ []
+put_at (Some at) n ns = slice_set ns at n
+
+-- in the place of the one with its address, or behind all others
+abbrev pub put : Neighbour → List Neighbour → List Neighbour
+put n ns = put_at (place_of n.ip ns) n ns
+
+-- ---- an ARP packet that comes (`in_arpinput` of volume 2, chapter 21)
+
+-- one whose hardware address was heard now
+abbrev pub heard : Arp → Neighbour
+heard a = record { ip = a.ip; mac = Some a.mac; ticks = ARP_KEEP_TICKS; tries = 0 }
+
+-- Its sender is learned where it's known already, or the packet is for this host (RFC 826, "Packet Reception").
+abbrev pub is_learned : LinkState → Arp → Bool
+is_learned s a = is_neighbour s.config s.link a.ip && (is_some (place_of a.ip s.neighbours) || (a.target == s.config.addr))
+
+abbrev pub learns : Arp → LinkState → LinkState
+learns a s = if is_learned s a then record s { neighbours = put (heard a) s.neighbours } else s
+
+abbrev pub is_asked : LinkState → Arp → Bool
+is_asked s a = (a.op == ARP_REQUEST) && (a.target == s.config.addr)
+
+abbrev pub owes : Arp → LinkState → LinkState
+owes a s =
+    if is_asked s a
+    then (
+    if nat_lt (length s.replies) PENDING_REPLIES
+    then record s { replies = s.replies ++ record { mac = a.mac; ip = a.ip } ∷ [] }
+    else record s { tallies = record s.tallies { replies_dropped = more_by 1 s.tallies.replies_dropped } })
+    else s
+
+abbrev pub finds_bad : LinkState → LinkState
+finds_bad s = record s { tallies = record s.tallies { bad_arp = more_by 1 s.tallies.bad_arp } }
+
+abbrev pub finds_conflict : LinkState → LinkState
+finds_conflict s = record s { tallies = record s.tallies { conflicts = more_by 1 s.tallies.conflicts } }
+
+-- of this form, and neither from this host itself nor from all
+abbrev pub is_sound_arp : LinkState → List ℕ → Bool
+is_sound_arp s b = is_arp b && (not (same_mac (arp_of b).mac s.link.mac) && not (same_mac (arp_of b).mac ether_broadcast))
+
+abbrev pub hears_arp : List ℕ → LinkState → LinkState
+hears_arp b s =
+    if is_sound_arp s b
+    then (if (arp_of b).ip == s.config.addr then owes (arp_of b) (finds_conflict s) else owes (arp_of b) (learns (arp_of b) s))
+    else finds_bad s
+
+-- ---- a packet that goes out (`ether_output`, `arpresolve`)
+
+abbrev pub finds_long : LinkState → LinkState
+finds_long s = record s { tallies = record s.tallies { too_long = more_by 1 s.tallies.too_long } }
+
+abbrev pub takes_place : ℕ → List ℕ → LinkState → LinkState
+takes_place hop packet s = record s { held = s.held ++ record { hop = hop; packet = packet } ∷ [] }
+
+-- the one that has waited longest is dropped
+abbrev pub drops_first : LinkState → LinkState
+drops_first s = record s { held = drop 1 s.held; tallies = record s.tallies { held_dropped = more_by 1 s.tallies.held_dropped } }
+
+-- a packet waits; where no place is free, it takes that of the one that has waited longest
+abbrev pub holds : ℕ → List ℕ → LinkState → LinkState
+holds hop packet s =
+    if nat_lt ETHER_MTU (length packet)
+    then finds_long s
+    else takes_place hop packet (if nat_lt (length s.held) HELD_PACKETS then s else drops_first s)
+
+-- one that isn't known, and for which a request is due
+abbrev pub unknown : ℕ → Neighbour
+unknown ip = record { ip = ip; mac = None; ticks = 0; tries = 0 }
+
+abbrev pub asks : ℕ → LinkState → LinkState
+asks hop s = if is_some (place_of hop s.neighbours) then s else record s { neighbours = put (unknown hop) s.neighbours }
+
+-- what goes out now, and the link then
+abbrev pub Gives : Type 0
+Gives = Option (List ℕ) × LinkState
+
+abbrev pub to_hop : ℕ → List ℕ → LinkState → Option Mac → Gives
+to_hop hop packet s None = (None, asks hop (holds hop packet s))
+to_hop hop packet s (Some mac) = (Some (frame mac s.link.mac ETHER_TYPE_IP packet), s)
+
+abbrev pub by_route : List ℕ → LinkState → Route → Gives
+by_route packet s All = (Some (frame ether_broadcast s.link.mac ETHER_TYPE_IP packet), s)
+by_route packet s (Hop hop) = to_hop hop packet s (mac_of hop s.neighbours)
+by_route packet s NoRoute = (None, record s { tallies = record s.tallies { no_route = more_by 1 s.tallies.no_route } })
+
+-- the way of a packet; one without a header has none
+abbrev pub route_to : Config → Link → List ℕ → Route
+route_to c l packet = if nat_lt (length packet) IP_HEADER then NoRoute else route c l (u32_at 16 packet)
+
+abbrev pub route_of : LinkState → List ℕ → Route
+route_of s packet = route_to s.config s.link packet
+
+abbrev pub sends : List ℕ → LinkState → Gives
+sends packet s = by_route packet s (route_of s packet)
+
+-- ---- the host's own frames
+
+-- the ARP reply that is owed longest
+abbrev pub replies_to : List PendingReply → LinkState → Gives
+replies_to [] s = (None, s)
+replies_to (o ∷ later) s =
+    (Some (frame o.mac s.link.mac ETHER_TYPE_ARP (arp_bytes ARP_REPLY s.link.mac s.config.addr o.mac o.ip)), record s { replies = later })
+
+abbrev pub gives_reply : LinkState → Gives
+gives_reply s = replies_to s.replies s
+
+-- a request is due
+abbrev pub is_due : Neighbour → Bool
+is_due n = not (is_some n.mac) && ((n.ticks == 0) && nat_lt n.tries ARP_TRIES)
+
+abbrev pub asked_again : Neighbour → Neighbour
+asked_again n = record n { ticks = ARP_RETRY_TICKS; tries = min (n.tries + 1) 255 }
+
+abbrev pub asks_of : ℕ → Neighbour → LinkState → Gives
+asks_of at n s = (
+  Some (frame ether_broadcast s.link.mac ETHER_TYPE_ARP (arp_bytes ARP_REQUEST s.link.mac s.config.addr no_mac n.ip)),
+  record s { neighbours = slice_set s.neighbours at (asked_again n) },
+)
+
+abbrev pub asks_at : Option ℕ → LinkState → Gives
+asks_at None s = (None, s)
+asks_at (Some at) s = asks_of at (slice_index_or s.neighbours at (unknown 0)) s
+
+-- a request for the first neighbour for which one is due
+abbrev pub gives_request : LinkState → Gives
+gives_request s = asks_at (position is_due s.neighbours) s
+
+-- ---- packets that waited
+
+-- a place further on
+abbrev pub one_on : Option (ℕ × Mac) → Option (ℕ × Mac)
+one_on None = None
+one_on (Some found) = Some (found.0 + 1, found.1)
+
+abbrev pub ready_or : Option Mac → Option (ℕ × Mac) → Option (ℕ × Mac)
+ready_or (Some mac) later = Some (0, mac)
+ready_or None later = one_on later
+
+-- the place of the first packet that waits and whose next hop is known now, with that hop's hardware address
+abbrev pub first_ready : List Neighbour → List Held → Option (ℕ × Mac)
+first_ready ns [] = None
+first_ready ns (h ∷ hs) = ready_or (mac_of h.hop ns) (first_ready ns hs)
+
+abbrev pub sends_held : ℕ → Mac → Option Held → LinkState → Gives
+sends_held at mac None s = (None, s)
+sends_held at mac (Some h) s = (Some (frame mac s.link.mac ETHER_TYPE_IP h.packet), record s { held = remove s.held at })
+
+abbrev pub sends_at : Option (ℕ × Mac) → LinkState → Gives
+sends_at None s = (None, s)
+sends_at (Some found) s = sends_held found.0 found.1 (slice_get s.held found.0) s
+
+abbrev pub gives_held : LinkState → Gives
+gives_held s = sends_at (first_ready s.neighbours s.held) s
+
+-- the ICMP answer goes as each packet does, and its place is free then
+abbrev pub sends_answer : Option (List ℕ) → LinkState → Gives
+sends_answer None s = (None, s)
+sends_answer (Some packet) s = sends packet (record s { answer = None })
+
+abbrev pub gives_answer : LinkState → Gives
+gives_answer s = sends_answer s.answer s
+
+-- where the first has nothing, the second
+abbrev pub or_then : Gives → (LinkState → Gives) → Gives
+or_then g next = if is_some g.0 then g else next g.1
+
+-- what the link gives of its own accord: replies, requests, what waited, and the answer
+abbrev pub gives_own : LinkState → Gives
+gives_own s = or_then (or_then (or_then (gives_reply s) gives_request) gives_held) gives_answer
+
+-- ---- the clock (`arptimer` of volume 2, chapter 21)
+
+abbrev pub aged : Neighbour → Neighbour
+aged n = record n { ticks = n.ticks - 1 }
+
+-- it's known still, or another request may go out
+abbrev pub stays : Neighbour → Bool
+stays n = nat_lt 0 n.ticks || (not (is_some n.mac) && nat_lt n.tries ARP_TRIES)
+
+-- its next hop is known or asked for
+abbrev pub has_hope : List Neighbour → Held → Bool
+has_hope ns h = is_some (place_of h.hop ns)
+
+abbrev pub keeps : List Neighbour → LinkState → LinkState
+keeps ns s =
+    let held : List Held = filter (has_hope ns) s.held in
+    record s { neighbours = ns; held = held; tallies = record s.tallies { unresolved = more_by (length s.held - length held) s.tallies.unresolved } }
+
+-- a tick: what isn't known any more is forgotten, and the packets that waited for it are given up
+abbrev pub ticks : LinkState → LinkState
+ticks s = keeps (filter stays (map aged s.neighbours)) s
+
+-- ---- ICMP
+
+-- an answer gets the place, if it's free
+abbrev pub puts_answer : List ℕ → LinkState → LinkState
+puts_answer packet s = record s { answer = Some packet }
+
+abbrev pub finds_no_place : LinkState → LinkState
+finds_no_place s = record s { tallies = record s.tallies { icmp_dropped = more_by 1 s.tallies.icmp_dropped } }
+
+abbrev pub counts_echo : LinkState → LinkState
+counts_echo s = record s { tallies = record s.tallies { echoes = more_by 1 s.tallies.echoes } }
+
+abbrev pub counts_unreachable : LinkState → LinkState
+counts_unreachable s = record s { tallies = record s.tallies { unreachable = more_by 1 s.tallies.unreachable } }
+
+abbrev pub answers_with : Answer → List ℕ → LinkState → LinkState
+answers_with Silence came s = s
+answers_with Echo came s = if is_some s.answer then finds_no_place s else counts_echo (puts_answer (echo_reply s.config came) s)
+answers_with Unreachable came s = if is_some s.answer then finds_no_place s else counts_unreachable (puts_answer (port_unreachable s.config came) s)

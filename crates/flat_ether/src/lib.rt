@@ -1,0 +1,25 @@
+//! An Ethernet host as definitions: frames, ARP, the answers of ICMP, and the link's state beside the flat machine's.
+//! `specs/` holds them, and this crate the plain types that they share with the code, and the laws that hold of them.
+#![tactic(auto)]
+
+mod answer;
+mod arp;
+mod laws;
+mod link;
+mod mac;
+mod neighbour;
+mod sizes;
+mod tallies;
+
+pub use answer::Answer;
+pub use arp::Arp;
+pub use laws::{hosts_make_turns, hosts_on_an_ethernet};
+pub use link::{FrameKind, Link, Route};
+pub use mac::{ETHER_BROADCAST, Mac, NO_MAC};
+pub use neighbour::{Neighbour, PendingReply};
+pub use sizes::{
+    ARP_BYTES, ARP_KEEP_TICKS, ARP_REPLY, ARP_REQUEST, ARP_RETRY_TICKS, ARP_TRIES, ECHO_REPLY,
+    ECHO_REQUEST, ETHER_HEADER, ETHER_MTU, ETHER_TYPE_ARP, ETHER_TYPE_IP, HELD_PACKETS,
+    ICMP_HEADER, NEIGHBOURS, PENDING_REPLIES, PROTOCOL_ICMP, UNREACHABLE, UNREACHABLE_PORT,
+};
+pub use tallies::Tallies;

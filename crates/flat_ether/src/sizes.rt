@@ -1,0 +1,41 @@
+//! Sizes, limits and well-known numbers of an Ethernet. In the end they stand in `params`.
+
+/// Bytes of an Ethernet header: destination, source and type (RFC 894).
+pub const ETHER_HEADER: u32 = 14;
+/// The most bytes after the header of a frame, `ETHERMTU` (RFC 894).
+pub const ETHER_MTU: u32 = 1_500;
+/// The type of a frame with an IPv4 packet (RFC 894).
+pub const ETHER_TYPE_IP: u16 = 0x0800;
+/// The type of a frame with an ARP packet (RFC 826).
+pub const ETHER_TYPE_ARP: u16 = 0x0806;
+/// Bytes of an ARP packet for Ethernet and IPv4 (RFC 826).
+pub const ARP_BYTES: u32 = 28;
+/// The operation of an ARP request (RFC 826).
+pub const ARP_REQUEST: u16 = 1;
+/// The operation of an ARP reply (RFC 826).
+pub const ARP_REPLY: u16 = 2;
+/// How many neighbours are known at most (this project's own).
+pub const NEIGHBOURS: usize = 32;
+/// For so many ticks a hardware address is kept after it was heard, 20 minutes: `arpt_keep` (volume 2, chapter 21).
+pub const ARP_KEEP_TICKS: u16 = 2_400;
+/// So many ticks lie between two requests for one address at least, more than a second: a request may go out just
+/// before a tick.
+pub const ARP_RETRY_TICKS: u16 = 3;
+/// After so many requests without an answer an address is given up, `arp_maxtries` (volume 2, chapter 21).
+pub const ARP_TRIES: u8 = 5;
+/// How many packets are held for addresses that aren't known yet (this project's own).
+pub const HELD_PACKETS: usize = 8;
+/// How many ARP replies may wait for the link (this project's own).
+pub const PENDING_REPLIES: usize = 8;
+/// The protocol number of ICMP, `IPPROTO_ICMP` (RFC 792).
+pub const PROTOCOL_ICMP: u8 = 1;
+/// Bytes of an ICMP header: type, code, checksum and four bytes more (RFC 792).
+pub const ICMP_HEADER: u32 = 8;
+/// The type of an echo reply, and of an echo request (RFC 792).
+pub const ECHO_REPLY: u8 = 0;
+
+pub const ECHO_REQUEST: u8 = 8;
+/// The type "destination unreachable", and its code "port unreachable" (RFC 792).
+pub const UNREACHABLE: u8 = 3;
+
+pub const UNREACHABLE_PORT: u8 = 3;
