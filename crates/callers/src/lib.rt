@@ -10,6 +10,7 @@ pub mod commented_lines;
 pub mod counting;
 pub mod datagram_sizes;
 pub mod echo_host;
+pub mod ether_echo;
 pub mod fragment;
 pub mod hearing;
 pub mod line_echo;

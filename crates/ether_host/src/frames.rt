@@ -1,13 +1,15 @@
 //! Frames and ARP packets, read and written.
-ghost use Rattle.std.specs.Prelude.{◌≡◌, ◌≤◌, ◌+◌, drop, length, take, if◌then◌else◌};
+ghost use Rattle.std.specs.Prelude.{◌≡◌, ◌≤◌, ◌+◌, drop, length, take, if◌then◌else◌, ◌/◌, ◌^◌};
 ghost use Rattle.flat_ether.specs.declared.sizes.TheConstants.{ETHER_HEADER};
-ghost use Rattle.flat_ether.specs.Frames.{arp_bytes, arp_of, body_of, frame, header, is_arp, kind_of};
+ghost use Rattle.flat_ether.specs.Frames.{arp_bytes, arp_of, body_of, frame, header, is_arp, is_bad_source, is_martian, kind_of, packet_kind};
 
 use crate::bytes::{mac_at, put_bytes, put_u16, put_u32, u16_at, u32_at};
 use flat_ether::{
     ARP_BYTES, ARP_REPLY, ARP_REQUEST, Arp, ETHER_BROADCAST, ETHER_HEADER, ETHER_TYPE_ARP,
     ETHER_TYPE_IP, FrameKind, Mac,
 };
+use flat_model::Config;
+use params::{FIRST_MULTICAST, IP_HEADER, LOOPBACK};
 
 /// Where the body of a frame begins.
 pub(crate) const BODY: usize = ETHER_HEADER as usize;
@@ -21,9 +23,42 @@ const HARDWARE_ETHERNET: u16 = 1;
 /// Addresses of 6 and of 4 bytes.
 const LENGTHS: u16 = 0x0604;
 
-/// What a frame is for the host with this hardware address.
-pub(crate) fn kind_of(mac: Mac, frame: &[u8]) -> FrameKind
-    ensures { result ≡ kind_of mac frame.now }
+/// The network of an address, its first byte.
+fn network(ip: u32) -> u32
+    ensures { result ≡ ip / 2 ^ 24 }
+{
+    ip >> 24
+}
+
+/// Whether nobody sends from this address.
+fn is_bad_source(config: &Config, ip: u32) -> bool
+    ensures { result ≡ is_bad_source config.now ip }
+{
+    ip < 1 << 24 || FIRST_MULTICAST <= ip || network(ip) == network(LOOPBACK) || ip == config.bcast
+}
+
+/// Whether a packet has addresses that can't come from a link.
+fn is_martian(config: &Config, packet: &[u8]) -> bool
+    ensures { result ≡ is_martian config.now packet.now }
+{
+    packet.len() >= IP_HEADER as usize
+        && (is_bad_source(config, u32_at(packet, 12))
+            || network(u32_at(packet, 16)) == network(LOOPBACK))
+}
+
+/// What a frame with a packet is.
+fn packet_kind(config: &Config, packet: &[u8]) -> FrameKind
+    ensures { result ≡ packet_kind config.now packet.now }
+{
+    if is_martian(config, packet) {
+        return FrameKind::Martian;
+    }
+    FrameKind::Packet
+}
+
+/// What a frame is for the host with this configuration and this hardware address.
+pub(crate) fn kind_of(config: &Config, mac: Mac, frame: &[u8]) -> FrameKind
+    ensures { result ≡ kind_of config.now mac frame.now }
 {
     if frame.len() < BODY {
         return FrameKind::Other;
@@ -33,7 +68,7 @@ pub(crate) fn kind_of(mac: Mac, frame: &[u8]) -> FrameKind
         return FrameKind::Other;
     }
     match u16_at(frame, 12) {
-        ETHER_TYPE_IP => FrameKind::Packet,
+        ETHER_TYPE_IP => packet_kind(config, body_of(frame)),
         ETHER_TYPE_ARP => FrameKind::Arp,
         _ => FrameKind::Other,
     }

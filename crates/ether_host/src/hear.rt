@@ -2,7 +2,7 @@
 ghost use Rattle.std.specs.Prelude.{◌≡◌, if◌then◌else◌};
 ghost use Rattle.flat_ether.specs.Frames.{arp_of};
 ghost use Rattle.ether_host.specs.Answers.{CanAnswer};
-ghost use Rattle.flat_ether.specs.Links.{answers_with, finds_conflict, hears_arp, ignores, learns, owes, is_sound_arp};
+ghost use Rattle.flat_ether.specs.Links.{answers_with, finds_conflict, hears_arp, ignores, is_conflict, learns, owes, is_sound_arp, refuses};
 
 use crate::answer::{echo_reply, port_unreachable};
 use crate::frames::read_arp;
@@ -21,6 +21,13 @@ impl LinkLayer {
         ensures { seen self.new ≡ ignores (seen self.old) }
     {
         self.tallies.ignored = self.tallies.ignored.saturating_add(1);
+    }
+
+    /// A packet whose addresses can't come from a link.
+    pub(crate) fn refuse(&mut self)
+        ensures { seen self.new ≡ refuses (seen self.old) }
+    {
+        self.tallies.martians = self.tallies.martians.saturating_add(1);
     }
 
     /// Learns the sender of an ARP packet, if it's known or asks for this host (RFC 826, "Packet Reception").
@@ -44,11 +51,11 @@ impl LinkLayer {
         }
     }
 
-    /// A request for this host's address is owed a reply.
+    /// A request for the address that this host uses is owed a reply.
     fn owe(&mut self, arp: Arp)
         ensures { seen self.new ≡ owes arp (seen self.old) }
     {
-        if arp.op != ARP_REQUEST || arp.target != self.config.addr {
+        if !self.claim.is_claimed() || arp.op != ARP_REQUEST || arp.target != self.config.addr {
             return;
         }
         if self.replies.len() < PENDING_REPLIES {
@@ -61,16 +68,30 @@ impl LinkLayer {
         }
     }
 
+    /// Whether another host has this one's address, or asks for it while this one does.
+    fn is_conflict(&self, arp: Arp) -> bool
+        ensures { result ≡ is_conflict (seen self.now) arp }
+    {
+        if arp.ip == self.config.addr {
+            return true;
+        }
+        !self.claim.is_claimed()
+            && arp.op == ARP_REQUEST
+            && arp.ip == 0
+            && arp.target == self.config.addr
+    }
+
     /// Another host claims this one's address.
-    fn claim(&mut self)
+    fn contest(&mut self)
         ensures { seen self.new ≡ finds_conflict (seen self.old) }
     {
+        self.claim = self.claim.contested();
         self.tallies.conflicts = self.tallies.conflicts.saturating_add(1);
     }
 
     /// An ARP packet that is from another host.
     fn sound_arp(&self, body: &[u8]) -> Option<Arp>
-        ensures { result ≡ (if is_sound_arp (seen self.now) body.now then Some (arp_of body.now) else None) }
+        ensures { result ≡ (if is_sound_arp self.now.link body.now then Some (arp_of body.now) else None) }
     {
         let arp = read_arp(body)?;
         if arp.mac.is(self.link.mac) || arp.mac.is(ETHER_BROADCAST) {
@@ -87,8 +108,8 @@ impl LinkLayer {
             self.tallies.bad_arp = self.tallies.bad_arp.saturating_add(1);
             return;
         };
-        if arp.ip == self.config.addr {
-            self.claim();
+        if self.is_conflict(arp) {
+            self.contest();
         } else {
             self.learn(arp);
         }
@@ -113,7 +134,12 @@ impl LinkLayer {
                 self.tallies.echoes = self.tallies.echoes.saturating_add(1);
             }
             Answer::Unreachable => {
+                if self.unreachables == 0 {
+                    self.tallies.limited = self.tallies.limited.saturating_add(1);
+                    return;
+                }
                 port_unreachable(&mut self.answer, &self.config, came);
+                self.unreachables -= 1;
                 self.tallies.unreachable = self.tallies.unreachable.saturating_add(1);
             }
             Answer::Silence => {}

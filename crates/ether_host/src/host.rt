@@ -2,6 +2,7 @@
 ghost use Rattle.std.specs.Prelude.{◌≡◌, ◌+◌, ◌≤◌, length, IfSome, MatchResult};
 ghost use Rattle.std.specs.Borrow.{sem};
 ghost use Rattle.params.specs.declared.TheConstants.{IP_MAX_PACKET};
+ghost use Rattle.flat_ether.specs.Claims.{address_state};
 ghost use Rattle.flat_ether.specs.Hosts.{Hears, Ticks, gives, host_up};
 ghost use Rattle.flat_ether.specs.declared.sizes.TheConstants.{ETHER_HEADER, ETHER_MTU};
 ghost use Rattle.net_stack.specs.Boots.{free_pool};
@@ -11,7 +12,7 @@ ghost use Rattle.ether_host.specs.View.{IsUnbooted, LendsStack, host_of, view};
 use crate::frames::{body_of, kind_of};
 use crate::layer::LinkLayer;
 use crate::packets::{drain, take_packet};
-use flat_ether::{FrameKind, Link, Neighbour, Tallies};
+use flat_ether::{AddressState, FrameKind, Link, Neighbour, Tallies};
 use flat_model::Config;
 use mbuf_chain::Pool;
 use net_stack::{BootFault, Stack};
@@ -36,7 +37,8 @@ pub struct EtherHost {
 }
 
 impl EtherHost {
-    /// A host that has just started, and knows no neighbour. All memory that it will ever need is taken here.
+    /// A host that has just started, and knows no neighbour. It announces its address, after it has probed for it if the
+    /// link says so (RFC 5227). All memory that it will ever need is taken here.
     ///
     /// # Errors
     ///
@@ -70,19 +72,22 @@ impl EtherHost {
     }
 
     /// A frame comes, without its check sequence. An IPv4 packet goes to the stack as it is, and may be answered; an ARP
-    /// packet is heard; all else is ignored.
+    /// packet is heard; all else is ignored. A packet from a broadcast or multicast address, from 0/8 or 127/8, or to
+    /// 127/8 is dropped here and counted (RFC 1122, section 3.2.1.3).
     pub fn receive(&mut self, frame: &[u8])
         requires { length frame.now ≤ ETHER_HEADER + IP_MAX_PACKET }
         ensures { Hears frame.now (host_of (view self.old)) (host_of (view self.new)) }
     {
-        match kind_of(self.layer.link.mac, frame) {
+        match kind_of(&self.layer.config, self.layer.link.mac, frame) {
             FrameKind::Packet => take_packet(&mut self.stack, &mut self.layer, frame),
+            FrameKind::Martian => self.layer.refuse(),
             FrameKind::Arp => self.layer.hear_arp(body_of(frame)),
             FrameKind::Other => self.layer.ignore(),
         }
     }
 
-    /// The next frame for the link: its bytes stand in front of the room, and the answer is how many they are. The room
+    /// The next frame for the link, until `None`: call it after each other call. Before the host uses its address nothing
+    /// goes out but probes. The frame's bytes stand in front of the room, and the answer is how many they are. The room
     /// has 1,514 bytes or more. What stands behind the frame in the room may be anything, and all of it if there is
     /// none. The network card appends what a short frame lacks, and the check sequence.
     pub fn transmit(&mut self, room: &mut [u8]) -> Option<usize>
@@ -91,6 +96,9 @@ impl EtherHost {
         ensures step { (front result room.new, host_of (view self.new)) ≡ gives (host_of (view self.old)) }
         ensures fits { IfSome result (λ n. n ≤ length room.new) }
     {
+        if !self.layer.claim.is_claimed() {
+            return self.layer.give_claim(room);
+        }
         if let Some(len) = self.layer.give_own(room) {
             return Some(len);
         }
@@ -103,6 +111,14 @@ impl EtherHost {
     {
         self.stack.tick();
         self.layer.tick();
+    }
+
+    /// How far the host is with its address: whether it asks for it, uses it, or another host has it. In conflict it
+    /// stays silent, and the way on is another address: `end`, and `boot` anew.
+    pub fn address(&self) -> AddressState
+        ensures { result ≡ address_state (view self.now).link.claim }
+    {
+        self.layer.claim.state()
     }
 
     /// What was counted of the link.

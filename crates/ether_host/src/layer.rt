@@ -5,7 +5,8 @@ ghost use Rattle.flat_ether.specs.declared.sizes.TheConstants.{HELD_PACKETS};
 use crate::buffer::PacketBuffer;
 use arrayvec::ArrayVec;
 use flat_ether::{
-    HELD_PACKETS, Link, NEIGHBOURS, Neighbour, PENDING_REPLIES, PendingReply, Tallies,
+    Claim, HELD_PACKETS, Link, NEIGHBOURS, Neighbour, PENDING_REPLIES, PendingReply, Tallies,
+    UNREACHABLES,
 };
 use flat_model::Config;
 use std::alloc::{AllocError, Global};
@@ -20,6 +21,8 @@ pub(crate) struct LinkLayer {
     pub(crate) held: Vec<PacketBuffer>,
     pub(crate) answer: PacketBuffer,
     pub(crate) answered: bool,
+    pub(crate) claim: Claim,
+    pub(crate) unreachables: u8,
     pub(crate) tallies: Tallies,
     ghost places: { HELD_PACKETS ≤ vec_capacity held },
 }
@@ -41,6 +44,8 @@ impl LinkLayer {
             held,
             answer: PacketBuffer::blank(),
             answered: false,
+            claim: Claim::new(link.probe),
+            unreachables: UNREACHABLES,
             tallies: Tallies::default(),
         })
     }

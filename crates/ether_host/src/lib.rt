@@ -15,5 +15,5 @@ mod send;
 mod table;
 mod tick;
 
-pub use flat_ether::{Link, Mac, Neighbour, Tallies};
+pub use flat_ether::{AddressState, Link, Mac, Neighbour, Tallies};
 pub use host::{EtherFault, EtherHost};

@@ -1,7 +1,10 @@
-//! What the link gives of its own accord: ARP replies and requests, packets that waited, and the ICMP answer.
+//! What the link gives of its own accord: ARP replies and requests, packets that
+//! waited, the ICMP answer, and the frames for its address.
 ghost use Rattle.std.specs.Prelude.{◌≡◌, ◌+◌, ◌<◌, ◌≤◌, drop, length, map, take, IfSome};
 ghost use Rattle.flat_ether.specs.declared.sizes.TheConstants.{ETHER_HEADER, ETHER_MTU};
-ghost use Rattle.flat_ether.specs.Links.{first_ready, gives_answer, gives_held, gives_own, gives_reply, gives_request};
+ghost use Rattle.flat_ether.specs.Claims.{claim_sent};
+ghost use Rattle.flat_ether.specs.Frames.{ether_broadcast};
+ghost use Rattle.flat_ether.specs.Links.{first_ready, gives_answer, gives_claim, gives_held, gives_own, gives_reply, gives_request, request};
 ghost use Rattle.ether_host.specs.Fronts.{front};
 ghost use Rattle.ether_host.specs.Buffers.{held_in};
 
@@ -9,10 +12,9 @@ use crate::buffer::PacketBuffer;
 use crate::bytes::put_bytes;
 use crate::frames::{ARP, BODY, arp_bytes, put_frame};
 use crate::layer::LinkLayer;
-use crate::table::{due, mac_of};
+use crate::table::{asked_again, asked_at, due, mac_of};
 use flat_ether::{
-    ARP_REPLY, ARP_REQUEST, ARP_RETRY_TICKS, ETHER_BROADCAST, ETHER_TYPE_ARP, Mac, NO_MAC,
-    Neighbour,
+    ARP_REPLY, ARP_REQUEST, ClaimFrame, ETHER_BROADCAST, ETHER_TYPE_ARP, Mac, NO_MAC, Neighbour,
 };
 
 /// Where the first packet stands whose next hop is known, and that hop's hardware address.
@@ -39,6 +41,45 @@ fn put_body(room: &mut [u8], body: &[u8])
 impl LinkLayer {
     ghost use Rattle.ether_host.specs.Inside.{seen};
 
+    /// Writes an ARP request for an address, in which the sender's address is this. The answer is how many bytes the
+    /// frame has.
+    fn request(&self, room: &mut [u8], to: Mac, sender: u32, target: u32) -> usize
+        requires { ETHER_HEADER + ETHER_MTU ≤ length room.old }
+        ensures frame { take result room.new ≡ request (seen self.now) to sender target }
+        ensures fits { result ≤ length room.new }
+    {
+        let body = arp_bytes(ARP_REQUEST, self.link.mac, sender, NO_MAC, target);
+        put_body(room, &body);
+        put_frame(room, to, self.link.mac, ETHER_TYPE_ARP, ARP)
+    }
+
+    /// Writes a request for the host's own address, in which the sender's address is this: 0 makes it a probe, and the
+    /// same one an announcement.
+    fn ask_for_own(&mut self, room: &mut [u8], sender: u32) -> usize
+        requires { ETHER_HEADER + ETHER_MTU ≤ length room.old }
+        ensures frame { take result room.new
+            ≡ request (seen self.old) ether_broadcast sender (seen self.old).config.addr }
+        ensures link { seen self.new ≡ record (seen self.old) { claim = claim_sent (seen self.old).claim } }
+        ensures fits { result ≤ length room.new }
+    {
+        self.claim = self.claim.sent();
+        self.request(room, ETHER_BROADCAST, sender, self.config.addr)
+    }
+
+    /// A probe or an announcement of the host's address, if one is due.
+    pub(crate) fn give_claim(&mut self, room: &mut [u8]) -> Option<usize>
+        requires { ETHER_HEADER + ETHER_MTU ≤ length room.old }
+        ensures frame { front result room.new ≡ (gives_claim (seen self.old)).0 }
+        ensures link { seen self.new ≡ (gives_claim (seen self.old)).1 }
+        ensures fits { IfSome result (λ n. n ≤ length room.new) }
+    {
+        match self.claim.due() {
+            ClaimFrame::Probe => Some(self.ask_for_own(room, 0)),
+            ClaimFrame::Announcement => Some(self.ask_for_own(room, self.config.addr)),
+            ClaimFrame::Nothing => None,
+        }
+    }
+
     /// The ARP reply that is owed longest.
     fn give_reply(&mut self, room: &mut [u8]) -> Option<usize>
         requires { ETHER_HEADER + ETHER_MTU ≤ length room.old }
@@ -49,16 +90,16 @@ impl LinkLayer {
         if self.replies.is_empty() {
             return None;
         }
-        let replies = self.replies.remove(0);
+        let asker = self.replies.remove(0);
         let body = arp_bytes(
             ARP_REPLY,
             self.link.mac,
             self.config.addr,
-            replies.mac,
-            replies.ip,
+            asker.mac,
+            asker.ip,
         );
         put_body(room, &body);
-        Some(put_frame(room, replies.mac, self.link.mac, ETHER_TYPE_ARP, ARP))
+        Some(put_frame(room, asker.mac, self.link.mac, ETHER_TYPE_ARP, ARP))
     }
 
     /// A request for the first neighbour for which one is due.
@@ -69,19 +110,10 @@ impl LinkLayer {
         ensures fits { IfSome result (λ n. n ≤ length room.new) }
     {
         let at = due(self.neighbours.as_slice())?;
-        let mut neighbour = self.neighbours[at];
-        let body = arp_bytes(
-            ARP_REQUEST,
-            self.link.mac,
-            self.config.addr,
-            NO_MAC,
-            neighbour.ip,
-        );
-        neighbour.ticks = ARP_RETRY_TICKS;
-        neighbour.tries = neighbour.tries.saturating_add(1);
-        self.neighbours[at] = neighbour;
-        put_body(room, &body);
-        Some(put_frame(room, ETHER_BROADCAST, self.link.mac, ETHER_TYPE_ARP, ARP))
+        let neighbour = self.neighbours[at];
+        let to = asked_at(neighbour.mac);
+        self.neighbours[at] = asked_again(neighbour);
+        Some(self.request(room, to, self.config.addr, neighbour.ip))
     }
 
     /// The first packet that waited and whose next hop is known now.
@@ -123,6 +155,9 @@ impl LinkLayer {
         ensures link { seen self.new ≡ (gives_own (seen self.old)).1 }
         ensures fits { IfSome result (λ n. n ≤ length room.new) }
     {
+        if let Some(len) = self.give_claim(room) {
+            return Some(len);
+        }
         if let Some(len) = self.give_reply(room) {
             return Some(len);
         }

@@ -7,7 +7,7 @@ use crate::buffer::PacketBuffer;
 use crate::layer::LinkLayer;
 use crate::table::place_of;
 use arrayvec::ArrayVec;
-use flat_ether::{ARP_TRIES, NEIGHBOURS, Neighbour};
+use flat_ether::{ARP_TRIES, NEIGHBOURS, Neighbour, UNREACHABLES};
 
 /// A neighbour a tick later.
 fn aged(neighbour: Neighbour) -> Neighbour
@@ -62,6 +62,8 @@ impl LinkLayer {
     pub(crate) fn tick(&mut self)
         ensures { seen self.new ≡ ticks (seen self.old) }
     {
+        self.claim = self.claim.ticked();
+        self.unreachables = UNREACHABLES;
         self.neighbours = age(self.neighbours.as_slice());
         let before = self.held.len();
         keep(&mut self.held, self.neighbours.as_slice());

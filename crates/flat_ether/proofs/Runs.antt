@@ -2,8 +2,7 @@
 use Rattle.std.proofs.Common.{◌≡◌, inl, ℕ, Bool, true, false, cond, List, [], ◌∷◌, ◌++◌, Option, Some, None, refl, sym, ap, ◌∙◌, subst, append_assoc}
 use Rattle.std.specs.Prelude.{Contains, filter_map, is_some, option_to_list}
 use Rattle.std.specs.List.{AllByRecursion as Each}
-use Rattle.std.proofs.lemmas.List.{append-nil}
-use Rattle.std.proofs.lemmas.List.Elements.{All-from_recursion, All-contains_itself, All-head, Contains-append_right, filter_map-append}
+use Rattle.std.proofs.lemmas.List.Elements.{All-from_recursion, recursion_from_All, All-contains_itself, All-head, Contains-append_right, filter_map-append}
 use Rattle.std.proofs.lemmas.Option.{none-some}
 use Rattle.flat_model.specs.Amounts.Weight.{Item}
 use Rattle.flat_model.specs.Machine.Event.{Transmit, Given, Comes, Done, Tick}
@@ -11,16 +10,17 @@ use Rattle.flat_model.specs.Machine.Ledger.{exact_ledger}
 use Rattle.flat_model.specs.Machine.State.{State}
 use Rattle.flat_model.specs.Runs.Run.{Turn, Leads}
 use Rattle.flat_model.specs.declared.config.Config.{Config}
-use Rattle.flat_model.proofs.Laws.{each-append, each-weaker}
+use Rattle.flat_model.proofs.Laws.{each-weaker}
 use Rattle.flat_wire.specs.Wire.{packet_in, packet_out}
+use Rattle.flat_ether.specs.Claims.{is_claimed}
 use Rattle.flat_ether.specs.Frames.{body_of, kind_of}
-use Rattle.flat_ether.specs.Hosts.{Act, AreActs, Comes_in, Goes_out, Clock, Calls, Host, HearsKind, IsAct, drained, gives, gives_drained, host_up, is_to_us, or_drains, with_output}
+use Rattle.flat_ether.specs.Hosts.{Act, AreActs, Comes_in, Goes_out, Clock, Calls, CallsMachine, Host, HearsKind, IsAct, drained, gives, gives_claimed, gives_drained, gives_probe, host_up, is_to_us, or_drains, with_output}
 use Rattle.flat_ether.specs.Icmp.{answer_to}
-use Rattle.flat_ether.specs.Laws.{IsSent, MakesTurns, frame_in, frame_out, frames_in, frames_out, packet_if, packets_in, packets_to}
-use Rattle.flat_ether.specs.Links.{Gives, LinkState, answers_with, gives_own, sends}
+use Rattle.flat_ether.specs.Laws.{AreSent, IsSent, MakesTurns, arp_if, frame_out, frames_then, packet_if, packets_in, packets_to}
+use Rattle.flat_ether.specs.Links.{Gives, LinkState, answers_with, gives_claim, gives_own, sends}
 use Rattle.flat_ether.specs.declared.link.Link.{Link}
 use Rattle.flat_ether.specs.declared.link.FrameKind.{FrameKind}
-use Rattle.flat_ether.specs.declared.link.FrameKind.TheVariants.{Packet, Arp, Other}
+use Rattle.flat_ether.specs.declared.link.FrameKind.TheVariants.{Packet, Martian, Arp, Other}
 use Rattle.flat_ether.proofs.Sent as Sent
 use Rattle.flat_ether.proofs.Turns.{then_leads, transmits, same_output, bytes_of_body, short_body}
 
@@ -28,29 +28,31 @@ module _ (c : Config) (l : Link) where
   abbrev Good : List (List ℕ) → List (List ℕ) → LinkState → Type 0
   Good F G s = Sent.IsGood c l F G s
 
-  -- more is known to have come and gone
-  more_good : (F G F' G' : List (List ℕ)) (s : LinkState) → Good F G s → Good (F ++ F') (G ++ G') s
-  more_good F G F' G' s good = record {
+  -- more is known to have been given
+  more_good : (F G G' : List (List ℕ)) (s : LinkState) → Good F G s → Good F (G ++ G') s
+  more_good F G G' s good = record {
     config = good.config;
     link = good.link;
-    neighbours = each-weaker (λ n is. record { told = λ mac e. Sent.more_told c l F G F' G' n.ip mac (is.told mac e) }) s.neighbours good.neighbours;
-    held = each-weaker (λ h is. record { made = Sent.more_made c l F G F' G' h.packet is.made; route = is.route }) s.held good.held;
-    answer = λ p e. Sent.more_made c l F G F' G' p (good.answer p e);
+    neighbours = each-weaker (λ n is. record { told = is.told; near = is.near }) s.neighbours good.neighbours;
+    distinct = good.distinct;
+    held = each-weaker (λ h is. record { made = Sent.more_made c l F G G' h.packet is.made; route = is.route }) s.held good.held;
+    answer = λ p e. Sent.more_made c l F G G' p (good.answer p e);
   }
 
-  -- What acts make of a machine and its link, after these frames came and these packets were given.
-  record Makes (F G : List (List ℕ)) (old new : State) (link : LinkState) (packets came out : List (List ℕ)) : Type 0 where
+  -- What an act makes of a machine and its link, after these frames came and these packets were given: `then'` are the
+  -- frames that came then.
+  record Makes (F G then' : List (List ℕ)) (old new : State) (link : LinkState) (packets out : List (List ℕ)) : Type 0 where
     turns : List Turn
     leads : Leads exact_ledger old turns new
     in' : filter_map packet_in turns ≡ packets
-    good : Good (F ++ came) (G ++ filter_map packet_out turns) link
-    sent : Each (IsSent c l (F ++ came) (G ++ filter_map packet_out turns)) out
+    good : Good then' (G ++ filter_map packet_out turns) link
+    sent : Each (IsSent c l F (G ++ filter_map packet_out turns)) out
 
-  -- nothing came and nothing was given
-  same : (F G : List (List ℕ)) (s : LinkState) → Good F G s → Good (F ++ []) (G ++ []) s
-  same F G s good = more_good F G [] [] s good
+  -- nothing was given
+  same : (F G : List (List ℕ)) (s : LinkState) → Good F G s → Good F (G ++ []) s
+  same F G s good = more_good F G [] s good
 
-  quiet : (F G : List (List ℕ)) (s t : State) (link : LinkState) → t ≡ s → Good F G link → Makes F G s t link [] [] []
+  quiet : (F G : List (List ℕ)) (s t : State) (link : LinkState) → t ≡ s → Good F G link → Makes F G F s t link [] []
   quiet F G s t link e good = record { turns = []; leads = e; in' = refl; good = same F G link good; sent = tt }
 
   -- ---- what goes
@@ -63,25 +65,19 @@ module _ (c : Config) (l : Link) where
   contains_last G p more = Contains-append_right G (p ∷ more) p (All-head (Contains (p ∷ more)) p more (All-contains_itself (p ∷ more)))
 
   drains : (items : List Item) (F G : List (List ℕ)) (s : State) (link : LinkState) → s.output ≡ items → Good F G link
-      → Makes F G s (with_output s (drained items link).output) (drained items link).link [] [] (option_to_list (drained items link).frame)
+      → Makes F G F s (with_output s (drained items link).output) (drained items link).link [] (option_to_list (drained items link).frame)
   drains [] F G s link e good = quiet F G s _ link (same_output s [] e) good
   drains (item ∷ later) F G s link e good = go (sends item.bytes link) given (λ t g. drains later F (G ++ item.bytes ∷ []) (with_output s later) t refl g)
     where
-      G' : List (List ℕ)
-      G' = G ++ item.bytes ∷ []
-
-      wider : Good F (G ++ item.bytes ∷ []) link
-      wider = subst (λ F'. Good F' (G ++ item.bytes ∷ []) link) (append-nil F) (more_good F G [] (item.bytes ∷ []) link good)
-
       given : Sent.IsGiven c l F (G ++ item.bytes ∷ []) (sends item.bytes link)
-      given = Sent.sends_given c l F (G ++ item.bytes ∷ []) item.bytes link wider (inl (contains_last G item.bytes []))
+      given = Sent.sends_given c l F (G ++ item.bytes ∷ []) item.bytes link (more_good F G (item.bytes ∷ []) link good) (inl (contains_last G item.bytes []))
 
       turn : Turn
       turn = record { event = Transmit; reply = Given (Some item.bytes) }
 
       go : (g : Gives) → Sent.IsGiven c l F (G ++ item.bytes ∷ []) g
-          → ((t : LinkState) → Good F (G ++ item.bytes ∷ []) t → Makes F (G ++ item.bytes ∷ []) (with_output s later) (with_output s (drained later t).output) (drained later t).link [] [] (option_to_list (drained later t).frame))
-          → Makes F G s (with_output s (or_drains g later (drained later g.1)).output) (or_drains g later (drained later g.1)).link [] [] (option_to_list (or_drains g later (drained later g.1)).frame)
+          → ((t : LinkState) → Good F (G ++ item.bytes ∷ []) t → Makes F (G ++ item.bytes ∷ []) F (with_output s later) (with_output s (drained later t).output) (drained later t).link [] (option_to_list (drained later t).frame))
+          → Makes F G F s (with_output s (or_drains g later (drained later g.1)).output) (or_drains g later (drained later g.1)).link [] (option_to_list (or_drains g later (drained later g.1)).frame)
       go (None, t) is rest =
           let r = rest t is.good in
           let more : (G ++ item.bytes ∷ []) ++ filter_map packet_out r.turns ≡ G ++ item.bytes ∷ filter_map packet_out r.turns = append_assoc G (item.bytes ∷ []) (filter_map packet_out r.turns) in
@@ -89,119 +85,215 @@ module _ (c : Config) (l : Link) where
             turns = turn ∷ r.turns;
             leads = (tt, with_output s later, transmits s item later e, r.leads);
             in' = r.in';
-            good = subst (λ H. Good (F ++ []) H (drained later t).link) more r.good;
-            sent = subst (λ H. Each (IsSent c l (F ++ []) H) (option_to_list (drained later t).frame)) more r.sent;
+            good = subst (λ H. Good F H (drained later t).link) more r.good;
+            sent = subst (λ H. Each (IsSent c l F H) (option_to_list (drained later t).frame)) more r.sent;
           }
       go (Some f, t) is rest = record {
         turns = turn ∷ [];
         leads = (tt, with_output s later, transmits s item later e, refl);
         in' = refl;
-        good = subst (λ F'. Good F' (G ++ item.bytes ∷ []) t) (sym (append-nil F)) is.good;
-        sent = (subst (λ F'. IsSent c l F' (G ++ item.bytes ∷ []) f) (sym (append-nil F)) (is.sent f refl), tt);
+        good = is.good;
+        sent = (is.sent f refl, tt);
       }
+
+  -- frames of the link's own
+  own_makes : (F G : List (List ℕ)) (s : State) (g : Gives) → Sent.IsGiven c l F G g → Makes F G F s s g.1 [] (option_to_list g.0)
+  own_makes F G s g own = record {
+    turns = [];
+    leads = refl;
+    in' = refl;
+    good = same F G g.1 own.good;
+    sent = each-weaker (λ f is. Sent.more_sent c l F G [] f is) (option_to_list g.0) (sent_list F G g.0 own.sent);
+  }
 
   abbrev gives_by : Host → Bool → Option (List ℕ) × Host
   gives_by h b = cond b ((gives_own h.link).0, record h { link = (gives_own h.link).1 }) (gives_drained h (gives_own h.link).1)
 
-  gives_makes : (F G : List (List ℕ)) (h : Host) → Good F G h.link → Makes F G h.machine (gives h).1.machine (gives h).1.link [] [] (option_to_list (gives h).0)
-  gives_makes F G h good = go (is_some (gives_own h.link).0)
+  claimed_makes : (F G : List (List ℕ)) (h : Host) → Good F G h.link → Makes F G F h.machine (gives_claimed h).1.machine (gives_claimed h).1.link [] (option_to_list (gives_claimed h).0)
+  claimed_makes F G h good = go (is_some (gives_own h.link).0)
     where
       own : Sent.IsGiven c l F G (gives_own h.link)
       own = Sent.own_given c l F G h.link good
 
-      go : (b : Bool) → Makes F G h.machine (gives_by h b).1.machine (gives_by h b).1.link [] [] (option_to_list (gives_by h b).0)
-      go true = record {
-        turns = [];
-        leads = refl;
-        in' = refl;
-        good = same F G (gives_own h.link).1 own.good;
-        sent = each-weaker (λ f is. Sent.more_sent c l F G [] [] f is) (option_to_list (gives_own h.link).0) (sent_list F G (gives_own h.link).0 own.sent);
-      }
+      go : (b : Bool) → Makes F G F h.machine (gives_by h b).1.machine (gives_by h b).1.link [] (option_to_list (gives_by h b).0)
+      go true = own_makes F G h.machine (gives_own h.link) own
       go false = drains h.machine.output F G h.machine (gives_own h.link).1 refl own.good
+
+  gives_makes : (F G : List (List ℕ)) (h : Host) → Good F G h.link → Makes F G F h.machine (gives h).1.machine (gives h).1.link [] (option_to_list (gives h).0)
+  gives_makes F G h good = go (is_claimed h.link.claim)
+    where
+      go : (b : Bool) → Makes F G F h.machine (cond b (gives_claimed h) (gives_probe h)).1.machine (cond b (gives_claimed h) (gives_probe h)).1.link [] (option_to_list (cond b (gives_claimed h) (gives_probe h)).0)
+      go true = claimed_makes F G h good
+      go false = own_makes F G h.machine (gives_claim h.link) (Sent.claim_given c l F G h.link good)
 
   -- ---- each act
 
+  calls_good : (F G : List (List ℕ)) (old new : Host) (turn : Turn) → Good F G old.link → CallsMachine turn old new → Good F (G ++ filter_map packet_out (turn ∷ [])) new.link
+  calls_good F G old new turn good is =
+      subst (Good F (G ++ filter_map packet_out (turn ∷ []))) (sym is.link) (more_good F G (filter_map packet_out (turn ∷ [])) old.link good)
+
   act_makes : (F G : List (List ℕ)) (old new : Host) (act : Act) → Good F G old.link → IsAct old act new
-      → Makes F G old.machine new.machine new.link (packets_in l.mac act) (frame_in act) (frame_out act)
-  act_makes F G old new (Comes_in f) good is = go (kind_of old.link.link.mac f) (kind_of l.mac f) (ap (λ (x : Link). kind_of x.mac f) good.link) is.2
+      → Makes F G (frames_then act F) old.machine new.machine new.link (packets_in c l.mac act) (frame_out act)
+  act_makes F G old new (Comes_in f) good is = go (kind_of old.link.config old.link.link.mac f) (kind_of c l.mac f) kinds refl is.2
     where
-      wider : Good (F ++ f ∷ []) (G ++ []) old.link
-      wider = more_good F G (f ∷ []) [] old.link good
+      kinds : kind_of old.link.config old.link.link.mac f ≡ kind_of c l.mac f
+      kinds = ap (λ (x : Config). kind_of x old.link.link.mac f) good.config ∙ ap (λ (x : Link). kind_of c x.mac f) good.link
 
-      here : Contains (F ++ f ∷ []) f
-      here = contains_last F f []
+      here : Contains (f ∷ F) f
+      here = contains_last [] f F
 
-      taken : (b : Bool) → Good (F ++ f ∷ []) (G ++ []) (cond b (answers_with (answer_to old.link.config (body_of f) old.machine new.machine) (body_of f) old.link) old.link)
-      taken true = Sent.answers_good c l (F ++ f ∷ []) (G ++ []) f (answer_to old.link.config (body_of f) old.machine new.machine) old.link wider here
-      taken false = wider
+      wider : arp_if (kind_of c l.mac f) f ≡ None → Good (f ∷ F) (G ++ []) old.link
+      wider e = same (f ∷ F) G old.link (Sent.quiet_good c l F G f old.link good e)
 
-      still : (link : LinkState) → new ≡ record old { link = link } → Good (F ++ f ∷ []) (G ++ []) link → Makes F G old.machine new.machine new.link [] (f ∷ []) []
+      taken : Good (f ∷ F) (G ++ []) old.link → (b : Bool) → Good (f ∷ F) (G ++ []) (cond b (answers_with (answer_to old.link.config (body_of f) old.machine new.machine) (body_of f) old.link) old.link)
+      taken wide true = Sent.answers_good c l (f ∷ F) (G ++ []) f (answer_to old.link.config (body_of f) old.machine new.machine) old.link wide here
+      taken wide false = wide
+
+      still : (link : LinkState) → new ≡ record old { link = link } → Good (f ∷ F) (G ++ []) link → Makes F G (f ∷ F) old.machine new.machine new.link [] []
       still link e g = record {
         turns = [];
         leads = ap (λ (h : Host). h.machine) e;
         in' = refl;
-        good = subst (Good (F ++ f ∷ []) (G ++ [])) (sym (ap (λ (h : Host). h.link) e)) g;
+        good = subst (Good (f ∷ F) (G ++ [])) (sym (ap (λ (h : Host). h.link) e)) g;
         sent = tt;
       }
 
-      go : (s t : FrameKind) → s ≡ t → HearsKind s f old new → Makes F G old.machine new.machine new.link (packet_if t f) (f ∷ []) []
-      go s t e h = subst (λ (x : FrameKind). Makes F G old.machine new.machine new.link (packet_if x f) (f ∷ []) []) e (by s h)
+      go : (s t : FrameKind) → s ≡ t → kind_of c l.mac f ≡ t → HearsKind s f old new → Makes F G (f ∷ F) old.machine new.machine new.link (packet_if t f) []
+      go s t e k h = subst (λ (x : FrameKind). Makes F G (f ∷ F) old.machine new.machine new.link (packet_if x f) []) e (by s (k ∙ sym e) h)
         where
-          by : (s : FrameKind) → HearsKind s f old new → Makes F G old.machine new.machine new.link (packet_if s f) (f ∷ []) []
-          by Packet h = record {
+          by : (s : FrameKind) → kind_of c l.mac f ≡ s → HearsKind s f old new → Makes F G (f ∷ F) old.machine new.machine new.link (packet_if s f) []
+          by Packet k h = record {
             turns = record { event = Comes (body_of f); reply = Done } ∷ [];
             leads = ((bytes_of_body f is.0, short_body f is.1), new.machine, h.machine, refl);
             in' = refl;
-            good = subst (Good (F ++ f ∷ []) (G ++ [])) (sym h.link) (taken (is_to_us old.link f));
+            good = subst (Good (f ∷ F) (G ++ [])) (sym h.link) (taken (wider (ap (λ (x : FrameKind). arp_if x f) k)) (is_to_us old.link f));
             sent = tt;
           }
-          by Arp h = still _ h (Sent.hears_good c l (F ++ f ∷ []) (G ++ []) f old.link wider here)
-          by Other h = still _ h (Sent.ignores_good c l (F ++ f ∷ []) (G ++ []) old.link wider)
+          by Martian k h = still _ h (Sent.refuses_good c l (f ∷ F) (G ++ []) old.link (wider (ap (λ (x : FrameKind). arp_if x f) k)))
+          by Arp k h = still _ h (same (f ∷ F) G _ (Sent.hears_good c l F G f (ap (λ (x : FrameKind). arp_if x f) k) old.link good))
+          by Other k h = still _ h (Sent.ignores_good c l (f ∷ F) (G ++ []) old.link (wider (ap (λ (x : FrameKind). arp_if x f) k)))
   act_makes F G old new (Goes_out f) good is =
-      subst (λ (x : Option (List ℕ) × Host). Makes F G old.machine x.1.machine x.1.link [] [] (option_to_list x.0)) (sym is) (gives_makes F G old good)
+      subst (λ (x : Option (List ℕ) × Host). Makes F G F old.machine x.1.machine x.1.link [] (option_to_list x.0)) (sym is) (gives_makes F G old good)
   act_makes F G old new Clock good is = record {
     turns = record { event = Tick; reply = Done } ∷ [];
     leads = (tt, new.machine, is.machine, refl);
     in' = refl;
-    good = subst (Good (F ++ []) (G ++ [])) (sym is.link) (same F G _ (Sent.ticks_good c l F G old.link good));
+    good = subst (Good F (G ++ [])) (sym is.link) (same F G _ (Sent.ticks_good c l F G old.link good));
     sent = tt;
   }
   act_makes F G old new (Calls turn) good is = record {
     turns = turn ∷ [];
     leads = (is.event, new.machine, is.machine, refl);
     in' = refl;
-    good = subst (Good (F ++ []) (G ++ filter_map packet_out (turn ∷ []))) (sym is.link) (more_good F G [] (filter_map packet_out (turn ∷ [])) old.link good);
+    good = calls_good F G old new turn good is;
     sent = tt;
   }
 
   -- ---- all of them
 
-  acts_make : (F G : List (List ℕ)) (old new : Host) (acts : List Act) → Good F G old.link → AreActs old acts new
-      → Makes F G old.machine new.machine new.link (packets_to l.mac acts) (frames_in acts) (frames_out acts)
-  acts_make F G old new [] good done =
-      subst (λ (h : Host). Makes F G old.machine h.machine h.link [] [] []) (sym done) (quiet F G old.machine old.machine old.link refl good)
+  -- the frames that came before acts and in them, the last one first
+  abbrev all_then : List Act → List (List ℕ) → List (List ℕ)
+  all_then [] F = F
+  all_then (act ∷ acts) F = all_then acts (frames_then act F)
+
+  record MakesAll (F G : List (List ℕ)) (old new : State) (link : LinkState) (acts : List Act) : Type 0 where
+    turns : List Turn
+    leads : Leads exact_ledger old turns new
+    in' : filter_map packet_in turns ≡ packets_to c l.mac acts
+    good : Good (all_then acts F) (G ++ filter_map packet_out turns) link
+    sent : AreSent c l (G ++ filter_map packet_out turns) F acts
+
+  acts_make : (F G : List (List ℕ)) (old new : Host) (acts : List Act) → Good F G old.link → AreActs old acts new → MakesAll F G old.machine new.machine new.link acts
+  acts_make F G old new [] good done = record {
+    turns = [];
+    leads = ap (λ (h : Host). h.machine) done;
+    in' = refl;
+    good = subst (λ (h : Host). Good F (G ++ []) h.link) (sym done) (same F G old.link good);
+    sent = tt;
+  }
   acts_make F G old new (act ∷ acts) good (mid, is, later) =
       let a = act_makes F G old mid act good is in
-      let b = acts_make (F ++ frame_in act) (G ++ filter_map packet_out a.turns) mid new acts a.good later in
-      let frames : (F ++ frame_in act) ++ frames_in acts ≡ F ++ (frame_in act ++ frames_in acts) = append_assoc F (frame_in act) (frames_in acts) in
+      let b = acts_make (frames_then act F) (G ++ filter_map packet_out a.turns) mid new acts a.good later in
       let out : (G ++ filter_map packet_out a.turns) ++ filter_map packet_out b.turns ≡ G ++ filter_map packet_out (a.turns ++ b.turns) =
       append_assoc G (filter_map packet_out a.turns) (filter_map packet_out b.turns) ∙ ap (λ xs. G ++ xs) (sym (filter_map-append packet_out a.turns b.turns)) in
+      let sent : Each (IsSent c l F ((G ++ filter_map packet_out a.turns) ++ filter_map packet_out b.turns)) (frame_out act) =
+      each-weaker (λ f given. Sent.more_sent c l F (G ++ filter_map packet_out a.turns) (filter_map packet_out b.turns) f given) (frame_out act) a.sent in
       record {
         turns = a.turns ++ b.turns;
         leads = then_leads old.machine mid.machine new.machine a.turns b.turns a.leads b.leads;
-        in' = filter_map-append packet_in a.turns b.turns ∙ ap (λ xs. xs ++ filter_map packet_in b.turns) a.in' ∙ ap (λ xs. packets_in l.mac act ++ xs) b.in';
-        good = subst (λ H. Good (F ++ (frame_in act ++ frames_in acts)) H new.link) out (subst (λ E. Good E ((G ++ filter_map packet_out a.turns) ++ filter_map packet_out b.turns) new.link) frames b.good);
-        sent = subst (λ H. Each (IsSent c l (F ++ (frame_in act ++ frames_in acts)) H) (frame_out act ++ frames_out acts)) out
-            (subst (λ E. Each (IsSent c l E ((G ++ filter_map packet_out a.turns) ++ filter_map packet_out b.turns)) (frame_out act ++ frames_out acts)) frames
-            (each-append _ (frame_out act) (frames_out acts)
-            (each-weaker (λ f is. Sent.more_sent c l (F ++ frame_in act) (G ++ filter_map packet_out a.turns) (frames_in acts) (filter_map packet_out b.turns) f is) (frame_out act) a.sent)
-            b.sent));
+        in' = filter_map-append packet_in a.turns b.turns ∙ ap (λ xs. xs ++ filter_map packet_in b.turns) a.in' ∙ ap (λ xs. packets_in c l.mac act ++ xs) b.in';
+        good = subst (λ H. Good (all_then acts (frames_then act F)) H new.link) out b.good;
+        sent = subst (λ H. AreSent c l H F (act ∷ acts)) out (All-from_recursion _ (frame_out act) sent, b.sent);
       }
 
   up_good : Good [] [] (host_up c l).link
-  up_good = record { config = refl; link = refl; neighbours = tt; held = tt; answer = λ p e. absurd (none-some p e) }
+  up_good = record { config = refl; link = refl; neighbours = tt; distinct = tt; held = tt; answer = λ p e. absurd (none-some p e) }
+
+  abbrev made_by : (acts : List Act) (new : Host) → MakesAll [] [] (host_up c l).machine new.machine new.link acts → MakesTurns c l acts new
+  made_by acts new m = record { turns = m.turns; leads = m.leads; came = m.in'; went = m.sent }
 
   pub makes_turns : (acts : List Act) (new : Host) → AreActs (host_up c l) acts new → MakesTurns c l acts new
-  makes_turns acts new done =
-      let m = acts_make [] [] (host_up c l) new acts up_good done in
-      record { turns = m.turns; leads = m.leads; came = m.in'; went = All-from_recursion _ (frames_out acts) m.sent }
+  makes_turns acts new done = made_by acts new (acts_make [] [] (host_up c l) new acts up_good done)
+
+  -- ---- a call among other acts
+
+  acts_split : (old new : Host) (xs ys : List Act) → AreActs old (xs ++ ys) new → (mid : Host) × AreActs old xs mid × AreActs mid ys new
+  acts_split old new [] ys h = (old, refl, h)
+  acts_split old new (x ∷ xs) ys (next, is, rest) =
+      let r = acts_split next new xs ys rest in
+      (r.0, (next, is, r.1), r.2)
+
+  packets_append : (xs ys : List Act) → packets_to c l.mac (xs ++ ys) ≡ packets_to c l.mac xs ++ packets_to c l.mac ys
+  packets_append [] ys = refl
+  packets_append (x ∷ xs) ys = ap (λ ps. packets_in c l.mac x ++ ps) (packets_append xs ys) ∙ sym (append_assoc (packets_in c l.mac x) (packets_to c l.mac xs) (packets_to c l.mac ys))
+
+  sent_append : (G F : List (List ℕ)) (xs ys : List Act) → AreSent c l G F xs → AreSent c l G (all_then xs F) ys → AreSent c l G F (xs ++ ys)
+  sent_append G F [] ys h k = k
+  sent_append G F (x ∷ xs) ys h k = (h.0, sent_append G (frames_then x F) xs ys h.1 k)
+
+  more_all : (G G' F : List (List ℕ)) (acts : List Act) → AreSent c l G F acts → AreSent c l (G ++ G') F acts
+  more_all G G' F [] h = tt
+  more_all G G' F (act ∷ acts) h = (
+    All-from_recursion _ (frame_out act) (each-weaker (λ f is. Sent.more_sent c l F G G' f is) (frame_out act) (recursion_from_All (IsSent c l F G) (frame_out act) h.0)),
+    more_all G G' (frames_then act F) acts h.1,
+  )
+
+  -- the turns of all acts, and of those before the call
+  pub record IsSplit (before after : List Act) (turn : Turn) (new : Host) : Type 0 where
+    pub then' : Host
+    pub first : MakesTurns c l before then'
+    pub rest : List Turn
+    pub all : MakesTurns c l (before ++ Calls turn ∷ after) new
+    pub turns_are : all.turns ≡ first.turns ++ turn ∷ rest
+
+  pub split : (before after : List Act) (turn : Turn) (new : Host) → AreActs (host_up c l) (before ++ Calls turn ∷ after) new → IsSplit before after turn new
+  split before after turn new acts = go (acts_split (host_up c l) new before (Calls turn ∷ after) acts)
+    where
+      go : (mid : Host) × AreActs (host_up c l) before mid × AreActs mid (Calls turn ∷ after) new → IsSplit before after turn new
+      go (mid, early, (next, is, late)) =
+          let a = acts_make [] [] (host_up c l) mid before up_good early in
+          let out : List (List ℕ) = filter_map packet_out a.turns in
+          let call : List (List ℕ) = filter_map packet_out (turn ∷ []) in
+          let b = acts_make (all_then before []) (out ++ call) next new after (calls_good (all_then before []) out mid next turn a.good is) late in
+          let given : (out ++ call) ++ filter_map packet_out b.turns ≡ filter_map packet_out (a.turns ++ turn ∷ b.turns) =
+          append_assoc out call (filter_map packet_out b.turns)
+          ∙ ap (λ xs. out ++ xs) (sym (filter_map-append packet_out (turn ∷ []) b.turns))
+          ∙ sym (filter_map-append packet_out a.turns (turn ∷ b.turns)) in
+          let early_sent : AreSent c l ((out ++ call) ++ filter_map packet_out b.turns) [] before =
+          more_all (out ++ call) (filter_map packet_out b.turns) [] before (more_all out call [] before a.sent) in
+          record {
+            then' = mid;
+            first = made_by before mid a;
+            rest = b.turns;
+            all = record {
+              turns = a.turns ++ turn ∷ b.turns;
+              leads = then_leads (host_up c l).machine mid.machine new.machine a.turns (turn ∷ b.turns) a.leads (is.event, next.machine, is.machine, b.leads);
+              came = filter_map-append packet_in a.turns (turn ∷ b.turns)
+                  ∙ ap (λ xs. xs ++ filter_map packet_in (turn ∷ b.turns)) a.in'
+                  ∙ ap (λ xs. packets_to c l.mac before ++ xs) (filter_map-append packet_in (turn ∷ []) b.turns ∙ ap (λ xs. filter_map packet_in (turn ∷ []) ++ xs) b.in')
+                  ∙ sym (packets_append before (Calls turn ∷ after));
+              went = subst (λ H. AreSent c l H [] (before ++ Calls turn ∷ after)) given
+                  (sent_append ((out ++ call) ++ filter_map packet_out b.turns) [] before (Calls turn ∷ after) early_sent (All-from_recursion _ [] tt, b.sent));
+            };
+            turns_are = refl;
+          }

@@ -1,37 +1,32 @@
 -- What goes out on the link: where each packet comes from, and to whom it goes.
-use Rattle.std.proofs.Common.{◌≡◌, inl, inr, ℕ, Bool, true, false, cond, List, [], ◌∷◌, ◌++◌, length, take, drop, Option, Some, None, refl, sym, ap, ◌∙◌, subst, zero, suc, ◌+◌, add-one, get_or}
-use Rattle.std.specs.Prelude.{Contains, ◌==◌, filter, is_some, map, nat_lt, position, slice_get, slice_set, remove}
+use Rattle.std.proofs.Common.{◌≡◌, ◌≢◌, ◌⊎◌, inl, inr, ℕ, Bool, true, false, cond, List, [], ◌∷◌, ◌++◌, length, take, drop, Option, Some, None, refl, sym, ap, ◌∙◌, subst, zero, suc, ◌+◌, ◌-◌, add-one, get_or}
+use Rattle.std.specs.Prelude.{Contains, ◌==◌, ◌&&◌, ◌||◌, not, filter, is_some, map, nat_lt, position, slice_get, slice_set, remove}
 use Rattle.std.specs.List.{AllByRecursion as Each}
-use Rattle.std.proofs.lemmas.List.Elements.{Contains-append_left}
+use Rattle.std.proofs.lemmas.List.Elements.{All-contains_itself, All-head, Contains-append_left, Contains-append_right}
 use Rattle.std.proofs.lemmas.List.Quantifiers.{position-Some}
 use Rattle.std.proofs.lemmas.Option.{none-some, same_Some}
-use Rattle.std.proofs.lemmas.Bool.{and_parts, eqb-true}
+use Rattle.std.proofs.lemmas.Bool.{and_parts, eq-eqb, eqb-false, eqb-true, false≢true, ne_eqb, not-true}
 use Rattle.flat_model.specs.declared.config.Config.{Config}
 use Rattle.flat_model.specs.Machine.Count.{more_by}
-use Rattle.flat_model.proofs.Laws.{each-append, each-filter, each-map, each-take}
-use Rattle.flat_ether.specs.Frames.{arp_bytes, arp_of, body_of, ether_broadcast, frame, is_arp, no_mac}
+use Rattle.flat_model.proofs.Laws.{each-append, each-both, each-filter, each-map, each-take, each-weaker}
+use Rattle.flat_ether.specs.Claims.{claim_due, claim_sent, is_claimed}
+use Rattle.flat_ether.specs.Frames.{arp_bytes, arp_of, body_of, ether_broadcast, frame, kind_of, no_mac}
 use Rattle.flat_ether.specs.Icmp.{echo_reply, port_unreachable}
-use Rattle.flat_ether.specs.Laws.{IsMade, IsSent, IsTold, IsRoute}
-use Rattle.flat_ether.specs.Links.{Gives, Held, LinkState, aged, answers_with, asked_again, asks, asks_at, asks_of, by_route, counts_echo, counts_unreachable, drops_first, finds_bad, finds_conflict, finds_long, finds_no_place, first_ready, gives_answer, gives_held, gives_own, gives_reply, gives_request, has_hope, has_ip, heard, hears_arp, holds, ignores, is_asked, is_due, is_learned, is_sound_arp, learns, mac_at, mac_in, mac_of, or_then, owes, place_of, put, put_at, puts_answer, ready_or, replies_to, sends, sends_answer, sends_at, sends_held, stays, takes_place, ticks, to_hop, unknown, route_of, route_to, with_room}
+use Rattle.flat_ether.specs.Laws.{IsMade, IsRoute, IsSent, arp_if, last_told, tells, told_in}
+use Rattle.flat_ether.specs.Links.{Gives, Held, LinkState, aged, answers_with, asked_again, asked_at, asks, asks_at, by_route, claim_frame, counts_echo, counts_unreachable, drops_first, finds_bad, finds_conflict, finds_long, finds_no_place, first_ready, gives_answer, gives_claim, gives_held, gives_own, gives_reply, gives_request, has_hope, has_ip, heard, hears_arp, holds, ignores, is_asked, is_conflict, is_due, is_rival, is_sound_arp, learns, limits, mac_at, mac_in, mac_of, or_then, owes, place_of, put, puts_answer, ready_or, refuses, replies_to, sends, sends_answer, sends_at, sends_held, stays, takes_place, tells_unreachable, ticks, to_hop, unknown, route_of, route_to}
+use Rattle.flat_ether.specs.Routes.{is_near, is_neighbour}
 use Rattle.flat_ether.specs.declared.answer.Answer.{Answer}
 use Rattle.flat_ether.specs.declared.answer.Answer.TheVariants.{Echo, Unreachable, Silence}
 use Rattle.flat_ether.specs.declared.arp.Arp.{Arp}
+use Rattle.flat_ether.specs.declared.claim.ClaimFrame.{ClaimFrame}
+use Rattle.flat_ether.specs.declared.claim.ClaimFrame.TheVariants.{Probe, Announcement, Nothing}
 use Rattle.flat_ether.specs.declared.link.Link.{Link}
 use Rattle.flat_ether.specs.declared.link.Route.{Route}
 use Rattle.flat_ether.specs.declared.link.Route.TheVariants.{All, Hop, NoRoute}
 use Rattle.flat_ether.specs.declared.mac.Mac.{Mac}
 use Rattle.flat_ether.specs.declared.neighbour.Neighbour.{Neighbour}
 use Rattle.flat_ether.specs.declared.neighbour.PendingReply.{PendingReply}
-
-each-drop : {X : Type 0} (P : X → Type 0) (n : ℕ) (xs : List X) → Each P xs → Each P (drop n xs)
-each-drop P zero xs h = h
-each-drop P (suc n) [] h = tt
-each-drop P (suc n) (x ∷ xs) h = each-drop P n xs h.1
-
-each-set : {X : Type 0} (P : X → Type 0) (xs : List X) (i : ℕ) (x : X) → Each P xs → P x → Each P (slice_set xs i x)
-each-set P [] i x h p = tt
-each-set P (y ∷ ys) zero x h p = (p, h.1)
-each-set P (y ∷ ys) (suc i) x h p = (h.0, each-set P ys i x h.1 p)
+use Rattle.flat_ether.proofs.Tables.{AreDistinct, distinct_again, distinct_stays, each-drop, each_again, new_ip, put_distinct, put_each}
 
 each-remove : {X : Type 0} (P : X → Type 0) (xs : List X) (i : ℕ) → Each P xs → Each P (remove xs i)
 each-remove P xs i h = each-append P (take i xs) (drop (suc i) xs) (each-take P i xs h) (each-drop P (suc i) xs h)
@@ -41,36 +36,31 @@ each-get P [] i x h e = absurd (none-some x e)
 each-get P (y ∷ ys) zero x h e = subst P (same_Some y x e) h.0
 each-get P (y ∷ ys) (suc i) x h e = each-get P ys i x h.1 e
 
-each-get_or : {X : Type 0} (P : X → Type 0) (xs : List X) (i : ℕ) (d : X) → Each P xs → P d → P (get_or xs i d)
-each-get_or P [] i d h p = p
-each-get_or P (x ∷ xs) zero d h p = h.0
-each-get_or P (x ∷ xs) (suc i) d h p = each-get_or P xs i d h.1 p
-
 get_or_of_get : {X : Type 0} (xs : List X) (i : ℕ) (x : X) → slice_get xs i ≡ Some x → get_or xs i x ≡ x
 get_or_of_get [] i x e = refl
 get_or_of_get (y ∷ ys) zero x e = same_Some y x e
 get_or_of_get (y ∷ ys) (suc i) x e = get_or_of_get ys i x e
 
--- more frames, and more packets that were given
-module _ (c : Config) (l : Link) (F G F' G' : List (List ℕ)) where
-  pub more_told : (ip : ℕ) (mac : Mac) → IsTold F ip mac → IsTold (F ++ F') ip mac
-  more_told ip mac t = record { frame = t.frame; came = Contains-append_left F F' t.frame t.came; form = t.form; ip_is = t.ip_is; mac_is = t.mac_is }
-
-  pub more_made : (p : List ℕ) → IsMade c F G p → IsMade c (F ++ F') (G ++ G') p
+-- more packets that were given
+module _ (c : Config) (l : Link) (F G G' : List (List ℕ)) where
+  pub more_made : (p : List ℕ) → IsMade c F G p → IsMade c F (G ++ G') p
   more_made p (inl h) = inl (Contains-append_left G G' p h)
-  more_made p (inr (f, came, is)) = inr (f, Contains-append_left F F' f came, is)
+  more_made p (inr h) = inr h
 
-  more_route : (p : List ℕ) (mac : Mac) → IsRoute c l F p mac → IsRoute c l (F ++ F') p mac
-  more_route p mac (inl h) = inl h
-  more_route p mac (inr (hop, route, t)) = inr (hop, route, more_told hop mac t)
-
-  pub more_sent : (f : List ℕ) → IsSent c l F G f → IsSent c l (F ++ F') (G ++ G') f
+  pub more_sent : (f : List ℕ) → IsSent c l F G f → IsSent c l F (G ++ G') f
   more_sent f (inl h) = inl h
-  more_sent f (inr h) = inr (record { packet = h.packet; mac = h.mac; frame_is = h.frame_is; made = more_made h.packet h.made; route = more_route h.packet h.mac h.route })
+  more_sent f (inr h) = inr (record { packet = h.packet; mac = h.mac; frame_is = h.frame_is; made = more_made h.packet h.made; route = h.route })
+
+-- one frame more
+module _ (c : Config) (F G : List (List ℕ)) (f : List ℕ) where
+  pub later_made : (p : List ℕ) → IsMade c F G p → IsMade c (f ∷ F) G p
+  later_made p (inl h) = inl h
+  later_made p (inr (g, came, is)) = inr (g, Contains-append_right (f ∷ []) F g came, is)
 
 module _ (c : Config) (l : Link) (F G : List (List ℕ)) where
   pub record IsKnown (n : Neighbour) : Type 0 where
-    pub told : (mac : Mac) → n.mac ≡ Some mac → IsTold F n.ip mac
+    pub told : (mac : Mac) → n.mac ≡ Some mac → last_told c l n.ip F ≡ Some mac
+    pub near : (mac : Mac) → n.mac ≡ Some mac → is_neighbour c l n.ip ≡ true
 
   pub record IsWaiting (h : Held) : Type 0 where
     pub made : IsMade c F G h.packet
@@ -80,6 +70,7 @@ module _ (c : Config) (l : Link) (F G : List (List ℕ)) where
     pub config : s.config ≡ c
     pub link : s.link ≡ l
     pub neighbours : Each IsKnown s.neighbours
+    pub distinct : AreDistinct s.neighbours
     pub held : Each IsWaiting s.held
     pub answer : (p : List ℕ) → s.answer ≡ Some p → IsMade c F G p
 
@@ -96,28 +87,20 @@ module _ (c : Config) (l : Link) (F G : List (List ℕ)) where
 
   -- ---- the table
 
-  put_good : (n : Neighbour) (ns : List Neighbour) → IsKnown n → Each IsKnown ns → Each IsKnown (put n ns)
-  put_good n ns is h = go (place_of n.ip ns)
-    where
-      room : (b : Bool) → Each IsKnown (cond b ns (drop 1 ns))
-      room true = h
-      room false = each-drop IsKnown 1 ns h
+  put_good : (n : Neighbour) (ns : List Neighbour) → IsKnown n → AreDistinct ns → Each IsKnown ns → Each IsKnown (put n ns)
+  put_good n ns is d h = put_each IsKnown n ns is d (each-weaker (λ m known other. known) ns h)
 
-      go : (at : Option ℕ) → Each IsKnown (put_at at n ns)
-      go None = each-append IsKnown (with_room ns) (n ∷ []) (room (nat_lt (length ns) 32)) (is, tt)
-      go (Some at) = each-set IsKnown ns at n h is
-
-  known_mac : (hop : ℕ) (mac : Mac) (ns : List Neighbour) → Each IsKnown ns → mac_of hop ns ≡ Some mac → IsTold F hop mac
+  known_mac : (hop : ℕ) (mac : Mac) (ns : List Neighbour) → Each IsKnown ns → mac_of hop ns ≡ Some mac → last_told c l hop F ≡ Some mac
   known_mac hop mac ns h e = go (place_of hop ns) refl e
     where
-      there : (at : ℕ) (o : Option Neighbour) → place_of hop ns ≡ Some at → slice_get ns at ≡ o → mac_in o ≡ Some mac → IsTold F hop mac
+      there : (at : ℕ) (o : Option Neighbour) → place_of hop ns ≡ Some at → slice_get ns at ≡ o → mac_in o ≡ Some mac → last_told c l hop F ≡ Some mac
       there at None p g is = absurd (none-some mac is)
       there at (Some n) p g is =
           let passes : has_ip hop n ≡ true = subst (λ (x : Neighbour). has_ip hop x ≡ true) (get_or_of_get ns at n g) (position-Some (has_ip hop) ns at n p).1 in
           let known : IsKnown n = each-get IsKnown ns at n h g in
-          subst (λ ip. IsTold F ip mac) (eqb-true n.ip hop passes) (known.told mac is)
+          subst (λ ip. last_told c l ip F ≡ Some mac) (eqb-true n.ip hop passes) (known.told mac is)
 
-      go : (at : Option ℕ) → place_of hop ns ≡ at → mac_at at ns ≡ Some mac → IsTold F hop mac
+      go : (at : Option ℕ) → place_of hop ns ≡ at → mac_at at ns ≡ Some mac → last_told c l hop F ≡ Some mac
       go None p is = absurd (none-some mac is)
       go (Some at) p is = there at (slice_get ns at) p refl is
 
@@ -139,20 +122,23 @@ module _ (c : Config) (l : Link) (F G : List (List ℕ)) where
   holds_good : (hop : ℕ) (packet : List ℕ) (s : LinkState) → IsGood s → IsWaiting (record { hop = hop; packet = packet }) → IsGood (holds hop packet s)
   holds_good hop packet s good is =
       by_test IsGood (nat_lt 1500 (length packet)) (finds_long s) (takes_place hop packet (cond (nat_lt (length s.held) 8) s (drops_first s)))
-      (record { config = good.config; link = good.link; neighbours = good.neighbours; held = good.held; answer = good.answer })
+      (record { config = good.config; link = good.link; neighbours = good.neighbours; distinct = good.distinct; held = good.held; answer = good.answer })
       (takes (cond (nat_lt (length s.held) 8) s (drops_first s)) room)
     where
       room : IsGood (cond (nat_lt (length s.held) 8) s (drops_first s))
       room = by_test IsGood (nat_lt (length s.held) 8) s (drops_first s) good
-          (record { config = good.config; link = good.link; neighbours = good.neighbours; held = each-drop IsWaiting 1 s.held good.held; answer = good.answer })
+          (record { config = good.config; link = good.link; neighbours = good.neighbours; distinct = good.distinct; held = each-drop IsWaiting 1 s.held good.held; answer = good.answer })
 
       takes : (t : LinkState) → IsGood t → IsGood (takes_place hop packet t)
-      takes t g = record { config = g.config; link = g.link; neighbours = g.neighbours; held = each-append IsWaiting t.held (record { hop = hop; packet = packet } ∷ []) g.held (is, tt); answer = g.answer }
+      takes t g = record { config = g.config; link = g.link; neighbours = g.neighbours; distinct = g.distinct; held = each-append IsWaiting t.held (record { hop = hop; packet = packet } ∷ []) g.held (is, tt); answer = g.answer }
+
+  no_mac_known : (ip : ℕ) → IsKnown (unknown ip)
+  no_mac_known ip = record { told = λ mac e. absurd (none-some mac e); near = λ mac e. absurd (none-some mac e) }
 
   asks_good : (hop : ℕ) (s : LinkState) → IsGood s → IsGood (asks hop s)
   asks_good hop s good =
       by_test IsGood (is_some (place_of hop s.neighbours)) s (record s { neighbours = put (unknown hop) s.neighbours }) good
-      (record { config = good.config; link = good.link; neighbours = put_good (unknown hop) s.neighbours (record { told = λ mac e. absurd (none-some mac e) }) good.neighbours; held = good.held; answer = good.answer })
+      (record { config = good.config; link = good.link; neighbours = put_good (unknown hop) s.neighbours (no_mac_known hop) good.distinct good.neighbours; distinct = put_distinct (unknown hop) s.neighbours good.distinct; held = good.held; answer = good.answer })
 
   pub sends_given : (packet : List ℕ) (s : LinkState) → IsGood s → IsMade c F G packet → IsGiven (sends packet s)
   sends_given packet s good made = by (route_of s packet) refl
@@ -167,20 +153,36 @@ module _ (c : Config) (l : Link) (F G : List (List ℕ)) where
       by : (w : Route) → route_of s packet ≡ w → IsGiven (by_route packet s w)
       by All e = record { good = good; sent = carried s packet ether_broadcast good made (inl (route_is s packet All good e, refl)) }
       by (Hop hop) e = to hop (mac_of hop s.neighbours) e refl
-      by NoRoute e = nothing _ (record { config = good.config; link = good.link; neighbours = good.neighbours; held = good.held; answer = good.answer })
+      by NoRoute e = nothing _ (record { config = good.config; link = good.link; neighbours = good.neighbours; distinct = good.distinct; held = good.held; answer = good.answer })
 
   -- ---- the link's own frames
 
-  arp_sent : (s : LinkState) (op : ℕ) (to target_mac : Mac) (target : ℕ) → IsGood s → (f : List ℕ)
-      → Some (frame to s.link.mac 0x0806 (arp_bytes op s.link.mac s.config.addr target_mac target)) ≡ Some f → IsSent c l F G f
-  arp_sent s op to target_mac target good f e = inl (record {
+  arp_sent : (s : LinkState) (op sender : ℕ) (to target_mac : Mac) (target : ℕ) → IsGood s → (sender ≡ s.config.addr) ⊎ (sender ≡ 0) → (f : List ℕ)
+      → Some (frame to s.link.mac 0x0806 (arp_bytes op s.link.mac sender target_mac target)) ≡ Some f → IsSent c l F G f
+  arp_sent s op sender to target_mac target good from f e = inl (record {
     op = op;
+    sender = sender;
+    sender_is = go from;
     to = to;
     target_mac = target_mac;
     target = target;
-    frame_is = sym (same_Some _ f e) ∙ ap (λ (x : Link). frame to x.mac 0x0806 (arp_bytes op x.mac s.config.addr target_mac target)) good.link
-        ∙ ap (λ (x : Config). frame to l.mac 0x0806 (arp_bytes op l.mac x.addr target_mac target)) good.config;
+    frame_is = sym (same_Some _ f e) ∙ ap (λ (x : Link). frame to x.mac 0x0806 (arp_bytes op x.mac sender target_mac target)) good.link;
   })
+    where
+      go : (sender ≡ s.config.addr) ⊎ (sender ≡ 0) → (sender ≡ c.addr) ⊎ (sender ≡ 0)
+      go (inl is) = inl (is ∙ ap (λ (x : Config). x.addr) good.config)
+      go (inr is) = inr is
+
+  pub claim_given : (s : LinkState) → IsGood s → IsGiven (gives_claim s)
+  claim_given s good = go (claim_due s.claim)
+    where
+      sent : IsGood (record s { claim = claim_sent s.claim })
+      sent = record { config = good.config; link = good.link; neighbours = good.neighbours; distinct = good.distinct; held = good.held; answer = good.answer }
+
+      go : (due : ClaimFrame) → IsGiven (claim_frame due s)
+      go Nothing = nothing s good
+      go Probe = record { good = sent; sent = arp_sent s 1 0 ether_broadcast no_mac s.config.addr good (inr refl) }
+      go Announcement = record { good = sent; sent = arp_sent s 1 s.config.addr ether_broadcast no_mac s.config.addr good (inl refl) }
 
   reply_given : (s : LinkState) → IsGood s → IsGiven (gives_reply s)
   reply_given s good = go s.replies
@@ -188,40 +190,34 @@ module _ (c : Config) (l : Link) (F G : List (List ℕ)) where
       go : (replies : List PendingReply) → IsGiven (replies_to replies s)
       go [] = nothing s good
       go (o ∷ later) = record {
-        good = record { config = good.config; link = good.link; neighbours = good.neighbours; held = good.held; answer = good.answer };
-        sent = arp_sent s 2 o.mac o.mac o.ip good;
+        good = record { config = good.config; link = good.link; neighbours = good.neighbours; distinct = good.distinct; held = good.held; answer = good.answer };
+        sent = arp_sent s 2 s.config.addr o.mac o.mac o.ip good (inl refl);
       }
 
   request_given : (s : LinkState) → IsGood s → IsGiven (gives_request s)
   request_given s good = go (position is_due s.neighbours)
     where
-      same : (n : Neighbour) → IsKnown n → IsKnown (asked_again n)
-      same n is = record { told = is.told }
-
-      of : (at : ℕ) (n : Neighbour) → IsKnown n → IsGiven (asks_of at n s)
-      of at n is = record {
-        good = record {
-          config = good.config;
-          link = good.link;
-          neighbours = each-set IsKnown s.neighbours at (asked_again n) good.neighbours (same n is);
-          held = good.held;
-          answer = good.answer;
-        };
-        sent = arp_sent s 1 ether_broadcast no_mac n.ip good;
-      }
-
-      no_one_known : IsKnown (unknown 0)
-      no_one_known = record { told = λ mac e. absurd (none-some mac e) }
-
       go : (at : Option ℕ) → IsGiven (asks_at at s)
       go None = nothing s good
-      go (Some at) = of at (get_or s.neighbours at (unknown 0)) (each-get_or IsKnown s.neighbours at (unknown 0) good.neighbours no_one_known)
+      go (Some at) =
+          let n : Neighbour = get_or s.neighbours at (unknown 0) in
+          record {
+            good = record {
+              config = good.config;
+              link = good.link;
+              neighbours = each_again IsKnown (λ m is. record { told = is.told; near = is.near }) s.neighbours at (unknown 0) good.neighbours;
+              distinct = distinct_again s.neighbours at (unknown 0) good.distinct;
+              held = good.held;
+              answer = good.answer;
+            };
+            sent = arp_sent s 1 s.config.addr (asked_at n.mac) no_mac n.ip good (inl refl);
+          }
 
   -- the packet that is found waits for a hop of which the hardware address was told
   record IsFound (hs : List Held) (found : ℕ × Mac) : Type 0 where
     h : Held
     at : slice_get hs found.0 ≡ Some h
-    told : IsTold F h.hop found.1
+    told : last_told c l h.hop F ≡ Some found.1
 
   found_ready : (ns : List Neighbour) (hs : List Held) (found : ℕ × Mac) → Each IsKnown ns → first_ready ns hs ≡ Some found → IsFound hs found
   found_ready ns [] found known e = absurd (none-some found e)
@@ -247,8 +243,8 @@ module _ (c : Config) (l : Link) (F G : List (List ℕ)) where
           let same : is.h ≡ h = same_Some is.h h (sym is.at ∙ e) in
           let waits : IsWaiting h = each-get IsWaiting s.held at h good.held e in
           record {
-            good = record { config = good.config; link = good.link; neighbours = good.neighbours; held = each-remove IsWaiting s.held at good.held; answer = good.answer };
-            sent = carried s h.packet mac good waits.made (inr (h.hop, waits.route, subst (λ (x : Held). IsTold F x.hop mac) same is.told));
+            good = record { config = good.config; link = good.link; neighbours = good.neighbours; distinct = good.distinct; held = each-remove IsWaiting s.held at good.held; answer = good.answer };
+            sent = carried s h.packet mac good waits.made (inr (h.hop, waits.route, subst (λ (x : Held). last_told c l x.hop F ≡ Some mac) same is.told));
           }
 
       go : (found : Option (ℕ × Mac)) → first_ready s.neighbours s.held ≡ found → IsGiven (sends_at found s)
@@ -259,7 +255,7 @@ module _ (c : Config) (l : Link) (F G : List (List ℕ)) where
   answer_given s good = go s.answer refl
     where
       free : IsGood (record s { answer = None })
-      free = record { config = good.config; link = good.link; neighbours = good.neighbours; held = good.held; answer = λ p e. absurd (none-some p e) }
+      free = record { config = good.config; link = good.link; neighbours = good.neighbours; distinct = good.distinct; held = good.held; answer = λ p e. absurd (none-some p e) }
 
       go : (answer : Option (List ℕ)) → s.answer ≡ answer → IsGiven (sends_answer answer s)
       go None e = nothing s good
@@ -274,68 +270,53 @@ module _ (c : Config) (l : Link) (F G : List (List ℕ)) where
 
   pub own_given : (s : LinkState) → IsGood s → IsGiven (gives_own s)
   own_given s good =
-      let first : Gives = or_then (gives_reply s) gives_request in
-      let second : Gives = or_then first gives_held in
-      or_given second gives_answer (or_given first gives_held (or_given (gives_reply s) gives_request (reply_given s good) request_given) held_given) answer_given
+      let first : Gives = or_then (gives_claim s) gives_reply in
+      let second : Gives = or_then first gives_request in
+      let third : Gives = or_then second gives_held in
+      or_given third gives_answer (or_given second gives_held (or_given first gives_request (or_given (gives_claim s) gives_reply (claim_given s good) reply_given) request_given) held_given) answer_given
 
   -- ---- what comes, and the clock
 
+  -- a change of what no packet and no address depends on
+  same_good : (s t : LinkState) → IsGood s → t.config ≡ s.config → t.link ≡ s.link → t.neighbours ≡ s.neighbours → t.held ≡ s.held → t.answer ≡ s.answer → IsGood t
+  same_good s t good a b n h w = record {
+    config = a ∙ good.config;
+    link = b ∙ good.link;
+    neighbours = subst (Each IsKnown) (sym n) good.neighbours;
+    distinct = subst AreDistinct (sym n) good.distinct;
+    held = subst (Each IsWaiting) (sym h) good.held;
+    answer = λ p e. good.answer p (sym w ∙ e);
+  }
+
   pub ignores_good : (s : LinkState) → IsGood s → IsGood (ignores s)
-  ignores_good s good = record { config = good.config; link = good.link; neighbours = good.neighbours; held = good.held; answer = good.answer }
+  ignores_good s good = same_good s _ good refl refl refl refl refl
+
+  pub refuses_good : (s : LinkState) → IsGood s → IsGood (refuses s)
+  refuses_good s good = same_good s _ good refl refl refl refl refl
+
+  finds_bad_good : (s : LinkState) → IsGood s → IsGood (finds_bad s)
+  finds_bad_good s good = same_good s _ good refl refl refl refl refl
+
+  conflict_good : (s : LinkState) → IsGood s → IsGood (finds_conflict s)
+  conflict_good s good = same_good s _ good refl refl refl refl refl
 
   owes_good : (a : Arp) (s : LinkState) → IsGood s → IsGood (owes a s)
-  owes_good a s good = go (is_asked s a) (nat_lt (length s.replies) 8)
+  owes_good a s good = go (is_asked s a)
     where
-      same : (t : LinkState) → t.config ≡ s.config → t.link ≡ s.link → t.neighbours ≡ s.neighbours → t.held ≡ s.held → t.answer ≡ s.answer → IsGood t
-      same t a b n h w = record {
-        config = a ∙ good.config;
-        link = b ∙ good.link;
-        neighbours = subst (Each IsKnown) (sym n) good.neighbours;
-        held = subst (Each IsWaiting) (sym h) good.held;
-        answer = λ p e. good.answer p (sym w ∙ e);
-      }
-
       inner : (b : Bool) → IsGood (cond b (record s { replies = s.replies ++ record { mac = a.mac; ip = a.ip } ∷ [] }) (record s { tallies = record s.tallies { replies_dropped = more_by 1 s.tallies.replies_dropped } }))
-      inner true = same _ refl refl refl refl refl
-      inner false = same _ refl refl refl refl refl
+      inner true = same_good s _ good refl refl refl refl refl
+      inner false = same_good s _ good refl refl refl refl refl
 
-      go : (b d : Bool) → IsGood (cond b (cond (nat_lt (length s.replies) 8) (record s { replies = s.replies ++ record { mac = a.mac; ip = a.ip } ∷ [] }) (record s { tallies = record s.tallies { replies_dropped = more_by 1 s.tallies.replies_dropped } })) s)
-      go true d = inner (nat_lt (length s.replies) 8)
-      go false d = good
-
-  learns_good : (a : Arp) (s : LinkState) → IsGood s → IsTold F a.ip a.mac → IsGood (learns a s)
-  learns_good a s good told = go (is_learned s a)
-    where
-      is : IsKnown (heard a)
-      is = record { told = λ mac e. subst (λ (m : Mac). IsTold F a.ip m) (same_Some a.mac mac e) told }
-
-      go : (b : Bool) → IsGood (cond b (record s { neighbours = put (heard a) s.neighbours }) s)
-      go true = record { config = good.config; link = good.link; neighbours = put_good (heard a) s.neighbours is good.neighbours; held = good.held; answer = good.answer }
+      go : (b : Bool) → IsGood (cond b (cond (nat_lt (length s.replies) 8) (record s { replies = s.replies ++ record { mac = a.mac; ip = a.ip } ∷ [] }) (record s { tallies = record s.tallies { replies_dropped = more_by 1 s.tallies.replies_dropped } })) s)
+      go true = inner (nat_lt (length s.replies) 8)
       go false = good
-
-  pub hears_good : (f : List ℕ) (s : LinkState) → IsGood s → Contains F f → IsGood (hears_arp (body_of f) s)
-  hears_good f s good came = go (is_sound_arp s (body_of f)) refl
-    where
-      a : Arp
-      a = arp_of (body_of f)
-
-      conflict : IsGood (finds_conflict s)
-      conflict = record { config = good.config; link = good.link; neighbours = good.neighbours; held = good.held; answer = good.answer }
-
-      inner : IsTold F (arp_of (body_of f)).ip (arp_of (body_of f)).mac → (b : Bool) → IsGood (cond b (owes (arp_of (body_of f)) (finds_conflict s)) (owes (arp_of (body_of f)) (learns (arp_of (body_of f)) s)))
-      inner told true = owes_good (arp_of (body_of f)) (finds_conflict s) conflict
-      inner told false = owes_good (arp_of (body_of f)) (learns (arp_of (body_of f)) s) (learns_good (arp_of (body_of f)) s good told)
-
-      go : (b : Bool) → is_sound_arp s (body_of f) ≡ b
-          → IsGood (cond b (cond ((arp_of (body_of f)).ip == s.config.addr) (owes (arp_of (body_of f)) (finds_conflict s)) (owes (arp_of (body_of f)) (learns (arp_of (body_of f)) s))) (finds_bad s))
-      go true e = inner (record { frame = f; came = came; form = (and_parts (is_arp (body_of f)) _ e).0; ip_is = refl; mac_is = refl }) ((arp_of (body_of f)).ip == s.config.addr)
-      go false e = record { config = good.config; link = good.link; neighbours = good.neighbours; held = good.held; answer = good.answer }
 
   pub ticks_good : (s : LinkState) → IsGood s → IsGood (ticks s)
   ticks_good s good = record {
     config = good.config;
     link = good.link;
-    neighbours = each-filter IsKnown stays (map aged s.neighbours) (each-map IsKnown aged (λ n is. record { told = is.told }) s.neighbours good.neighbours);
+    neighbours = each-filter IsKnown stays (map aged s.neighbours) (each-map IsKnown aged (λ n is. record { told = is.told; near = is.near }) s.neighbours good.neighbours);
+    distinct = distinct_stays s.neighbours good.distinct;
     held = each-filter IsWaiting (has_hope (filter stays (map aged s.neighbours))) s.held good.held;
     answer = good.answer;
   }
@@ -348,13 +329,152 @@ module _ (c : Config) (l : Link) (F G : List (List ℕ)) where
       made = inr (f, came, inl (ap (λ (x : Config). echo_reply x (body_of f)) good.config))
 
       go : (b : Bool) → IsGood (cond b (finds_no_place s) (counts_echo (puts_answer (echo_reply s.config (body_of f)) s)))
-      go true = record { config = good.config; link = good.link; neighbours = good.neighbours; held = good.held; answer = good.answer }
-      go false = record { config = good.config; link = good.link; neighbours = good.neighbours; held = good.held; answer = λ p e. subst (IsMade c F G) (same_Some _ p e) made }
-  answers_good f Unreachable s good came = go (is_some s.answer)
+      go true = same_good s _ good refl refl refl refl refl
+      go false = record { config = good.config; link = good.link; neighbours = good.neighbours; distinct = good.distinct; held = good.held; answer = λ p e. subst (IsMade c F G) (same_Some _ p e) made }
+  answers_good f Unreachable s good came = go (is_some s.answer) (nat_lt 0 s.unreachables)
     where
       made : IsMade c F G (port_unreachable s.config (body_of f))
       made = inr (f, came, inr (ap (λ (x : Config). port_unreachable x (body_of f)) good.config))
 
-      go : (b : Bool) → IsGood (cond b (finds_no_place s) (counts_unreachable (puts_answer (port_unreachable s.config (body_of f)) s)))
-      go true = record { config = good.config; link = good.link; neighbours = good.neighbours; held = good.held; answer = good.answer }
-      go false = record { config = good.config; link = good.link; neighbours = good.neighbours; held = good.held; answer = λ p e. subst (IsMade c F G) (same_Some _ p e) made }
+      told : LinkState
+      told = counts_unreachable (puts_answer (port_unreachable s.config (body_of f)) (record s { unreachables = s.unreachables - 1 }))
+
+      inner : (b : Bool) → IsGood (cond b (counts_unreachable (puts_answer (port_unreachable s.config (body_of f)) (record s { unreachables = s.unreachables - 1 }))) (limits s))
+      inner true = record { config = good.config; link = good.link; neighbours = good.neighbours; distinct = good.distinct; held = good.held; answer = λ p e. subst (IsMade c F G) (same_Some _ p e) made }
+      inner false = same_good s _ good refl refl refl refl refl
+
+      go : (b d : Bool) → IsGood (cond b (finds_no_place s) (tells_unreachable (body_of f) s))
+      go true d = same_good s _ good refl refl refl refl refl
+      go false d = inner (nat_lt 0 s.unreachables)
+
+-- ---- a frame more came
+
+-- a neighbour is neither this host nor 0
+neighbour_other : (c : Config) (l : Link) (ip : ℕ) → is_neighbour c l ip ≡ true → (ip ≢ c.addr) × (ip ≢ 0)
+neighbour_other c l ip e =
+    let rest = (and_parts (is_near c l ip) _ e).1 in
+    let zero_not = (and_parts (not (ip == 0)) _ rest).0 in
+    let more = (and_parts (not (ip == 0)) _ rest).1 in
+    let own_not = (and_parts (not (ip == c.addr)) _ more).0 in
+    (eqb-false ip c.addr (not-true _ own_not), eqb-false ip 0 (not-true _ zero_not))
+
+module _ (c : Config) (l : Link) (F G : List (List ℕ)) (f : List ℕ) where
+  abbrev Told : ℕ → Option Mac
+  Told ip = last_told c l ip (f ∷ F)
+
+  abbrev Good : List (List ℕ) → LinkState → Type 0
+  Good frames s = IsGood c l frames G s
+
+  here : Contains (f ∷ F) f
+  here = All-head (Contains (f ∷ F)) f F (All-contains_itself (f ∷ F))
+
+  -- what is known stays so of those of whom the frame says nothing
+  later_good : (s t : LinkState) → Good F s → t.config ≡ s.config → t.link ≡ s.link → t.held ≡ s.held → t.answer ≡ s.answer
+      → Each (IsKnown c l (f ∷ F) G) t.neighbours → AreDistinct t.neighbours → Good (f ∷ F) t
+  later_good s t good a b h w known distinct = record {
+    config = a ∙ good.config;
+    link = b ∙ good.link;
+    neighbours = known;
+    distinct = distinct;
+    held = subst (Each (IsWaiting c l (f ∷ F) G)) (sym h) (each-weaker (λ x is. record { made = later_made c F G f x.packet is.made; route = is.route }) s.held good.held);
+    answer = λ p e. later_made c F G f p (good.answer p (sym w ∙ e));
+  }
+
+  known_later : (n : Neighbour) → ((mac : Mac) → n.mac ≡ Some mac → Told n.ip ≡ last_told c l n.ip F) → IsKnown c l F G n → IsKnown c l (f ∷ F) G n
+  known_later n same is = record { told = λ mac e. same mac e ∙ is.told mac e; near = is.near }
+
+  all_later : (s : LinkState) → Good F s → ((n : Neighbour) → (mac : Mac) → n.mac ≡ Some mac → is_neighbour c l n.ip ≡ true → Told n.ip ≡ last_told c l n.ip F) → Good (f ∷ F) s
+  all_later s good same =
+      later_good s s good refl refl refl refl (each-weaker (λ n is. known_later n (λ mac e. same n mac e (is.near mac e)) is) s.neighbours good.neighbours) good.distinct
+
+  -- a frame that is no ARP packet for the host
+  pub quiet_good : (s : LinkState) → Good F s → arp_if (kind_of c l.mac f) f ≡ None → Good (f ∷ F) s
+  quiet_good s good e = all_later s good (λ n mac is near. ap (λ (b : Option (List ℕ)). told_in l n.ip b (last_told c l n.ip F)) e)
+
+  module _ (kind : arp_if (kind_of c l.mac f) f ≡ Some (body_of f)) where
+    abbrev a : Arp
+    a = arp_of (body_of f)
+
+    told_here : (ip : ℕ) (b : Bool) → tells l ip (body_of f) ≡ b → Told ip ≡ cond b (Some a.mac) (last_told c l ip F)
+    told_here ip b e =
+        ap (λ (p : Option (List ℕ)). told_in l ip p (last_told c l ip F)) kind
+        ∙ ap (λ x. cond x (Some (arp_of (body_of f)).mac) (last_told c l ip F)) e
+
+    unsound_good : (s : LinkState) → Good F s → is_sound_arp l (body_of f) ≡ false → Good (f ∷ F) s
+    unsound_good s good e = all_later s good (λ n mac is near. told_here n.ip false (ap (λ x. x && ((arp_of (body_of f)).ip == n.ip)) e))
+
+    other_told : (ip : ℕ) → ip ≢ a.ip → Told ip ≡ last_told c l ip F
+    other_told ip other = go (is_sound_arp l (body_of f)) refl
+      where
+        go : (x : Bool) → is_sound_arp l (body_of f) ≡ x → Told ip ≡ last_told c l ip F
+        go true e = told_here ip false (ap (λ x. x && ((arp_of (body_of f)).ip == ip)) e ∙ ne_eqb _ _ (λ same. other (sym same)))
+        go false e = told_here ip false (ap (λ x. x && ((arp_of (body_of f)).ip == ip)) e)
+
+    others_good : (s : LinkState) → Good F s → ((n : Neighbour) → is_neighbour c l n.ip ≡ true → n.ip ≢ a.ip) → Good (f ∷ F) s
+    others_good s good other = all_later s good (λ n mac is near. other_told n.ip (other n near))
+
+    learns_good : (s : LinkState) → Good F s → is_sound_arp l (body_of f) ≡ true → Good (f ∷ F) (learns a s)
+    learns_good s good sound = go (is_neighbour s.config s.link a.ip) (is_some (place_of a.ip s.neighbours)) (a.target == s.config.addr) refl refl
+      where
+        near_is : is_neighbour s.config s.link a.ip ≡ is_neighbour c l a.ip
+        near_is = ap (λ (x : Config). is_neighbour x s.link a.ip) good.config ∙ ap (λ (x : Link). is_neighbour c x a.ip) good.link
+
+        known : is_neighbour c l a.ip ≡ true → IsKnown c l (f ∷ F) G (heard a)
+        known near = record {
+          told = λ mac e. told_here a.ip true (ap (λ x. x && ((arp_of (body_of f)).ip == a.ip)) sound ∙ eq-eqb _ _ refl) ∙ e;
+          near = λ mac e. near;
+        }
+
+        puts : is_neighbour c l a.ip ≡ true → Good (f ∷ F) (record s { neighbours = put (heard a) s.neighbours })
+        puts near =
+            later_good s _ good refl refl refl refl
+            (put_each (IsKnown c l (f ∷ F) G) (heard a) s.neighbours (known near) good.distinct
+            (each-weaker (λ n is other. known_later n (λ mac e. other_told n.ip other) is) s.neighbours good.neighbours))
+            (put_distinct (heard a) s.neighbours good.distinct)
+
+        stays_new : place_of a.ip s.neighbours ≡ None → Good (f ∷ F) s
+        stays_new e =
+            later_good s s good refl refl refl refl
+            (each-both (λ n other is. known_later n (λ mac x. other_told n.ip other) is) s.neighbours (new_ip a.ip s.neighbours e) good.neighbours) good.distinct
+
+        unplaced : (at : Option ℕ) → is_some at ≡ false → at ≡ None
+        unplaced None e = refl
+        unplaced (Some at) e = absurd (false≢true (sym e))
+
+        go : (near place target : Bool) → is_neighbour s.config s.link a.ip ≡ near → is_some (place_of a.ip s.neighbours) ≡ place
+            → Good (f ∷ F) (cond (near && (place || target)) (record s { neighbours = put (heard a) s.neighbours }) s)
+        go false place target n p = others_good s good (λ m near same. false≢true (sym n ∙ near_is ∙ ap (is_neighbour c l) (sym same) ∙ near))
+        go true true target n p = puts (sym near_is ∙ n)
+        go true false true n p = puts (sym near_is ∙ n)
+        go true false false n p = stays_new (unplaced (place_of a.ip s.neighbours) p)
+
+    -- the address in conflict is that of this host, or none
+    conflict_others : (s : LinkState) → Good F s → is_conflict s a ≡ true → Good (f ∷ F) s
+    conflict_others s good e = go (a.ip == s.config.addr) refl (is_rival s a) refl e
+      where
+        go : (own : Bool) → (a.ip == s.config.addr) ≡ own → (rival : Bool) → is_rival s a ≡ rival → (own || rival) ≡ true → Good (f ∷ F) s
+        go true own rival r e =
+            let same : a.ip ≡ c.addr = eqb-true _ _ own ∙ ap (λ (x : Config). x.addr) good.config in
+            others_good s good (λ n near is. (neighbour_other c l n.ip near).0 (is ∙ same))
+        go false own true r e =
+            let rest = (and_parts (not (is_claimed s.claim)) _ r).1 in
+            let probe = (and_parts (a.op == 1) _ rest).1 in
+            let zero_ip : a.ip ≡ 0 = eqb-true _ _ (and_parts (a.ip == 0) _ probe).0 in
+            others_good s good (λ n near is. (neighbour_other c l n.ip near).1 (is ∙ zero_ip))
+        go false own false r e = absurd (false≢true e)
+
+    pub hears_good : (s : LinkState) → Good F s → Good (f ∷ F) (hears_arp (body_of f) s)
+    hears_good s good = go (is_sound_arp s.link (body_of f)) refl
+      where
+        sound_is : is_sound_arp l (body_of f) ≡ is_sound_arp s.link (body_of f)
+        sound_is = ap (λ (x : Link). is_sound_arp x (body_of f)) (sym good.link)
+
+        inner : is_sound_arp l (body_of f) ≡ true → (b : Bool) → is_conflict s (arp_of (body_of f)) ≡ b
+            → Good (f ∷ F) (cond b (owes (arp_of (body_of f)) (finds_conflict s)) (owes (arp_of (body_of f)) (learns (arp_of (body_of f)) s)))
+        inner sound true e = owes_good c l (f ∷ F) G a (finds_conflict s) (conflict_good c l (f ∷ F) G s (conflict_others s good e))
+        inner sound false e = owes_good c l (f ∷ F) G a (learns a s) (learns_good s good sound)
+
+        go : (b : Bool) → is_sound_arp s.link (body_of f) ≡ b
+            → Good (f ∷ F) (cond b (cond (is_conflict s (arp_of (body_of f))) (owes (arp_of (body_of f)) (finds_conflict s)) (owes (arp_of (body_of f)) (learns (arp_of (body_of f)) s))) (finds_bad s))
+        go true e = inner (sound_is ∙ e) (is_conflict s (arp_of (body_of f))) refl
+        go false e = finds_bad_good c l (f ∷ F) G s (unsound_good s good (sound_is ∙ e))

@@ -1,10 +1,12 @@
 -- The bytes of frames and of ARP packets (RFC 894, RFC 826). All numbers are big-endian.
-use Rattle.std.specs.Prelude.{ℕ, ◌+◌, nat_le, Bool, ◌==◌, ◌&&◌, ◌||◌, if◌then◌else◌, List, ◌++◌, length, drop}
+use Rattle.std.specs.Prelude.{ℕ, ◌+◌, ◌/◌, ◌^◌, nat_lt, nat_le, Bool, ◌==◌, ◌&&◌, ◌||◌, if◌then◌else◌, List, ◌++◌, length, drop}
 use Rattle.flat_model.specs.Packets.Header.{two_bytes, four_bytes, u16_at, u32_at}
+use Rattle.flat_model.specs.declared.config.Config.{Config}
+use Rattle.params.specs.declared.TheConstants.{IP_HEADER, FIRST_MULTICAST, LOOPBACK}
 use Rattle.flat_ether.specs.declared.mac.Mac.{Mac}
 use Rattle.flat_ether.specs.declared.arp.Arp.{Arp}
 use Rattle.flat_ether.specs.declared.link.FrameKind.{FrameKind}
-use Rattle.flat_ether.specs.declared.link.FrameKind.TheVariants.{Packet, Arp as Of_arp, Other}
+use Rattle.flat_ether.specs.declared.link.FrameKind.TheVariants.{Packet, Martian, Arp as Of_arp, Other}
 use Rattle.flat_ether.specs.declared.sizes.TheConstants.{ETHER_HEADER, ETHER_TYPE_IP, ETHER_TYPE_ARP, ARP_BYTES}
 
 -- ---- hardware addresses
@@ -38,14 +40,31 @@ frame destination source kind body = header destination source kind ++ body
 abbrev pub body_of : List ℕ → List ℕ
 body_of f = drop ETHER_HEADER f
 
+-- ---- packets whose addresses can't come from a link (RFC 1122, section 3.2.1.3)
+
+abbrev pub is_loopback : ℕ → Bool
+is_loopback ip = ip / 2 ^ 24 == LOOPBACK / 2 ^ 24
+
+-- of 0/8 or 127/8, a multicast address or above, or this network's broadcast address: nobody sends from it
+abbrev pub is_bad_source : Config → ℕ → Bool
+is_bad_source c ip = nat_lt ip (2 ^ 24) || (nat_le FIRST_MULTICAST ip || (is_loopback ip || (ip == c.bcast)))
+
+abbrev pub is_martian : Config → List ℕ → Bool
+is_martian c packet = nat_le IP_HEADER (length packet) && (is_bad_source c (u32_at 12 packet) || is_loopback (u32_at 16 packet))
+
+-- ---- what a frame is for a host
+
 -- it has a header, and goes to this hardware address or to all
 abbrev pub is_heard : Mac → List ℕ → Bool
 is_heard mac f = nat_le ETHER_HEADER (length f) && (same_mac (mac_at 0 f) mac || same_mac (mac_at 0 f) ether_broadcast)
 
-abbrev pub kind_of : Mac → List ℕ → FrameKind
-kind_of mac f =
+abbrev pub packet_kind : Config → List ℕ → FrameKind
+packet_kind c packet = if is_martian c packet then Martian else Packet
+
+abbrev pub kind_of : Config → Mac → List ℕ → FrameKind
+kind_of c mac f =
     if is_heard mac f
-    then (if u16_at 12 f == ETHER_TYPE_IP then Packet else if u16_at 12 f == ETHER_TYPE_ARP then Of_arp else Other)
+    then (if u16_at 12 f == ETHER_TYPE_IP then packet_kind c (body_of f) else if u16_at 12 f == ETHER_TYPE_ARP then Of_arp else Other)
     else Other
 
 -- ---- ARP

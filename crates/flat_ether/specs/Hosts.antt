@@ -7,12 +7,13 @@ use Rattle.flat_model.specs.Machine.State.{State, boot}
 use Rattle.flat_model.specs.Machine.Step.{Step}
 use Rattle.flat_model.specs.Runs.Run.{Turn}
 use Rattle.flat_model.specs.declared.config.Config.{Config}
+use Rattle.flat_ether.specs.Claims.{is_claimed}
 use Rattle.flat_ether.specs.Frames.{body_of, mac_at, same_mac, kind_of}
 use Rattle.flat_ether.specs.Icmp.{answer_to}
-use Rattle.flat_ether.specs.Links.{LinkState, Gives, answers_with, gives_own, hears_arp, ignores, link_up, sends, ticks}
+use Rattle.flat_ether.specs.Links.{LinkState, Gives, answers_with, gives_claim, gives_own, hears_arp, ignores, link_up, refuses, sends, ticks}
 use Rattle.flat_ether.specs.declared.link.Link.{Link}
 use Rattle.flat_ether.specs.declared.link.FrameKind.{FrameKind}
-use Rattle.flat_ether.specs.declared.link.FrameKind.TheVariants.{Packet, Arp, Other}
+use Rattle.flat_ether.specs.declared.link.FrameKind.TheVariants.{Packet, Martian, Arp, Other}
 use Rattle.flat_ether.specs.declared.sizes.TheConstants.{ETHER_HEADER}
 
 pub record Host : Type 0 where
@@ -39,11 +40,12 @@ pub record TakesPacket (f : List ℕ) (old new : Host) : Type 0 where
 
 abbrev pub HearsKind : FrameKind → List ℕ → Host → Host → Type 0
 HearsKind Packet f old new = TakesPacket f old new
+HearsKind Martian f old new = new ≡ record old { link = refuses old.link }
 HearsKind Arp f old new = new ≡ record old { link = hears_arp (body_of f) old.link }
 HearsKind Other f old new = new ≡ record old { link = ignores old.link }
 
 abbrev pub Hears : List ℕ → Host → Host → Type 0
-Hears f old new = HearsKind (kind_of old.link.link.mac f) f old new
+Hears f old new = HearsKind (kind_of old.link.config old.link.link.mac f) f old new
 
 -- ---- a frame goes
 
@@ -71,11 +73,19 @@ gives_drained h s =
     let d = drained h.machine.output s in
     (d.frame, record { machine = with_output h.machine d.output; link = d.link })
 
--- the next frame for the link, and the host then: the link's own first, then what the machine gives
-abbrev pub gives : Host → Option (List ℕ) × Host
-gives h =
+-- the link's own frames first, then what the machine gives
+abbrev pub gives_claimed : Host → Option (List ℕ) × Host
+gives_claimed h =
     let own = gives_own h.link in
     if is_some own.0 then (own.0, record h { link = own.1 }) else gives_drained h own.1
+
+-- a probe, if one is due
+abbrev pub gives_probe : Host → Option (List ℕ) × Host
+gives_probe h = ((gives_claim h.link).0, record h { link = (gives_claim h.link).1 })
+
+-- the next frame for the link, and the host then: before it has its address nothing goes out but probes
+abbrev pub gives : Host → Option (List ℕ) × Host
+gives h = if is_claimed h.link.claim then gives_claimed h else gives_probe h
 
 -- ---- the clock
 

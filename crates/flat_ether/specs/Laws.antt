@@ -1,5 +1,5 @@
 -- What holds of whole runs of a host (this project's own).
-use Rattle.std.specs.Prelude.{◌≡◌, ◌≢◌, ◌⊎◌, ℕ, ◌<◌, ◌^◌, true, List, [], ◌∷◌, ◌++◌, filter_map, option_to_list, All, Contains, Some}
+use Rattle.std.specs.Prelude.{◌≡◌, ◌≢◌, ◌⊎◌, ℕ, ◌<◌, ◌^◌, true, List, [], ◌∷◌, ◌++◌, filter_map, option_to_list, All, Contains, Option, Some, None, Bool, ◌==◌, ◌&&◌, if◌then◌else◌}
 use Rattle.flat_model.specs.Machine.Ledger.{exact_ledger}
 use Rattle.flat_model.specs.Machine.Count.{value_of}
 use Rattle.flat_model.specs.Packets.Header.{u16_at}
@@ -7,15 +7,15 @@ use Rattle.flat_model.specs.declared.address.Addr.{Addr}
 use Rattle.flat_model.specs.declared.counter.Counter.TheVariants.{IpLocalout}
 use Rattle.flat_model.specs.Machine.State.{IsConfig, Socket, Datagram, boot}
 use Rattle.flat_model.specs.Runs.Run.{Turn, Leads}
-use Rattle.flat_wire.specs.Wire.{ComesFrom, IsAnswered, packet_in, packet_out}
-use Rattle.flat_ether.specs.Frames.{arp_bytes, arp_of, body_of, ether_broadcast, frame, is_arp, kind_of}
+use Rattle.flat_wire.specs.Wire.{ComesFrom, IsAnswered, WasSent, packet_in, packet_out}
+use Rattle.flat_ether.specs.Frames.{arp_bytes, arp_of, body_of, ether_broadcast, frame, kind_of}
 use Rattle.flat_ether.specs.Icmp.{echo_reply, port_unreachable}
 use Rattle.flat_ether.specs.Hosts.{Act, AreActs, Host, host_up, Comes_in, Goes_out, Clock, Calls}
-use Rattle.flat_ether.specs.Links.{route_to}
+use Rattle.flat_ether.specs.Links.{is_sound_arp, route_to}
 use Rattle.flat_model.specs.declared.config.Config.{Config}
 use Rattle.flat_ether.specs.declared.link.Link.{Link}
 use Rattle.flat_ether.specs.declared.link.FrameKind.{FrameKind}
-use Rattle.flat_ether.specs.declared.link.FrameKind.TheVariants.{Packet, Arp, Other}
+use Rattle.flat_ether.specs.declared.link.FrameKind.TheVariants.{Packet, Martian, Arp, Other}
 use Rattle.flat_ether.specs.declared.link.Route.TheVariants.{All as To_all, Hop}
 use Rattle.flat_ether.specs.declared.mac.Mac.{Mac}
 use Rattle.flat_ether.specs.declared.sizes.TheConstants.{ETHER_TYPE_ARP, ETHER_TYPE_IP}
@@ -25,19 +25,20 @@ use Rattle.flat_ether.specs.declared.sizes.TheConstants.{ETHER_TYPE_ARP, ETHER_T
 -- the packet of a frame of this sort
 abbrev pub packet_if : FrameKind → List ℕ → List (List ℕ)
 packet_if Packet f = body_of f ∷ []
+packet_if Martian f = []
 packet_if Arp f = []
 packet_if Other f = []
 
 -- the packets that come to the machine in an act: that of a frame for the host, or one that the program hands to `rx`
-abbrev pub packets_in : Mac → Act → List (List ℕ)
-packets_in mac (Comes_in f) = packet_if (kind_of mac f) f
-packets_in mac (Goes_out f) = []
-packets_in mac Clock = []
-packets_in mac (Calls turn) = filter_map packet_in (turn ∷ [])
+abbrev pub packets_in : Config → Mac → Act → List (List ℕ)
+packets_in c mac (Comes_in f) = packet_if (kind_of c mac f) f
+packets_in c mac (Goes_out f) = []
+packets_in c mac Clock = []
+packets_in c mac (Calls turn) = filter_map packet_in (turn ∷ [])
 
-abbrev pub packets_to : Mac → List Act → List (List ℕ)
-packets_to mac [] = []
-packets_to mac (act ∷ acts) = packets_in mac act ++ packets_to mac acts
+abbrev pub packets_to : Config → Mac → List Act → List (List ℕ)
+packets_to c mac [] = []
+packets_to c mac (act ∷ acts) = packets_in c mac act ++ packets_to c mac acts
 
 -- ---- what goes
 
@@ -46,11 +47,6 @@ frame_in (Comes_in f) = f ∷ []
 frame_in (Goes_out f) = []
 frame_in Clock = []
 frame_in (Calls turn) = []
-
--- the frames that came
-abbrev pub frames_in : List Act → List (List ℕ)
-frames_in [] = []
-frames_in (act ∷ acts) = frame_in act ++ frames_in acts
 
 abbrev pub frame_out : Act → List (List ℕ)
 frame_out (Comes_in f) = []
@@ -63,24 +59,36 @@ abbrev pub frames_out : List Act → List (List ℕ)
 frames_out [] = []
 frames_out (act ∷ acts) = frame_out act ++ frames_out acts
 
--- an ARP packet in one of these frames said that the address has this hardware address
-pub record IsTold (frames : List (List ℕ)) (ip : ℕ) (mac : Mac) : Type 0 where
-  pub frame : List ℕ
-  pub came : Contains frames frame
-  pub form : is_arp (body_of frame) ≡ true
-  pub ip_is : (arp_of (body_of frame)).ip ≡ ip
-  pub mac_is : (arp_of (body_of frame)).mac ≡ mac
+-- the ARP packets among the frames for the host
+abbrev pub arp_if : FrameKind → List ℕ → Option (List ℕ)
+arp_if Packet f = None
+arp_if Martian f = None
+arp_if Arp f = Some (body_of f)
+arp_if Other f = None
 
--- the machine gave the packet, or it answers that of a frame which came
+-- this ARP packet says the hardware address of the host with this address
+abbrev pub tells : Link → ℕ → List ℕ → Bool
+tells l ip b = is_sound_arp l b && ((arp_of b).ip == ip)
+
+abbrev pub told_in : Link → ℕ → Option (List ℕ) → Option Mac → Option Mac
+told_in l ip None before = before
+told_in l ip (Some b) before = if tells l ip b then Some (arp_of b).mac else before
+
+-- the hardware address that the last of these frames says of an address, the first of which came last
+abbrev pub last_told : Config → Link → ℕ → List (List ℕ) → Option Mac
+last_told c l ip [] = None
+last_told c l ip (f ∷ before) = told_in l ip (arp_if (kind_of c l.mac f) f) (last_told c l ip before)
+
+-- the machine gave the packet, or it answers that of a frame which came before
 abbrev pub IsMade : Config → List (List ℕ) → List (List ℕ) → List ℕ → Type 0
 IsMade c frames given packet =
     Contains given packet
     ⊎ ((frame : List ℕ) × Contains frames frame × ((packet ≡ echo_reply c (body_of frame)) ⊎ (packet ≡ port_unreachable c (body_of frame))))
 
--- to all, where that is the packet's way; else to a hardware address that was told for its next hop
+-- to all, where that is the packet's route; else to the hardware address that was last told for its next hop
 abbrev pub IsRoute : Config → Link → List (List ℕ) → List ℕ → Mac → Type 0
 IsRoute c l frames packet mac =
-    ((route_to c l packet ≡ To_all) × (mac ≡ ether_broadcast)) ⊎ ((hop : ℕ) × (route_to c l packet ≡ Hop hop) × IsTold frames hop mac)
+    ((route_to c l packet ≡ To_all) × (mac ≡ ether_broadcast)) ⊎ ((hop : ℕ) × (route_to c l packet ≡ Hop hop) × (last_told c l hop frames ≡ Some mac))
 
 -- the frame has such a packet, whole
 pub record CarriesPacket (c : Config) (l : Link) (frames given : List (List ℕ)) (f : List ℕ) : Type 0 where
@@ -90,24 +98,36 @@ pub record CarriesPacket (c : Config) (l : Link) (frames given : List (List ℕ)
   pub made : IsMade c frames given packet
   pub route : IsRoute c l frames packet mac
 
--- a frame with an ARP packet of the host
+-- a frame with an ARP packet of the host, in which its address is that of the sender, or 0 in a probe
 pub record IsOwnArp (c : Config) (l : Link) (f : List ℕ) : Type 0 where
   pub op : ℕ
+  pub sender : ℕ
+  pub sender_is : (sender ≡ c.addr) ⊎ (sender ≡ 0)
   pub to : Mac
   pub target_mac : Mac
   pub target : ℕ
-  pub frame_is : f ≡ frame to l.mac ETHER_TYPE_ARP (arp_bytes op l.mac c.addr target_mac target)
+  pub frame_is : f ≡ frame to l.mac ETHER_TYPE_ARP (arp_bytes op l.mac sender target_mac target)
 
 abbrev pub IsSent : Config → Link → List (List ℕ) → List (List ℕ) → List ℕ → Type 0
 IsSent c l frames given f = IsOwnArp c l f ⊎ CarriesPacket c l frames given f
+
+-- the frames that came before an act and in it, the last one first
+abbrev pub frames_then : Act → List (List ℕ) → List (List ℕ)
+frames_then act before = frame_in act ++ before
+
+-- Each frame that goes in one of these acts is sent so, after the frames that came before it. `given` are the packets
+-- that the machine gave.
+abbrev pub AreSent : Config → Link → List (List ℕ) → List (List ℕ) → List Act → Type 0
+AreSent c l given before [] = Unit {0}
+AreSent c l given before (act ∷ acts) = All (IsSent c l before given) (frame_out act) × AreSent c l given (frames_then act before) acts
 
 -- These acts are turns of the machine. What came in these are the packets of the frames for the host, in their order;
 -- and each frame that went is an ARP packet of the host, or has a packet that the machine gave or that answers one.
 pub record MakesTurns (c : Config) (l : Link) (acts : List Act) (new : Host) : Type 0 where
   pub turns : List Turn
   pub leads : Leads exact_ledger (boot c) turns new.machine
-  pub came : filter_map packet_in turns ≡ packets_to l.mac acts
-  pub went : All (IsSent c l (frames_in acts) (filter_map packet_out turns)) (frames_out acts)
+  pub came : filter_map packet_in turns ≡ packets_to c l.mac acts
+  pub went : AreSent c l (filter_map packet_out turns) [] acts
 
 -- ---- two hosts
 
@@ -126,7 +146,15 @@ pub record AreOnEthernet (c d : Config) (l m : Link) (sent came : List Act) (s t
   pub not_addr : c.addr ≢ d.addr
   pub not_bcast : c.addr ≢ d.bcast
   pub few : value_of IpLocalout s.machine.counters < 2 ^ 16
-  pub wire : All (λ packet. ComesFrom c.addr packet → IsCarried (frames_out sent) packet) (packets_to m.mac came)
+  pub wire : All (λ packet. ComesFrom c.addr packet → IsCarried (frames_out sent) packet) (packets_to d m.mac came)
+
+-- Then what `recvfrom` of the second answers with the first's address as the sender's was sent so, by turns that the
+-- first's acts are: `before` are the second's acts until then.
+pub record WasReceivedOnEthernet (c d : Config) (l m : Link) (sent before : List Act) (s : Host) (fd most : ℕ) (sender : Addr) (bytes : List ℕ) : Type 0 where
+  pub makes : MakesTurns c l sent s
+  pub then' : Host
+  pub makes_then : MakesTurns d m before then'
+  pub was : WasSent exact_ledger exact_ledger c d makes.turns makes_then.turns s.machine fd most sender bytes
 
 -- Then a datagram that waits in a queue of the second with the first's address as its sender was sent so, by turns that
 -- the first's acts are.

@@ -1,16 +1,20 @@
 -- What a host keeps of its link beside the machine, and what becomes of it (volume 2, chapters 4 and 21; RFC 826). All
 -- of it is functions: nothing is left open.
-use Rattle.std.specs.Prelude.{ℕ, ◌+◌, ◌-◌, nat_lt, Bool, ◌==◌, ◌&&◌, ◌||◌, not, if◌then◌else◌, List, [], ◌∷◌, ◌++◌, length, min, map, filter, position, drop, remove, slice_get, slice_index_or, slice_set, Option, Some, None, is_some}
+use Rattle.std.specs.Prelude.{ℕ, ◌+◌, ◌-◌, ◌*◌, nat_lt, nat_le, Bool, ◌==◌, ◌&&◌, ◌||◌, not, if◌then◌else◌, List, [], ◌∷◌, ◌++◌, length, min, map, filter, position, drop, remove, slice_get, slice_index_or, slice_set, Option, Some, None, is_some}
 use Rattle.params.specs.declared.TheConstants.{IP_HEADER}
 use Rattle.flat_model.specs.Packets.Header.{u32_at}
 use Rattle.flat_model.specs.Machine.Count.{more_by}
 use Rattle.flat_model.specs.declared.config.Config.{Config}
+use Rattle.flat_ether.specs.Claims.{claim_due, claim_sent, claim_ticks, claim_up, conflicts, is_claimed}
 use Rattle.flat_ether.specs.Frames.{frame, ether_broadcast, no_mac, arp_bytes, arp_of, is_arp, same_mac}
 use Rattle.flat_ether.specs.Routes.{is_neighbour, route}
 use Rattle.flat_ether.specs.Icmp.{echo_reply, port_unreachable}
 use Rattle.flat_ether.specs.declared.answer.Answer.{Answer}
 use Rattle.flat_ether.specs.declared.answer.Answer.TheVariants.{Echo, Unreachable, Silence}
 use Rattle.flat_ether.specs.declared.arp.Arp.{Arp}
+use Rattle.flat_ether.specs.declared.claim.Claim.{Claim}
+use Rattle.flat_ether.specs.declared.claim.ClaimFrame.{ClaimFrame}
+use Rattle.flat_ether.specs.declared.claim.ClaimFrame.TheVariants.{Probe, Announcement, Nothing}
 use Rattle.flat_ether.specs.declared.link.Link.{Link}
 use Rattle.flat_ether.specs.declared.link.Route.{Route}
 use Rattle.flat_ether.specs.declared.link.Route.TheVariants.{All, Hop, NoRoute}
@@ -18,7 +22,7 @@ use Rattle.flat_ether.specs.declared.mac.Mac.{Mac}
 use Rattle.flat_ether.specs.declared.neighbour.Neighbour.{Neighbour}
 use Rattle.flat_ether.specs.declared.neighbour.PendingReply.{PendingReply}
 use Rattle.flat_ether.specs.declared.tallies.Tallies.{Tallies}
-use Rattle.flat_ether.specs.declared.sizes.TheConstants.{ETHER_MTU, ETHER_TYPE_IP, ETHER_TYPE_ARP, ARP_REQUEST, ARP_REPLY, NEIGHBOURS, ARP_KEEP_TICKS, ARP_RETRY_TICKS, ARP_TRIES, HELD_PACKETS, PENDING_REPLIES}
+use Rattle.flat_ether.specs.declared.sizes.TheConstants.{ETHER_MTU, ETHER_TYPE_IP, ETHER_TYPE_ARP, ARP_REQUEST, ARP_REPLY, NEIGHBOURS, ARP_KEEP_TICKS, ARP_POLLS, UNREACHABLES, ARP_RETRY_TICKS, ARP_TRIES, HELD_PACKETS, PENDING_REPLIES}
 
 -- a packet that waits for the hardware address of its next hop
 pub record Held : Type 0 where
@@ -26,7 +30,8 @@ pub record Held : Type 0 where
   pub packet : List ℕ
 
 -- The machine's configuration and its link; the neighbours, the one that was put last at the end; who is owed an ARP
--- reply; the packets that wait, the oldest first; the ICMP answer that waits; and what was counted.
+-- reply; the packets that wait, the oldest first; the ICMP answer that waits; the claim to the address; how many
+-- senders may still be told before the next tick that a port is unreachable; and what was counted.
 pub record LinkState : Type 0 where
   pub config : Config
   pub link : Link
@@ -34,18 +39,24 @@ pub record LinkState : Type 0 where
   pub replies : List PendingReply
   pub held : List Held
   pub answer : Option (List ℕ)
+  pub claim : Claim
+  pub unreachables : ℕ
   pub tallies : Tallies
 
 -- nothing was counted
 abbrev pub no_tallies : Tallies
-no_tallies = record { ignored = 0; bad_arp = 0; conflicts = 0; replies_dropped = 0; no_route = 0; held_dropped = 0; unresolved = 0; too_long = 0; echoes = 0; unreachable = 0; icmp_dropped = 0 }
+no_tallies = record { ignored = 0; martians = 0; bad_arp = 0; conflicts = 0; replies_dropped = 0; no_route = 0; held_dropped = 0; unresolved = 0; too_long = 0; echoes = 0; unreachable = 0; limited = 0; icmp_dropped = 0 }
 
 -- a link that has just started
 abbrev pub link_up : Config → Link → LinkState
-link_up c l = record { config = c; link = l; neighbours = []; replies = []; held = []; answer = None; tallies = no_tallies }
+link_up c l = record { config = c; link = l; neighbours = []; replies = []; held = []; answer = None; claim = claim_up l.probe; unreachables = UNREACHABLES; tallies = no_tallies }
 
 abbrev pub ignores : LinkState → LinkState
 ignores s = record s { tallies = record s.tallies { ignored = more_by 1 s.tallies.ignored } }
+
+-- a packet whose addresses can't come from a link
+abbrev pub refuses : LinkState → LinkState
+refuses s = record s { tallies = record s.tallies { martians = more_by 1 s.tallies.martians } }
 
 -- ---- the table
 
@@ -92,8 +103,9 @@ is_learned s a = is_neighbour s.config s.link a.ip && (is_some (place_of a.ip s.
 abbrev pub learns : Arp → LinkState → LinkState
 learns a s = if is_learned s a then record s { neighbours = put (heard a) s.neighbours } else s
 
+-- a request for the address that this host uses
 abbrev pub is_asked : LinkState → Arp → Bool
-is_asked s a = (a.op == ARP_REQUEST) && (a.target == s.config.addr)
+is_asked s a = is_claimed s.claim && ((a.op == ARP_REQUEST) && (a.target == s.config.addr))
 
 abbrev pub owes : Arp → LinkState → LinkState
 owes a s =
@@ -108,16 +120,24 @@ abbrev pub finds_bad : LinkState → LinkState
 finds_bad s = record s { tallies = record s.tallies { bad_arp = more_by 1 s.tallies.bad_arp } }
 
 abbrev pub finds_conflict : LinkState → LinkState
-finds_conflict s = record s { tallies = record s.tallies { conflicts = more_by 1 s.tallies.conflicts } }
+finds_conflict s = record s { claim = conflicts s.claim; tallies = record s.tallies { conflicts = more_by 1 s.tallies.conflicts } }
+
+-- a probe for this host's address, of a host that wants to use it (RFC 5227, section 2.1.1)
+abbrev pub is_rival : LinkState → Arp → Bool
+is_rival s a = not (is_claimed s.claim) && ((a.op == ARP_REQUEST) && ((a.ip == 0) && (a.target == s.config.addr)))
+
+-- another host has this one's address, or asks for it while this one does
+abbrev pub is_conflict : LinkState → Arp → Bool
+is_conflict s a = (a.ip == s.config.addr) || is_rival s a
 
 -- of this form, and neither from this host itself nor from all
-abbrev pub is_sound_arp : LinkState → List ℕ → Bool
-is_sound_arp s b = is_arp b && (not (same_mac (arp_of b).mac s.link.mac) && not (same_mac (arp_of b).mac ether_broadcast))
+abbrev pub is_sound_arp : Link → List ℕ → Bool
+is_sound_arp l b = is_arp b && (not (same_mac (arp_of b).mac l.mac) && not (same_mac (arp_of b).mac ether_broadcast))
 
 abbrev pub hears_arp : List ℕ → LinkState → LinkState
 hears_arp b s =
-    if is_sound_arp s b
-    then (if (arp_of b).ip == s.config.addr then owes (arp_of b) (finds_conflict s) else owes (arp_of b) (learns (arp_of b) s))
+    if is_sound_arp s.link b
+    then (if is_conflict s (arp_of b) then owes (arp_of b) (finds_conflict s) else owes (arp_of b) (learns (arp_of b) s))
     else finds_bad s
 
 -- ---- a packet that goes out (`ether_output`, `arpresolve`)
@@ -171,6 +191,19 @@ sends packet s = by_route packet s (route_of s packet)
 
 -- ---- the host's own frames
 
+-- an ARP request of the host, that says this address of it
+abbrev pub request : LinkState → Mac → ℕ → ℕ → List ℕ
+request s to sender target = frame to s.link.mac ETHER_TYPE_ARP (arp_bytes ARP_REQUEST s.link.mac sender no_mac target)
+
+-- a probe names no sender, and an announcement asks for the host's own address (RFC 5227, section 1.1)
+abbrev pub claim_frame : ClaimFrame → LinkState → Gives
+claim_frame Nothing s = (None, s)
+claim_frame Probe s = (Some (request s ether_broadcast 0 s.config.addr), record s { claim = claim_sent s.claim })
+claim_frame Announcement s = (Some (request s ether_broadcast s.config.addr s.config.addr), record s { claim = claim_sent s.claim })
+
+abbrev pub gives_claim : LinkState → Gives
+gives_claim s = claim_frame (claim_due s.claim) s
+
 -- the ARP reply that is owed longest
 abbrev pub replies_to : List PendingReply → LinkState → Gives
 replies_to [] s = (None, s)
@@ -180,16 +213,25 @@ replies_to (o ∷ later) s =
 abbrev pub gives_reply : LinkState → Gives
 gives_reply s = replies_to s.replies s
 
+-- a neighbour that will be forgotten soon is asked again
+abbrev pub is_poll_due : Neighbour → Bool
+is_poll_due n = nat_lt n.tries ARP_POLLS && nat_le (n.ticks + n.tries * ARP_RETRY_TICKS) (ARP_POLLS * ARP_RETRY_TICKS)
+
 -- a request is due
 abbrev pub is_due : Neighbour → Bool
-is_due n = not (is_some n.mac) && ((n.ticks == 0) && nat_lt n.tries ARP_TRIES)
+is_due n = if is_some n.mac then is_poll_due n else (n.ticks == 0) && nat_lt n.tries ARP_TRIES
 
 abbrev pub asked_again : Neighbour → Neighbour
-asked_again n = record n { ticks = ARP_RETRY_TICKS; tries = min (n.tries + 1) 255 }
+asked_again n = record n { ticks = if is_some n.mac then n.ticks else ARP_RETRY_TICKS; tries = min (n.tries + 1) 255 }
+
+-- a neighbour that is known is asked alone, and else all are
+abbrev pub asked_at : Option Mac → Mac
+asked_at None = ether_broadcast
+asked_at (Some mac) = mac
 
 abbrev pub asks_of : ℕ → Neighbour → LinkState → Gives
 asks_of at n s = (
-  Some (frame ether_broadcast s.link.mac ETHER_TYPE_ARP (arp_bytes ARP_REQUEST s.link.mac s.config.addr no_mac n.ip)),
+  Some (request s (asked_at n.mac) s.config.addr n.ip),
   record s { neighbours = slice_set s.neighbours at (asked_again n) },
 )
 
@@ -240,9 +282,9 @@ gives_answer s = sends_answer s.answer s
 abbrev pub or_then : Gives → (LinkState → Gives) → Gives
 or_then g next = if is_some g.0 then g else next g.1
 
--- what the link gives of its own accord: replies, requests, what waited, and the answer
+-- what the link gives of its own accord: announcements, replies, requests, what waited, and the answer
 abbrev pub gives_own : LinkState → Gives
-gives_own s = or_then (or_then (or_then (gives_reply s) gives_request) gives_held) gives_answer
+gives_own s = or_then (or_then (or_then (or_then (gives_claim s) gives_reply) gives_request) gives_held) gives_answer
 
 -- ---- the clock (`arptimer` of volume 2, chapter 21)
 
@@ -264,7 +306,7 @@ keeps ns s =
 
 -- a tick: what isn't known any more is forgotten, and the packets that waited for it are given up
 abbrev pub ticks : LinkState → LinkState
-ticks s = keeps (filter stays (map aged s.neighbours)) s
+ticks s = keeps (filter stays (map aged s.neighbours)) (record s { claim = claim_ticks s.claim; unreachables = UNREACHABLES })
 
 -- ---- ICMP
 
@@ -281,7 +323,17 @@ counts_echo s = record s { tallies = record s.tallies { echoes = more_by 1 s.tal
 abbrev pub counts_unreachable : LinkState → LinkState
 counts_unreachable s = record s { tallies = record s.tallies { unreachable = more_by 1 s.tallies.unreachable } }
 
+-- so many senders were told since the last tick
+abbrev pub limits : LinkState → LinkState
+limits s = record s { tallies = record s.tallies { limited = more_by 1 s.tallies.limited } }
+
+abbrev pub tells_unreachable : List ℕ → LinkState → LinkState
+tells_unreachable came s =
+    if nat_lt 0 s.unreachables
+    then counts_unreachable (puts_answer (port_unreachable s.config came) (record s { unreachables = s.unreachables - 1 }))
+    else limits s
+
 abbrev pub answers_with : Answer → List ℕ → LinkState → LinkState
 answers_with Silence came s = s
 answers_with Echo came s = if is_some s.answer then finds_no_place s else counts_echo (puts_answer (echo_reply s.config came) s)
-answers_with Unreachable came s = if is_some s.answer then finds_no_place s else counts_unreachable (puts_answer (port_unreachable s.config came) s)
+answers_with Unreachable came s = if is_some s.answer then finds_no_place s else tells_unreachable came s

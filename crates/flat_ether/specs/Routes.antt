@@ -13,7 +13,7 @@ is_near c l ip = bit_and ip l.mask == bit_and c.addr l.mask
 
 -- it may be that of another host on the link
 abbrev pub is_neighbour : Config → Link → ℕ → Bool
-is_neighbour c l ip = is_near c l ip && (not (ip == c.addr) && not (ip == c.bcast))
+is_neighbour c l ip = is_near c l ip && (not (ip == 0) && (not (ip == c.addr) && not (ip == c.bcast)))
 
 abbrev pub has_gateway : Config → Link → Option ℕ → Bool
 has_gateway c l None = true

@@ -16,6 +16,8 @@ pub struct Link {
     pub mask: u32,
     /// The address of the gateway, which is on the link, if there is one.
     pub gateway: Option<u32>,
+    /// Whether it asks first if another host has its address (RFC 5227). Nothing else goes out for 3 to 5 seconds then.
+    pub probe: bool,
 }
 
 /// What a frame is for a host.
@@ -23,6 +25,8 @@ pub struct Link {
 pub enum FrameKind {
     /// An IPv4 packet.
     Packet,
+    /// An IPv4 packet whose addresses can't come from a link (RFC 1122, section 3.2.1.3).
+    Martian,
     /// An ARP packet.
     Arp,
     /// Nothing that it looks at: to another address, too short for a header, or of another type.
@@ -66,7 +70,7 @@ impl Link {
     pub fn is_neighbour(&self, config: &Config, ip: u32) -> bool
         ensures { result ≡ is_neighbour config.now self.now ip }
     {
-        self.is_near(config, ip) && ip != config.addr && ip != config.bcast
+        self.is_near(config, ip) && ip != 0 && ip != config.addr && ip != config.bcast
     }
 
     /// Where a packet to this address goes (`ether_output` and `arpresolve` of volume 2, chapters 4 and 21).

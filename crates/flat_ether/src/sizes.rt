@@ -1,4 +1,5 @@
-//! Sizes, limits and well-known numbers of an Ethernet. In the end they stand in `params`.
+//! Sizes, limits and well-known numbers of an Ethernet. They stand here and not in `params`, since no crate below the
+//! link reads them.
 
 /// Bytes of an Ethernet header: destination, source and type (RFC 894).
 pub const ETHER_HEADER: u32 = 14;
@@ -23,6 +24,24 @@ pub const ARP_KEEP_TICKS: u16 = 2_400;
 pub const ARP_RETRY_TICKS: u16 = 3;
 /// After so many requests without an answer an address is given up, `arp_maxtries` (volume 2, chapter 21).
 pub const ARP_TRIES: u8 = 5;
+/// So many requests go to a neighbour that is known before it's forgotten, `ARP_RETRY_TICKS` apart: the unicast polls of
+/// RFC 1122, section 2.3.2.1.
+pub const ARP_POLLS: u8 = 2;
+/// How many probes a host sends that asks whether its address is free, `PROBE_NUM` (RFC 5227, section 1.1).
+pub const ARP_PROBES: u8 = 3;
+/// So many ticks lie between two probes, at least a second: `PROBE_MIN` (RFC 5227, section 1.1).
+pub const PROBE_TICKS: u8 = 3;
+/// How often a host announces its address after boot, `ANNOUNCE_NUM` (RFC 5227, section 1.1).
+pub const ANNOUNCEMENTS: u8 = 2;
+/// So many ticks lie between the last probe and the first announcement, and between two of these, at least two seconds:
+/// `ANNOUNCE_WAIT` and `ANNOUNCE_INTERVAL` (RFC 5227, section 1.1).
+pub const ANNOUNCE_TICKS: u8 = 5;
+/// So many ticks lie between two defences of the address, at least ten seconds: `DEFEND_INTERVAL` (RFC 5227, section
+/// 1.1).
+pub const DEFEND_TICKS: u8 = 21;
+/// How many senders are told between two ticks that no socket takes their datagram (this project's own; RFC 1812,
+/// section 4.3.2.8, asks for such a limit).
+pub const UNREACHABLES: u8 = 10;
 /// How many packets are held for addresses that aren't known yet (this project's own).
 pub const HELD_PACKETS: usize = 8;
 /// How many ARP replies may wait for the link (this project's own).

@@ -2,6 +2,9 @@ use Rattle.std.proofs.Common.{◌≡◌, ℕ, ◌-◌, List, length, map, ap, sy
 use Rattle.std.specs.Prelude.{filter}
 use Rattle.std.proofs.lemmas.List.{length-map}
 use Rattle.flat_model.specs.Machine.Count.{more_by}
+use Rattle.flat_ether.specs.Claims.{claim_ticks}
+use Rattle.flat_ether.specs.declared.claim.Claim.{Claim}
+use Rattle.flat_ether.specs.declared.sizes.TheConstants.{UNREACHABLES}
 use Rattle.flat_ether.specs.Links.{Held, LinkState, aged, has_hope, stays}
 use Rattle.flat_ether.specs.declared.neighbour.Neighbour.{Neighbour}
 use Rattle.ether_host.specs.Inside.{seen}
@@ -12,7 +15,7 @@ use Rattle.ether_host.proofs.layer.LinkLayer.tick.Goals as goal
 
 pub returns : goal.returns
 returns c =
-    let s : LinkState = seen c.args.self.now in
+    let s : LinkState = record (seen c.args.self.now) { claim = claim_ticks c.args.self.now.claim; unreachables = UNREACHABLES } in
     let ps : List PacketBuffer = c.args.self.now.held.items in
     let ns : List Neighbour = filter stays (map aged s.neighbours) in
     let later : List Held = filter (has_hope ns) s.held in
@@ -26,6 +29,7 @@ returns c =
     let lost : c.saturating_sub-lost.result ≡ length s.held - length later = omega (arith, c.args.self.now.held.ok.0, c.keep.new.held.ok.0) in
     let more : c.saturating_add-self.result ≡ more_by (length s.held - length later) s.tallies.unresolved =
     c.saturating_add-self.ensures ∙ ap (λ (n : ℕ). more_by n s.tallies.unresolved) lost in
-    ap (λ (xs : List Neighbour). record s { neighbours = xs; held = map held_in c.keep.new.held.items; tallies = record s.tallies { unresolved = c.saturating_add-self.result } }) known
+    ap (λ (k : Claim). record s { claim = k; neighbours = c.age-self.result.items; held = map held_in c.keep.new.held.items; tallies = record s.tallies { unresolved = c.saturating_add-self.result } }) c.ticked-self.ensures
+    ∙ ap (λ (xs : List Neighbour). record s { neighbours = xs; held = map held_in c.keep.new.held.items; tallies = record s.tallies { unresolved = c.saturating_add-self.result } }) known
     ∙ ap (λ (hs : List Held). record s { neighbours = ns; held = hs; tallies = record s.tallies { unresolved = c.saturating_add-self.result } }) kept
     ∙ ap (λ (n : ℕ). record s { neighbours = ns; held = later; tallies = record s.tallies { unresolved = n } }) more
