@@ -17,6 +17,7 @@ seen l = record {
   replies = l.replies.items;
   held = map held_in l.held.items;
   answer = if l.answered then Some (held_in l.answer).packet else None;
+  errors = l.errors.items;
   claim = l.claim;
   unreachables = l.unreachables;
   tallies = l.tallies;

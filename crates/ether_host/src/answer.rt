@@ -20,7 +20,7 @@ use ip_out::{IpHead, write_head};
 use params::{FIRST_MULTICAST, IP_DEFAULT_TTL, IP_HEADER, IP_UDP_HEADERS, LOOPBACK};
 
 /// Bytes of an IP header.
-const HEADER: usize = IP_HEADER as usize;
+pub(crate) const HEADER: usize = IP_HEADER as usize;
 
 /// Whether an answer may go to this address.
 fn is_single(config: &Config, ip: u32) -> bool
@@ -49,7 +49,7 @@ fn is_answerable(config: &Config, came: &[u8]) -> bool
 }
 
 /// What a packet carries, as far as its total length goes.
-fn carried(came: &[u8]) -> &[u8]
+pub(crate) fn carried(came: &[u8]) -> &[u8]
     requires { IP_HEADER ≤ length came.now }
     ensures { result.now ≡ carried_in came.now }
 {

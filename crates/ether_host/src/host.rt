@@ -3,7 +3,7 @@ ghost use Rattle.std.specs.Prelude.{◌≡◌, ◌+◌, ◌≤◌, length, IfSom
 ghost use Rattle.std.specs.Borrow.{sem};
 ghost use Rattle.params.specs.declared.TheConstants.{IP_MAX_PACKET};
 ghost use Rattle.flat_ether.specs.Claims.{address_state};
-ghost use Rattle.flat_ether.specs.Hosts.{Hears, Ticks, gives, host_up};
+ghost use Rattle.flat_ether.specs.Hosts.{Hears, Ticks, gives, host_up, last_error};
 ghost use Rattle.flat_ether.specs.declared.sizes.TheConstants.{ETHER_HEADER, ETHER_MTU};
 ghost use Rattle.net_stack.specs.Boots.{free_pool};
 ghost use Rattle.ether_host.specs.Fronts.{front};
@@ -12,8 +12,8 @@ ghost use Rattle.ether_host.specs.View.{IsUnbooted, LendsStack, host_of, view};
 use crate::frames::{body_of, kind_of};
 use crate::layer::LinkLayer;
 use crate::packets::{drain, take_packet};
-use flat_ether::{AddressState, FrameKind, Link, Neighbour, Tallies};
-use flat_model::Config;
+use flat_ether::{AddressState, FrameKind, Link, Neighbour, NetFault, Tallies};
+use flat_model::{Config, Errno};
 use mbuf_chain::Pool;
 use net_stack::{BootFault, Stack};
 use std::alloc::Global;
@@ -102,7 +102,10 @@ impl EtherHost {
         if let Some(len) = self.layer.give_own(room) {
             return Some(len);
         }
-        drain(&mut self.stack, &mut self.layer, room)
+        if let Some(len) = drain(&mut self.stack, &mut self.layer, room) {
+            return Some(len);
+        }
+        self.layer.give_own(room)
     }
 
     /// The clock ticks, each half second.
@@ -119,6 +122,18 @@ impl EtherHost {
         ensures { result ≡ address_state (view self.now).link.claim }
     {
         self.layer.claim.state()
+    }
+
+    /// What others told of the datagrams that a connected socket sent to its peer, if they told anything: it's told once
+    /// (`so_error` of volume 2, chapter 23). The last eight such errors are kept, by port and peer: one that came before
+    /// a socket took the port over is told to that one. Refused: `BadDescriptor`.
+    pub fn last_error(&mut self, fd: u32) -> Result<Option<NetFault>, Errno>
+        ensures { (result, host_of (view self.new)) ≡ last_error fd (host_of (view self.old)) }
+    {
+        match self.stack.socket_name(fd) {
+            Ok(name) => Ok(self.layer.take_error(name.port, name.peer)),
+            Err(errno) => Err(errno),
+        }
     }
 
     /// What was counted of the link.

@@ -5,8 +5,8 @@ ghost use Rattle.flat_ether.specs.declared.sizes.TheConstants.{HELD_PACKETS};
 use crate::buffer::PacketBuffer;
 use arrayvec::ArrayVec;
 use flat_ether::{
-    Claim, HELD_PACKETS, Link, NEIGHBOURS, Neighbour, PENDING_REPLIES, PendingReply, Tallies,
-    UNREACHABLES,
+    Claim, HELD_PACKETS, Link, NEIGHBOURS, Neighbour, PENDING_REPLIES, PendingReply, SOCKET_ERRORS,
+    SocketError, Tallies, UNREACHABLES,
 };
 use flat_model::Config;
 use std::alloc::{AllocError, Global};
@@ -21,6 +21,7 @@ pub(crate) struct LinkLayer {
     pub(crate) held: Vec<PacketBuffer>,
     pub(crate) answer: PacketBuffer,
     pub(crate) answered: bool,
+    pub(crate) errors: ArrayVec<SocketError, SOCKET_ERRORS>,
     pub(crate) claim: Claim,
     pub(crate) unreachables: u8,
     pub(crate) tallies: Tallies,
@@ -44,6 +45,7 @@ impl LinkLayer {
             held,
             answer: PacketBuffer::blank(),
             answered: false,
+            errors: ArrayVec::new(),
             claim: Claim::new(link.probe),
             unreachables: UNREACHABLES,
             tallies: Tallies::default(),

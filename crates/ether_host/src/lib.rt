@@ -5,6 +5,7 @@
 mod answer;
 mod buffer;
 mod bytes;
+mod errors;
 mod frames;
 mod hear;
 mod host;
@@ -15,5 +16,5 @@ mod send;
 mod table;
 mod tick;
 
-pub use flat_ether::{AddressState, Link, Mac, Neighbour, Tallies};
+pub use flat_ether::{AddressState, Link, Mac, Neighbour, NetFault, Tallies};
 pub use host::{EtherFault, EtherHost};

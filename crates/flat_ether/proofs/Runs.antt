@@ -1,23 +1,26 @@
 -- Whole runs of a host from its start.
 use Rattle.std.proofs.Common.{◌≡◌, inl, ℕ, Bool, true, false, cond, List, [], ◌∷◌, ◌++◌, Option, Some, None, refl, sym, ap, ◌∙◌, subst, append_assoc}
-use Rattle.std.specs.Prelude.{Contains, filter_map, is_some, option_to_list}
+use Rattle.std.specs.Prelude.{Contains, filter_map, is_some, option_to_list, Result}
 use Rattle.std.specs.List.{AllByRecursion as Each}
 use Rattle.std.proofs.lemmas.List.Elements.{All-from_recursion, recursion_from_All, All-contains_itself, All-head, Contains-append_right, filter_map-append}
 use Rattle.std.proofs.lemmas.Option.{none-some}
 use Rattle.flat_model.specs.Amounts.Weight.{Item}
 use Rattle.flat_model.specs.Machine.Event.{Transmit, Given, Comes, Done, Tick}
 use Rattle.flat_model.specs.Machine.Ledger.{exact_ledger}
-use Rattle.flat_model.specs.Machine.State.{State}
+use Rattle.flat_model.specs.Machine.State.{State, Socket, socket_at}
 use Rattle.flat_model.specs.Runs.Run.{Turn, Leads}
 use Rattle.flat_model.specs.declared.config.Config.{Config}
 use Rattle.flat_model.proofs.Laws.{each-weaker}
 use Rattle.flat_wire.specs.Wire.{packet_in, packet_out}
 use Rattle.flat_ether.specs.Claims.{is_claimed}
 use Rattle.flat_ether.specs.Frames.{body_of, kind_of}
-use Rattle.flat_ether.specs.Hosts.{Act, AreActs, Comes_in, Goes_out, Clock, Calls, CallsMachine, Host, HearsKind, IsAct, drained, gives, gives_claimed, gives_drained, gives_probe, host_up, is_to_us, or_drains, with_output}
-use Rattle.flat_ether.specs.Icmp.{answer_to}
+use Rattle.flat_ether.specs.Hosts.{Act, AreActs, Comes_in, Drained, Goes_out, Clock, Calls, CallsMachine, Asks_error, Host, HearsKind, IsAct, drained, error_of_socket, gives, gives_after, gives_claimed, gives_drained, gives_probe, host_up, is_to_us, or_drains, with_output}
+use Rattle.flat_ether.specs.Icmp.{answer_to, counted_more}
+use Rattle.flat_ether.specs.declared.error.NetFault.{NetFault}
+use Rattle.flat_model.specs.declared.counter.Counter.TheVariants.{IpNoproto}
+use Rattle.flat_model.specs.declared.errno.Errno.{Errno}
 use Rattle.flat_ether.specs.Laws.{AreSent, IsSent, MakesTurns, arp_if, frame_out, frames_then, packet_if, packets_in, packets_to}
-use Rattle.flat_ether.specs.Links.{Gives, LinkState, answers_with, gives_claim, gives_own, sends}
+use Rattle.flat_ether.specs.Links.{Gives, LinkState, answers_with, gives_claim, gives_own, notes, sends}
 use Rattle.flat_ether.specs.declared.link.Link.{Link}
 use Rattle.flat_ether.specs.declared.link.FrameKind.{FrameKind}
 use Rattle.flat_ether.specs.declared.link.FrameKind.TheVariants.{Packet, Martian, Arp, Other}
@@ -106,6 +109,27 @@ module _ (c : Config) (l : Link) where
     sent = each-weaker (λ f is. Sent.more_sent c l F G [] f is) (option_to_list g.0) (sent_list F G g.0 own.sent);
   }
 
+  abbrev after_by : Host → Drained → Bool → Option (List ℕ) × Host
+  after_by h d b =
+      cond b (d.frame, record { machine = with_output h.machine d.output; link = d.link }) ((gives_own d.link).0, record { machine = with_output h.machine d.output; link = (gives_own d.link).1 })
+
+  after_makes : (F G : List (List ℕ)) (h : Host) (d : Drained) → Makes F G F h.machine (with_output h.machine d.output) d.link [] (option_to_list d.frame)
+      → Makes F G F h.machine (gives_after h d).1.machine (gives_after h d).1.link [] (option_to_list (gives_after h d).0)
+  after_makes F G h d m = go (is_some d.frame)
+    where
+      own : Sent.IsGiven c l F (G ++ filter_map packet_out m.turns) (gives_own d.link)
+      own = Sent.own_given c l F (G ++ filter_map packet_out m.turns) d.link m.good
+
+      go : (b : Bool) → Makes F G F h.machine (after_by h d b).1.machine (after_by h d b).1.link [] (option_to_list (after_by h d b).0)
+      go true = m
+      go false = record {
+        turns = m.turns;
+        leads = m.leads;
+        in' = m.in';
+        good = own.good;
+        sent = sent_list F (G ++ filter_map packet_out m.turns) (gives_own d.link).0 own.sent;
+      }
+
   abbrev gives_by : Host → Bool → Option (List ℕ) × Host
   gives_by h b = cond b ((gives_own h.link).0, record h { link = (gives_own h.link).1 }) (gives_drained h (gives_own h.link).1)
 
@@ -117,7 +141,7 @@ module _ (c : Config) (l : Link) where
 
       go : (b : Bool) → Makes F G F h.machine (gives_by h b).1.machine (gives_by h b).1.link [] (option_to_list (gives_by h b).0)
       go true = own_makes F G h.machine (gives_own h.link) own
-      go false = drains h.machine.output F G h.machine (gives_own h.link).1 refl own.good
+      go false = after_makes F G h (drained h.machine.output (gives_own h.link).1) (drains h.machine.output F G h.machine (gives_own h.link).1 refl own.good)
 
   gives_makes : (F G : List (List ℕ)) (h : Host) → Good F G h.link → Makes F G F h.machine (gives h).1.machine (gives h).1.link [] (option_to_list (gives h).0)
   gives_makes F G h good = go (is_claimed h.link.claim)
@@ -145,8 +169,8 @@ module _ (c : Config) (l : Link) where
       wider : arp_if (kind_of c l.mac f) f ≡ None → Good (f ∷ F) (G ++ []) old.link
       wider e = same (f ∷ F) G old.link (Sent.quiet_good c l F G f old.link good e)
 
-      taken : Good (f ∷ F) (G ++ []) old.link → (b : Bool) → Good (f ∷ F) (G ++ []) (cond b (answers_with (answer_to old.link.config (body_of f) old.machine new.machine) (body_of f) old.link) old.link)
-      taken wide true = Sent.answers_good c l (f ∷ F) (G ++ []) f (answer_to old.link.config (body_of f) old.machine new.machine) old.link wide here
+      taken : Good (f ∷ F) (G ++ []) old.link → (b : Bool) → Good (f ∷ F) (G ++ []) (cond b (notes (counted_more IpNoproto old.machine new.machine) (body_of f) (answers_with (answer_to old.link.config (body_of f) old.machine new.machine) (body_of f) old.link)) old.link)
+      taken wide true = Sent.notes_good c l (f ∷ F) (G ++ []) (counted_more IpNoproto old.machine new.machine) (body_of f) _ (Sent.answers_good c l (f ∷ F) (G ++ []) f (answer_to old.link.config (body_of f) old.machine new.machine) old.link wide here)
       taken wide false = wide
 
       still : (link : LinkState) → new ≡ record old { link = link } → Good (f ∷ F) (G ++ []) link → Makes F G (f ∷ F) old.machine new.machine new.link [] []
@@ -188,6 +212,12 @@ module _ (c : Config) (l : Link) where
     good = calls_good F G old new turn good is;
     sent = tt;
   }
+  act_makes F G old new (Asks_error fd fault) good is =
+      subst (λ (x : Result (Option NetFault) Errno × Host). Makes F G F old.machine x.1.machine x.1.link [] []) (sym is) (go (socket_at fd old.machine))
+    where
+      go : (me : Option Socket) → Makes F G F old.machine (error_of_socket me old).1.machine (error_of_socket me old).1.link [] []
+      go None = quiet F G old.machine old.machine old.link refl good
+      go (Some me) = quiet F G old.machine old.machine _ refl (Sent.takes_good c l F G me.port me.peer old.link good)
 
   -- ---- all of them
 

@@ -10,10 +10,13 @@ use Rattle.flat_model.specs.declared.config.Config.{Config}
 use Rattle.flat_model.specs.Machine.Count.{more_by}
 use Rattle.flat_model.proofs.Laws.{each-append, each-both, each-filter, each-map, each-take, each-weaker}
 use Rattle.flat_ether.specs.Claims.{claim_due, claim_sent, is_claimed}
+use Rattle.flat_ether.specs.Errors.{error_at, error_in}
+use Rattle.flat_ether.specs.declared.error.SocketError.{SocketError}
+use Rattle.flat_model.specs.declared.address.Addr.{Addr}
 use Rattle.flat_ether.specs.Frames.{arp_bytes, arp_of, body_of, ether_broadcast, frame, kind_of, no_mac}
 use Rattle.flat_ether.specs.Icmp.{echo_reply, port_unreachable}
 use Rattle.flat_ether.specs.Laws.{IsMade, IsRoute, IsSent, arp_if, last_told, tells, told_in}
-use Rattle.flat_ether.specs.Links.{Gives, Held, LinkState, aged, answers_with, asked_again, asked_at, asks, asks_at, by_route, claim_frame, counts_echo, counts_unreachable, drops_first, finds_bad, finds_conflict, finds_long, finds_no_place, first_ready, gives_answer, gives_claim, gives_held, gives_own, gives_reply, gives_request, has_hope, has_ip, heard, hears_arp, holds, ignores, is_asked, is_conflict, is_due, is_rival, is_sound_arp, learns, limits, mac_at, mac_in, mac_of, or_then, owes, place_of, put, puts_answer, ready_or, refuses, replies_to, sends, sends_answer, sends_at, sends_held, stays, takes_place, tells_unreachable, ticks, to_hop, unknown, route_of, route_to}
+use Rattle.flat_ether.specs.Links.{Gives, Held, LinkState, aged, answers_with, asked_again, asked_at, asks, asks_at, by_route, claim_frame, counts_echo, counts_unreachable, drops_first, finds_bad, finds_conflict, finds_long, finds_no_place, first_ready, gives_answer, gives_claim, gives_held, gives_own, gives_reply, gives_request, has_hope, has_ip, heard, hears_arp, holds, ignores, is_asked, is_conflict, is_due, is_rival, is_sound_arp, learns, limits, mac_at, mac_in, notes, notes_error, takes_at, takes_error, mac_of, or_then, owes, place_of, put, puts_answer, ready_or, refuses, replies_to, sends, sends_answer, sends_at, sends_held, stays, takes_place, tells_unreachable, ticks, to_hop, unknown, route_of, route_to}
 use Rattle.flat_ether.specs.Routes.{is_near, is_neighbour}
 use Rattle.flat_ether.specs.declared.answer.Answer.{Answer}
 use Rattle.flat_ether.specs.declared.answer.Answer.TheVariants.{Echo, Unreachable, Silence}
@@ -310,6 +313,23 @@ module _ (c : Config) (l : Link) (F G : List (List ℕ)) where
       go : (b : Bool) → IsGood (cond b (cond (nat_lt (length s.replies) 8) (record s { replies = s.replies ++ record { mac = a.mac; ip = a.ip } ∷ [] }) (record s { tallies = record s.tallies { replies_dropped = more_by 1 s.tallies.replies_dropped } })) s)
       go true = inner (nat_lt (length s.replies) 8)
       go false = good
+
+  notes_error_good : (e : Option SocketError) (s : LinkState) → IsGood s → IsGood (notes_error e s)
+  notes_error_good None s good = good
+  notes_error_good (Some e) s good = same_good s _ good refl refl refl refl refl
+
+  pub notes_good : (b : Bool) (came : List ℕ) (s : LinkState) → IsGood s → IsGood (notes b came s)
+  notes_good true came s good = notes_error_good (error_in s.config came) s good
+  notes_good false came s good = good
+
+  takes_at_good : (at : Option ℕ) (s : LinkState) → IsGood s → IsGood (takes_at at s).1
+  takes_at_good None s good = good
+  takes_at_good (Some at) s good = same_good s _ good refl refl refl refl refl
+
+  pub takes_good : (port : Option ℕ) (peer : Option Addr) (s : LinkState) → IsGood s → IsGood (takes_error port peer s).1
+  takes_good None peer s good = good
+  takes_good (Some port) None s good = good
+  takes_good (Some port) (Some peer) s good = takes_at_good (error_at port peer s.errors) s good
 
   pub ticks_good : (s : LinkState) → IsGood s → IsGood (ticks s)
   ticks_good s good = record {

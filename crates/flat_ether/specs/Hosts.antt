@@ -1,16 +1,20 @@
 -- A host on an Ethernet: the flat machine and its link, and each step of both (this project's own).
-use Rattle.std.specs.Prelude.{◌≡◌, ℕ, ◌+◌, ◌≤◌, Bool, if◌then◌else◌, List, [], ◌∷◌, length, is_some, Option, Some, None}
+use Rattle.std.specs.Prelude.{◌≡◌, ℕ, ◌+◌, ◌≤◌, Bool, if◌then◌else◌, List, [], ◌∷◌, length, is_some, Option, Some, None, Result, Ok, Err}
 use Rattle.params.specs.declared.TheConstants.{IP_MAX_PACKET}
 use Rattle.flat_model.specs.Amounts.Weight.{Item}
 use Rattle.flat_model.specs.Machine.Event.{Comes, Tick, Done, IsEvent, IsBytes}
-use Rattle.flat_model.specs.Machine.State.{State, boot}
+use Rattle.flat_model.specs.Machine.State.{State, Socket, boot, socket_at}
 use Rattle.flat_model.specs.Machine.Step.{Step}
 use Rattle.flat_model.specs.Runs.Run.{Turn}
 use Rattle.flat_model.specs.declared.config.Config.{Config}
 use Rattle.flat_ether.specs.Claims.{is_claimed}
 use Rattle.flat_ether.specs.Frames.{body_of, mac_at, same_mac, kind_of}
-use Rattle.flat_ether.specs.Icmp.{answer_to}
-use Rattle.flat_ether.specs.Links.{LinkState, Gives, answers_with, gives_claim, gives_own, hears_arp, ignores, link_up, refuses, sends, ticks}
+use Rattle.flat_ether.specs.Icmp.{answer_to, counted_more}
+use Rattle.flat_ether.specs.declared.error.NetFault.{NetFault}
+use Rattle.flat_model.specs.declared.counter.Counter.TheVariants.{IpNoproto}
+use Rattle.flat_model.specs.declared.errno.Errno.{Errno}
+use Rattle.flat_model.specs.declared.errno.Errno.TheVariants.{BadDescriptor}
+use Rattle.flat_ether.specs.Links.{LinkState, Gives, answers_with, gives_claim, gives_own, hears_arp, ignores, link_up, notes, refuses, sends, takes_error, ticks}
 use Rattle.flat_ether.specs.declared.link.Link.{Link}
 use Rattle.flat_ether.specs.declared.link.FrameKind.{FrameKind}
 use Rattle.flat_ether.specs.declared.link.FrameKind.TheVariants.{Packet, Martian, Arp, Other}
@@ -29,9 +33,11 @@ host_up c l = record { machine = boot c; link = link_up c l }
 abbrev pub is_to_us : LinkState → List ℕ → Bool
 is_to_us s f = same_mac (mac_at 0 f) s.link.mac
 
--- what the link does once the machine has taken the packet of a frame: one that came to all is never answered
+-- what the link does once the machine has taken the packet of a frame: one that came to all is never answered, and no
+-- error is taken from it
 abbrev pub answers : List ℕ → State → State → LinkState → LinkState
-answers f old new s = if is_to_us s f then answers_with (answer_to s.config (body_of f) old new) (body_of f) s else s
+answers f old new s =
+    if is_to_us s f then notes (counted_more IpNoproto old new) (body_of f) (answers_with (answer_to s.config (body_of f) old new) (body_of f) s) else s
 
 -- a packet comes to the machine as it is in the frame
 pub record TakesPacket (f : List ℕ) (old new : Host) : Type 0 where
@@ -68,12 +74,17 @@ drained (item ∷ later) s = or_drains (sends item.bytes s) later (drained later
 abbrev pub with_output : State → List Item → State
 with_output s output = record s { output = output }
 
-abbrev pub gives_drained : Host → LinkState → Option (List ℕ) × Host
-gives_drained h s =
-    let d = drained h.machine.output s in
-    (d.frame, record { machine = with_output h.machine d.output; link = d.link })
+-- the machine has nothing that goes out now: what waits since then may have to be asked for
+abbrev pub gives_after : Host → Drained → Option (List ℕ) × Host
+gives_after h d =
+    if is_some d.frame
+    then (d.frame, record { machine = with_output h.machine d.output; link = d.link })
+    else ((gives_own d.link).0, record { machine = with_output h.machine d.output; link = (gives_own d.link).1 })
 
--- the link's own frames first, then what the machine gives
+abbrev pub gives_drained : Host → LinkState → Option (List ℕ) × Host
+gives_drained h s = gives_after h (drained h.machine.output s)
+
+-- the link's own frames first, then what the machine gives, and then the requests for what waits by that
 abbrev pub gives_claimed : Host → Option (List ℕ) × Host
 gives_claimed h =
     let own = gives_own h.link in
@@ -87,6 +98,16 @@ gives_probe h = ((gives_claim h.link).0, record h { link = (gives_claim h.link).
 abbrev pub gives : Host → Option (List ℕ) × Host
 gives h = if is_claimed h.link.claim then gives_claimed h else gives_probe h
 
+-- ---- a question for an error
+
+abbrev pub error_of_socket : Option Socket → Host → Result (Option NetFault) Errno × Host
+error_of_socket None h = (Err BadDescriptor, h)
+error_of_socket (Some me) h = (Ok (takes_error me.port me.peer h.link).0, record h { link = (takes_error me.port me.peer h.link).1 })
+
+-- what others told of the datagrams that a connected socket sent to its peer, and the host then: it's told once
+abbrev pub last_error : ℕ → Host → Result (Option NetFault) Errno × Host
+last_error fd h = error_of_socket (socket_at fd h.machine) h
+
 -- ---- the clock
 
 pub record Ticks (old new : Host) : Type 0 where
@@ -95,12 +116,14 @@ pub record Ticks (old new : Host) : Type 0 where
 
 -- ---- whole runs
 
--- what is done with a host: a frame comes, the link takes the next one, the clock ticks, or a call is made on its stack
+-- what is done with a host: a frame comes, the link takes the next one, the clock ticks, a call is made on its stack, or an error is
+-- asked for
 pub data Act : Type 0 where
   Comes_in : (frame : List ℕ) → Act
   Goes_out : (frame : Option (List ℕ)) → Act
   Clock : Act
   Calls : (turn : Turn) → Act
+  Asks_error : (fd : ℕ) → (fault : Result (Option NetFault) Errno) → Act
 
 pub record CallsMachine (turn : Turn) (old new : Host) : Type 0 where
   pub event : IsEvent turn.event
@@ -112,6 +135,7 @@ IsAct old (Comes_in f) new = IsBytes f × (length f ≤ ETHER_HEADER + IP_MAX_PA
 IsAct old (Goes_out f) new = (f, new) ≡ gives old
 IsAct old Clock new = Ticks old new
 IsAct old (Calls turn) new = CallsMachine turn old new
+IsAct old (Asks_error fd fault) new = (fault, new) ≡ last_error fd old
 
 abbrev pub AreActs : Host → List Act → Host → Type 0
 AreActs old [] new = new ≡ old

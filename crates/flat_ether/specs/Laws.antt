@@ -10,7 +10,7 @@ use Rattle.flat_model.specs.Runs.Run.{Turn, Leads}
 use Rattle.flat_wire.specs.Wire.{ComesFrom, IsAnswered, WasSent, packet_in, packet_out}
 use Rattle.flat_ether.specs.Frames.{arp_bytes, arp_of, body_of, ether_broadcast, frame, kind_of}
 use Rattle.flat_ether.specs.Icmp.{echo_reply, port_unreachable}
-use Rattle.flat_ether.specs.Hosts.{Act, AreActs, Host, host_up, Comes_in, Goes_out, Clock, Calls}
+use Rattle.flat_ether.specs.Hosts.{Act, AreActs, Host, host_up, Comes_in, Goes_out, Clock, Calls, Asks_error}
 use Rattle.flat_ether.specs.Links.{is_sound_arp, route_to}
 use Rattle.flat_model.specs.declared.config.Config.{Config}
 use Rattle.flat_ether.specs.declared.link.Link.{Link}
@@ -35,6 +35,7 @@ packets_in c mac (Comes_in f) = packet_if (kind_of c mac f) f
 packets_in c mac (Goes_out f) = []
 packets_in c mac Clock = []
 packets_in c mac (Calls turn) = filter_map packet_in (turn ∷ [])
+packets_in c mac (Asks_error fd fault) = []
 
 abbrev pub packets_to : Config → Mac → List Act → List (List ℕ)
 packets_to c mac [] = []
@@ -47,12 +48,14 @@ frame_in (Comes_in f) = f ∷ []
 frame_in (Goes_out f) = []
 frame_in Clock = []
 frame_in (Calls turn) = []
+frame_in (Asks_error fd fault) = []
 
 abbrev pub frame_out : Act → List (List ℕ)
 frame_out (Comes_in f) = []
 frame_out (Goes_out f) = option_to_list f
 frame_out Clock = []
 frame_out (Calls turn) = []
+frame_out (Asks_error fd fault) = []
 
 -- the frames that went
 abbrev pub frames_out : List Act → List (List ℕ)

@@ -6,6 +6,10 @@ use Rattle.flat_model.specs.Packets.Header.{u32_at}
 use Rattle.flat_model.specs.Machine.Count.{more_by}
 use Rattle.flat_model.specs.declared.config.Config.{Config}
 use Rattle.flat_ether.specs.Claims.{claim_due, claim_sent, claim_ticks, claim_up, conflicts, is_claimed}
+use Rattle.flat_ether.specs.Errors.{error_at, error_in, fault_of, note}
+use Rattle.flat_ether.specs.declared.error.NetFault.{NetFault}
+use Rattle.flat_ether.specs.declared.error.SocketError.{SocketError}
+use Rattle.flat_model.specs.declared.address.Addr.{Addr}
 use Rattle.flat_ether.specs.Frames.{frame, ether_broadcast, no_mac, arp_bytes, arp_of, is_arp, same_mac}
 use Rattle.flat_ether.specs.Routes.{is_neighbour, route}
 use Rattle.flat_ether.specs.Icmp.{echo_reply, port_unreachable}
@@ -30,7 +34,7 @@ pub record Held : Type 0 where
   pub packet : List ℕ
 
 -- The machine's configuration and its link; the neighbours, the one that was put last at the end; who is owed an ARP
--- reply; the packets that wait, the oldest first; the ICMP answer that waits; the claim to the address; how many
+-- reply; the packets that wait, the oldest first; the ICMP answer that waits; the errors that nobody has asked for yet; the claim to the address; how many
 -- senders may still be told before the next tick that a port is unreachable; and what was counted.
 pub record LinkState : Type 0 where
   pub config : Config
@@ -39,6 +43,7 @@ pub record LinkState : Type 0 where
   pub replies : List PendingReply
   pub held : List Held
   pub answer : Option (List ℕ)
+  pub errors : List SocketError
   pub claim : Claim
   pub unreachables : ℕ
   pub tallies : Tallies
@@ -49,7 +54,7 @@ no_tallies = record { ignored = 0; martians = 0; bad_arp = 0; conflicts = 0; rep
 
 -- a link that has just started
 abbrev pub link_up : Config → Link → LinkState
-link_up c l = record { config = c; link = l; neighbours = []; replies = []; held = []; answer = None; claim = claim_up l.probe; unreachables = UNREACHABLES; tallies = no_tallies }
+link_up c l = record { config = c; link = l; neighbours = []; replies = []; held = []; answer = None; errors = []; claim = claim_up l.probe; unreachables = UNREACHABLES; tallies = no_tallies }
 
 abbrev pub ignores : LinkState → LinkState
 ignores s = record s { tallies = record s.tallies { ignored = more_by 1 s.tallies.ignored } }
@@ -337,3 +342,27 @@ abbrev pub answers_with : Answer → List ℕ → LinkState → LinkState
 answers_with Silence came s = s
 answers_with Echo came s = if is_some s.answer then finds_no_place s else counts_echo (puts_answer (echo_reply s.config came) s)
 answers_with Unreachable came s = if is_some s.answer then finds_no_place s else tells_unreachable came s
+
+-- ---- errors that others tell
+
+abbrev pub notes_error : Option SocketError → LinkState → LinkState
+notes_error None s = s
+notes_error (Some e) s = record s { errors = note e s.errors }
+
+-- a packet that the machine ended as one of a protocol that it doesn't know may tell an error
+abbrev pub notes : Bool → List ℕ → LinkState → LinkState
+notes no_protocol came s = if no_protocol then notes_error (error_in s.config came) s else s
+
+abbrev pub fault_in : Option SocketError → Option NetFault
+fault_in None = None
+fault_in (Some e) = Some (fault_of e.code)
+
+abbrev pub takes_at : Option ℕ → LinkState → Option NetFault × LinkState
+takes_at None s = (None, s)
+takes_at (Some at) s = (fault_in (slice_get s.errors at), record s { errors = remove s.errors at })
+
+-- the error about datagrams from a port to an address is told once
+abbrev pub takes_error : Option ℕ → Option Addr → LinkState → Option NetFault × LinkState
+takes_error None peer s = (None, s)
+takes_error (Some port) None s = (None, s)
+takes_error (Some port) (Some peer) s = takes_at (error_at port peer s.errors) s

@@ -5,6 +5,7 @@
 mod answer;
 mod arp;
 mod claim;
+mod error;
 mod laws;
 mod link;
 mod mac;
@@ -15,6 +16,7 @@ mod tallies;
 pub use answer::Answer;
 pub use arp::Arp;
 pub use claim::{AddressState, Claim, ClaimFrame};
+pub use error::{NetFault, SocketError};
 pub use laws::{hosts_make_turns, hosts_on_an_ethernet};
 pub use link::{FrameKind, Link, Route};
 pub use mac::{ETHER_BROADCAST, Mac, NO_MAC};
@@ -22,7 +24,8 @@ pub use neighbour::{Neighbour, PendingReply};
 pub use sizes::{
     ANNOUNCE_TICKS, ANNOUNCEMENTS, ARP_BYTES, ARP_KEEP_TICKS, ARP_POLLS, ARP_PROBES, ARP_REPLY,
     ARP_REQUEST, ARP_RETRY_TICKS, ARP_TRIES, DEFEND_TICKS, ECHO_REPLY, ECHO_REQUEST, ETHER_HEADER,
-    ETHER_MTU, ETHER_TYPE_ARP, ETHER_TYPE_IP, HELD_PACKETS, ICMP_HEADER, NEIGHBOURS,
-    PENDING_REPLIES, PROBE_TICKS, PROTOCOL_ICMP, UNREACHABLE, UNREACHABLE_PORT, UNREACHABLES,
+    ETHER_MTU, ETHER_TYPE_ARP, ETHER_TYPE_IP, FRAGMENT_NEEDED, HELD_PACKETS, ICMP_ERROR,
+    ICMP_HEADER, NEIGHBOURS, PENDING_REPLIES, PROBE_TICKS, PROTOCOL_ICMP, SOCKET_ERRORS,
+    UNREACHABLE, UNREACHABLE_PORT, UNREACHABLE_PROTOCOL, UNREACHABLES,
 };
 pub use tallies::Tallies;

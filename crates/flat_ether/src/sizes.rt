@@ -50,11 +50,19 @@ pub const PENDING_REPLIES: usize = 8;
 pub const PROTOCOL_ICMP: u8 = 1;
 /// Bytes of an ICMP header: type, code, checksum and four bytes more (RFC 792).
 pub const ICMP_HEADER: u32 = 8;
-/// The type of an echo reply, and of an echo request (RFC 792).
+/// The type of an echo reply (RFC 792).
 pub const ECHO_REPLY: u8 = 0;
-
+/// The type of an echo request (RFC 792).
 pub const ECHO_REQUEST: u8 = 8;
-/// The type "destination unreachable", and its code "port unreachable" (RFC 792).
+/// The type "destination unreachable" (RFC 792).
 pub const UNREACHABLE: u8 = 3;
-
+/// Its code "protocol unreachable" (RFC 792).
+pub const UNREACHABLE_PROTOCOL: u8 = 2;
+/// Its code "port unreachable" (RFC 792).
 pub const UNREACHABLE_PORT: u8 = 3;
+/// Its code "fragmentation needed" (RFC 792).
+pub const FRAGMENT_NEEDED: u8 = 4;
+/// Bytes of an ICMP error with the header and the ports of a datagram: 8, 20 and 8 (RFC 792).
+pub const ICMP_ERROR: u32 = 36;
+/// How many errors wait for someone to ask for them (this project's own).
+pub const SOCKET_ERRORS: usize = 8;

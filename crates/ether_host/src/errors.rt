@@ -1,0 +1,145 @@
+//! Errors that others tell of datagrams which this host sent (`udp_ctlinput` of volume 2, chapter 23).
+ghost use Rattle.std.specs.Prelude.{◌≡◌, ◌≤◌, length};
+ghost use Rattle.flat_ether.specs.declared.sizes.TheConstants.{ICMP_ERROR};
+ghost use Rattle.flat_ether.specs.Errors.{error_at, error_in, error_of, fault_of, is_error, is_icmp, is_of, note};
+ghost use Rattle.flat_ether.specs.Links.{notes, takes_error};
+
+use crate::answer::{HEADER, carried};
+use crate::bytes::{u16_at, u32_at};
+use crate::layer::LinkLayer;
+use arrayvec::ArrayVec;
+use flat_ether::{
+    FRAGMENT_NEEDED, ICMP_ERROR, NetFault, PROTOCOL_ICMP, SOCKET_ERRORS, SocketError, UNREACHABLE,
+    UNREACHABLE_PORT, UNREACHABLE_PROTOCOL,
+};
+use flat_model::{Addr, Config};
+use in_cksum::sum_slice;
+use params::PROTOCOL_UDP;
+
+/// Whether a packet is a whole one of ICMP to this host.
+fn is_icmp(config: &Config, came: &[u8]) -> bool
+    ensures { result ≡ is_icmp config.now came.now }
+{
+    if came.len() < HEADER || u32_at(came, 16) != config.addr {
+        return false;
+    }
+    let flags = u16_at(came, 6);
+    if flags / 8192 % 2 != 0 || flags % 8192 != 0 {
+        return false;
+    }
+    came[9] == PROTOCOL_ICMP
+}
+
+/// Whether an ICMP message tells an error of a datagram of this host.
+fn is_error(config: &Config, body: &[u8]) -> bool
+    ensures { result ≡ is_error config.now body.now }
+{
+    body.len() >= ICMP_ERROR as usize
+        && body[0] == UNREACHABLE
+        && body[1] != FRAGMENT_NEEDED
+        && body[8] == 0x45
+        && u16_at(body, 14) % 8192 == 0
+        && body[17] == PROTOCOL_UDP
+        && u32_at(body, 20) == config.addr
+        && sum_slice(body) == u16::MAX
+}
+
+/// What a code means for who sent.
+fn fault_of(code: u8) -> NetFault
+    ensures { result ≡ fault_of code }
+{
+    if code == UNREACHABLE_PROTOCOL || code == UNREACHABLE_PORT {
+        return NetFault::Refused;
+    }
+    NetFault::Unreachable
+}
+
+/// The error that an ICMP message tells.
+fn error_of(body: &[u8]) -> SocketError
+    requires { ICMP_ERROR ≤ length body.now }
+    ensures { result ≡ error_of body.now }
+{
+    SocketError {
+        port: u16_at(body, 28),
+        peer_ip: u32_at(body, 24),
+        peer_port: u16_at(body, 30),
+        code: body[1],
+    }
+}
+
+/// The error that a packet tells.
+fn error_in(config: &Config, came: &[u8]) -> Option<SocketError>
+    ensures { result ≡ error_in config.now came.now }
+{
+    if !is_icmp(config, came) {
+        return None;
+    }
+    let body = carried(came);
+    if !is_error(config, body) {
+        return None;
+    }
+    Some(error_of(body))
+}
+
+/// Whether it's about datagrams from this port to this address.
+fn is_of(error: &SocketError, port: u16, peer: Addr) -> bool
+    ensures { result ≡ is_of port peer error.now }
+{
+    error.port == port && error.peer_ip == peer.ip && error.peer_port == peer.port
+}
+
+/// Where the error about datagrams from a port to an address stands.
+fn error_at(errors: &[SocketError], port: u16, peer: Addr) -> Option<usize>
+    ensures { result ≡ error_at port peer errors.now }
+{
+    errors.iter().position(|e| is_of(e, port, peer))
+}
+
+/// Puts an error in the place of the one about the same port and address, or behind all others; a full list loses its
+/// first.
+fn note(errors: &mut ArrayVec<SocketError, SOCKET_ERRORS>, error: SocketError)
+    ensures { errors.new.items ≡ note error errors.old.items }
+{
+    let peer = Addr {
+        ip: error.peer_ip,
+        port: error.peer_port,
+    };
+    match error_at(errors.as_slice(), error.port, peer) {
+        Some(at) => errors[at] = error,
+        None => {
+            if errors.is_full() {
+                errors.remove(0);
+            }
+            errors.push(error);
+        }
+    }
+}
+
+impl LinkLayer {
+    ghost use Rattle.ether_host.specs.Inside.{seen};
+
+    /// A packet came that the stack ended, as one of a protocol that it doesn't know or otherwise: it may tell an error.
+    pub(crate) fn note(&mut self, no_protocol: bool, came: &[u8])
+        ensures { seen self.new ≡ notes no_protocol came.now (seen self.old) }
+    {
+        if !no_protocol {
+            return;
+        }
+        if let Some(error) = error_in(&self.config, came) {
+            note(&mut self.errors, error);
+        }
+    }
+
+    /// What was told of the datagrams that went from this port to this peer. It's told once.
+    pub(crate) fn take_error(&mut self, port: Option<u16>, peer: Option<Addr>) -> Option<NetFault>
+        ensures fault { result ≡ (takes_error port peer (seen self.old)).0 }
+        ensures link { seen self.new ≡ (takes_error port peer (seen self.old)).1 }
+    {
+        let (Some(port), Some(peer)) = (port, peer) else {
+            return None;
+        };
+        let at = error_at(self.errors.as_slice(), port, peer)?;
+        let error = self.errors.remove(at);
+        Some(fault_of(error.code))
+    }
+}
