@@ -10,7 +10,7 @@ use chain_ops::m_copydata;
 use flat_model::Why;
 use in_cksum::{Sum, sum_head};
 use mbuf_chain::{Chain, Pool};
-use params::{FRAGMENT_UNIT, IP_HEADER};
+use params::{FRAGMENT_UNIT, IP_HEADER, IP_MAX_PACKET};
 
 /// The first byte of a header without options: version 4, and 5 words of 4 bytes.
 pub const VERSION_AND_LENGTH: u8 = 0x45;
@@ -221,6 +221,20 @@ fn head_or_fault(bytes: &[u8; IP_HEADER as usize], len: u32) -> Result<IpHead, W
     match fault_in(bytes, len) {
         Some(why) => Err(why),
         None => Ok(head_in(bytes)),
+    }
+}
+
+/// What the header of a packet says that isn't stored yet, or the first test that it fails: `read_head` of its bytes. It
+/// has at most 65,535.
+#[inline(always)]
+pub fn parse_head(packet: &[u8]) -> Result<IpHead, Why>
+    requires { length packet.now ≤ IP_MAX_PACKET }
+    ensures ok { IfOk result (λ head. (head_fault packet.now ≡ None) × (head ≡ head_in packet.now)) }
+    ensures err { IfErr result (λ why. head_fault packet.now ≡ Some why) }
+{
+    match packet.split_first_chunk() {
+        Some((bytes, _)) => head_or_fault(bytes, packet.len() as u32),
+        None => Err(Why::TooSmall),
     }
 }
 

@@ -9,7 +9,9 @@ mod sending;
 mod waiting;
 mod ways;
 
-pub use head::{DONT_FRAGMENT, IpHead, MAX_OFFSET, VERSION_AND_LENGTH, read_head, write_head};
+pub use head::{
+    DONT_FRAGMENT, IpHead, MAX_OFFSET, VERSION_AND_LENGTH, parse_head, read_head, write_head,
+};
 pub use needs::{need, need_bcast};
 pub use queue::Queue;
 pub use sending::{Sent, output};

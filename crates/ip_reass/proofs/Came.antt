@@ -1,6 +1,7 @@
 -- What is known of a packet by its origin: what it weighs once its header is pulled up, and that its arrival is the
 -- flat machine's.
 use Rattle.std.proofs.Common.{◌≡◌, ◌⊎◌, ℕ, suc, ◌+◌, ◌-◌, ◌<◌, ◌≤◌, min, true, false, not, List, [], ◌∷◌, length, drop, take, Option, None, Some, is_some, get_or, refl, sym, ap, ◌∙◌, subst, arith, inl, inr, length-drop, length-append}
+use Rattle.std.proofs.lemmas.List.{append-nil}
 use Rattle.std.specs.Prelude.{filter_map}
 use Rattle.std.specs.List.{cons_option}
 use Rattle.std.proofs.lemmas.Bool.{false≢true, cases_lt, le-leb, lt-leb, lt-ltb, le-ltb, eq-eqb, ne_eqb, and_left, cond-true, cond-false}
@@ -18,6 +19,7 @@ use Rattle.chain_ops.specs.Rooms.{room_low}
 use Rattle.ledger.specs.Accounts.{weight_of, weight_at}
 use Rattle.ip_out.specs.declared.head.IpHead.{IpHead}
 use Rattle.ip_reass.specs.Fragments.{fragment_of}
+use Rattle.ip_reass.specs.AtOnce as at_once
 use Rattle.ip_reass.specs.Arrivals.{flat_head, key_in, carried_at, CameBy, pulled_entries, carried_entries}
 use Rattle.ip_reass.specs.Layouts.{fragment_carried, PullsUpHeader, ChainArrives}
 use Rattle.ip_reass.proofs.Arriving.{carried_bytes}
@@ -38,7 +40,7 @@ moved_whole x e es n some same =
     cond-false _ _ _ (ne_eqb n 0 (λ z. absurd (omega arith))) ∙ (cond-true _ _ _ (le-leb (length e.bytes) n (omega arith)) ∙ moved_none (with_back x e.bytes) es (n - length e.bytes) (omega arith))
 
 -- or keeps some bytes
-moved_part : (x e : Entry) (es : List Entry) (n : ℕ) → 0 < n → n < length e.bytes → moved n x (e ∷ es) ≡ with_back x (take n e.bytes) ∷ narrowed e n (length e.bytes - n) ∷ es
+pub moved_part : (x e : Entry) (es : List Entry) (n : ℕ) → 0 < n → n < length e.bytes → moved n x (e ∷ es) ≡ with_back x (take n e.bytes) ∷ narrowed e n (length e.bytes - n) ∷ es
 moved_part x e es n some less =
     cond-false _ _ _ (ne_eqb n 0 (λ z. absurd (omega arith))) ∙ cond-false _ _ _ (lt-leb (length e.bytes) n less)
 
@@ -96,35 +98,48 @@ abbrev with_weight : IpHead → ChainView → Weight → Fragment
 with_weight h v w = record { offset = h.offset; bytes = drop 20 (string v); more = h.more; weight = w }
 
 -- **a packet whose chain shows its origin arrives as the flat machine says of that origin**
-pub fragment_arrives : (held : Weight) (origin : Origin) (h : IpHead) (p : PoolView) (n : ℕ) (old new : State) → CameBy origin (chain_of p n) → length (string (chain_of p n)) ≡ h.total → 20 ≤ h.total
-    → ChainArrives held h (chain_of p n) old new → FragmentArrives exact_ledger origin held (flat_head h) (carried_at p n) old new
-fragment_arrives held origin h p n old new came total least step = record {
+pub view_arrives : (held : Weight) (origin : Origin) (h : IpHead) (v : ChainView) (old new : State) → CameBy origin v → length (string v) ≡ h.total → 20 ≤ h.total
+    → ChainArrives held h v old new → FragmentArrives exact_ledger origin held (flat_head h) (record { bytes = drop 20 (string v); weight = weight_of v.entries }) old new
+view_arrives held origin h v old new came total least step = record {
   yes = λ bad. step.yes (ap (is_bad_fragment (flat_head h)) (sym size) ∙ bad);
   no = λ good. pulls origin came (step.no (ap (is_bad_fragment (flat_head h)) (sym size) ∙ good));
 }
   where
-    size : length (drop 20 (string (chain_of p n))) ≡ h.total - 20
-    size = omega (arith, length-drop 20 (string (chain_of p n)))
+    size : length (drop 20 (string v)) ≡ h.total - 20
+    size = omega (arith, length-drop 20 (string v))
 
-    plain : is_some (entry_of (chain_of p n) 0).cluster ≡ false → Joins exact_ledger held (key_in h) (fragment_of (fragment_carried (chain_of p n) h)) (counts_fragment old) new → Joins exact_ledger held (key_in h) (with_weight h (chain_of p n) (weight_at p n)) (counts_fragment old) new
-    plain is joins = subst (λ (f : Fragment). Joins exact_ledger held (key_in h) f (counts_fragment old) new) (carried_is (chain_of p n) h (carried_entries (chain_of p n)) (weight_at p n) refl (ap weight_of (cond-false _ _ _ is))) joins
+    plain : is_some (entry_of v 0).cluster ≡ false → Joins exact_ledger held (key_in h) (fragment_of (fragment_carried v h)) (counts_fragment old) new → Joins exact_ledger held (key_in h) (with_weight h v (weight_of v.entries)) (counts_fragment old) new
+    plain is joins = subst (λ (f : Fragment). Joins exact_ledger held (key_in h) f (counts_fragment old) new) (carried_is v h (carried_entries v) (weight_of v.entries) refl (ap weight_of (cond-false _ _ _ is))) joins
 
-    whole_size : length (string (chain_of p n)) ≡ 20 + length (drop 20 (string (chain_of p n)))
+    whole_size : length (string v) ≡ 20 + length (drop 20 (string v))
     whole_size = omega (arith, size)
 
-    in_cluster : (received : ℕ) → CameBy (By_wire received) (chain_of p n) → is_some (entry_of (chain_of p n) 0).cluster ≡ true
-        → Tests exact_ledger (counts_fragment old) (held ⊕ weight_at p n) 1 new (λ mid. Joins exact_ledger held (key_in h) (fragment_of (fragment_carried (chain_of p n) h)) mid new)
-        → Tests exact_ledger (counts_fragment old) (held ⊕ weight_at p n) 1 new (λ mid. Joins exact_ledger held (key_in h) (with_weight h (chain_of p n) (flat.pulled_up (20 + length (drop 20 (string (chain_of p n)))) (weight_at p n))) mid new)
+    in_cluster : (received : ℕ) → CameBy (By_wire received) v → is_some (entry_of v 0).cluster ≡ true
+        → Tests exact_ledger (counts_fragment old) (held ⊕ weight_of v.entries) 1 new (λ mid. Joins exact_ledger held (key_in h) (fragment_of (fragment_carried v h)) mid new)
+        → Tests exact_ledger (counts_fragment old) (held ⊕ weight_of v.entries) 1 new (λ mid. Joins exact_ledger held (key_in h) (with_weight h v (flat.pulled_up (20 + length (drop 20 (string v))) (weight_of v.entries))) mid new)
     in_cluster received came cluster tests =
-        let weight : weight_of (pulled_entries (chain_of p n)) ≡ flat.pulled_up (20 + length (drop 20 (string (chain_of p n)))) (weight_at p n) =
-        ap weight_of (cond-true _ _ _ cluster) ∙ (pulled_is (chain_of p n) cluster (omega (arith, total, least)) (holds_of (By_wire received) (chain_of p n) came cluster) ∙ ap (λ (m : ℕ). flat.pulled_up m (weight_at p n)) whole_size) in
-        subst (λ (f : Fragment). Tests exact_ledger (counts_fragment old) (held ⊕ weight_at p n) 1 new (λ mid. Joins exact_ledger held (key_in h) f mid new))
-        (carried_is (chain_of p n) h (carried_entries (chain_of p n)) (flat.pulled_up (20 + length (drop 20 (string (chain_of p n)))) (weight_at p n)) refl weight) tests
+        let weight : weight_of (pulled_entries v) ≡ flat.pulled_up (20 + length (drop 20 (string v))) (weight_of v.entries) =
+        ap weight_of (cond-true _ _ _ cluster) ∙ (pulled_is v cluster (omega (arith, total, least)) (holds_of (By_wire received) v came cluster) ∙ ap (λ (m : ℕ). flat.pulled_up m (weight_of v.entries)) whole_size) in
+        subst (λ (f : Fragment). Tests exact_ledger (counts_fragment old) (held ⊕ weight_of v.entries) 1 new (λ mid. Joins exact_ledger held (key_in h) f mid new))
+        (carried_is v h (carried_entries v) (flat.pulled_up (20 + length (drop 20 (string v))) (weight_of v.entries)) refl weight) tests
 
-    pulls : (o : Origin) → CameBy o (chain_of p n) → PullsUpHeader (chain_of p n) held (counts_fragment old) new (λ mid. Joins exact_ledger held (key_in h) (fragment_of (fragment_carried (chain_of p n) h)) mid new)
-        → PullsUp exact_ledger o held (weight_at p n) (20 + length (drop 20 (string (chain_of p n)))) (counts_fragment old) new (λ w mid. Joins exact_ledger held (key_in h) (with_weight h (chain_of p n) w) mid new)
+    pulls : (o : Origin) → CameBy o v → PullsUpHeader v held (counts_fragment old) new (λ mid. Joins exact_ledger held (key_in h) (fragment_of (fragment_carried v h)) mid new)
+        → PullsUp exact_ledger o held (weight_of v.entries) (20 + length (drop 20 (string v))) (counts_fragment old) new (λ w mid. Joins exact_ledger held (key_in h) (with_weight h v w) mid new)
     pulls Looped o_came s = plain (ap is_some o_came) (s.no (ap is_some o_came))
     pulls (By_wire received) o_came s = record {
       yes = λ large. in_cluster received o_came (o_came.cluster ∙ large) (s.yes (o_came.cluster ∙ large));
       no = λ small. plain (o_came.cluster ∙ small) (s.no (o_came.cluster ∙ small));
     }
+
+-- the same of a chain of a pool
+pub fragment_arrives : (held : Weight) (origin : Origin) (h : IpHead) (p : PoolView) (n : ℕ) (old new : State) → CameBy origin (chain_of p n) → length (string (chain_of p n)) ≡ h.total → 20 ≤ h.total
+    → ChainArrives held h (chain_of p n) old new → FragmentArrives exact_ledger origin held (flat_head h) (carried_at p n) old new
+fragment_arrives held origin h p n old new came total least step = view_arrives held origin h (chain_of p n) old new came total least step
+
+-- **and one that is laid at once, as the flat machine says of a packet in that cluster**
+pub cluster_arrives : (held : Weight) (h : IpHead) (packet : List ℕ) (k : ℕ) (old new : State) → 208 ≤ length packet → h.total ≡ length packet
+    → ChainArrives held h (at_once.in_cluster packet k) old new → FragmentArrives exact_ledger (By_wire (length packet)) held (flat_head h) (record { bytes = drop 20 packet; weight = record { mbufs = 1; bag = k ∷ [] } }) old new
+cluster_arrives held h packet k old new many total step =
+    subst (λ (xs : List ℕ). FragmentArrives exact_ledger (By_wire (length packet)) held (flat_head h) (record { bytes = drop 20 xs; weight = record { mbufs = 1; bag = k ∷ [] } }) old new) (append-nil packet)
+    (view_arrives held (By_wire (length packet)) h (at_once.in_cluster packet k) old new (record { cluster = sym (le-leb 208 (length packet) many); holds = inl (omega (arith, length-append packet [])) })
+    (omega (arith, length-append packet [])) (omega arith) step)

@@ -20,6 +20,7 @@ mod Reserved
 mod Arriving
 mod Queues
 mod Came
+mod AtOnce
 mod Distinct
 mod Holding
 mod Ranges

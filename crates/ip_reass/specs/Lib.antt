@@ -2,6 +2,7 @@ pub mod Fragments
 pub mod Table
 pub mod Same
 pub mod Arrivals
+pub mod AtOnce
 pub mod Layouts
 pub mod Questions
 pub mod Inside

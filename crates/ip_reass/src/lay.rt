@@ -24,6 +24,7 @@ use mbuf_chain::{Chain, Pool};
 use params::{IP_HEADER, IP_MAX_DATA};
 
 /// Lays a fragment among those of the datagram at a place.
+#[inline(always)]
 pub(crate) fn lay_in(
     pool: &mut Pool,
     table: &mut [Datagram],
@@ -46,6 +47,7 @@ pub(crate) fn lay_in(
 }
 
 /// Takes a datagram out of the table, frees its key's mbuf and joins its fragments.
+#[inline(never)]
 pub(crate) fn take_out(pool: &mut Pool, table: &mut Vec<Datagram>, i: usize) -> Chain
     requires table { IsTable pool.old table.old.items }
     requires place { i < length table.old.items }
@@ -73,6 +75,7 @@ pub(crate) struct Fragment {
 
 /// Lays a fragment among those of the datagram at a place, and counts. The datagram is taken out where it is whole
 /// then.
+#[inline(always)]
 pub(crate) fn lay_and_count(
     pool: &mut Pool,
     table: &mut Vec<Datagram>,

@@ -7,6 +7,7 @@
 
 mod arrival;
 mod arrive;
+mod at_once;
 mod datagram;
 mod index;
 mod lay;
@@ -17,6 +18,7 @@ mod span;
 mod table;
 
 pub use arrival::Arrival;
+pub use at_once::fits_at_once;
 pub use datagram::Datagram;
 pub use questions::{HeldRange, UnfinishedDatagram};
 pub use table::Reass;

@@ -209,6 +209,7 @@ pub(crate) enum Laying {
 
 /// Whether the fragments are a whole datagram: no more come after the last, and together they have as many bytes as lie
 /// below its end, so that none is missing.
+#[inline(never)]
 fn whole(pool: &Pool, datagram: &Datagram) -> Laying
     requires queue { IsQueue pool.now datagram.now.fragments }
     requires some { 0 < datagram.now.fragments.len }
@@ -229,6 +230,7 @@ fn whole(pool: &Pool, datagram: &Datagram) -> Laying
 
 /// Puts a fragment after all others, which end no later than it begins. Then it's the last, so that nothing has to be
 /// read to tell whether the datagram is whole.
+#[inline(always)]
 fn append(pool: &mut Pool, datagram: &mut Datagram, chain: Chain, span: Span) -> Laying
     requires queue { IsQueue pool.old datagram.old.fragments }
     requires counted { datagram.old.bytes ≡ bytes_held (fragments pool.old datagram.old.fragments) }
@@ -261,6 +263,8 @@ fn append(pool: &mut Pool, datagram: &mut Datagram, chain: Chain, span: Span) ->
 /// Lays a fragment at its place, to which the fragments are walked: what precedes it keeps its bytes, what follows
 /// loses its own to it. A fragment of which nothing is left is freed, and those held stay as they were. Answers
 /// whether something was left.
+// Apart, as `whole`: few fragments come out of order.
+#[inline(never)]
 fn lay_between(pool: &mut Pool, datagram: &mut Datagram, chain: Chain, span: Span) -> bool
     requires queue { IsQueue pool.old datagram.old.fragments }
     requires counted { datagram.old.bytes ≡ bytes_held (fragments pool.old datagram.old.fragments) }
@@ -291,6 +295,7 @@ fn lay_between(pool: &mut Pool, datagram: &mut Datagram, chain: Chain, span: Spa
 /// Lays a fragment among those held. Nearly every fragment comes in order: it goes after the last, whose end is looked
 /// at first, and so it passes none of the others. If it goes elsewhere and bytes are missing below that end, the last
 /// one isn't read again.
+#[inline(always)]
 pub(crate) fn lay(pool: &mut Pool, datagram: &mut Datagram, chain: Chain, span: Span) -> Laying
     requires queue { IsQueue pool.old datagram.old.fragments }
     requires counted { datagram.old.bytes ≡ bytes_held (fragments pool.old datagram.old.fragments) }

@@ -13,3 +13,4 @@ mod Sent
 mod Started
 mod Exchanged
 mod Tried
+mod AtOnce

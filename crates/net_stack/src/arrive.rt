@@ -22,14 +22,14 @@ use params::{IP_HEADER, IP_MAX_PACKET, LIMITED_BROADCAST, LOOPBACK};
 use sock_calls::Socks;
 
 /// Whether the address is one that this machine hears: one of its three, or 255.255.255.255.
-fn is_for_us(socks: &Socks, ip: u32) -> bool
+pub(crate) fn is_for_us(socks: &Socks, ip: u32) -> bool
     ensures { result ≡ is_ours_or_all socks.now.pcbs.addr socks.now.pcbs.bcast ip }
 {
     ip == socks.addr() || ip == socks.bcast() || ip == LOOPBACK || ip == LIMITED_BROADCAST
 }
 
 /// Whether a packet carries a part of a datagram: more come after it, or some before.
-fn is_fragment(head: &IpHead) -> bool
+pub(crate) fn is_fragment(head: &IpHead) -> bool
     ensures { result ≡ flat.is_fragment (flat_head head.now) }
 {
     head.more || head.offset > 0

@@ -1,0 +1,93 @@
+//! A fragment that is laid at once, from the bytes of its packet.
+ghost use Rattle.std.specs.Prelude.{◌≡◌, ℕ, ◌<◌, ◌≤◌, ◌++◌, true, length};
+ghost use Rattle.flat_model.specs.Amounts.Weight.{Weight, ◌⊕◌};
+ghost use Rattle.flat_model.specs.Machine.State.{State};
+ghost use Rattle.mbuf_chain.specs.Chain.{alone, free_clusters, references};
+ghost use Rattle.mbuf_chain.specs.Owners.{Moves};
+ghost use Rattle.chain_ops.specs.Makes.{HasMbufs, Makes};
+ghost use Rattle.ledger.specs.Accounts.{IsAccounted, weight_owned};
+ghost use Rattle.ip_reass.specs.Arrivals.{HasWhole, carried_entries, in_hand, machine};
+ghost use Rattle.ip_reass.specs.AtOnce.{ArrivesAtOnce, fits_at_once, in_cluster};
+ghost use Rattle.ip_reass.specs.Table.{IsReady, held_all};
+
+use crate::arrival::Arrival;
+use crate::arrive::is_bad;
+use crate::table::Reass;
+use flat_model::{Counter, Counters};
+use ip_out::IpHead;
+use mbuf_chain::{Chain, Pool};
+use params::{IP_HEADER, IP_MAX_PACKET, MAX_PROTOCOL_HEADER, MCLBYTES, MINCLSIZE, PACKET_START};
+
+/// Whether a packet, whose header says `head`, can be laid at once, by `Reass::arrive_bytes`: it's as long as its header
+/// says, is stored in one cluster, is no fragment that none can be, and two mbufs and a cluster are free. The header's
+/// offset is at most 65,535.
+#[inline(always)]
+pub fn fits_at_once(pool: &Pool, head: &IpHead, packet: &[u8]) -> bool
+    requires { head.now.offset ≤ IP_MAX_PACKET }
+    ensures { result ≡ fits_at_once pool.now head.now packet.now }
+{
+    if packet.len() < MINCLSIZE as usize || packet.len() > MCLBYTES as usize {
+        return false;
+    }
+    let len = packet.len() as u32;
+    u32::from(head.total) == len
+        && !is_bad(head, len - IP_HEADER)
+        && pool.free_mbufs() >= 2
+        && pool.free_clusters() >= 1
+}
+
+/// Stores what a packet carries after its IP header, laid as when the packet is stored in a cluster and its header is
+/// pulled up and cut off: 20 bytes in a plain mbuf, and the others in the cluster. These must be free.
+#[inline(always)]
+fn store_carried(pool: &mut Pool, packet: &[u8]) -> Chain
+    requires many { MINCLSIZE ≤ length packet.now }
+    requires few { length packet.now ≤ MCLBYTES }
+    requires mbufs { HasMbufs pool.old 2 }
+    requires cluster { 0 < free_clusters pool.old }
+    ensures { (k : ℕ) × (k < pool.old.clusters) × (references pool.old k ≡ 0)
+        × Makes pool.old pool.new result (alone true) (carried_entries (in_cluster packet.now k)) }
+{
+    let rest = &packet[MAX_PROTOCOL_HEADER as usize..];
+    let Ok(back) = pool.new_cluster_with(false, MAX_PROTOCOL_HEADER, rest) else {
+        unreachable!()
+    };
+    let front = &packet[IP_HEADER as usize..MAX_PROTOCOL_HEADER as usize];
+    let Ok(chain) = pool.new_plain_with(true, PACKET_START + IP_HEADER, front) else {
+        unreachable!()
+    };
+    let last = pool.first(&chain);
+    pool.link_counted(&chain, last, back, rest.len() as u32);
+    chain
+}
+
+impl Reass {
+    /// A fragment arrives from the wire as the bytes of a packet, for which `fits_at_once` answered true. It's what
+    /// `from_wire` and `arrive` do of it, in fewer steps: the header isn't stored, and nothing is pulled up.
+    ///
+    /// So it's never `BadFragment`. A key that isn't held yet takes one mbuf more, which is asked for as in `arrive`.
+    #[inline(always)]
+    pub fn arrive_bytes(
+        &mut self,
+        pool: &mut Pool,
+        counters: &mut Counters,
+        packet: &[u8],
+        head: IpHead,
+    ) -> Arrival
+        requires ready { IsReady pool.old self.old }
+        requires fits { fits_at_once pool.old head packet.now ≡ true }
+        ensures arrives { ArrivesAtOnce pool.old self.old.datagrams counters.old packet.now head result
+            pool.new self.new.datagrams counters.new }
+        ensures accounts { (rest : State) (held : Weight) →
+            IsAccounted pool.old (machine pool.old self.old.datagrams counters.old rest) held →
+            IsAccounted pool.new (machine pool.new self.new.datagrams counters.new rest)
+            (held ⊕ weight_owned pool.new (in_hand result)) }
+        ensures whole { HasWhole pool.new head result }
+        ensures ready { IsReady pool.new self.new }
+        ensures moves { Moves pool.old (held_all pool.old self.old.datagrams) pool.new
+            (in_hand result ++ held_all pool.new self.new.datagrams) }
+    {
+        counters.count(Counter::IpFragments);
+        let chain = store_carried(pool, packet);
+        self.lay_or_begin(pool, counters, chain, head)
+    }
+}

@@ -1,0 +1,163 @@
+-- A fragment from the wire that was laid at once, from the bytes of its packet: one step of the machine.
+use Rattle.std.proofs.Common.{◌≡◌, ℕ, ◌+◌, ◌-◌, ◌<◌, ◌≤◌, Bool, true, false, cond, List, [], ◌∷◌, ◌++◌, length, take, drop, refl, sym, ap, ◌∙◌, subst, arith, inl}
+use Rattle.std.specs.Prelude.{count_by, nat_le, ◌==◌, ◌&&◌}
+use Rattle.std.proofs.lemmas.Bool.{true≢false, le-leb}
+use Rattle.std.proofs.lemmas.List.{take_all}
+use Rattle.std.proofs.lemmas.List.Elements.{All-from_recursion}
+use Rattle.flat_model.specs.Amounts.Choice.{Choice}
+use Rattle.flat_model.specs.Amounts.Weight.{Weight, Item, nothing, ◌⊕◌, times as bag_times}
+use Rattle.flat_model.specs.Amounts.Layout as flat
+use Rattle.flat_model.specs.Amounts.Layout.{Room, Cluster, is_cluster, laid_on, need_of, wire}
+use Rattle.flat_model.specs.Packets.Header.{total_of}
+use Rattle.flat_model.specs.Machine.Count.{counts_more}
+use Rattle.flat_model.specs.Machine.State.{State}
+use Rattle.flat_model.specs.Machine.Ledger.{IsFree, exact_ledger, has_enough}
+use Rattle.flat_model.specs.Machine.Step.{ComesIn}
+use Rattle.flat_model.specs.Machine.Arrival.{By_wire, Arrives, FragmentArrives, WholeArrives, carried, counts_packet, is_for_us, is_fragment}
+use Rattle.flat_model.specs.declared.counter.Counter.TheVariants.{IpTotal}
+use Rattle.flat_model.specs.declared.counters.Counters.{Counters}
+use Rattle.flat_model.proofs.Laws.{count_cons}
+use Rattle.mbuf_chain.specs.Chain.{PoolView, free_clusters, held_mbufs}
+use Rattle.mbuf_chain.specs.Owners.{IsOwned, Moves}
+use Rattle.mbuf_chain.proofs.Laws.Owners.{moves_trans}
+use Rattle.chain_ops.proofs.Laws.Rooms.{one_cluster}
+use Rattle.ledger.specs.Accounts.{IsAccounted, item_at, weight_at, weight_owned}
+use Rattle.ledger.specs.Reserve.{are_free}
+use Rattle.ledger.proofs.Laws.{test_is}
+use Rattle.pcb_table.specs.Table.{machine}
+use Rattle.ip_out.specs.declared.head.IpHead.{IpHead}
+use Rattle.ip_reass.specs.Arrivals as reass
+use Rattle.ip_reass.specs.Arrivals.{GoesOn, flat_head, in_hand}
+use Rattle.ip_reass.specs.AtOnce.{ArrivesAtOnce, fits_at_once}
+use Rattle.ip_reass.specs.Table.{TableView, IsReady, held_all, unfinished}
+use Rattle.ip_reass.specs.declared.arrival.Arrival.{Arrival}
+use Rattle.ip_reass.specs.declared.arrival.Arrival.TheVariants.{Whole}
+use Rattle.ip_reass.proofs.Laws.{Fits, cluster_arrives, fits_is}
+use Rattle.sock_calls.specs.Sockets.{SocksView, IsSocks, queued_chains, with_net, with_sockets}
+use Rattle.sock_calls.specs.Delivery.{NetView, IsInput, seen, state_at}
+use Rattle.sock_calls.proofs.Laws.{bag_of_times, free_each}
+use Rattle.net_stack.specs.Inside.Arrivals.{HasCome}
+use Rattle.net_stack.proofs.Aside.{BesideSocks, beside_socks}
+use Rattle.net_stack.proofs.Arriving.{IsHeaded, from_none, from_one, passes}
+
+-- a packet in one cluster
+abbrev bag : ℕ → Weight
+bag k = record { mbufs = 1; bag = k ∷ [] }
+
+weighs : (k m : ℕ) → flat.weight_of (laid_on (k ∷ []) (Cluster m ∷ [])) ≡ bag k
+unfolding laid_on
+weighs k m = refl
+
+module _ (p : PoolView) (s : SocksView) (r : TableView) (a c : Counters) (packet : List ℕ) (h : IpHead) (head : IsHeaded packet h) (part : is_fragment (flat_head h) ≡ true)
+    (ours : (rest : State) → is_for_us (with_net p s (unfinished p r.datagrams) a rest).config h.dst ≡ true) (fits : Fits p h packet) (counts : c ≡ counts_more IpTotal 1 a) where
+  -- the machine before, and once the packet is counted
+  abbrev old : State → State
+  old rest = with_net p s (unfinished p r.datagrams) a rest
+
+  abbrev mid : State → State
+  mid rest = reass.machine p r.datagrams c (with_sockets p s rest)
+
+  mid_is : (rest : State) → mid rest ≡ counts_packet (old rest)
+  mid_is rest = λ i. with_net p s (unfinished p r.datagrams) (counts i) rest
+
+  pub mid_accounts : (rest : State) → IsAccounted p (old rest) nothing → IsAccounted p (mid rest) nothing
+  mid_accounts rest acc = record { mbufs = acc.mbufs; clusters = acc.clusters; total = acc.total; references = acc.references }
+
+  one_room : wire (length packet) ≡ Cluster (length packet) ∷ []
+  one_room = one_cluster 0 (length packet) (omega arith) fits.many (omega (arith, fits.few))
+
+  -- its buffers are free
+  enough : (rest : State) → IsAccounted p (old rest) nothing → has_enough (old rest) nothing (need_of (wire (length packet))) ≡ true
+  enough rest acc =
+      ap (λ (rooms : List Room). has_enough (old rest) nothing (need_of rooms)) one_room ∙ test_is p (old rest) nothing (need_of (Cluster (length packet) ∷ [])) acc
+      ∙ (λ i. le-leb 1 (p.mbufs - held_mbufs p) (omega (arith, fits.mbufs)) i && le-leb 1 (free_clusters p) fits.clusters i)
+
+  -- what its header says
+  arrives : (rest new : State) (w : Weight) → FragmentArrives exact_ledger (By_wire (length packet)) nothing (flat_head h) (record { bytes = drop 20 packet; weight = w }) (counts_packet (old rest)) new
+      → Arrives exact_ledger (By_wire (length packet)) nothing (record { bytes = packet; weight = w }) (old rest) new
+  arrives rest new w step =
+      let total : total_of packet ≡ length packet = sym (ap (λ (x : IpHead). x.total) head.says) ∙ fits.total in
+      let all : take (total_of packet) packet ≡ packet = take_all (total_of packet) packet (omega (arith, total)) in
+      let item : carried (record { bytes = packet; weight = w }) ≡ record { bytes = drop 20 packet; weight = w } = λ i. record { bytes = drop 20 (all i); weight = w } in
+      let now : FragmentArrives exact_ledger (By_wire (length packet)) nothing (flat_head h) (carried (record { bytes = packet; weight = w })) (counts_packet (old rest)) new =
+      subst (λ (x : Item). FragmentArrives exact_ledger (By_wire (length packet)) nothing (flat_head h) x (counts_packet (old rest)) new) (sym item) step in
+      passes packet (By_wire (length packet)) nothing w (old rest) new head.none (record {
+        yes = λ e. subst (λ (x : IpHead). Choice (is_fragment (flat_head x))
+            (FragmentArrives exact_ledger (By_wire (length packet)) nothing (flat_head x) (carried (record { bytes = packet; weight = w })) (counts_packet (old rest)) new)
+            (WholeArrives exact_ledger nothing x.src x.dst x.proto (carried (record { bytes = packet; weight = w })) (counts_packet (old rest)) new)) head.says
+            (record { yes = λ _. now; no = λ f. absurd (true≢false (sym part ∙ f)) });
+        no = λ e. absurd (true≢false (sym (ours rest) ∙ ap (λ (x : IpHead). is_for_us (old rest).config x.dst) head.says ∙ e));
+      })
+
+  once : (k j : ℕ) → bag_times j (k ∷ []) ≤ 1
+  once k j = omega (arith, count_cons (λ (i : ℕ). i == j) k [], most (k == j))
+    where
+      most : (b : Bool) → cond {A = ℕ} b 1 0 ≤ 1
+      most true = omega arith
+      most false = omega arith
+
+  module _ (result : Arrival) (q : PoolView) (t : TableView) (b : Counters) (is : ArrivesAtOnce p r.datagrams c packet h result q t.datagrams b) where
+    pub comes : (rest new : State) → IsAccounted p (old rest) nothing → GoesOn nothing q result (reass.machine q t.datagrams b (with_sockets p s rest)) new → ComesIn exact_ledger packet (old rest) new
+    comes rest new acc goes =
+        let chain = is.step (with_sockets p s rest) nothing new (mid_accounts rest acc) goes in
+        let fragment : FragmentArrives exact_ledger (By_wire (length packet)) nothing (flat_head h) (record { bytes = drop 20 packet; weight = bag is.cluster }) (counts_packet (old rest)) new =
+        subst (λ (m : State). FragmentArrives exact_ledger (By_wire (length packet)) nothing (flat_head h) (record { bytes = drop 20 packet; weight = bag is.cluster }) m new) (mid_is rest)
+        (cluster_arrives nothing h packet is.cluster (mid rest) new fits.many fits.total chain) in
+        let weight : flat.weight_of (laid_on (is.cluster ∷ []) (wire (length packet))) ≡ bag is.cluster = ap (λ (rooms : List Room). flat.weight_of (laid_on (is.cluster ∷ []) rooms)) one_room ∙ weighs is.cluster (length packet) in (
+          true,
+          old rest,
+          inl (sym (enough rest acc), refl),
+          record {
+            yes = λ _. (
+              is.cluster ∷ [],
+              record {
+                number = sym (ap (count_by is_cluster) one_room);
+                distinct = once is.cluster;
+                free = All-from_recursion (IsFree (old rest) nothing) (is.cluster ∷ []) (free_each p (old rest) (is.cluster ∷ []) acc (is.exists, tt) (is.free, tt));
+              },
+              subst (λ (w : Weight). Arrives exact_ledger (By_wire (length packet)) nothing (record { bytes = packet; weight = w }) (old rest) new) (sym weight) (arrives rest new (bag is.cluster) fragment),
+            );
+            no = λ e. absurd (true≢false e);
+          },
+        )
+
+    module _ (socks : IsSocks p s) (owned : IsOwned p (held_all p r.datagrams ++ queued_chains p s.queues)) (moves : Moves p (held_all p r.datagrams) q (in_hand result ++ held_all q t.datagrams)) where
+      pub beside : BesideSocks p s (held_all p r.datagrams) q (in_hand result) (held_all q t.datagrams)
+      beside = beside_socks (held_all p r.datagrams) (in_hand result) (held_all q t.datagrams) owned socks moves
+
+      abbrev then_net : State → State
+      then_net rest = with_net q s (unfinished q t.datagrams) b rest
+
+      now : (rest : State) → then_net rest ≡ reass.machine q t.datagrams b (with_sockets p s rest)
+      now rest = λ i. machine (record rest { unfinished = unfinished q t.datagrams; counters = b }) (λ fd. beside.socks.shows fd i) s.pcbs
+
+      -- it waits, or ended
+      pub came_kept : in_hand result ≡ [] → ((x y : State) → y ≡ x → GoesOn nothing q result x y) → HasCome (seen p s (unfinished p r.datagrams) (held_all p r.datagrams) a) packet (seen q s (unfinished q t.datagrams) (held_all q t.datagrams) b)
+      came_kept none waits = record {
+        step = λ rest keys acc. comes rest (then_net rest) acc (waits _ _ (now rest));
+        ready = beside.socks.ready;
+        pcbs = refl;
+        moves = subst (λ (hand : List ℕ). Moves p (held_all p r.datagrams ++ queued_chains p s.queues) q (hand ++ (held_all q t.datagrams ++ queued_chains q s.queues))) none beside.moves;
+      }
+
+-- its datagram is whole, and went to the sockets
+pub came_whole : {p q : PoolView} {s : SocksView} (r t : TableView) {a b c : Counters} {packet : List ℕ} {h : IpHead} {d : ℕ} {u : NetView} (g : IpHead) (head : IsHeaded packet h) (part : is_fragment (flat_head h) ≡ true)
+    → ((rest : State) → is_for_us (with_net p s (unfinished p r.datagrams) a rest).config h.dst ≡ true) → Fits p h packet → c ≡ counts_more IpTotal 1 a
+    → ArrivesAtOnce p r.datagrams c packet h (Whole d g) q t.datagrams b → IsSocks p s → IsOwned p (held_all p r.datagrams ++ queued_chains p s.queues) → Moves p (held_all p r.datagrams) q (d ∷ held_all q t.datagrams)
+    → ((rest : State) (held : Weight) → IsAccounted p (reass.machine p r.datagrams c rest) held → IsAccounted q (reass.machine q t.datagrams b rest) (held ⊕ weight_owned q (d ∷ [])))
+    → IsInput (seen q s (unfinished q t.datagrams) (held_all q t.datagrams) b) d g.src g.dst g.proto u
+    → HasCome (seen p s (unfinished p r.datagrams) (held_all p r.datagrams) a) packet u
+came_whole {p} {q} {s} r t {a} {b} {c} {packet} {h} {d} {u} g head part ours fits counts is socks owned moves accounts input = record {
+  step = λ rest keys acc. comes p s r a c packet h head part ours fits counts (Whole d g) q t b is rest (state_at u rest) acc
+      (subst (λ (m : State). WholeArrives exact_ledger nothing g.src g.dst g.proto (item_at q d) m (state_at u rest)) (same rest) (input.step rest nothing (in_one rest acc)));
+  ready = input.ready;
+  pcbs = input.pcbs;
+  moves = moves_trans (beside p s r a c packet h head part ours fits counts (Whole d g) q t b is socks owned moves).moves input.moves;
+}
+  where
+    same : (rest : State) → with_net q s (unfinished q t.datagrams) b rest ≡ reass.machine q t.datagrams b (with_sockets p s rest)
+    same rest = now p s r a c packet h head part ours fits counts (Whole d g) q t b is socks owned moves rest
+
+    in_one : (rest : State) → IsAccounted p (with_net p s (unfinished p r.datagrams) a rest) nothing → IsAccounted q (with_net q s (unfinished q t.datagrams) b rest) (nothing ⊕ weight_at q d)
+    in_one rest acc =
+        from_one nothing d (subst (λ (m : State). IsAccounted q m (nothing ⊕ weight_owned q (d ∷ []))) (sym (same rest)) (accounts (with_sockets p s rest) nothing (mid_accounts p s r a c packet h head part ours fits counts rest acc)))
