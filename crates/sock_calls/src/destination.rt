@@ -51,19 +51,18 @@ fn broadcast_fault(to_all: bool, allowed: bool, mtu: u16, len: usize) -> Option<
     None
 }
 
-/// Whether a send to the address is worth asking for one packet first: it's reached by the link, and isn't read as
-/// another. A question of speed alone.
+/// Whether a send is worth asking for one packet first: it goes to an address that's given, is reached by the link, and
+/// isn't read as another. A question of speed alone.
 #[inline(always)]
 pub(crate) fn is_plain(pcbs: &Pcbs, to: Option<Addr>) -> bool {
     let Some(Addr { ip, port }) = to else {
-        return true;
+        return false;
     };
     let network = ip >> 24;
-    network != 0
-        && network != LOOPBACK >> 24
-        && ip < FIRST_MULTICAST
-        && port != 0
-        && ip != pcbs.addr()
+    if network == 0 || network == LOOPBACK >> 24 || ip >= FIRST_MULTICAST {
+        return false;
+    }
+    port != 0 && ip != pcbs.addr()
 }
 
 /// Where a send of `len` bytes by the socket of a block goes: to the address given, as it's read, or else to its peer.

@@ -5,7 +5,7 @@ ghost use Rattle.mbuf_chain.specs.Chain.{chain_of, free_clusters, held_mbufs, st
 ghost use Rattle.chain_ops.specs.Stored.{Has};
 ghost use Rattle.sock_calls.specs.Inside.Putting.{IsBuilt, IsStored, sent_as};
 
-use crate::packets::{Heading, headers_of};
+use crate::packets::{Heading, write_udp};
 use flat_model::Need;
 use mbuf_chain::{Chain, Pool};
 use params::{CLUSTER_LEADING_SPACE, IP_UDP_HEADERS, MCLBYTES, MHLEN, MINCLSIZE, MSIZE};
@@ -61,7 +61,8 @@ fn in_mbuf(pool: &mut Pool, headers: &[u8; IP_UDP_HEADERS as usize], bytes: &[u8
 }
 
 /// The same in a cluster, with the headers in an mbuf in front of it. Two mbufs and a cluster have to be free.
-#[inline(always)]
+// Never inlined: with it the function that sends is so large that nothing is inlined there.
+#[inline(never)]
 fn in_cluster(pool: &mut Pool, headers: &[u8; IP_UDP_HEADERS as usize], bytes: &[u8]) -> Chain
     requires many { MINCLSIZE ≤ length bytes.now }
     requires most { length bytes.now ≤ MOST_IN_CLUSTER }
@@ -90,7 +91,8 @@ pub(crate) fn datagram_of_one(pool: &mut Pool, heading: Heading, bytes: &[u8]) -
     requires free { Has pool.old (sent (length bytes.now)) }
     ensures { IsBuilt pool.old (sent_as heading bytes.now) pool.new result }
 {
-    let headers = headers_of(heading, bytes);
+    let mut headers = [0; IP_UDP_HEADERS as usize];
+    write_udp(&mut headers, heading, bytes);
     if bytes.len() <= MOST_IN_MBUF {
         in_mbuf(pool, &headers, bytes)
     } else {

@@ -99,28 +99,26 @@ fn with_headers(pool: &mut Pool, headers: &[u8; IP_UDP_HEADERS as usize], bytes:
     chain
 }
 
-/// 28 bytes for both headers, of which the last 8 are that of UDP.
+/// Writes UDP's header behind the 20 bytes for that of IP.
 #[inline(always)]
-fn headers_with(udp: &[u8; UDP_HEADER as usize]) -> [u8; IP_UDP_HEADERS as usize]
-    ensures { drop IP_HEADER result ≡ udp.now }
+fn put_udp(headers: &mut [u8; IP_UDP_HEADERS as usize], udp: &[u8; UDP_HEADER as usize])
+    ensures { drop IP_HEADER headers.new ≡ udp.now }
 {
-    let mut headers = [0; IP_UDP_HEADERS as usize];
     headers[IP_HEADER as usize..].copy_from_slice(udp);
-    headers
 }
 
-/// Both headers of its first packet: 20 zeros for that of IP, and that of UDP.
-// It's made from the bytes where they lie, so that it's written once.
+/// Writes UDP's header of these bytes behind the 20 bytes for that of IP.
+// It's made from the bytes where they lie, and written where it's copied from, so that it's in no other place between.
 #[inline(always)]
-pub(crate) fn headers_of(heading: Heading, bytes: &[u8]) -> [u8; IP_UDP_HEADERS as usize]
+pub(crate) fn write_udp(headers: &mut [u8; IP_UDP_HEADERS as usize], heading: Heading, bytes: &[u8])
     requires { length bytes.now ≤ UDP_SEND_SPACE }
-    ensures { drop IP_HEADER result ++ bytes.now ≡ flat.datagram (sent_as heading bytes.now) }
+    ensures { drop IP_HEADER headers.new ++ bytes.now ≡ flat.datagram (sent_as heading bytes.now) }
 {
     let from = Addr {
         ip: heading.source,
         port: heading.port,
     };
-    headers_with(&header_for(from, heading.to, bytes))
+    put_udp(headers, &header_for(from, heading.to, bytes));
 }
 
 /// The datagram, with its header, after 20 bytes for that of IP.
@@ -130,7 +128,9 @@ pub(crate) fn datagram(pool: &mut Pool, heading: Heading, bytes: &[u8]) -> Chain
     requires free { Has pool.old (sent (length bytes.now)) }
     ensures { IsBuilt pool.old (sent_as heading bytes.now) pool.new result }
 {
-    with_headers(pool, &headers_of(heading, bytes), bytes)
+    let mut headers = [0; IP_UDP_HEADERS as usize];
+    write_udp(&mut headers, heading, bytes);
+    with_headers(pool, &headers, bytes)
 }
 
 /// The IP header of all its packets, but for their lengths and offsets.

@@ -82,8 +82,8 @@ impl Parts {
         is_lost
     }
 
-    /// Sends a datagram that makes one packet for the link, by a socket that has a port, and answers whether it did:
-    /// all is asked before anything is made. Else nothing changes, and `send_any` has to be asked.
+    /// Sends a datagram to an address that makes one packet for the link, by a socket that has a port, and answers
+    /// whether it did: all is asked before anything is made. Else nothing changes, and `send_any` has to be asked.
     #[inline(always)]
     fn send_one(
         &self,

@@ -1,5 +1,0 @@
-use Rattle.std.proofs.Common.{List, ℕ, ◌++◌, ap, ◌∙◌}
-use Rattle.sock_calls.proofs.packets.headers_of.Goals as goal
-
-pub returns : goal.returns
-returns c = ap (λ (h : List ℕ). h ++ c.args.bytes.now) c.headers_with.ensures ∙ c.header_for.ensures
