@@ -44,6 +44,7 @@ LWIP(lwip_O2)
 LWIP(lwip_O2_sum3)
 LWIP(lwip_O3)
 LWIP(lwip_O3_sse2)
+LWIP(lwip_O3_pools)
 
 /* measure.sh has the flags of each. */
 static const Row ROWS[] = {
@@ -52,14 +53,44 @@ static const Row ROWS[] = {
     {"the same, its third sum", lwip_O2_sum3, 0},
     {"lwIP -O3 -flto, no asserts", lwip_O3, 0},
     {"the same, a sum by SSE2", lwip_O3_sse2, 0},
+    {"the same, pools for its heap", lwip_O3_pools, 0},
 };
 
 static const Table TABLE = {"a datagram", 1, COLUMNS, COUNT_OF(COLUMNS), ROWS, COUNT_OF(ROWS)};
+
+/* What the port brings as lwIP's sum (sum.c), which lwIP holds against nothing but itself. */
+unsigned short peers_sum(const void *bytes, int len);
+
+/* Whether it's the sum of RFC 1071 for a length, as lwIP asks for it: words in the order of the machine, folded. */
+static bool sums_well(const uint8_t *from, int len)
+{
+    uint32_t sum = len % 2 ? from[len - 1] : 0;
+    for (int at = 0; at + 1 < len; at += 2)
+        sum += from[at] | (uint32_t)from[at + 1] << 8;
+    while (sum > 65535)
+        sum = (sum & 65535) + (sum >> 16);
+    return peers_sum(from, len) == sum;
+}
+
+/* At each length around a turn of its loops, at an odd address, and at the greatest length of bytes that are all ones. */
+static bool sum_is_right(void)
+{
+    static uint8_t ones[65535];
+    memset(ones, 255, sizeof ones);
+    for (int len = 0; len <= 600; len++)
+        if (!sums_well(bytes, len) || !sums_well(bytes + 1, len))
+            return false;
+    return sums_well(bytes, MOST) && sums_well(ones, sizeof ones);
+}
 
 int main(int argc, char **argv)
 {
     for (size_t at = 0; at < MOST; at++)
         bytes[at] = (uint8_t)(at * 7 + at / 256 + 3);
+    if (!sum_is_right()) {
+        fprintf(stderr, "peers_sum of bench/peers/sum.c: a sum is wrong\n");
+        return 1;
+    }
     for (uint32_t at = 0; at < PACKETS; at++)
         put_fragment(packets + at * PACKETS_APART, PROTOCOL, at, EACH, LEN);
     return bench_main(argc, argv, &TABLE);

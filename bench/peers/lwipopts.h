@@ -1,6 +1,6 @@
 /*
  * lwIP as bench/peers builds it: IPv4, UDP and fragments without an operating system, and room for what our stacks of
- * 512 mbufs hold. `LWIP_NOASSERT` and `PEERS_SUM` come from the compiler's command line.
+ * 512 mbufs hold. `LWIP_NOASSERT`, `PEERS_SUM` and `PEERS_POOLS` come from the compiler's command line.
  */
 #ifndef BSDUDP_LWIPOPTS_H
 #define BSDUDP_LWIPOPTS_H
@@ -32,6 +32,12 @@
 #define MEMP_NUM_UDP_PCB 64
 #define MEMP_NUM_REASSDATA 16
 #define IP_REASS_MAX_PBUFS 48
+
+/* Pools in the place of its heap: lwippools.h has them. */
+#ifdef PEERS_POOLS
+#define MEM_USE_POOLS 1
+#define MEMP_USE_CUSTOM_POOLS 1
+#endif
 
 /* A sum that the port brings, which lwIP asks for under this name. */
 #ifdef PEERS_SUM

@@ -30,7 +30,8 @@ build_lwip() { # WORK NAME FLAG..
         -o "$library" "${files[@]}"
 }
 
-# lwIP as Debian compiles it, with the fastest of its own sums there, at its best, and with a sum of its user's.
+# lwIP as Debian compiles it, with the fastest of its own sums there, compiled for speed, with a sum of its user's, and
+# with pools in the place of its heap, which is its best.
 measure_peers() { # WORK
     local best=(-O3 -march=x86-64-v2 -flto -DLWIP_NOASSERT)
     if ! lwip_sources "$1"; then
@@ -41,6 +42,7 @@ measure_peers() { # WORK
     build_lwip "$1" lwip_O2_sum3 -O2 -DLWIP_CHKSUM_ALGORITHM=3
     build_lwip "$1" lwip_O3 "${best[@]}"
     build_lwip "$1" lwip_O3_sse2 "${best[@]}" -DPEERS_SUM
-    build_bench "$1" peers "bench_stack bench_c" "$1"/liblwip_*.so
+    build_lwip "$1" lwip_O3_pools "${best[@]}" -DPEERS_SUM -DPEERS_POOLS
+    build_bench "$1" peers "bench_stack bench_c" "$bench/peers/sum.c" "$1"/liblwip_*.so
     print_tables "$1"
 }
