@@ -121,7 +121,7 @@ const MbufFigure = (() => {
     const gone = [...old.keys()].filter(title => !now.some(it => it.title === title));
     const isChanged = changed.length + gone.length > 0;
     const held = now.filter(it => it.first !== null || changed.includes(it));
-    const some = !all && isChanged ? changed : held.length ? held : now.slice(0, 3);
+    const some = all ? now : isChanged ? changed : held.length ? held : now.slice(0, 3);
     const titles = new Set([...some.slice(0, all ? 99 : HOLDERS).map(it => it.title), ...gone]);
     const wordOf = it => (changed.includes(it) ? "also changed" : it.first === null ? "empty" : "unchanged");
     const rest = now.filter(it => !titles.has(it.title)).map(it => [wordOf(it), it.title]);

@@ -74,8 +74,9 @@ function questionOf(i) {
   return page.notes.questions[i];
 }
 
-// Whether a row comes behind a question that wasn't answered, so that its reply could tell the answer.
-const isBehindQuestion = i => page.firstQuestion !== null && i > page.firstQuestion;
+// Whether a row comes behind a question that wasn't answered, so that its reply could tell the answer. In an exercise
+// each row asks for itself.
+const isBehindQuestion = i => page.firstQuestion !== null && i > page.firstQuestion && !isExercise();
 
 function findQuestion() {
   const i = page.steps.findIndex((_, at) => questionOf(at));

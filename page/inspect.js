@@ -94,8 +94,10 @@ function verdictsOf(step, before, now) {
 }
 
 // Of a wrong checksum: what came, and what would be right.
-const bothSums = ({ packet }, name) =>
-  (name.endsWith(".badsum") && packet && packet.wrongSum ? `: ${packet.wrongSum}` : "");
+function bothSums({ packet, wrongSum }, name) {
+  const said = name.endsWith(".badsum") && packet && (wrongSum || packet.wrongSum);
+  return said ? `: ${said}` : "";
+}
 
 // The checks of a packet in their order, up to the one that failed.
 function checksOf(step) {
@@ -220,12 +222,15 @@ function packetsOfLine(step, before, now) {
 
 function stackView(page, step) {
   const now = page.heldAfter(step.number), before = page.heldAfter(step.number - 1);
+  const memory = memoryView(page.memoryAfter(step.number - 1), page.memoryAfter(step.number));
+  const ran = page.own[page.ranAfter(step.number) - 1];
+  // of a datagram of fragments it's known by now which checksum would be right
+  if (step.kind === "in" && ran.wrongSum) step.wrongSum = ran.wrongSum;
   const about = packetsOfLine(step, before, now), own = page.own.slice(0, page.ranAfter(step.number));
   const state = [machineView(step, own, before, now), countersView(step)];
   const lead = leadOf(step, page.noteOf(step), verdictsOf(step, before, now));
   const packets = about.length > 0 && h("div", { class: "column" }, about);
   const machine = h("div", { class: "column" }, state);
-  const memory = memoryView(page.memoryAfter(step.number - 1), page.memoryAfter(step.number));
   // of a packet that was dropped the checks say most
   return step.kind === "in" && step.drops.length ? [lead, packets, machine, memory] : [lead, memory, packets, machine];
 }

@@ -20,14 +20,11 @@ const page = {
   ranAfter(n) {
     return n ? this.ends[n - 1] : 0;
   },
-  heldAfterRun(n) {
-    if (!this.held.has(n)) this.held.set(n,
-      new Held(this.engine, this.config, this.own.slice(0, n).map(it => it.line), this.own.slice(0, n)));
-    return this.held.get(n);
-  },
   // what is held after so many lines
   heldAfter(n) {
-    return this.heldAfterRun(this.ranAfter(n));
+    const own = this.own.slice(0, this.ranAfter(n));
+    if (!this.held.has(n)) this.held.set(n, new Held(this.engine, this.config, own.map(it => it.line), own));
+    return this.held.get(n);
   },
   // what is held by one of several machines after so many lines of its own
   heldOf(host, n) {
@@ -36,16 +33,16 @@ const page = {
       new Held(this.engine, host.config, host.lines.slice(0, n), host.steps.slice(0, n)));
     return this.held.get(key);
   },
-  memory(name, config, steps, held) {
-    if (!this.memories.has(name)) this.memories.set(name, new Memory(this.engine, config, steps, held));
+  memory(name, config, steps) {
+    if (!this.memories.has(name)) this.memories.set(name, new Memory(this.engine, config, steps));
     return this.memories.get(name);
   },
   // where the bytes lie after so many lines, or null
   memoryAfter(n) {
-    return this.memory("", this.config, this.own, count => this.heldAfterRun(count)).after(this.ranAfter(n));
+    return this.memory("", this.config, this.own).after(this.ranAfter(n));
   },
   memoryOf(host, n) {
-    return this.memory(host.name, host.config, host.steps, count => this.heldOf(host, count)).after(n);
+    return this.memory(host.name, host.config, host.steps).after(n);
   },
   // the chains after so many lines, mbuf by mbuf; those of a few places are kept
   drawnAfter(n) {

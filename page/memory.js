@@ -12,10 +12,16 @@ const MOST_LINES = 600;
 const IP_HEADER = 20, UDP_HEADER = 8, HEADERS = 28, PACKET_START = 28;
 // The loopback interface takes packets of so many bytes (volume 2, chapter 5).
 const LOOPBACK_MTU = 1536;
+// The most packets that wait for the link.
+const OUTPUT_MOST = 50;
 // From so many bytes on a packet from the wire begins in a cluster.
 const FIRST_CLUSTER = 208;
 // Of an mbuf's bytes so many are kept, to show what they are.
 const SHOWN_BYTES = 32;
+
+// The mbuf of a later fragment that comes back by loopback, when its IP header is gone. The stack puts that header to
+// the front of an mbuf, and m_prepend to the end, so its place has to be put right.
+const isEmptied = it => !it.isCluster && it.bytes.length === 0 && it.start === MBUF.size;
 
 // Chains that share clusters with one another alone, made once more. A copy of each new chain stays in a low slot:
 // clusters are numbered in the order of the slots, so they keep their numbers whatever else is done.
@@ -54,9 +60,9 @@ class Workshop {
   // The mbufs of a chain, with names for their clusters that no other workshop has.
   mbufs(slot) {
     const script = this.lines.map(line => line + "\n").join("");
-    return this.engine.draw(WORKSHOP, slot, script).replies.map(mbufIn).map(it => ({
-      hasPacket: it.hasPacket, start: it.start, bytes: it.bytes,
-      cluster: it.isCluster ? `${this.name}:${it.cluster}` : null,
+    return this.engine.draw(WORKSHOP, slot, script).replies.map(mbufIn).map((it, i) => ({
+      hasPacket: it.hasPacket, start: this.isLooped && i && isEmptied(it) ? PACKET_START + IP_HEADER : it.start,
+      bytes: it.bytes, cluster: it.isCluster ? `${this.name}:${it.cluster}` : null,
     }));
   }
 }
@@ -106,10 +112,17 @@ function number(all, before = []) {
   }
 }
 
-// The queues of a stack, line by line. `held` answers what the program says is held after so many lines.
+// Of a datagram whose UDP checksum is wrong: what came, and what would be right.
+function datagramSums(bytes, { source, destination }) {
+  const length = word16(bytes, 4), pseudo = pseudoSum(source, destination, length);
+  const right = rightSum(bytes.subarray(0, length), 6, pseudo) || 65535;
+  return sumsSaid(hex16(word16(bytes, 6)), hex16(right));
+}
+
+// The queues of a stack, line by line.
 class Memory {
-  constructor(engine, config, steps, held) {
-    Object.assign(this, { engine, config, steps, held, states: [], clusters: new Map(), works: 0 });
+  constructor(engine, config, steps) {
+    Object.assign(this, { engine, config, steps, states: [], clusters: new Map(), works: 0 });
     this.empty();
     this.note({ pool: emptyPool(config) });
   }
@@ -164,6 +177,29 @@ class Memory {
     this.unfinished = this.unfinished.filter(it => it.ticks > 0);
   }
 
+  // What the program answers to more lines behind a step, on a run that is thrown away.
+  ask(step, more) {
+    const lines = this.steps.slice(0, step.number).map(it => it.line);
+    return this.engine.run(this.config, [...lines, ...more, ""].join("\n")).replies.slice(lines.length);
+  }
+
+  // The sockets in which more waits than before this line, each with the sender of what came last.
+  grown(step) {
+    const open = [...this.sockets];
+    const replies = this.ask(step, open.flatMap(([fd, queue]) => Array(queue.length + 1).fill(`recvfrom ${fd} 1`)));
+    let at = -1;
+    return open.flatMap(([fd, queue]) => {
+      const last = datagramIn(replies[at += queue.length + 1]);
+      return last ? [{ fd, from: last.from }] : [];
+    });
+  }
+
+  // The packets that this line put into the output queue.
+  sent(step) {
+    const waiting = this.output.length, replies = this.ask(step, Array(waiting + OUTPUT_MOST).fill("tx"));
+    return replies.slice(waiting).filter(it => it.startsWith("packet ")).map(it => packetIn(it).packet);
+  }
+
   workshop() {
     return new Workshop(this.engine, `w${++this.works}`);
   }
@@ -190,8 +226,9 @@ class Memory {
   }
 
   // A datagram without its IP header: its own header goes, and what stands behind its length.
-  toUdp({ work, slot, olds = [] }, { source }, step, isBroadcast) {
-    const bytes = joined(work.mbufs(slot)), receivers = this.receiversOf(step, isBroadcast);
+  toUdp({ work, slot, olds = [] }, packet, step, isBroadcast) {
+    const { source } = packet, bytes = joined(work.mbufs(slot)), receivers = this.receiversOf(step, isBroadcast);
+    if (has(step, "udp.badsum")) step.wrongSum = datagramSums(bytes, packet);
     if (!receivers.length) return;
     work.cutBack(slot, bytes.length - word16(bytes, 4));
     work.cutFront(slot, UDP_HEADER);
@@ -203,7 +240,7 @@ class Memory {
     const open = [...this.sockets.keys()];
     if (!isBroadcast && step.kind === "in" && step.drops.some(it => ENDS.has(it.name))) return [];
     if (!isBroadcast && step.kind === "in" && open.length === 1) return open;
-    return grownIn(this.held(step.number - 1), this.held(step.number)).map(it => it.fd);
+    return this.grown(step).map(it => it.fd);
   }
 
   // The youngest socket first; each gets a copy, and the last one the chain itself.
@@ -269,8 +306,7 @@ class Memory {
   send(step) {
     const words = step.line.split(" "), work = this.workshop();
     const slot = work.make("user", bytesOf(words[words.length - 1]));
-    const before = this.held(step.number - 1).output.length;
-    const sent = this.held(step.number).output.slice(before).map(it => it.packet);
+    const sent = this.sent(step);
     const isBroadcast = sent.length > 0 && sent[0].destination === this.config.bcast;
     const header = sent.length ? sent[0].bytes.subarray(0, HEADERS) : new Uint8Array(HEADERS);
     work.lines.push(`prepend ${slot} ${hexOf(header)}`);
@@ -305,9 +341,10 @@ class Memory {
 
   // A datagram to this machine itself. If it's cut, each fragment has a header in front, and is joined again.
   loop(work, slot, step) {
-    const receivers = this.receiversOf(step, true), chunk = (LOOPBACK_MTU - IP_HEADER) & ~7;
+    const grown = this.grown(step), chunk = (LOOPBACK_MTU - IP_HEADER) & ~7;
     const carried = lengthOf(work.mbufs(slot)) - IP_HEADER, isCut = carried + IP_HEADER > LOOPBACK_MTU;
     const later = [];
+    work.isLooped = true;
     for (let off = chunk; isCut && off < carried; off += chunk) {
       const copy = work.copy(slot, IP_HEADER + off, Math.min(chunk, carried - off));
       work.lines.push(`prepend ${copy} ${"00".repeat(IP_HEADER)}`);
@@ -317,10 +354,9 @@ class Memory {
     for (const it of [slot, ...later]) work.cutFront(it, IP_HEADER);
     for (const it of later) work.lines.push(`cat ${slot} ${it}`);
     work.cutFront(slot, UDP_HEADER);
-    const queue = receivers.length && this.held(step.number).sockets.find(it => it.fd === receivers[0]).queue;
-    if (!queue) return;
-    const [ip, port] = queue[queue.length - 1].from.split(":");
-    this.deliver(work, slot, { ip: undotted(ip), port: +port }, receivers);
+    if (!grown.length) return;
+    const [ip, port] = grown[0].from.split(":");
+    this.deliver(work, slot, { ip: undotted(ip), port: +port }, grown.map(it => it.fd));
   }
 
   // ---- the state

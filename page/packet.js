@@ -41,6 +41,9 @@ function rightSum(bytes, at, start = 0) {
 const pseudoSum = (source, destination, length) =>
   (source >>> 16) + (source & 65535) + (destination >>> 16) + (destination & 65535) + 17 + length;
 
+// What is said of a wrong checksum.
+const sumsSaid = (came, right) => `${came} came, and ${right} would be right`;
+
 // Bytes as ASCII, with a dot for what can't be read.
 function readable(bytes, most = 24) {
   const text = Array.from(bytes.subarray(0, most),
@@ -71,7 +74,7 @@ class Packet {
   // What stands in a checksum that is wrong, and what would be right; or null.
   get wrongSum() {
     const field = this.fields.find(it => it.isWrong && it.right);
-    return field ? `${field.value} came, and ${field.right} would be right` : null;
+    return field ? sumsSaid(field.value, field.right) : null;
   }
 
   readHead() {

@@ -25,6 +25,8 @@ UNTIL_READY = """new Promise(done => {
     look();
 })"""
 WIDTHS = {360: 800, 640: 450, 768: 1024, 1600: 1000}
+# Colours don't depend on the width, so the dark ones are looked at in these.
+DARK = [360, 1600]
 # The width that a window of 1,280 pixels has at 200 %.
 DOUBLE = 640
 # the pictures that are kept; the others are only looked at
@@ -177,6 +179,14 @@ def unnamed(browser, what):
             yield f"{what}: a {role} has no name in the accessibility tree"
 
 
+def printed(browser, what):
+    """What is printed of a line."""
+    browser.ask("Emulation.setEmulatedMedia", media="print")
+    for fault in browser.run("faultsOfPrint()"):
+        yield f"{what}: {fault}"
+    browser.ask("Emulation.setEmulatedMedia", media="")
+
+
 # Other views: what brings them about.
 BESIDE = {
     "start": "open('run', { name: '01_a_datagram' }); showStart(true)",
@@ -194,7 +204,7 @@ def look_beside(browser, shots):
         yield from unnamed(browser, name)
         for theme in ("light", "dark"):
             browser.run(f"setTheme('{theme}')")
-            for width in WIDTHS:
+            for width in WIDTHS if theme == "light" else DARK:
                 browser.resize(width)
                 for fault in browser.run("faultsOfLayout()"):
                     yield f"{name}, {width} pixels, {theme}: {fault}"
@@ -208,9 +218,10 @@ def look_all(browser, shots):
     for command, name, line in VIEWS:
         browser.run(f"open({json.dumps(command)}, {{ name: {json.dumps(name)}, place: {line} }}); revealAll()")
         yield from unnamed(browser, name)
+        yield from printed(browser, name)
         for theme in ("light", "dark"):
             browser.run(f"setTheme('{theme}')")
-            for width in WIDTHS:
+            for width in WIDTHS if theme == "light" else DARK:
                 browser.resize(width)
                 for fault in browser.run("faultsOfLayout()"):
                     yield f"{name}, {width} pixels, {theme}: {fault}"

@@ -2,7 +2,7 @@
 "use strict";
 
 // How many lines of an example are looked at, if it has more: the last one, and others at equal distances.
-const LOOKS = 25;
+const LOOKS = 12;
 
 // Plays a script in the page and looks at its lines: at each of a lesson, and of an example that isn't too long.
 function playInPage(mode, text, words, wanted) {
@@ -230,6 +230,17 @@ function faultsOfBorders() {
     .map(it => `the border of ${nameOf(it)} has a contrast of ${contrastOf(it).toFixed(1)}`);
 }
 
+// In print the line that was looked at stands alone, and keeps the colours of its legends.
+function faultsOfPrint() {
+  const isShown = it => it !== null && getComputedStyle(it).display !== "none";
+  const left = ["header", "#left", ".bar-of", "button.all"].filter(name => isShown(document.querySelector(name)));
+  const marks = [...document.querySelectorAll("#look .legend span")].map(it => getComputedStyle(it, "::before"));
+  const isClear = it => channels(it.backgroundColor)[3] === 0 && it.backgroundImage === "none";
+  const isLost = it => it.printColorAdjust !== "exact" || isClear(it);
+  return [...left.map(name => `${name} is printed`), ...(marks.length ? [] : ["no legend is printed"]),
+    ...(marks.some(isLost) ? ["a legend loses its colours in print"] : [])];
+}
+
 // Whatever takes input has a name that a screen reader tells.
 function faultsOfNames() {
   const within = document.querySelector("dialog[open]") || document.body;
@@ -306,6 +317,12 @@ function faultsOfGuide() {
   if (!/0x6fe0 came, and 0x6fdf would be right/.test(byId("look").textContent)) {
     faults.push("beside a wrong checksum the right one isn't shown");
   }
+  const piece = (from, rest) => `rx udp 10.0.0.2:5000 > 10.0.0.1:7 "hello, hello" id 9 badudp at ${from} ${rest}\n`;
+  open("run", { text: `socket\nbind 3 0.0.0.0 7\n${piece(0, "more size 16")}${piece(16, "last")}`, place: 3 });
+  const [, came, right] = /0x(\w+) came, and 0x(\w+) would be right/.exec(byId("look").textContent) || [];
+  const isNext = came && parseInt(came, 16) === parseInt(right, 16) + 1;
+  if (!isNext) faults.push("beside a wrong checksum of fragments the right one isn't shown");
+  open("run", { text: "rx udp 10.0.0.2:5000 > 10.0.0.1:7 \"hi\" badudp\n" });
   const said = byId("said").textContent;
   if (!/^line 1: .*Dropped: .*0x6fdf/.test(said)) faults.push(`a screen reader hears: ${said}`);
   return faults;
@@ -343,7 +360,9 @@ function faultsOfExercises() {
     open(mode, { name });
     if (!byId("score").textContent.startsWith(`${wanted.length} of`)) faults.push(`exercise ${title} isn't kept`);
     anew();
-    expectHere(0, "error 99");
+    expectHere(1, "error 99");
+    const isMarked = byId("rows").children[1].textContent.includes("✗ expected error 99");
+    if (!isMarked) faults.push(`exercise ${title}: beside a line that's predicted its reply isn't seen`);
     if (!/^0 of 1 /.test(byId("score").textContent)) faults.push(`exercise ${title}: a wrong reply is taken`);
     anew();
   }
@@ -357,6 +376,14 @@ async function faultsOfCapture(hex) {
   const taken = page.steps.filter(step => step.verb === "rx").length;
   const isRecord = page.mode === "run" && taken && page.noteOf(page.steps[page.at]).startsWith("Record ");
   if (!isRecord) faults.push("a capture isn't opened");
+  open("chain", { text: "" });
+  const data = new DataTransfer();
+  data.items.add(file(bytesOf(hex), "a.pcap"));
+  dispatchEvent(new DragEvent("dragover", { dataTransfer: data, cancelable: true }));
+  if (byId("drop").hidden) faults.push("where to drop a capture isn't shown");
+  dispatchEvent(new DragEvent("drop", { dataTransfer: data, cancelable: true }));
+  await new Promise(done => setTimeout(done, 200));
+  if (page.mode !== "run" || !byId("drop").hidden) faults.push("a capture that's dropped isn't opened");
   const before = byId("script").value;
   await openFile(file(new Uint8Array(99), "b.pcap"));
   if (byId("script").value !== before || !byId("trouble").textContent.startsWith("b.pcap: ")) {

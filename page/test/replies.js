@@ -4,7 +4,8 @@
 // compared with those worked by hand, and with the module's own replies. Of machines on a wire each one's script has to
 // be answered as if it stood alone, by the module and by the native program. It's silent where all is well.
 "use strict";
-const child = require("child_process"), fs = require("fs"), path = require("path"), vm = require("vm");
+const child = require("child_process"), fs = require("fs"), os = require("os"), path = require("path");
+const vm = require("vm");
 
 const [file, examples, lessons, program] = process.argv.slice(2);
 const sources = ["engine", "packet", "play", "stack", "chains", "memory", "wire", "capture"]
@@ -83,9 +84,9 @@ function tryExercise(engine, script) {
 
 // ---- where the bytes lie
 
-// The mbufs after a script, worked by hand after volume 2, chapter 2: packet header, place, length, and the cluster by
-// its count; a "/" stands between the chains of a queue, and the queues are the sockets', the output queue, and those
-// of unfinished datagrams.
+// The mbufs after a script, read out of the native program's memory by a build of it that prints them: packet header,
+// place, length, and the cluster by its count; a "/" stands between the chains of a queue, and the queues are the
+// sockets', the output queue, and those of unfinished datagrams.
 const SENT = n => Array.from({ length: n }, (_, i) => (i & 255).toString(16).padStart(2, "0")).join("");
 const RX = (bytes, more = "", to = "10.0.0.1:7") => `rx udp 10.0.0.2:5000 > ${to} ${bytes} ${more}`.trim();
 const TWO = ["socket", "setsockopt 3 reuseport 1", "bind 3 0.0.0.0 7", "socket", "setsockopt 4 reuseport 1",
@@ -98,6 +99,8 @@ const LAID = [
   [["socket", `sendto 3 10.0.0.2 7 ${SENT(1900)}`], "; H100+28 56+1472x2 / H28+20 1528+428x2"],
   [["socket", `sendto 3 10.0.0.2 7 ${SENT(1900)}`, "tx"], "; H28+20 1528+428x1"],
   [["socket", `sendto 3 10.0.0.2 7 ${SENT(72)}`], "; H28+100"],
+  [["socket", "bind 3 0.0.0.0 7", `sendto 3 10.0.0.1 7 ${SENT(3000)}`],
+    "H28+16 128+0 56+1504x2 0+0x2 48+0 1560+488x2 0+1008x2"],
   [[RX("@560", "id 77 at 0 more size 240")], "; ; H28+0 ; H48+20 40+220x1"],
   [[RX("@560", "id 77 at 0 more size 240"), RX("@560", "id 77 at 480 last")],
     "; ; H28+0 ; H48+20 40+220x1 / H48+80 20+8"],
@@ -118,7 +121,7 @@ function memoryOf(engine, config, lines) {
   const { steps } = page.traceStack(engine, config, lines), all = new Map();
   const held = n => all.get(n)
     || all.set(n, new page.Held(engine, config, lines.slice(0, n), steps.slice(0, n))).get(n);
-  return { steps, held, memory: new page.Memory(engine, config, steps, held) };
+  return { steps, held, memory: new page.Memory(engine, config, steps) };
 }
 
 function tryLaid(engine) {
@@ -196,6 +199,31 @@ function tryCaptures(engine, folder) {
   const { steps } = page.tracePlay(engine, page.configOf(script.options), notes.lines, false);
   if (steps.filter(step => step.verb === "rx").length !== script.counts.taken) fault(real, "not each record arrives");
   if (page.readCapture(new Uint8Array(40)).records) fault("40 zeros", "they're read as a capture");
+}
+
+// A capture of tcpdump's, in three forms that Wireshark's editcap writes, is read as tshark reads it.
+function tryTshark(real) {
+  const run = (tool, ...words) => child.spawnSync(tool, words, { encoding: "utf8" });
+  if (run("tshark", "-v").status !== 0 || run("editcap", "-v").status !== 0) {
+    console.error("the page: tshark or editcap isn't installed, so captures aren't compared with it");
+    return;
+  }
+  const folder = fs.mkdtempSync(path.join(os.tmpdir(), "captures"));
+  try {
+    for (const [kind, ...words] of [["pcap"], ["pcapng"], ["pcapng", "-s", "60"], ["nsecpcap", "-s", "60"]]) {
+      const file = path.join(folder, "a"), fields = ["number", "time_epoch", "cap_len", "len"];
+      run("editcap", "-F", kind, ...words, real, file);
+      const told = run("tshark", "-r", file, "-T", "fields", ...fields.flatMap(it => ["-e", `frame.${it}`])).stdout;
+      const wanted = told.trim().split("\n").map(line => line.split("\t").map(Number));
+      const got = page.readCapture(new Uint8Array(fs.readFileSync(file))).records
+        .map(it => [it.number, it.time, it.bytes.length, it.whole]);
+      const isSame = got.length === wanted.length && got.every((it, i) =>
+        it.every((n, k) => Math.abs(n - wanted[i][k]) < 1e-5));
+      if (!isSame) fault(`${real} as ${kind}`, "it's read otherwise than by tshark");
+    }
+  } finally {
+    fs.rmSync(folder, { recursive: true });
+  }
 }
 
 // ---- machines on a wire
@@ -434,6 +462,7 @@ async function main() {
   tryLaid(engine);
   tryAllMemory(engine);
   tryCaptures(engine, path.join(examples, "play"));
+  tryTshark(path.join(examples, "play", "by_tcpdump.pcap"));
   tryWireRules(engine);
   tryRandomWires(engine);
   tryDrawn(engine);
