@@ -16,7 +16,7 @@ pub struct Link {
     pub mask: u32,
     /// The address of the gateway, which is on the link, if there is one.
     pub gateway: Option<u32>,
-    /// Whether it asks first if another host has its address (RFC 5227). Nothing else goes out for 3 to 5 seconds then.
+    /// Whether it asks first if another host has its address (RFC 5227). Nothing else goes out for 5 to 6 seconds then.
     pub probe: bool,
 }
 

@@ -1,4 +1,4 @@
-//! What becomes of a refusal of host memory: a boot of the stack, a script of calls on sockets and one of calls on
+//! What becomes of a refusal of host memory: a boot of the stack, one of a host on an Ethernet, a script of calls on sockets and one of calls on
 //! chains, each made once, and made again where memory was refused. `.ci/memory` runs it once for each of its
 //! allocations, with that one refused: the answer has to be `Memory`, with nothing read or written, and the second try
 //! has to succeed. It takes no memory of its own.
@@ -7,6 +7,7 @@
 mod streams;
 
 use chain_script::{Sizes, run_chains};
+use ether_host::{EtherFault, EtherHost, Link, Mac};
 use link_script::{Config, RunFault, Silent, run};
 use net_stack::{BootFault, Stack};
 use std::alloc::Global;
@@ -20,6 +21,16 @@ const MACHINE: Config = Config {
     mbufs: 512,
     clusters: 64,
     first_id: 1,
+};
+
+const LINK: Link = Link {
+    mac: Mac {
+        high: 0x0200,
+        low: 1,
+    },
+    mask: 0xffff_ff00,
+    gateway: None,
+    probe: false,
 };
 
 const POOL: Sizes = Sizes {
@@ -42,6 +53,17 @@ fn boots(alloc: Global) -> End {
             End::Done
         }
         Err(BootFault::Memory) => End::Refused,
+        Err(_) => End::Wrong,
+    }
+}
+
+fn boots_a_host(alloc: Global) -> End {
+    match EtherHost::boot(alloc, MACHINE, LINK) {
+        Ok(host) => {
+            let _ = host.end();
+            End::Done
+        }
+        Err(EtherFault::Unbooted(BootFault::Memory)) => End::Refused,
         Err(_) => End::Wrong,
     }
 }
@@ -74,6 +96,7 @@ fn runs_chains(alloc: Global) -> End {
 #[derive(Clone, Copy)]
 enum Call {
     Boot,
+    BootHost,
     Run,
     RunChains,
 }
@@ -82,6 +105,7 @@ impl Call {
     fn make(self, alloc: Global) -> End {
         match self {
             Call::Boot => boots(alloc),
+            Call::BootHost => boots_a_host(alloc),
             Call::Run => runs(alloc),
             Call::RunChains => runs_chains(alloc),
         }
@@ -103,6 +127,7 @@ impl Call {
 fn main(rt: HostRuntime) -> io::Result<()> {
     let alloc = rt.alloc();
     println!(rt; "Stack::boot {}", Call::Boot.report(alloc))?;
+    println!(rt; "EtherHost::boot {}", Call::BootHost.report(alloc))?;
     println!(rt; "run {}", Call::Run.report(alloc))?;
     println!(rt; "run_chains {}", Call::RunChains.report(alloc))?;
     Ok(())
