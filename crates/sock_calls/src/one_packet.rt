@@ -61,8 +61,7 @@ fn in_mbuf(pool: &mut Pool, headers: &[u8; IP_UDP_HEADERS as usize], bytes: &[u8
 }
 
 /// The same in a cluster, with the headers in an mbuf in front of it. Two mbufs and a cluster have to be free.
-// Never inlined: with it the function that sends is so large that nothing is inlined there.
-#[inline(never)]
+#[inline(always)]
 fn in_cluster(pool: &mut Pool, headers: &[u8; IP_UDP_HEADERS as usize], bytes: &[u8]) -> Chain
     requires many { MINCLSIZE ≤ length bytes.now }
     requires most { length bytes.now ≤ MOST_IN_CLUSTER }

@@ -98,12 +98,12 @@ impl Parts {
             (Ok (length bytes.now)) (sending pool.new (shown self.now) net.new) }
         ensures same { result ≡ false → (pool.new ≡ pool.old) × (net.new ≡ net.old) }
     {
-        let Some(wants) = need_of_one(bytes.len(), net.mtu) else {
-            return false;
-        };
         if !is_plain(&self.pcbs, to) || net.out.len() >= OUTPUT_QUEUE_PACKETS {
             return false;
         }
+        let Some(wants) = need_of_one(bytes.len(), net.mtu) else {
+            return false;
+        };
         let Some(block) = self.pcbs.noted(fd) else {
             return false;
         };
