@@ -1,16 +1,18 @@
 //! What `bench/reass` times: fragments that arrive as packets, are stored, have their headers read, and wait or make
 //! their datagram whole.
 
-ghost use Rattle.std.specs.Prelude.{◌≡◌, ◌≤◌, ◌∷◌, true, length, IfSome};
+ghost use Rattle.std.specs.Prelude.{◌≡◌, ◌≤◌, ◌∷◌, ◌++◌, true, length, IfSome};
 ghost use Rattle.mbuf_chain.specs.Chain.{chain_of, string};
 ghost use Rattle.mbuf_chain.specs.Owners.{IsOwned};
+ghost use Rattle.ip_reass.specs.Arrivals.{in_hand};
+ghost use Rattle.ip_reass.specs.AtOnce.{fits_at_once};
 ghost use Rattle.ip_reass.specs.Table.{IsReady, held_all};
 
 use byteorder::{BigEndian, ByteOrder};
 use chain_ops::from_wire;
 use flat_model::Counters;
-use ip_out::{IpHead, read_head};
-use ip_reass::{Arrival, Reass};
+use ip_out::{IpHead, parse_head, read_head};
+use ip_reass::{Arrival, Reass, fits_at_once};
 use mbuf_chain::{Chain, Pool};
 use mbuf_pool::{Sizes, Store};
 use params::{IP_HEADER, IP_MAX_PACKET};
@@ -73,8 +75,42 @@ fn stored(pool: &mut Pool, table: &Reass, packet: &[u8]) -> Option<(Chain, IpHea
     Some((chain, head))
 }
 
-/// A packet arrives as a fragment of the datagram `id`; a datagram that it makes whole is freed. Answers how many these
-/// are: 1 or 0.
+/// What the header of a packet says, with another identification, if it can be laid at once as a fragment.
+fn head_at_once(pool: &Pool, packet: &[u8], id: u16) -> Option<IpHead>
+    requires short { length packet.now ≤ IP_MAX_PACKET }
+    ensures { IfSome result (λ head. fits_at_once pool.now head packet.now ≡ true) }
+{
+    let Ok(head) = parse_head(packet) else {
+        return None;
+    };
+    let head = IpHead { id, ..head };
+    if fits_at_once(pool, &head, packet) {
+        Some(head)
+    } else {
+        None
+    }
+}
+
+/// Frees a datagram that an arrival made whole. Answers how many these are: 1 or 0.
+#[inline(always)]
+fn made_whole(pool: &mut Pool, table: &Reass, arrival: Arrival) -> u32
+    requires ready { IsReady pool.old table.now }
+    requires owned { IsOwned pool.old (in_hand arrival ++ held_all pool.old table.now.datagrams) }
+    ensures { IsReady pool.new table.now }
+{
+    let _ = table;
+    match arrival {
+        Arrival::Kept => 0,
+        Arrival::Dropped(_) => 0,
+        Arrival::Whole(chain, _) => {
+            pool.free_chain(chain);
+            1
+        }
+    }
+}
+
+/// A packet arrives as a fragment of the datagram `id`, at once if it can; a datagram that it makes whole is freed.
+/// Answers how many these are: 1 or 0.
 fn arrives(
     pool: &mut Pool,
     table: &mut Reass,
@@ -86,17 +122,15 @@ fn arrives(
     requires short { length packet.now ≤ IP_MAX_PACKET }
     ensures { IsReady pool.new table.new }
 {
+    if let Some(head) = head_at_once(pool, packet, id) {
+        let arrival = table.arrive_bytes(pool, counters, packet, head);
+        return made_whole(pool, table, arrival);
+    }
     let Some((chain, head)) = stored(pool, table, packet) else {
         return 0;
     };
-    match table.arrive(pool, counters, chain, IpHead { id, ..head }) {
-        Arrival::Kept => 0,
-        Arrival::Dropped(_) => 0,
-        Arrival::Whole(chain, _) => {
-            pool.free_chain(chain);
-            1
-        }
-    }
+    let arrival = table.arrive(pool, counters, chain, IpHead { id, ..head });
+    made_whole(pool, table, arrival)
 }
 
 /// The packet at the beginning of some bytes, which may go on after it.

@@ -1,7 +1,7 @@
 -- A fragment that is laid at once: the mbufs that it takes are those of its packet once that is pulled up and trimmed,
 -- and the step is that of the packet's chain.
-use Rattle.std.proofs.Common.{◌≡◌, ℕ, ◌+◌, ◌-◌, ◌<◌, ◌≤◌, min, Bool, true, false, not, cond, List, [], ◌∷◌, ◌++◌, length, take, drop, Option, None, Some, refl, sym, ap, ◌∙◌, subst, arith, inl, length-drop, length-append}
-use Rattle.std.specs.Prelude.{nat_le, ◌==◌, ◌&&◌}
+use Rattle.std.proofs.Common.{◌≡◌, ℕ, ◌+◌, ◌-◌, ◌<◌, ◌≤◌, min, Bool, true, false, not, List, [], ◌∷◌, ◌++◌, length, take, drop, None, Some, refl, sym, ap, ◌∙◌, subst, arith, inl, length-append}
+use Rattle.std.specs.Prelude.{◌&&◌}
 use Rattle.std.proofs.lemmas.Bool.{false≢true, true≢false, le-leb, leb-true, eqb-true, cond-false}
 use Rattle.std.proofs.lemmas.List.{drop-take, length-take, take_all}
 use Rattle.flat_model.specs.Amounts.Weight.{Weight, nothing, ◌⊕◌}
@@ -9,19 +9,19 @@ use Rattle.flat_model.specs.Machine.State.{State}
 use Rattle.flat_model.specs.Machine.Count.{counts_more}
 use Rattle.flat_model.specs.Machine.Ledger as state
 use Rattle.flat_model.specs.Machine.Ledger.{exact_ledger, has_enough, need_mbufs}
-use Rattle.flat_model.specs.Machine.Arrival.{Tests, Joins, counts_fragment, is_bad_fragment}
+use Rattle.flat_model.specs.Machine.Arrival.{Joins, counts_fragment, is_bad_fragment}
 use Rattle.flat_model.specs.declared.counters.Counters.{Counters}
 use Rattle.flat_model.specs.declared.counter.Counter.TheVariants.{IpFragments}
 use Rattle.flat_model.specs.declared.counters.Why.{Why}
 use Rattle.flat_model.specs.declared.counters.Why.TheVariants.{BadFragment}
 use Rattle.flat_model.proofs.Laws.{both-nothing}
-use Rattle.mbuf_chain.specs.Chain.{Entry, ChainView, PoolView, Adds, IsLive, alone, chain_of, free_clusters, held_mbufs, references, with_chain, without}
+use Rattle.mbuf_chain.specs.Chain.{Entry, ChainView, PoolView, Adds, alone, chain_of, free_clusters, held_mbufs, references, with_chain, without}
 use Rattle.mbuf_chain.specs.Owners.{IsOwned, Moves, times}
 use Rattle.mbuf_chain.specs.Frames.{SameAt}
-use Rattle.mbuf_chain.specs.Steps.{joined, narrowed, one_mbuf, with_back, empty_entry}
+use Rattle.mbuf_chain.specs.Steps.{joined, narrowed, one_mbuf, empty_entry}
 use Rattle.mbuf_chain.proofs.Laws.Owners.{live_adds, moves_adds, moves_beside, moves_trans, owned_after, same_adds, shown_adds}
 use Rattle.mbuf_chain.proofs.Laws.Steps.{adds_undone, linked_front}
-use Rattle.chain_ops.specs.Makes.{HasMbufs, Makes}
+use Rattle.chain_ops.specs.Makes.{Makes}
 use Rattle.chain_ops.specs.Pulls.{moved, pulled_len}
 use Rattle.chain_ops.specs.Trims.{without_first}
 use Rattle.chain_ops.proofs.Laws.Makes.{makes_as, makes_new}
@@ -30,7 +30,7 @@ use Rattle.ip_out.specs.declared.head.IpHead.{IpHead}
 use Rattle.ip_reass.specs.Arrivals.{GoesOn, carried_entries, flat_head, in_hand, key_in, machine}
 use Rattle.ip_reass.specs.AtOnce.{ArrivesAtOnce, fits_at_once, in_cluster}
 use Rattle.ip_reass.specs.Fragments.{QueuedFragment, fragment_of}
-use Rattle.ip_reass.specs.Layouts.{ChainArrives, HasCause, HasLayout, KeyedQueue, Leaves, WaitOrNone, cause_among, cause_of, fragment_carried, queues, under}
+use Rattle.ip_reass.specs.Layouts.{ChainArrives, HasCause, HasLayout, KeyedQueue, Leaves, WaitOrNone, cause_among, fragment_carried, queues, under}
 use Rattle.ip_reass.specs.Same.{held_all_same, queues_same, ready_same, unfinished_same}
 use Rattle.ip_reass.specs.Table.{IsReady, TableView, held_all, unfinished}
 use Rattle.ip_reass.specs.Inside.Walks.{arrived}

@@ -16,7 +16,7 @@ use Rattle.mbuf_chain.specs.Steps.{narrowed, with_back, empty_entry}
 use Rattle.chain_ops.specs.Pulls as ops
 use Rattle.chain_ops.specs.Pulls.{moved, pulled_len}
 use Rattle.chain_ops.specs.Rooms.{room_low}
-use Rattle.ledger.specs.Accounts.{weight_of, weight_at}
+use Rattle.ledger.specs.Accounts.{weight_of}
 use Rattle.ip_out.specs.declared.head.IpHead.{IpHead}
 use Rattle.ip_reass.specs.Fragments.{fragment_of}
 use Rattle.ip_reass.specs.AtOnce as at_once

@@ -1,6 +1,6 @@
 -- A fragment from the wire that was laid at once, from the bytes of its packet: one step of the machine.
-use Rattle.std.proofs.Common.{◌≡◌, ℕ, ◌+◌, ◌-◌, ◌<◌, ◌≤◌, Bool, true, false, cond, List, [], ◌∷◌, ◌++◌, length, take, drop, refl, sym, ap, ◌∙◌, subst, arith, inl}
-use Rattle.std.specs.Prelude.{count_by, nat_le, ◌==◌, ◌&&◌}
+use Rattle.std.proofs.Common.{◌≡◌, ℕ, ◌-◌, ◌≤◌, Bool, true, false, cond, List, [], ◌∷◌, ◌++◌, length, take, drop, refl, sym, ap, ◌∙◌, subst, arith, inl}
+use Rattle.std.specs.Prelude.{count_by, ◌==◌, ◌&&◌}
 use Rattle.std.proofs.lemmas.Bool.{true≢false, le-leb}
 use Rattle.std.proofs.lemmas.List.{take_all}
 use Rattle.std.proofs.lemmas.List.Elements.{All-from_recursion}
@@ -22,23 +22,22 @@ use Rattle.mbuf_chain.specs.Owners.{IsOwned, Moves}
 use Rattle.mbuf_chain.proofs.Laws.Owners.{moves_trans}
 use Rattle.chain_ops.proofs.Laws.Rooms.{one_cluster}
 use Rattle.ledger.specs.Accounts.{IsAccounted, item_at, weight_at, weight_owned}
-use Rattle.ledger.specs.Reserve.{are_free}
 use Rattle.ledger.proofs.Laws.{test_is}
 use Rattle.pcb_table.specs.Table.{machine}
 use Rattle.ip_out.specs.declared.head.IpHead.{IpHead}
 use Rattle.ip_reass.specs.Arrivals as reass
 use Rattle.ip_reass.specs.Arrivals.{GoesOn, flat_head, in_hand}
-use Rattle.ip_reass.specs.AtOnce.{ArrivesAtOnce, fits_at_once}
-use Rattle.ip_reass.specs.Table.{TableView, IsReady, held_all, unfinished}
+use Rattle.ip_reass.specs.AtOnce.{ArrivesAtOnce}
+use Rattle.ip_reass.specs.Table.{TableView, held_all, unfinished}
 use Rattle.ip_reass.specs.declared.arrival.Arrival.{Arrival}
 use Rattle.ip_reass.specs.declared.arrival.Arrival.TheVariants.{Whole}
-use Rattle.ip_reass.proofs.Laws.{Fits, cluster_arrives, fits_is}
+use Rattle.ip_reass.proofs.Laws.{Fits, cluster_arrives}
 use Rattle.sock_calls.specs.Sockets.{SocksView, IsSocks, queued_chains, with_net, with_sockets}
 use Rattle.sock_calls.specs.Delivery.{NetView, IsInput, seen, state_at}
-use Rattle.sock_calls.proofs.Laws.{bag_of_times, free_each}
+use Rattle.sock_calls.proofs.Laws.{free_each}
 use Rattle.net_stack.specs.Inside.Arrivals.{HasCome}
 use Rattle.net_stack.proofs.Aside.{BesideSocks, beside_socks}
-use Rattle.net_stack.proofs.Arriving.{IsHeaded, from_none, from_one, passes}
+use Rattle.net_stack.proofs.Arriving.{IsHeaded, from_one, passes}
 
 -- a packet in one cluster
 abbrev bag : ℕ → Weight

@@ -1,6 +1,5 @@
-use Rattle.std.proofs.Common.{◌≡◌, ◌∷◌, sym, ap, subst, ◌∙◌}
 use Rattle.mbuf_chain.proofs.Laws.Owners.{moves_trans}
-use Rattle.ip_reass.proofs.AtOnce.{Fits, Stored, at_once, end_accounts, fits_is, stored}
+use Rattle.ip_reass.proofs.AtOnce.{Fits, at_once, end_accounts, fits_is, stored}
 use Rattle.ip_reass.proofs.table.Reass.arrive_bytes.Goals as goal
 
 pub lay_or_begin-requires-clause-ready : goal.lay_or_begin-requires-clause-ready

@@ -1,9 +1,9 @@
-use Rattle.std.proofs.Common.{◌∷◌, [], refl, arith}
+use Rattle.std.proofs.Common.{◌∷◌, [], refl}
 use Rattle.mbuf_chain.proofs.Laws.Owners.{owned_after}
 use Rattle.ip_reass.specs.Table.{held_all}
-use Rattle.ip_reass.proofs.Laws.{Fits, fits_is}
+use Rattle.ip_reass.proofs.Laws.{fits_is}
 use Rattle.net_stack.proofs.Aside.{beside_socks}
-use Rattle.net_stack.proofs.Arriving.{IsHeaded, headed}
+use Rattle.net_stack.proofs.Arriving.{headed}
 use Rattle.net_stack.proofs.AtOnce.{came_kept, came_whole}
 use Rattle.net_stack.proofs.host.Host.lay_fragment.Goals as goal
 
