@@ -2,6 +2,7 @@
 #![tactic(auto)]
 
 pub mod admission;
+pub mod asked_line;
 pub mod capture_packets;
 pub mod cell_bytes;
 pub mod chain_lines;
@@ -19,6 +20,7 @@ pub mod link_packets;
 pub mod named_packet;
 pub mod other_machine;
 pub mod packet_sum;
+pub mod packet_taken;
 pub mod packet_words;
 pub mod printed_line;
 pub mod receive_queue;

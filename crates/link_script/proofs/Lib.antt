@@ -1,10 +1,4 @@
-mod AddressLemmas
-mod KeywordLemmas
-mod FormLemmas
 mod RunLemmas
-mod RoomLemmas
 mod BootLemmas
-mod CountLemmas
-mod EventLemmas
 mod ProgramLemmas
 mod OptionLemmas

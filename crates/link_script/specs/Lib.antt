@@ -2,4 +2,3 @@ pub mod Says
 pub mod Boots
 pub mod Options
 pub mod Program
-pub mod Inside

@@ -1,20 +1,12 @@
 //! Laws of the lines. Each is a function that does nothing, and its contract is the law.
 ghost use Rattle.std.specs.Prelude.{◌≡◌, ℕ, List};
-ghost use Rattle.flat_model.specs.Machine.Event.{Event, IsEvent};
 ghost use Rattle.flat_model.specs.Machine.State.{State, boot};
-ghost use Rattle.flat_model.specs.Scripts.Grammar.{IsLine};
 ghost use Rattle.flat_model.specs.Machine.Step.{Step};
 ghost use Rattle.flat_model.specs.Scripts.Script as script;
 ghost use Rattle.flat_model.specs.Scripts.Script.{PrintsRun, all_events};
 ghost use Rattle.flat_model.specs.declared.config.Config.{Config};
 ghost use Rattle.script_loop.specs.Printed.{Prints};
 ghost use Rattle.link_script.specs.Says.{Says};
-
-/// A line asks for one event at most, whose numbers are in the ranges that calls have.
-pub fn lines_law()
-    ensures one { (line : List ℕ) (a b : Event) → IsLine line a → IsLine line b → a ≡ b }
-    ensures ranges { (line : List ℕ) (event : Event) → IsLine line event → IsEvent event }
-{}
 
 /// What is printed line by line, each text being that of an answer of the machine that keeps exact accounts, is what
 /// its definition prints for all lines together. From boot it's told by one run: each line that asks for something has

@@ -9,12 +9,12 @@ ghost use Rattle.link_script.specs.declared.options.Task.{Task};
 ghost use Rattle.link_script.specs.Options.{option_rule, whole_app, HasNumber, HasAddress, Names, NamesSizes, NamesTask, Gives, IsCommand};
 ghost use Rattle.link_script.specs.Program.{defaults, IsWordsFault};
 
-use crate::address::address;
 use crate::command_line::{DEFAULTS, Failure};
 use chain_script::Sizes;
 use clap::error::ErrorKind;
 use clap::{Arg, ArgMatches, Command, Error as ClapError};
 use flat_model::Config;
+use request::address_of;
 use script_loop::{RunFault, number};
 use std::alloc::{AllocError, Global};
 
@@ -46,7 +46,7 @@ fn address_or(text: Option<&str>, default: u32) -> u32
     ensures { HasAddress default (option_map (λ s. s.now) text.entry) result }
 {
     match text {
-        Some(text) => address(text.as_bytes()).unwrap_or(0),
+        Some(text) => address_of(text.as_bytes()).unwrap_or(0),
         None => default,
     }
 }

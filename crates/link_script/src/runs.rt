@@ -1,34 +1,56 @@
 //! The runs that callers ask for.
-ghost use Rattle.std.specs.Prelude.{◌≡◌};
-ghost use Rattle.flat_model.specs.Machine.State.{State, boot};
+ghost use Rattle.std.specs.Prelude.{◌≡◌, MatchResult};
+ghost use Rattle.flat_model.specs.Machine.State.{State, IsConfig, boot};
 ghost use Rattle.flat_model.specs.Machine.Step.{Step};
 ghost use Rattle.script_loop.specs.Streams.{MoreBy, reader_failures, writer_failures};
 ghost use Rattle.link_script.specs.Says.{Says};
-ghost use Rattle.link_script.specs.Boots.{Boots};
+ghost use Rattle.link_script.specs.Boots.{Boots, IsUnbooted, refused_as};
+ghost use Rattle.net_stack.specs.Stack.{state_of};
+ghost use Rattle.stack_call.specs.Moves.{Moves};
 ghost use Rattle.script_loop.specs.Serves.{Serves, IsServed};
 
 use crate::caller::Caller;
-use crate::machine::Machine;
 use flat_model::Config;
-use net_stack::Stack;
+use net_stack::{BootFault, Stack};
 use script_loop::{LineBuffers, RunFault, Sink, Source, serve_script};
 use std::alloc::Global;
 
-/// Serves a script on a machine, and spends it.
-fn serve_machine<M: Machine, R: Source, W: Sink>(
+/// What a stack that isn't booted ends with.
+fn refusal_of(fault: BootFault) -> RunFault
+    ensures { result ≡ refused_as fault }
+{
+    match fault {
+        BootFault::Memory => RunFault::Memory,
+        BootFault::BadSizes => RunFault::BadSizes,
+        BootFault::BadConfig => RunFault::BadConfig,
+    }
+}
+
+/// A stack that has just started.
+pub fn booted(alloc: Global, config: Config) -> Result<Stack, RunFault>
+    ensures { MatchResult result (λ s. IsConfig config × (state_of s ≡ boot config)) (IsUnbooted config) }
+{
+    match Stack::boot(alloc, config) {
+        Ok(stack) => Ok(stack),
+        Err(fault) => Err(refusal_of(fault)),
+    }
+}
+
+/// Serves a script on a stack, and spends it.
+fn serve_stack<R: Source, W: Sink>(
     alloc: Global,
-    machine: M,
+    machine: Stack,
     reader: &mut R,
     writer: &mut W,
 ) -> Result<(), RunFault>
     ensures read { MoreBy (reader_failures result) (R.failures reader.old) (R.failures reader.new) }
     ensures wrote { MoreBy (writer_failures result) (W.failures writer.old) (W.failures writer.new) }
-    ensures served { (new : State) × Serves (Says M.may_step) (M.state machine) new
+    ensures served { (new : State) × Serves (Says Moves) (state_of machine) new
         (R.remaining reader.old) (R.remaining reader.new) (W.contents writer.old) (W.contents writer.new) result }
     ensures started { IsServed result }
 {
     let Ok(buffers) = LineBuffers::new(alloc) else {
-        machine.end();
+        let _ = machine.end();
         return Err(RunFault::Memory);
     };
     let mut caller = Caller { machine, buffers };
@@ -37,25 +59,8 @@ fn serve_machine<M: Machine, R: Source, W: Sink>(
         machine,
         buffers: _buffers,
     } = caller;
-    machine.end();
+    let _ = machine.end();
     outcome
-}
-
-/// Serves a script on a new machine, which is spent then.
-fn run_on<M: Machine, R: Source, W: Sink>(
-    alloc: Global,
-    config: Config,
-    reader: &mut R,
-    writer: &mut W,
-) -> Result<(), RunFault>
-    ensures booted { Boots config result }
-    ensures read { MoreBy (reader_failures result) (R.failures reader.old) (R.failures reader.new) }
-    ensures wrote { MoreBy (writer_failures result) (W.failures writer.old) (W.failures writer.new) }
-    ensures served { (new : State) × Serves (Says M.may_step) (boot config) new
-        (R.remaining reader.old) (R.remaining reader.new) (W.contents writer.old) (W.contents writer.new) result }
-{
-    let machine = M::boot(alloc, config)?;
-    serve_machine(alloc, machine, reader, writer)
 }
 
 /// Serves a script on a new stack: each line that asks for something is answered by what the stack answers, and every
@@ -74,6 +79,7 @@ fn run_on<M: Machine, R: Source, W: Sink>(
 /// an error, or takes none of the bytes that it is given: a front of the replies was written. `TooManyLines` at a byte
 /// after the 10,000,000th line, or one that makes a line longer than 1,048,576 bytes: each whole line before it was
 /// answered.
+#[tactic(auto, unfolding(stack_call::specs::Moves::Moves))]
 pub fn run<R: Source, W: Sink>(
     alloc: Global,
     config: Config,
@@ -89,5 +95,6 @@ pub fn run<R: Source, W: Sink>(
     ensures served { (new : State) × Serves (Says Step) (boot config) new
         (R.remaining reader.old) (R.remaining reader.new) (W.contents writer.old) (W.contents writer.new) result }
 {
-    run_on::<Stack, R, W>(alloc, config, reader, writer)
+    let machine = booted(alloc, config)?;
+    serve_stack(alloc, machine, reader, writer)
 }

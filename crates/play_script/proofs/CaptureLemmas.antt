@@ -4,15 +4,13 @@ use Rattle.std.proofs.KnownBytes.{Appends-nil}
 use Rattle.std.proofs.lemmas.Fmt.{decimal_injective}
 use Rattle.std.proofs.lemmas.List.{map-append}
 use Rattle.std.proofs.lemmas.List.Concat.{flat_map-append}
-use Rattle.flat_model.specs.Machine.Event.{Event, Reply, Open, Bind, Connect, Send, Receive, Close, Set_option, Comes, Transmit, Tick, Ask_counters, Ask_usage, Done, Given}
+use Rattle.flat_model.specs.Machine.Event.{Reply, Comes, Transmit, Tick}
 use Rattle.flat_model.specs.Runs.Run.{Turn}
-use Rattle.flat_model.specs.Scripts.Grammar.{IsLine, keyword}
-use Rattle.flat_model.specs.Scripts.Script as script
-use Rattle.flat_model.specs.Scripts.Script.{all_events}
 use Rattle.pcap.specs.Records.{Captured, record_bytes}
 use Rattle.pcap.specs.declared.header.Order.TheVariants.{Little}
 use Rattle.play_pcap.specs.Traces.{Keeps, Pass, SentAfter, Traced, later, pass_at, pass_bytes, passes_bytes, record_of}
-use Rattle.play_script.specs.Captures.{Captures, all_passes, passes, ticks_after, turn_of}
+use Rattle.play_script.specs.Asked.{turns_of}
+use Rattle.play_script.specs.Captures.{Captures, all_passes, given, pass_if, passes, ticks_after, turn_of}
 use Rattle.play_script.specs.Lines.{IsTicks}
 
 -- ---- what is written
@@ -39,41 +37,26 @@ same_but_ticks : (old new : Traced) → new.ticks ≡ later old.ticks → new.wh
     → new ≡ record old { ticks = later old.ticks }
 same_but_ticks old new t w b = rw (sym t, sym w, sym b) refl
 
-pub Captures-no_ticks : (number n : ℕ) (t : Traced) → n ≤ 0 → Captures number t (replicate n (turn_of Tick Done)) t
-Captures-no_ticks number zero t none = (Keeps-none t, refl)
-Captures-no_ticks number (suc n) t none = absurd (omega (arith, none))
+pub Captures-no_ticks : (number n : ℕ) (t : Traced) (reply : Reply) → n ≤ 0 → Captures number t (turns_of (replicate n Tick) reply) t
+Captures-no_ticks number zero t reply none = (Keeps-none t, refl)
+Captures-no_ticks number (suc n) t reply none = absurd (omega (arith, none))
 
 -- a tick in front of others
-pub Captures-ticks : (number n m : ℕ) (old mid new : Traced) → 0 < n → m ≡ n - 1
+pub Captures-ticks : (number n m : ℕ) (old mid new : Traced) (reply : Reply) → 0 < n → m ≡ n - 1
     → mid.ticks ≡ later old.ticks → mid.whole ≡ old.whole → mid.wrote ≡ old.wrote
-    → Captures number mid (replicate m (turn_of Tick Done)) new → Captures number old (replicate n (turn_of Tick Done)) new
-Captures-ticks number zero m old mid new some is t w b h = absurd (omega arith)
-Captures-ticks number (suc n) m old mid new some is t w b h =
+    → Captures number mid (turns_of (replicate m Tick) reply) new → Captures number old (turns_of (replicate n Tick) reply) new
+Captures-ticks number zero m old mid new reply some is t w b h = absurd (omega arith)
+Captures-ticks number (suc n) m old mid new reply some is t w b h =
     let less : m ≡ n = omega arith in
-    let front : Captures number mid (replicate n (turn_of Tick Done)) new =
-    subst (λ (k : ℕ). Captures number mid (replicate k (turn_of Tick Done)) new) less h in
-    subst (λ (s : Traced). Captures number s (replicate n (turn_of Tick Done)) new) (same_but_ticks old mid t w b) front
+    let front : Captures number mid (turns_of (replicate n Tick) reply) new =
+    subst (λ (k : ℕ). Captures number mid (turns_of (replicate k Tick) reply) new) less h in
+    subst (λ (s : Traced). Captures number s (turns_of (replicate n Tick) reply) new) (same_but_ticks old mid t w b) front
 
 -- ---- a line
 
 -- the first two bytes of a word, and of the first word
 abbrev pub front_of : List ℕ → ℕ
 front_of word = get_or word 0 0 * 256 + get_or word 1 0
-
-is_tick : (event : Event) → front_of (keyword event) ≡ 29801 → event ≡ Tick
-is_tick Open h = absurd (omega (arith, h))
-is_tick (Bind fd address) h = absurd (omega (arith, h))
-is_tick (Connect fd address) h = absurd (omega (arith, h))
-is_tick (Send fd (Some to) bytes) h = absurd (omega (arith, h))
-is_tick (Send fd None bytes) h = absurd (omega (arith, h))
-is_tick (Receive fd most) h = absurd (omega (arith, h))
-is_tick (Close fd) h = absurd (omega (arith, h))
-is_tick (Set_option fd option on) h = absurd (omega (arith, h))
-is_tick (Comes packet) h = absurd (omega (arith, h))
-is_tick Transmit h = absurd (omega (arith, h))
-is_tick Tick h = refl
-is_tick Ask_counters h = absurd (omega (arith, h))
-is_tick Ask_usage h = absurd (omega (arith, h))
 
 abbrev pub first_of : List (List ℕ) → ℕ
 first_of [] = 0
@@ -85,18 +68,6 @@ one_count plain m n h k =
     let all : codes "tick" ∷ h.0 ∷ [] ≡ codes "tick" ∷ k.0 ∷ [] = sym h.1 ∙ k.1 in
     let word : h.0 ≡ k.0 = cc all in
     decimal_injective m n (omega (arith, h.2.0)) (omega (arith, k.2.0)) (sym h.2.1 ∙ word ∙ k.2.1)
-
-pub one_word : (digits : List ℕ) → codes "tick" ∷ [] ≡ codes "tick" ∷ digits ∷ [] → ⊥
-one_word digits e = let size : 1 ≡ 2 = ap length e in omega (arith, size)
-
--- a line that asks for several ticks asks for no event
-pub Ticks-no_event : (plain : List ℕ) (n : ℕ) → IsTicks plain n → (event : Event) → ¬ script.Asks all_events plain event
-Ticks-no_event plain n ticks event asks =
-    let all : keyword event ∷ asks.form.args ≡ codes "tick" ∷ ticks.0 ∷ [] = sym asks.form.words_are ∙ ticks.1 in
-    let name : keyword event ≡ codes "tick" = cc all in
-    let same = is_tick event (ap front_of name) in
-    let line = subst (λ (e : Event). IsLine plain e) same asks.form in
-    one_word ticks.0 (sym (line.words_are ∙ ap (λ (args : List (List ℕ)). codes "tick" ∷ args) line.arguments) ∙ ticks.1)
 
 -- a tick alone
 pub Captures-tick : (number : ℕ) (old new : Traced) (reply : Reply) → new.ticks ≡ later old.ticks → new.whole ≡ old.whole → new.wrote ≡ old.wrote
@@ -110,29 +81,18 @@ pub Captures-comes : (number : ℕ) (old new : Traced) (packet : List ℕ) (repl
     → Captures number old (turn_of (Comes packet) reply ∷ []) new
 Captures-comes number old new packet reply h t = (Keeps-one old new (pass_at old.ticks number packet) h, t)
 
-pub Captures-given : (number : ℕ) (old new : Traced) (packet : List ℕ)
+pub Captures-given : (number : ℕ) (old new : Traced) (packet : List ℕ) (reply : Reply) → given reply ≡ Some packet
     → Keeps old new (pass_bytes (pass_at old.ticks number packet)) → new.ticks ≡ old.ticks
-    → Captures number old (turn_of Transmit (Given (Some packet)) ∷ []) new
-Captures-given number old new packet h t = (Keeps-one old new (pass_at old.ticks number packet) h, t)
+    → Captures number old (turn_of Transmit reply ∷ []) new
+Captures-given number old new packet reply is h t = (
+  subst (λ (m : Option (List ℕ)). Keeps old new (passes_bytes (pass_if old.ticks number m ++ []))) (sym is)
+      (Keeps-one old new (pass_at old.ticks number packet) h),
+  t,
+)
 
-pub Captures-not_given : (number : ℕ) (t : Traced) → Captures number t (turn_of Transmit (Given None) ∷ []) t
-Captures-not_given number t = (Keeps-none t, refl)
-
--- an event that moves nothing
-pub Captures-nothing : (number : ℕ) (t : Traced) (event : Event) (reply : Reply) → (event ≡ Transmit → ⊥) → (event ≡ Tick → ⊥)
-    → ((packet : List ℕ) → event ≡ Comes packet → ⊥) → Captures number t (turn_of event reply ∷ []) t
-Captures-nothing number t Open reply x y z = (Keeps-none t, refl)
-Captures-nothing number t (Bind fd address) reply x y z = (Keeps-none t, refl)
-Captures-nothing number t (Connect fd address) reply x y z = (Keeps-none t, refl)
-Captures-nothing number t (Send fd to bytes) reply x y z = (Keeps-none t, refl)
-Captures-nothing number t (Receive fd most) reply x y z = (Keeps-none t, refl)
-Captures-nothing number t (Close fd) reply x y z = (Keeps-none t, refl)
-Captures-nothing number t (Set_option fd option on) reply x y z = (Keeps-none t, refl)
-Captures-nothing number t (Comes packet) reply x y z = absurd (z packet refl)
-Captures-nothing number t Transmit reply x y z = absurd (x refl)
-Captures-nothing number t Tick reply x y z = absurd (y refl)
-Captures-nothing number t Ask_counters reply x y z = (Keeps-none t, refl)
-Captures-nothing number t Ask_usage reply x y z = (Keeps-none t, refl)
+pub Captures-not_given : (number : ℕ) (t : Traced) (reply : Reply) → given reply ≡ None → Captures number t (turn_of Transmit reply ∷ []) t
+Captures-not_given number t reply is =
+    (subst (λ (m : Option (List ℕ)). Keeps t t (passes_bytes (pass_if t.ticks number m ++ []))) (sym is) (Keeps-none t), refl)
 
 -- ---- lines one after another
 

@@ -1,7 +1,7 @@
-mod TextLemmas
+mod AskedLemmas
 mod CaptureLemmas
-mod NoteLemmas
 mod FitLemmas
+mod RoomLemmas
 mod RunLemmas
 mod AnswerLemmas
 mod SettingLemmas

@@ -1,5 +1,5 @@
 -- The turns that lines make.
-use Rattle.std.proofs.Common.{◌≡◌, ◌⊎◌, ℕ, zero, suc, ◌&&◌, Bool, true, false, List, [], ◌∷◌, ◌++◌, get_or, replicate, codes, Option, Some, None, Result, Ok, Err, inl, inr, refl, sym, ap, ◌∙◌, arith, subst}
+use Rattle.std.proofs.Common.{◌≡◌, ◌⊎◌, ℕ, zero, suc, ◌<◌, ◌&&◌, Bool, true, false, List, [], ◌∷◌, ◌++◌, get_or, replicate, codes, Option, Some, None, Result, Ok, Err, inl, inr, refl, sym, ap, ◌∙◌, arith, subst}
 use Rattle.std.proofs.lemmas.Bool.{false≢true}
 use Rattle.flat_model.specs.Machine.Count.{more_by}
 use Rattle.flat_model.specs.Machine.Event.{Event, Reply, Open, Bind, Connect, Send, Receive, Close, Set_option, Comes, Transmit, Tick, Ask_counters, Ask_usage, Done}
@@ -11,7 +11,7 @@ use Rattle.flat_model.specs.Scripts.Grammar.{keyword, words}
 use Rattle.flat_model.specs.declared.config.Config.{Config}
 use Rattle.flat_model.specs.Scripts.Script as script
 use Rattle.flat_model.specs.Scripts.Script.{all_events}
-use Rattle.flat_model.proofs.Laws.{in_range, one_more_turn}
+use Rattle.flat_model.proofs.Laws.{in_range}
 use Rattle.script_loop.specs.Printed.{Prints}
 use Rattle.play_settings.specs.Settings.{has_dashes, IsSet}
 use Rattle.play_settings.specs.declared.fault.SettingFault.{SettingFault}
@@ -25,23 +25,28 @@ use Rattle.play_pcap.specs.Traces.{Traced, Keeps, passes_bytes}
 use Rattle.play_pcap.specs.Told.{outcome_text}
 use Rattle.play_script.proofs.CaptureLemmas.{Joins, Keeps-none, Captures-join}
 use Rattle.play_script.proofs.PlayLemmas.{Captures-same, Capture-ends_head, Named-turns}
-use Rattle.play_script.specs.Captures.{Captures, Notes, all_passes, turn_of}
+use Rattle.play_script.specs.Asked.{AsksFor, Does, turns_of}
+use Rattle.play_script.specs.Captures.{Captures, all_passes, turn_of}
 use Rattle.play_script.specs.Lines.{Reading, Nothing, TooLong, Faulty, Asks, IsTicks, reading}
-use Rattle.play_script.specs.Outcomes.{drops_text, outcome}
+use Rattle.play_script.specs.Outcomes.{drops_text}
 use Rattle.play_script.specs.Plays.{SceneView, scene_of}
 use Rattle.play_script.specs.Runs.{AreTurns, IsRunOf, all_turns, MaySet, MaySetAll}
-use Rattle.play_script.specs.Tells.{Play, Tells, TellsReading, TellsAsked, TellsSettled, Ticks, Does, IsAnswered, IsSettled, IsTold, next_line, stays_head}
-
-one_more : {X : Type 0} (n : ℕ) (x : X) → replicate n x ++ x ∷ [] ≡ replicate (suc n) x
-one_more zero x = refl
-one_more (suc n) x = ap (λ xs. x ∷ xs) (one_more n x)
+use Rattle.play_script.specs.Tells.{Play, Tells, TellsReading, TellsAsked, TellsSettled, IsAnswered, IsSettled, IsTold, next_line, stays_head}
 
 -- ticks one after another are turns
-Ticks-lead : (n : ℕ) (old new : State) → Ticks Step n old new → Leads exact_ledger old (replicate n (turn_of Tick Done)) new
-Ticks-lead zero old new h = h
-Ticks-lead (suc n) old new (mid, before, step) =
-    subst (λ (ts : List Turn). Leads exact_ledger old ts new) (one_more n (turn_of Tick Done))
-    (one_more_turn exact_ledger old mid new (replicate n (turn_of Tick Done)) (turn_of Tick Done) (Ticks-lead n old mid before) tt step)
+Ticks-lead : (n : ℕ) (old new : State) (reply : Reply) → Does Step old (replicate n Tick) reply new
+    → Leads exact_ledger old (turns_of (replicate n Tick) reply) new
+Ticks-lead zero old new reply h = h
+Ticks-lead (suc n) old new reply (mid, step, rest) = (tt, mid, step, Ticks-lead n mid new reply rest)
+
+-- and each of them answers that it's done
+ticks_turns : (n : ℕ) → turns_of (replicate n Tick) Done ≡ replicate n (turn_of Tick Done)
+ticks_turns zero = refl
+ticks_turns (suc n) = ap (λ (ts : List Turn). turn_of Tick Done ∷ ts) (ticks_turns n)
+
+Ticks-done : (n : ℕ) (old new : State) (reply : Reply) → 0 < n → Does Step old (replicate n Tick) reply new → reply ≡ Done
+Ticks-done zero old new reply some h = absurd (omega (arith, some))
+Ticks-done (suc n) old new reply some (mid, step, rest) = step.0
 
 Leads-append : (old mid new : State) (first rest : List Turn) → Leads exact_ledger old first mid → Leads exact_ledger mid rest new
     → Leads exact_ledger old (first ++ rest) new
@@ -49,20 +54,36 @@ Leads-append old mid new [] rest same later = subst (λ s. Leads exact_ledger s 
 Leads-append old mid new (turn ∷ first) rest (range, next, step, leads) later =
     (range, next, step, Leads-append next mid new first rest leads later)
 
--- what a line does and adds to a capture, by its turns
-Does-turns : (has : List ℕ → List ℕ → Type 0) (number : ℕ) (old new : State) (t u : Traced) (shown plain : List ℕ) (wanted : Option (List ℕ)) (answer : Option Reply)
-    → Does Step old plain answer new → Notes number plain answer t u
-    → (turns : List Turn) × AreTurns has (Asks shown plain wanted) turns × Leads exact_ledger old turns new × Captures number t turns u
-Does-turns has number old new t u shown plain wanted (Some reply) (inl (event, asks, step)) notes = (
-  turn_of event reply ∷ [],
-  inl (event, reply, asks, refl),
-  (in_range plain event asks.form, new, step, refl),
-  notes.0 event asks,
-)
-Does-turns has number old new t u shown plain wanted (Some reply) (inr (n, is, done, ticks)) notes =
-    (replicate n (turn_of Tick Done), inr (inl (n, is, refl)), Ticks-lead n old new ticks, notes.1 n is)
-Does-turns has number old new t u shown plain wanted None ((none, same), no_ticks) notes =
-    ([], inr (inr (inr (none, no_ticks, refl))), same, Captures-same number t u notes)
+-- the turns of a line, and what they do and add to a capture
+abbrev Makes : (List ℕ → List ℕ → Type 0) → Reading → ℕ → State → State → Traced → Traced → Type 0
+Makes has line number old new t u =
+    (turns : List Turn) × AreTurns has line turns × Leads exact_ledger old turns new × Captures number t turns u
+
+Makes-one : (has : List ℕ → List ℕ → Type 0) (number : ℕ) (old new : State) (t u : Traced) (shown plain : List ℕ) (wanted : Option (List ℕ)) (event : Event) (reply : Reply)
+    → script.Asks all_events plain event → Does Step old (event ∷ []) reply new → Captures number t (turns_of (event ∷ []) reply) u
+    → Makes has (Asks shown plain wanted) number old new t u
+Makes-one has number old new t u shown plain wanted event reply asks (mid, step, same) captured =
+    (turn_of event reply ∷ [], inl (event, reply, asks, refl), (in_range plain event asks.form, mid, step, same), captured)
+
+Makes-ticks : (has : List ℕ → List ℕ → Type 0) (number : ℕ) (old new : State) (t u : Traced) (shown plain : List ℕ) (wanted : Option (List ℕ)) (n : ℕ) (reply : Reply)
+    → IsTicks plain n → Does Step old (replicate n Tick) reply new → Captures number t (turns_of (replicate n Tick) reply) u
+    → Makes has (Asks shown plain wanted) number old new t u
+Makes-ticks has number old new t u shown plain wanted n reply is does captured =
+    let done : turns_of (replicate n Tick) reply ≡ replicate n (turn_of Tick Done) =
+    ap (λ (r : Reply). turns_of (replicate n Tick) r) (Ticks-done n old new reply is.3 does) ∙ ticks_turns n in
+    (turns_of (replicate n Tick) reply, inr (inl (n, is, done)), Ticks-lead n old new reply does, captured)
+
+Makes-asked : (has : List ℕ → List ℕ → Type 0) (number : ℕ) (old new : State) (t u : Traced) (shown plain : List ℕ) (wanted : Option (List ℕ)) (events : List Event) (reply : Reply)
+    → AsksFor plain events → Does Step old events reply new → Captures number t (turns_of events reply) u
+    → Makes has (Asks shown plain wanted) number old new t u
+Makes-asked has number old new t u shown plain wanted events reply (inl (event, asks, is)) does captured =
+    Makes-one has number old new t u shown plain wanted event reply asks
+    (subst (λ (es : List Event). Does Step old es reply new) is does)
+    (subst (λ (es : List Event). Captures number t (turns_of es reply) u) is captured)
+Makes-asked has number old new t u shown plain wanted events reply (inr (n, ticks, is)) does captured =
+    Makes-ticks has number old new t u shown plain wanted n reply ticks
+    (subst (λ (es : List Event). Does Step old es reply new) is does)
+    (subst (λ (es : List Event). Captures number t (turns_of es reply) u) is captured)
 
 -- the second byte of `show` is no other word's
 no_keyword : (event : Event) → get_or (keyword event) 1 0 ≡ 104 → ⊥
@@ -151,26 +172,24 @@ not_late : (c : Config) → Ok c ≡ Err Late → ⊥
 not_late c e = cc
 
 -- what is told of a plain line, by its turns
-Answered-turns : (has : List ℕ → List ℕ → Type 0) (number : ℕ) (old new : State) (t u : Traced) (shown plain : List ℕ) (wanted : Option (List ℕ)) (topic : Option Topic)
+Answered-turns : (has : List ℕ → List ℕ → Type 0) (old new : SceneView) (shown plain : List ℕ) (wanted : Option (List ℕ)) (topic : Option Topic)
     → topic_asked plain ≡ topic → (told : Option (List ℕ)) (below : List ℕ) (quiet : Bool)
-    → IsAnswered Step quiet (λ reply. Notes number plain reply t u) old topic plain told below new
-    → (turns : List Turn) × AreTurns has (Asks shown plain wanted) turns × Leads exact_ledger old turns new × Captures number t turns u
-    × (stays_head topic told ≡ true → turns ≡ [])
-Answered-turns has number old new t u shown plain wanted (Some topic) is None below quiet answered = absurd answered
-Answered-turns has number old new t u shown plain wanted (Some topic) is (Some told) below quiet (shows, same, notes) = (
+    → IsAnswered Step quiet old topic plain told below new
+    → (turns : List Turn) × AreTurns has (Asks shown plain wanted) turns × Leads exact_ledger old.machine turns new.machine
+    × Captures old.line old.traced turns new.traced × (stays_head topic told ≡ true → turns ≡ [])
+Answered-turns has old new shown plain wanted (Some topic) is None below quiet answered = absurd answered
+Answered-turns has old new shown plain wanted (Some topic) is (Some told) below quiet (shows, same, traced) = (
   [],
   inr (inr (inr (Shown-no_event plain topic is, Shown-no_ticks plain topic is, refl))),
   same,
-  Captures-same number t u notes,
+  Captures-same old.line old.traced new.traced traced,
   λ stays. refl,
 )
-Answered-turns has number old new t u shown plain wanted None is (Some told) below quiet (reply, before, after, does, notes, was, now, tells, none) =
-    let made = Does-turns has number old new t u shown plain wanted reply does notes in
-    (made.0, made.1, made.2, made.3, λ stays. absurd (false≢true stays))
-Answered-turns has number old new t u shown plain wanted None is None below quiet (Some reply, before, after, does, notes, was, now, tells, none) =
-    absurd (not_none _ tells)
-Answered-turns has number old new t u shown plain wanted None is None below quiet (None, before, after, ((none, same), no_ticks), notes, was, now, tells, no_lines) =
-    ([], inr (inr (inr (none, no_ticks, refl))), same, Captures-same number t u notes, λ stays. refl)
+Answered-turns has old new shown plain wanted None is told below quiet (inl (none, no_text, no_lines, same, traced)) =
+    ([], inr (inr (inr (none.0, none.1, refl))), same, Captures-same old.line old.traced new.traced traced, λ stays. refl)
+Answered-turns has old new shown plain wanted None is told below quiet (inr (events, asks, done)) =
+    let made = Makes-asked has old.line old.machine new.machine old.traced new.traced shown plain wanted events done.reply asks done.does done.captured in
+    (made.0, made.1, made.2, made.3, λ stays. absurd (false≢true (subst (λ (t : Option (List ℕ)). stays_head None t ≡ true) done.tells stays)))
 
 -- what is told of a plain line, whether it asks for a capture or not
 Told-turns : Joins → (has : List ℕ → List ℕ → Type 0) (old new : SceneView) (shown plain : List ℕ) (wanted told : Option (List ℕ)) (below : List ℕ) (quiet : Bool)
@@ -178,7 +197,7 @@ Told-turns : Joins → (has : List ℕ → List ℕ → Type 0) (old new : Scene
     → (turns : List Turn) × AreTurns has (Asks shown plain wanted) turns × Leads exact_ledger old.machine turns new.machine
     × Captures old.line old.traced turns new.traced × (stays_head (topic_asked plain) told ≡ true → turns ≡ [])
 Told-turns join has old new shown plain wanted told below quiet (inr (none, answered)) =
-    Answered-turns has old.line old.machine new.machine old.traced new.traced shown plain wanted (topic_asked plain) refl told below quiet answered
+    Answered-turns has old new shown plain wanted (topic_asked plain) refl told below quiet answered
 Told-turns join has old new shown plain wanted told below quiet (inl (word, d, asked, (outcome, before, after, plays, was, now, tells, lines))) =
     let made = Named-turns join has shown plain word wanted d outcome old new asked plays in (
       made.0,

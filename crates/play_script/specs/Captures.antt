@@ -1,12 +1,9 @@
 -- What a run adds to a capture: the packets that come and go, in their order (this project's own).
-use Rattle.std.specs.Prelude.{◌≡◌, ℕ, List, [], ◌∷◌, ◌++◌, replicate, Option, Some, None}
+use Rattle.std.specs.Prelude.{◌≡◌, ℕ, List, [], ◌∷◌, ◌++◌, Option, Some, None}
 use Rattle.flat_model.specs.Machine.Count.{more_by}
-use Rattle.flat_model.specs.Machine.Event.{Event, Reply, Comes, Transmit, Tick, Done, Given}
+use Rattle.flat_model.specs.Machine.Event.{Event, Reply, Comes, Transmit, Tick, Given}
 use Rattle.flat_model.specs.Runs.Run.{Turn}
-use Rattle.flat_model.specs.Scripts.Script as script
-use Rattle.flat_model.specs.Scripts.Script.{all_events}
 use Rattle.play_pcap.specs.Traces.{Keeps, Pass, Traced, later, pass_at, passes_bytes}
-use Rattle.play_script.specs.Lines.{IsTicks}
 
 abbrev pub turn_of : Event → Reply → Turn
 turn_of event reply = record { event = event; reply = reply }
@@ -48,13 +45,6 @@ ticks_after ticks (turn ∷ turns) = ticks_after (ticks_by turn.event ticks) tur
 abbrev pub Captures : ℕ → Traced → List Turn → Traced → Type 0
 Captures number old turns new =
     Keeps old new (passes_bytes (passes number old.ticks turns)) × (new.ticks ≡ ticks_after old.ticks turns)
-
--- What the plain line of this number with this reply adds to a capture: what its turns do, for whatever it asks.
-abbrev pub Notes : ℕ → List ℕ → Option Reply → Traced → Traced → Type 0
-Notes number plain None old new = new ≡ old
-Notes number plain (Some reply) old new =
-    ((event : Event) → script.Asks all_events plain event → Captures number old (turn_of event reply ∷ []) new)
-    × ((n : ℕ) → IsTicks plain n → Captures number old (replicate n (turn_of Tick Done)) new)
 
 -- ---- the turns of all lines, a list of them for each line
 

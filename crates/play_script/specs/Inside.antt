@@ -1,7 +1,11 @@
 -- What only this crate reads.
-use Rattle.std.specs.Prelude.{ℕ, Bool, List, Option}
+use Rattle.std.specs.Prelude.{ℕ, Bool, List, [], ◌∷◌, replicate, Option}
+use Rattle.flat_model.specs.Machine.Event.{Event, Tick}
+use Rattle.request.specs.Requests.{event_of, room_of}
 use Rattle.play_print.specs.Texts.{if_there}
 use Rattle.play_script.specs.Lines.{Reading, Nothing, TooLong, Faulty, Asks}
+use Rattle.play_script.specs.declared.asked.Asked.{Asked}
+use Rattle.play_script.specs.declared.asked.Asked.TheVariants.{Call, Ticks}
 use Rattle.play_script.specs.declared.line.Kind.{Kind}
 use Rattle.play_script.specs.declared.line.Kind.TheVariants as kind
 use Rattle.flat_model.specs.Machine.State.{State}
@@ -17,6 +21,16 @@ is_reading kind.Nothing shown words wanted = Nothing
 is_reading kind.TooLong shown words wanted = TooLong
 is_reading (kind.Faulty slip) shown words wanted = Faulty slip
 is_reading (kind.Asks expects) shown words wanted = Asks shown words (if_there expects wanted)
+
+-- the events that a line asks for
+abbrev pub events_of : Asked → List Event
+events_of (Call request) = event_of request ∷ []
+events_of (Ticks n) = replicate n Tick
+
+-- how many bytes it names, or asks for
+abbrev pub most_of : Asked → ℕ
+most_of (Call request) = room_of request
+most_of (Ticks n) = 0
 
 -- what is expected of the line on a desk
 abbrev pub expected_on : Desk → Option (List ℕ)

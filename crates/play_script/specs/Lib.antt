@@ -1,6 +1,6 @@
 pub mod Lines
 pub mod Outcomes
-pub mod Moved
+pub mod Asked
 pub mod Captures
 pub mod Plays
 pub mod Tells

@@ -1,6 +1,5 @@
 -- Captures that are played in: the machine's steps, and what is told of them (this project's own).
-use Rattle.std.specs.Prelude.{◌≡◌, ℕ, Bool, true, false, List, [], ◌∷◌, ◌++◌, map, length, Option, Some, None, Result, Ok}
-use Rattle.flat_model.specs.Amounts.Weight.{Item}
+use Rattle.std.specs.Prelude.{◌≡◌, ℕ, Bool, List, [], ◌∷◌, ◌++◌, map, length, Option, Some, None, Result, Ok}
 use Rattle.flat_model.specs.Machine.Event.{Event, Reply, IsEvent, Done}
 use Rattle.flat_model.specs.Machine.State.{State}
 use Rattle.flat_model.specs.Runs.Run.{Turn}
@@ -13,8 +12,9 @@ use Rattle.play_pcap.specs.Traces.{Traced}
 use Rattle.play_pcap.specs.declared.ask.Details.{Details}
 use Rattle.play_pcap.specs.declared.fault.CaptureFault.{CaptureFault}
 use Rattle.play_pcap.specs.declared.moves.Tally.{Tally}
-use Rattle.play_show.specs.Changes.{IsSnapshot, changes_text}
+use Rattle.play_show.specs.Changes.{IsSnapshot}
 use Rattle.play_show.specs.declared.snapshot.Snapshot.{Snapshot}
+use Rattle.play_script.specs.Asked.{below_text}
 use Rattle.play_script.specs.Captures.{Captures, turn_of}
 use Rattle.play_script.specs.Outcomes.{drops_text}
 
@@ -43,12 +43,6 @@ PlaysIn has plain turns =
 
 -- ---- what is told
 
--- What came of the packets and ticks, in lines below; nothing if the form is quiet. `output` are the packets that wait for
--- the link after them.
-abbrev pub below_of : Bool → Snapshot → Snapshot → List Item → List ℕ
-below_of true before after output = []
-below_of false before after output = changes_text None before after output
-
 module _ (step : State → Event → Reply → State → Type 0) where
   -- a packet comes or a tick passes, and the capture of the machine's packets has it
   abbrev pub ComesTo : SceneView → Event → SceneView → Type 0
@@ -64,4 +58,4 @@ module _ (step : State → Event → Reply → State → Type 0) where
       × PlaysNamed has ComesTo d word outcome old new
       × IsSnapshot step old.machine before × IsSnapshot step new.machine after
       × (told ≡ Some (outcome_text outcome ++ drops_text before.counters after.counters))
-      × (below ≡ below_of quiet before after new.machine.output)
+      × (below ≡ below_text quiet None before after new.machine.output)

@@ -1,12 +1,10 @@
 -- What a player of commented scripts may tell for a line, by a machine's steps (this project's own).
 use Rattle.std.specs.Prelude.{◌≡◌, ◌⊎◌, ℕ, zero, suc, ◌&&◌, Bool, true, false, List, [], codes, Option, Some, None, Result, Ok, Err}
 use Rattle.flat_model.specs.Machine.Count.{more_by}
-use Rattle.flat_model.specs.Machine.Event.{Event, Reply, Tick, Done}
+use Rattle.flat_model.specs.Machine.Event.{Event, Reply}
 use Rattle.flat_model.specs.Machine.State.{State, IsConfig, HasSizes, boot}
 use Rattle.flat_model.specs.Scripts.Grammar.{words}
 use Rattle.flat_model.specs.declared.config.Config.{Config}
-use Rattle.flat_model.specs.Scripts.Script as script
-use Rattle.flat_model.specs.Scripts.Script.{all_events}
 use Rattle.script_loop.specs.declared.fault.RunFault.{RunFault}
 use Rattle.script_loop.specs.declared.fault.RunFault.TheVariants.{Read, Write, Memory, TooManyLines, BadSizes, BadConfig}
 use Rattle.play_print.specs.Forms.{is_quiet}
@@ -23,9 +21,9 @@ use Rattle.play_show.specs.declared.topic.Topic.{Topic}
 use Rattle.play_pcap.specs.Asks.{IsAsked}
 use Rattle.play_pcap.specs.Traces.{Traced}
 use Rattle.play_pcap.specs.declared.ask.Details.{Details}
-use Rattle.play_script.specs.Captures.{Notes}
-use Rattle.play_script.specs.Lines.{Reading, Nothing, TooLong, Faulty, Asks, IsTicks, reading}
-use Rattle.play_script.specs.Moved.{IsBelow}
+use Rattle.play_script.specs.Asked.{AsksFor, AsksNothing, Does, below_text, moved_in, turns_of}
+use Rattle.play_script.specs.Captures.{Captures}
+use Rattle.play_script.specs.Lines.{Reading, Nothing, TooLong, Faulty, Asks, reading}
 use Rattle.play_script.specs.Outcomes.{outcome, meets}
 use Rattle.play_script.specs.Plays.{IsPlayed, SceneView, scene_of}
 
@@ -120,29 +118,28 @@ abbrev pub next_line : Play → Play
 next_line old = record old { number = more_by 1 old.number }
 
 module _ (step : State → Event → Reply → State → Type 0) where
-  -- so many ticks, one after another
-  abbrev pub Ticks : ℕ → State → State → Type 0
-  Ticks zero old new = new ≡ old
-  Ticks (suc n) old new = (mid : State) × Ticks n old mid × step mid Tick Done new
-
-  -- From old, a line may have this reply and lead to new: that of the event that it asks for, or of so many ticks. A
-  -- line that asks for neither changes nothing.
-  abbrev pub Does : State → List ℕ → Option Reply → State → Type 0
-  Does old plain (Some reply) new =
-      script.Answers all_events step old plain (Some reply) new
-      ⊎ ((n : ℕ) × IsTicks plain n × (reply ≡ Done) × Ticks n old new)
-  Does old plain None new = script.Answers all_events step old plain None new × ((n : ℕ) → ¬ IsTicks plain n)
+  -- What may be told of a line that asks for these events, with the lines below it: their reply and what was dropped,
+  -- and below it what came of them. The capture has what they add to it.
+  pub record IsDone (quiet : Bool) (old : SceneView) (events : List Event) (told : Option (List ℕ)) (below : List ℕ) (new : SceneView) : Type 0 where
+    pub reply : Reply
+    pub before : Snapshot
+    pub after : Snapshot
+    pub does : Does step old.machine events reply new.machine
+    pub captured : Captures old.line old.traced (turns_of events reply) new.traced
+    pub was : IsSnapshot step old.machine before
+    pub now : IsSnapshot step new.machine after
+    pub tells : told ≡ outcome (Some reply) before.counters after.counters
+    pub shows : below ≡ below_text quiet (moved_in events reply) before after new.machine.output
 
   -- What may be told of a plain line, with the lines below it: what it asks to be shown, and then nothing changes; else
-  -- its reply and what was dropped, and below it what came of it. The capture then has what `notes` says of the reply.
-  abbrev pub IsAnswered : Bool → (Option Reply → Type 0) → State → Option Topic → List ℕ → Option (List ℕ) → List ℕ → State → Type 0
-  IsAnswered quiet notes old (Some topic) plain None below new = ⊥
-  IsAnswered quiet notes old (Some topic) plain (Some told) below new =
-      Shows step old topic told below × (new ≡ old) × notes None
-  IsAnswered quiet notes old None plain told below new =
-      (reply : Option Reply) × (before after : Snapshot)
-      × Does old plain reply new × notes reply × IsSnapshot step old before × IsSnapshot step new after
-      × (told ≡ outcome reply before.counters after.counters) × IsBelow quiet plain reply before after new.output below
+  -- what is told of the events that it asks for, or nothing.
+  abbrev pub IsAnswered : Bool → SceneView → Option Topic → List ℕ → Option (List ℕ) → List ℕ → SceneView → Type 0
+  IsAnswered quiet old (Some topic) plain None below new = ⊥
+  IsAnswered quiet old (Some topic) plain (Some told) below new =
+      Shows step old.machine topic told below × (new.machine ≡ old.machine) × (new.traced ≡ old.traced)
+  IsAnswered quiet old None plain told below new =
+      (AsksNothing plain × (told ≡ None) × (below ≡ []) × (new.machine ≡ old.machine) × (new.traced ≡ old.traced))
+      ⊎ ((events : List Event) × AsksFor plain events × IsDone quiet old events told below new)
 
 -- the same, where `has` says which bytes the file of a name may have
 module _ (step : State → Event → Reply → State → Type 0) (has : List ℕ → List ℕ → Type 0) where
@@ -152,7 +149,7 @@ module _ (step : State → Event → Reply → State → Type 0) (has : List ℕ
   IsTold quiet plain old told below new =
       ((word : List ℕ) × (d : Details) × IsAsked plain word d × IsPlayed step has quiet d word old told below new)
       ⊎ (((word : List ℕ) (d : Details) → IsAsked plain word d → ⊥)
-      × IsAnswered step quiet (λ reply. Notes old.line plain reply old.traced new.traced) old.machine (topic_asked plain) plain told below new.machine)
+      × IsAnswered step quiet old (topic_asked plain) plain told below new)
 
   -- what a line may have as its text that doesn't begin with two dashes, and one that does
   abbrev pub TellsAsked : Bool → Play → List ℕ → List ℕ → Option (List ℕ) → List ℕ → Play → Type 0

@@ -1,18 +1,18 @@
 //! What a line adds to a capture: the packet that it moves, and the ticks that it lets pass.
-ghost use Rattle.std.specs.Prelude.{◌≡◌, ◌∷◌, ◌*◌, ℕ, [], length, replicate, IsTrue, ◌↔◌, List, MatchBool, Option, Some};
-ghost use Rattle.flat_model.specs.Machine.Event.{Reply, Done, Given, Tick, Transmit};
-ghost use Rattle.flat_model.specs.Scripts.Grammar.{IsLine, words};
-ghost use Rattle.flat_model.specs.Scripts.Texts.{answer_text};
+ghost use Rattle.std.specs.Prelude.{◌≤◌, ◌∷◌, ℕ, [], length, replicate};
+ghost use Rattle.flat_model.specs.Machine.Event as event;
+ghost use Rattle.flat_model.specs.Machine.Event.{Tick, Transmit};
 ghost use Rattle.params.specs.declared.TheConstants.{IP_MAX_PACKET};
-ghost use Rattle.play_script.specs.Captures.{Captures, Notes, turn_of};
-ghost use Rattle.play_script.specs.Tells.{Does};
+ghost use Rattle.request.specs.Replies.{len_of, reply_of};
+ghost use Rattle.request.specs.Requests.{event_of, room_of};
+ghost use Rattle.play_script.specs.Asked.{turns_of};
+ghost use Rattle.play_script.specs.Captures.{Captures, turn_of};
+ghost use Rattle.play_script.specs.Inside.{events_of, most_of};
 
-use crate::moved::packet_behind;
-use crate::player::{do_line, ticks_of};
-use link_script::{Caller, Machine, TEXT, lines_law};
-use params::LONGEST_REQUEST;
+use crate::asked::{Asked, given};
 use play_pcap::Trace;
-use script_loop::{Buffer, Sink, first_word, is_end, put_hex};
+use request::{Reply, Request};
+use script_loop::Sink;
 
 /// A capture, and the number of the script's line whose packet is kept in it.
 pub(crate) struct Tape<T: Sink> {
@@ -20,58 +20,9 @@ pub(crate) struct Tape<T: Sink> {
     pub(crate) line: u64,
 }
 
-/// Whether a line has this word alone.
-fn is_word(line: &[u8], word: &[u8]) -> bool
-    ensures { IsTrue result ↔ (words line.now ≡ word.now ∷ []) }
-{
-    let (first, rest) = first_word(line);
-    if first != word {
-        return false;
-    }
-    is_end(rest)
-}
-
-/// Whether a line asks for the oldest packet that waits for the link.
-fn is_transmit(line: &[u8]) -> bool
-    ensures { MatchBool result (IsLine line.now Transmit) (IsLine line.now Transmit → ⊥) }
-{
-    if line.len() > LONGEST_REQUEST as usize {
-        return false;
-    }
-    is_word(line, b"tx")
-}
-
-/// Lets the link take the oldest packet, keeps it, and puts the text of the answer into a buffer. `bytes` and `digits`
-/// are room for the packet and its digits.
-fn transmit<M: Machine, T: Sink>(
-    machine: &mut M,
-    bytes: &mut [u8],
-    digits: &mut [u8],
-    reply: &mut Buffer<TEXT>,
-    tape: &mut Tape<T>,
-)
-    requires bytes { length bytes.old ≡ IP_MAX_PACKET }
-    requires digits { length digits.old ≡ 2 * IP_MAX_PACKET }
-    ensures { (packet : Option (List ℕ))
-        × M.may_step (M.state machine.old) Transmit (Given packet) (M.state machine.new)
-        × (reply.new ≡ answer_text (Some (Given packet)))
-        × Captures tape.old.line tape.old.trace (turn_of Transmit (Given packet) ∷ []) tape.new.trace }
-{
-    reply.clear();
-    let Some(len) = machine.tx(bytes) else {
-        reply.append(b"none\n");
-        return;
-    };
-    let packet = &bytes[..len];
-    reply.append(b"packet ");
-    put_hex(reply, digits, packet);
-    reply.append(b"\n");
-    tape.trace.keep(tape.line, packet);
-}
-
 /// Lets so many ticks pass in a capture.
 fn note_ticks<T: Sink>(trace: &mut Trace<T>, count: u32)
-    ensures { (number : ℕ) → Captures number trace.old (replicate count (turn_of Tick Done)) trace.new }
+    ensures { (number : ℕ) (reply : event.Reply) → Captures number trace.old (turns_of (replicate count Tick) reply) trace.new }
 {
     let mut left = count;
     while left > 0 {
@@ -80,55 +31,48 @@ fn note_ticks<T: Sink>(trace: &mut Trace<T>, count: u32)
     }
 }
 
-/// Adds to a capture what a line adds that was answered so, and that isn't `tx`. The room is for the packet.
-fn note_line<T: Sink>(tape: &mut Tape<T>, line: &[u8], answer: &[u8], room: &mut [u8])
-    requires room { length room.old ≡ IP_MAX_PACKET }
-    requires no_transmit { IsLine line.now Transmit → ⊥ }
-    ensures { (reply : Option Reply) → answer.now ≡ answer_text reply
-        → Notes tape.old.line line.now reply tape.old.trace tape.new.trace }
+/// Keeps the packet that the link was given, if there was one.
+fn note_given<T: Sink>(tape: &mut Tape<T>, reply: &Reply<'_>)
+    requires { len_of reply.now ≤ IP_MAX_PACKET }
+    ensures { Captures tape.old.line tape.old.trace (turn_of Transmit (reply_of reply.now) ∷ []) tape.new.trace }
 {
-    lines_law();
-    if answer == b"? line\n".as_slice() {
-        return;
-    }
-    if let Some(count) = ticks_of(line) {
-        note_ticks(&mut tape.trace, count);
-    } else if is_word(line, b"tick") {
-        tape.trace.tick();
-    } else if let Some(len) = packet_behind(b"rx", line, room) {
-        tape.trace.keep(tape.line, &room[..len]);
+    if let Some(packet) = given(reply) {
+        tape.trace.keep(tape.line, packet);
     }
 }
 
-/// Does what a line asks for, puts the text of its answer into a buffer, and adds to a capture what the line adds.
-pub(crate) fn do_noted<M: Machine, T: Sink>(
-    caller: &mut Caller<M>,
-    line: &[u8],
-    reply: &mut Buffer<TEXT>,
-    tape: &mut Tape<T>,
-)
-    ensures { (answer : Option Reply)
-        × Does M.may_step (M.state caller.old.machine) line.now answer (M.state caller.new.machine)
-        × (reply.new ≡ answer_text answer)
-        × Notes tape.old.line line.now answer tape.old.trace tape.new.trace }
+/// Adds to a capture what a call does: the packet that comes or goes, or the tick that passes.
+fn note_call<T: Sink>(tape: &mut Tape<T>, request: Request<'_>, reply: &Reply<'_>)
+    requires request { room_of request ≤ IP_MAX_PACKET }
+    requires reply { len_of reply.now ≤ IP_MAX_PACKET }
+    ensures { Captures tape.old.line tape.old.trace (turn_of (event_of request.entry) (reply_of reply.now) ∷ [])
+        tape.new.trace }
 {
-    lines_law();
-    if is_transmit(line) {
-        let buffers = &mut caller.buffers;
-        transmit(
-            &mut caller.machine,
-            buffers.bytes.as_mut_slice(),
-            buffers.digits.as_mut_slice(),
-            reply,
-            tape,
-        );
-        return;
+    match request {
+        Request::Packet(packet) => tape.trace.keep(tape.line, packet),
+        Request::Transmit => note_given(tape, reply),
+        Request::Tick => tape.trace.tick(),
+        Request::Socket => {}
+        Request::Bind(_, _) => {}
+        Request::Connect(_, _) => {}
+        Request::Send(_, _, _) => {}
+        Request::Receive(_, _) => {}
+        Request::Close(_) => {}
+        Request::SetOption(_, _, _) => {}
+        Request::Counters => {}
+        Request::Usage => {}
     }
-    do_line(caller, line, reply);
-    note_line(
-        tape,
-        line,
-        reply.as_slice(),
-        caller.buffers.bytes.as_mut_slice(),
-    );
+}
+
+/// Adds to a capture what was done: the packet that came or went, or the ticks that passed.
+pub(crate) fn note<T: Sink>(tape: &mut Tape<T>, asked: &Asked<'_>, reply: &Reply<'_>)
+    requires asked { most_of asked.now ≤ IP_MAX_PACKET }
+    requires reply { len_of reply.now ≤ IP_MAX_PACKET }
+    ensures { Captures tape.old.line tape.old.trace (turns_of (events_of asked.now) (reply_of reply.now))
+        tape.new.trace }
+{
+    match *asked {
+        Asked::Ticks(count) => note_ticks(&mut tape.trace, count),
+        Asked::Call(request) => note_call(tape, request, reply),
+    }
 }

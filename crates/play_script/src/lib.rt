@@ -2,11 +2,11 @@
 //! expected. What is told of a line is its reply, and why packets were dropped.
 #![tactic(auto)]
 
+mod asked;
 mod capture;
 mod fits;
 mod laws;
 mod line;
-mod moved;
 mod outcome;
 mod player;
 mod print;
@@ -18,9 +18,9 @@ pub use fits::meets;
 pub use flat_model::Config;
 pub use laws::runs_law;
 pub use line::{Kind, read_line};
-pub use outcome::{DROPS, TOLD, put_drops};
+pub use outcome::{DROPS, TOLD, put_drops, put_told};
 pub use play_pcap::{CaptureFault, Folder, NoFolder, RECORD, Trace};
 pub use play_print::Form;
-pub use player::{tell_answer, ticks_of};
+pub use player::ticks_of;
 pub use runs::{Captured, Played, Start, Style, play, play_captured};
 pub use script_loop::{RunFault, Silent, Sink, Source};

@@ -1,9 +1,12 @@
 //! What is told of a line: its reply, and why packets were dropped.
 ghost use Rattle.std.specs.Prelude.{◌≡◌, ◌+◌, ◌*◌, ◌≤◌, ◌++◌, [], length};
+ghost use Rattle.params.specs.declared.TheConstants.{IP_MAX_PACKET};
+ghost use Rattle.flat_model.specs.Scripts.Texts.{reply_text};
+ghost use Rattle.request.specs.Replies.{len_of, reply_of};
 ghost use Rattle.play_script.specs.Outcomes.{all_causes, cause_text, drops_text, told as told_of, words_of};
 
 use flat_model::{Counters, Why};
-use link_script::TEXT;
+use request::{Reply, TEXT, put_reply};
 use script_loop::Buffer;
 
 /// Room for all causes at once.
@@ -87,17 +90,19 @@ pub fn put_drops(text: &mut Buffer<DROPS>, before: &Counters, after: &Counters)
     }
 }
 
-/// Puts what is told of a reply and of what was dropped into a buffer.
-pub(crate) fn put_told(text: &mut Buffer<TOLD>, reply: &[u8], drops: &[u8])
-    requires reply { length reply.now ≤ TEXT }
+/// Puts what is told of a reply and of what was dropped into a buffer. `digits` is room for digits.
+pub fn put_told(text: &mut Buffer<TOLD>, digits: &mut [u8], reply: &Reply<'_>, drops: &[u8])
+    requires fits { len_of reply.now ≤ IP_MAX_PACKET }
+    requires digits { length digits.old ≡ 2 * IP_MAX_PACKET }
     requires drops { length drops.now ≤ DROPS }
-    ensures { text.new ≡ told_of reply.now drops.now }
+    ensures { text.new ≡ told_of (reply_text (reply_of reply.now)) drops.now }
 {
     text.clear();
-    if reply == b"ok".as_slice() && !drops.is_empty() {
-        text.append(&drops[1..]);
-    } else {
-        text.append(reply);
-        text.append(drops);
+    match *reply {
+        Reply::Done if !drops.is_empty() => text.append(&drops[1..]),
+        _ => {
+            put_reply(text, digits, reply);
+            text.append(drops);
+        }
     }
 }

@@ -1,38 +1,38 @@
 //! What plays a script line by line.
-ghost use Rattle.std.specs.Prelude.{◌≡◌, ◌&&◌, ◌<◌, ◌≤◌, ◌++◌, ◌+◌, ℕ, true, false, [], length, List, Option, Some, Ok, Err, MatchOption, MatchResult};
-ghost use Rattle.flat_model.specs.Machine.Event.{Reply};
+ghost use Rattle.std.specs.Prelude.{◌≡◌, ◌&&◌, ◌*◌, ◌≤◌, ◌++◌, ◌+◌, ℕ, true, false, [], length, List, Option, Some, None, Ok, Err, IfSome, MatchOption, MatchResult};
 ghost use Rattle.flat_model.specs.Machine.State.{boot};
 ghost use Rattle.flat_model.specs.declared.config.Config.{Config};
-ghost use Rattle.flat_model.specs.declared.counters.Counters.{Counters};
-ghost use Rattle.flat_model.specs.Scripts.Texts.{answer_text};
 ghost use Rattle.play_print.specs.Texts.{if_there};
 ghost use Rattle.play_script.specs.Lines.{IsTicks};
-ghost use Rattle.play_script.specs.Outcomes.{outcome, drops_text};
-ghost use Rattle.play_script.specs.Captures as captures;
-ghost use Rattle.play_show.specs.Changes.{IsSnapshot};
 ghost use Rattle.play_show.specs.Topics.{topic_asked};
-ghost use Rattle.play_script.specs.Moved.{IsBelow};
+ghost use Rattle.play_script.specs.Asked.{below_text};
+ghost use Rattle.request.specs.Replies.{packet_of};
+ghost use Rattle.params.specs.declared.TheConstants.{IP_MAX_PACKET, MAX_MTU};
 ghost use Rattle.link_script.specs.Boots.{IsUnbooted};
 ghost use Rattle.play_script.specs.Plays.{scene_of};
-ghost use Rattle.play_script.specs.Tells.{Play, Ticks, Does, IsAnswered, IsRefused, IsSettled, IsTold, Tells, TellsAsked, TellsSettings, told_text, printed, is_sound, stays_head};
+ghost use Rattle.play_script.specs.Tells.{Play, IsAnswered, IsRefused, IsSettled, IsTold, Tells, TellsAsked, TellsSettings, told_text, printed, is_sound, stays_head};
 ghost use Rattle.play_script.specs.Inside.{expected_on, play_of};
+ghost use Rattle.net_stack.specs.Stack.{state_of};
+ghost use Rattle.stack_call.specs.Moves.{Moves};
 
-use crate::capture::{Tape, do_noted};
+use crate::asked::{asked_of, do_asked, moved_by};
+use crate::capture::{Tape, note};
 use crate::fits::meets;
 use crate::line::{Kind, read_line};
-use crate::moved::put_below;
 use crate::outcome::{DROPS, TOLD, put_drops, put_told};
 use crate::print::{NAME, ROOM};
 use crate::replay::{Shelf, tell_capture};
 use crate::scene::Scene;
 use flat_model::Config;
-use link_script::{Caller, Machine, TEXT};
+use link_script::{Caller, booted};
+use net_stack::Stack;
+use params::{IP_MAX_PACKET, MAX_MTU};
 use play_line::LONGEST;
 use play_packet::LineReader;
 use play_pcap::{Folder, Trace, ask_of};
 use play_print::{Form, Outcome, put_fault, put_outcome, put_slip};
 use play_settings::{SettingFault, is_settings, settings_of};
-use play_show::{Questions, SHOWN, Snapshot, snapshot_of, tell_topic, topic_of};
+use play_show::{SHOWN, Snapshot, put_changes, snapshot_of, tell_topic, topic_of};
 use script_loop::{Answers, Buffer, HELD, RunFault, Sink, first_word, number, one};
 use std::alloc::Global;
 use std::mem;
@@ -64,52 +64,9 @@ pub fn ticks_of(words: &[u8]) -> Option<u32>
     Some(count)
 }
 
-/// Lets so many ticks pass.
-fn tick_all<M: Machine>(machine: &mut M, count: u32)
-    ensures { Ticks M.may_step count (M.state machine.old) (M.state machine.new) }
-{
-    let mut passed = 0;
-    while passed < count {
-        machine.tick();
-        passed += 1;
-    }
-}
-
-/// Does what a line asks for, and puts the text of its answer into a buffer.
-pub(crate) fn do_line<M: Machine>(caller: &mut Caller<M>, words: &[u8], reply: &mut Buffer<TEXT>)
-    ensures { (answer : Option Reply)
-        × Does M.may_step (M.state caller.old.machine) words.now answer (M.state caller.new.machine)
-        × (reply.new ≡ answer_text answer) }
-{
-    reply.clear();
-    match ticks_of(words) {
-        Some(count) => {
-            tick_all(&mut caller.machine, count);
-            reply.append(b"ok\n");
-        }
-        None => caller.answer(words, reply),
-    }
-}
-
-/// Puts what is told of the text of an answer into a buffer, and answers whether it's a reply.
-pub fn tell_answer(answer: &[u8], drops: &[u8], told: &mut Buffer<TOLD>) -> bool
-    requires answer { length answer.now ≤ TEXT }
-    requires drops { length drops.now ≤ DROPS }
-    ensures is { (reply : Option Reply) (before after : Counters) → answer.now ≡ answer_text reply
-        → drops.now ≡ drops_text before after → if_there result told.new ≡ outcome reply before after }
-    ensures some { result ≡ true → 0 < length answer.now }
-{
-    if answer == b"? line\n".as_slice() || answer.is_empty() {
-        return false;
-    }
-    put_told(told, &answer[..answer.len() - 1], drops);
-    true
-}
-
 /// Memory for what comes of a line.
 #[derive(Drop)]
 pub(crate) struct Notes {
-    pub(crate) reply: Buffer<TEXT>,
     pub(crate) drops: Buffer<DROPS>,
     pub(crate) told: Buffer<TOLD>,
     /// What is shown, and the lines below it.
@@ -117,92 +74,118 @@ pub(crate) struct Notes {
     pub(crate) below: Buffer<SHOWN>,
 }
 
-/// Does a line, puts what is told of it into the notes, and answers whether it asks for something. The capture has what
-/// the line adds.
-fn tell_line<M: Questions, T: Sink>(
-    caller: &mut Caller<M>,
+/// Puts what came of a line into a buffer, or nothing. The packets that are told are copied into the room.
+pub(crate) fn put_below(
+    quiet: bool,
+    stack: &Stack,
+    room: &mut [u8],
+    moved: (Option<&[u8]>, &Snapshot, &Snapshot),
+    below: &mut Buffer<SHOWN>,
+)
+    requires moved { IfSome moved.0 (λ p. length p.now ≤ IP_MAX_PACKET) }
+    requires room { MAX_MTU ≤ length room.old }
+    ensures { below.new ≡ below_text quiet (packet_of moved.entry.0) moved.entry.1.now moved.entry.2.now
+        (state_of stack.now).output }
+{
+    if quiet {
+        below.clear();
+    } else {
+        let (packet, before, after) = moved;
+        let room = &mut room[..MAX_MTU as usize];
+        put_changes(below, packet, (before, after), stack, room);
+    }
+}
+
+/// Does what a line asks for, puts what is told of it into the notes, and answers whether it asks for something. The
+/// capture has what the line adds.
+fn tell_line<T: Sink>(
+    stack: &mut Stack,
+    tape: &mut Tape<T>,
+    bytes: &mut [u8],
+    digits: &mut [u8],
     words: &[u8],
     quiet: bool,
     notes: &mut Notes,
-    tape: &mut Tape<T>,
 ) -> bool
-    ensures { (reply : Option Reply) × (before after : Snapshot)
-        × Does M.may_step (M.state caller.old.machine) words.now reply (M.state caller.new.machine)
-        × captures.Notes tape.old.line words.now reply tape.old.trace tape.new.trace
-        × IsSnapshot M.may_step (M.state caller.old.machine) before
-        × IsSnapshot M.may_step (M.state caller.new.machine) after
-        × (if_there result notes.new.told ≡ outcome reply before.counters after.counters)
-        × IsBelow quiet words.now reply before after (M.state caller.new.machine).output notes.new.below }
+    requires bytes { length bytes.old ≡ IP_MAX_PACKET }
+    requires digits { length digits.old ≡ 2 * IP_MAX_PACKET }
+    ensures { IsAnswered Moves quiet (scene_of (state_of stack.old) tape.old.trace tape.old.line) None words.now
+        (if_there result notes.new.told) notes.new.below (scene_of (state_of stack.new) tape.new.trace tape.new.line) }
 {
-    let before = snapshot_of(&caller.machine);
-    do_noted(caller, words, &mut notes.reply, tape);
-    let after = snapshot_of(&caller.machine);
-    put_drops(&mut notes.drops, &before.counters, &after.counters);
-    let asks = tell_answer(
-        bytes_of(&notes.reply),
-        bytes_of(&notes.drops),
-        &mut notes.told,
-    );
-    if quiet || !asks {
+    let (named, room) = digits.split_at_mut(IP_MAX_PACKET as usize);
+    let Some(asked) = asked_of(words, named) else {
         notes.below.clear();
-        return asks;
-    }
+        return false;
+    };
+    let before = snapshot_of(stack);
+    let reply = do_asked(stack, asked, bytes);
+    let after = snapshot_of(stack);
+    note(tape, &asked, &reply);
+    let moved = moved_by(&asked, &reply);
     put_below(
-        (words, bytes_of(&notes.reply)),
-        &caller.machine,
-        caller.buffers.bytes.as_mut_slice(),
-        caller.buffers.digits.as_mut_slice(),
-        (&before, &after),
+        quiet,
+        stack,
+        room,
+        (moved, &before, &after),
         &mut notes.below,
     );
+    put_drops(&mut notes.drops, &before.counters, &after.counters);
+    put_told(&mut notes.told, digits, &reply, bytes_of(&notes.drops));
     true
 }
 
 /// Does what a line asks for or tells what it asks to be shown, puts what is told of it into the notes, and answers
 /// whether it asks for something.
-fn answer_line<M: Questions, T: Sink>(
-    caller: &mut Caller<M>,
-    words: &[u8],
-    quiet: bool,
-    notes: &mut Notes,
-    tape: &mut Tape<T>,
-) -> bool
-    ensures { IsAnswered M.may_step quiet
-        (λ reply. captures.Notes tape.old.line words.now reply tape.old.trace tape.new.trace)
-        (M.state caller.old.machine) (topic_asked words.now) words.now
-        (if_there result notes.new.told) notes.new.below (M.state caller.new.machine) }
+fn answer_line<T: Sink>(scene: &mut Scene<T>, words: &[u8], quiet: bool, notes: &mut Notes) -> bool
+    ensures { IsAnswered Moves quiet
+        (scene_of (state_of scene.old.caller.machine) scene.old.tape.trace scene.old.tape.line) (topic_asked words.now)
+        words.now (if_there result notes.new.told) notes.new.below
+        (scene_of (state_of scene.new.caller.machine) scene.new.tape.trace scene.new.tape.line) }
 {
     match topic_of(words) {
         Some(topic) => {
-            tell_topic(&caller.machine, topic, &mut notes.shown, &mut notes.below);
+            tell_topic(
+                &scene.caller.machine,
+                topic,
+                &mut notes.shown,
+                &mut notes.below,
+            );
             notes.told.clear();
             notes.told.append(bytes_of(&notes.shown));
             true
         }
-        None => tell_line(caller, words, quiet, notes, tape),
+        None => tell_line(
+            &mut scene.caller.machine,
+            &mut scene.tape,
+            scene.caller.buffers.bytes.as_mut_slice(),
+            scene.caller.buffers.digits.as_mut_slice(),
+            words,
+            quiet,
+            notes,
+        ),
     }
 }
 
 /// Does a plain line, puts what is told of it into the notes, and answers whether it asks for something. If it asks for
 /// a capture, that's played in.
-fn tell_words<M: Questions, T: Sink, F: Folder>(
-    scene: &mut Scene<M, T>,
+fn tell_words<T: Sink, F: Folder>(
+    scene: &mut Scene<T>,
     shelf: &Shelf<F>,
     words: &[u8],
     quiet: bool,
     notes: &mut Notes,
 ) -> bool
-    ensures { IsTold M.may_step F.may_have quiet words.now
-        (scene_of (M.state scene.old.caller.machine) scene.old.tape.trace scene.old.tape.line)
+    ensures { IsTold Moves F.may_have quiet words.now
+        (scene_of (state_of scene.old.caller.machine) scene.old.tape.trace scene.old.tape.line)
         (if_there result notes.new.told) notes.new.below
-        (scene_of (M.state scene.new.caller.machine) scene.new.tape.trace scene.new.tape.line) }
+        (scene_of (state_of scene.new.caller.machine) scene.new.tape.trace scene.new.tape.line) }
 {
     match ask_of(words) {
         Some(ask) => {
             tell_capture(scene, shelf, ask, quiet, notes);
             true
         }
-        None => answer_line(&mut scene.caller, words, quiet, notes, &mut scene.tape),
+        None => answer_line(scene, words, quiet, notes),
     }
 }
 
@@ -225,10 +208,10 @@ pub(crate) struct Sheet {
 }
 
 /// What plays a script.
-pub(crate) struct Player<M, T: Sink, F> {
+pub(crate) struct Player<T: Sink, F> {
     pub(crate) shelf: Shelf<F>,
     /// The machine, with the capture of the packets that come and go.
-    pub(crate) scene: Scene<M, T>,
+    pub(crate) scene: Scene<T>,
     /// What the machine was booted with.
     pub(crate) config: Config,
     /// Whether settings may still make another machine.
@@ -282,21 +265,21 @@ fn refusal_of(fault: RunFault) -> SettingFault
 }
 
 /// A new machine as the settings of a line say, if these stand in the script's head, and its configuration.
-fn settled<M: Machine>(
+fn settled(
     alloc: Global,
     head: bool,
     config: Config,
     words: &[u8],
-) -> Result<(M, Config), SettingFault>
+) -> Result<(Stack, Config), SettingFault>
     ensures { MatchResult result
-        (λ r. IsSettled head config words.now (Ok r.1) × (M.state r.0 ≡ boot r.1))
+        (λ r. IsSettled head config words.now (Ok r.1) × (state_of r.0 ≡ boot r.1))
         (λ fault. IsSettled head config words.now (Err fault)) }
 {
     if !head {
         return Err(SettingFault::Late);
     }
     let config = settings_of(words, config)?;
-    match M::boot(alloc, config) {
+    match booted(alloc, config) {
         Ok(machine) => Ok((machine, config)),
         Err(fault) => Err(refusal_of(fault)),
     }
@@ -346,7 +329,7 @@ fn both(first: bool, second: bool) -> bool
     first && second
 }
 
-impl<M: Machine, T: Sink, F: Folder> Player<M, T, F> {
+impl<T: Sink, F: Folder> Player<T, F> {
     /// Spends the player and its machine, and gives the capture back.
     pub(crate) fn end(self) -> Trace<T>
         ensures { result ≡ self.scene.tape.trace }
@@ -367,26 +350,26 @@ impl<M: Machine, T: Sink, F: Folder> Player<M, T, F> {
             machine,
             buffers: _buffers,
         } = caller;
-        machine.end();
+        let _ = machine.end();
         let Tape { trace, line: _line } = tape;
         trace
     }
 }
 
-impl<M: Questions, T: Sink, F: Folder> Player<M, T, F> {
+impl<T: Sink, F: Folder> Player<T, F> {
     /// Makes a new machine as the settings on the desk say, and prints `ok` or what is wrong with them.
     fn set_up(&mut self, text: &mut Buffer<ROOM>)
         requires { length text.old ≤ HELD }
         ensures { (added : List ℕ)
             × TellsSettings
-            (play_of (M.state self.old.scene.caller.machine) self.old.scene.tape.trace self.old.config self.old.head
+            (play_of (state_of self.old.scene.caller.machine) self.old.scene.tape.trace self.old.config self.old.head
             self.old.sheet self.old.sound)
             self.old.desk.shown self.old.desk.words (expected_on self.old.desk) added
-            (play_of (M.state self.new.scene.caller.machine) self.new.scene.tape.trace self.new.config self.new.head
+            (play_of (state_of self.new.scene.caller.machine) self.new.scene.tape.trace self.new.config self.new.head
             self.new.sheet self.new.sound)
             × (text.new ≡ text.old ++ added) }
     {
-        let outcome = settled::<M>(
+        let outcome = settled(
             self.shelf.alloc,
             self.head,
             self.config,
@@ -394,7 +377,7 @@ impl<M: Questions, T: Sink, F: Folder> Player<M, T, F> {
         );
         match outcome {
             Ok((machine, config)) => {
-                mem::replace(&mut self.scene.caller.machine, machine).end();
+                let _ = mem::replace(&mut self.scene.caller.machine, machine).end();
                 self.config = config;
                 self.notes.told.clear();
                 self.notes.told.append(b"ok");
@@ -419,11 +402,11 @@ impl<M: Questions, T: Sink, F: Folder> Player<M, T, F> {
     fn ask(&mut self, text: &mut Buffer<ROOM>)
         requires { length text.old ≤ HELD }
         ensures { (added : List ℕ)
-            × TellsAsked M.may_step F.may_have false
-            (play_of (M.state self.old.scene.caller.machine) self.old.scene.tape.trace self.old.config self.old.head
+            × TellsAsked Moves F.may_have false
+            (play_of (state_of self.old.scene.caller.machine) self.old.scene.tape.trace self.old.config self.old.head
             self.old.sheet self.old.sound)
             self.old.desk.shown self.old.desk.words (expected_on self.old.desk) added
-            (play_of (M.state self.new.scene.caller.machine) self.new.scene.tape.trace self.new.config self.new.head
+            (play_of (state_of self.new.scene.caller.machine) self.new.scene.tape.trace self.new.config self.new.head
             self.new.sheet self.new.sound)
             × (text.new ≡ text.old ++ added) }
     {
@@ -442,12 +425,12 @@ impl<M: Questions, T: Sink, F: Folder> Player<M, T, F> {
     }
 }
 
-impl<M: Questions, T: Sink, F: Folder> Answers<ROOM> for Player<M, T, F> {
+impl<T: Sink, F: Folder> Answers<ROOM> for Player<T, F> {
     ghost State = { Play };
 
-    ghost state = { λ p. play_of (M.state p.scene.caller.machine) p.scene.tape.trace p.config p.head p.sheet p.sound };
+    ghost state = { λ p. play_of (state_of p.scene.caller.machine) p.scene.tape.trace p.config p.head p.sheet p.sound };
 
-    ghost may_answer = { Tells M.may_step F.may_have };
+    ghost may_answer = { Tells Moves F.may_have };
 
     fn answer(&mut self, line: &[u8], text: &mut Buffer<ROOM>) {
         self.sheet.number = self.sheet.number.saturating_add(1);

@@ -1,18 +1,17 @@
 //! Captures that are played in.
-ghost use Rattle.std.specs.Prelude.{◌≡◌, ◌≤◌, length, Some};
-ghost use Rattle.params.specs.declared.TheConstants.{MAX_MTU};
+ghost use Rattle.std.specs.Prelude.{Some};
 ghost use Rattle.play_pcap.specs.Events.{IsOrdered};
 ghost use Rattle.play_pcap.specs.Files.{PlaysNamed};
-ghost use Rattle.play_script.specs.Plays.{ComesTo, IsPlayed, below_of, scene_of};
+ghost use Rattle.play_script.specs.Plays.{ComesTo, IsPlayed, scene_of};
+ghost use Rattle.net_stack.specs.Stack.{state_of};
+ghost use Rattle.stack_call.specs.Moves.{Moves};
 
 use crate::outcome::put_drops;
-use crate::player::{Notes, bytes_of};
+use crate::player::{Notes, bytes_of, put_below};
 use crate::scene::Scene;
-use link_script::Machine;
-use params::MAX_MTU;
 use play_pcap::{Ask, CaptureFault, Folder, Tally, load_named, play_file, put_outcome};
-use play_show::{Questions, SHOWN, Snapshot, put_changes, snapshot_of};
-use script_loop::{Buffer, Sink};
+use play_show::snapshot_of;
+use script_loop::Sink;
 use std::alloc::Global;
 
 /// The files that a script may name, and the memory that one of them is read into.
@@ -23,15 +22,15 @@ pub(crate) struct Shelf<F> {
 }
 
 /// Plays in the capture that a line asks for, if there is one.
-fn play_in<M: Machine, T: Sink, F: Folder>(
-    scene: &mut Scene<M, T>,
+fn play_in<T: Sink, F: Folder>(
+    scene: &mut Scene<T>,
     shelf: &Shelf<F>,
     ask: Ask<'_>,
 ) -> Result<Tally, CaptureFault>
     requires { IsOrdered ask.details.range }
-    ensures { PlaysNamed F.may_have (ComesTo M.may_step) ask.entry.details ask.entry.name.now result
-        (scene_of (M.state scene.old.caller.machine) scene.old.tape.trace scene.old.tape.line)
-        (scene_of (M.state scene.new.caller.machine) scene.new.tape.trace scene.new.tape.line) }
+    ensures { PlaysNamed F.may_have (ComesTo Moves) ask.entry.details ask.entry.name.now result
+        (scene_of (state_of scene.old.caller.machine) scene.old.tape.trace scene.old.tape.line)
+        (scene_of (state_of scene.new.caller.machine) scene.new.tape.trace scene.new.tape.line) }
 {
     let room = scene.caller.buffers.bytes.as_mut_slice();
     match load_named(shelf.alloc, &shelf.folder, ask.name, room) {
@@ -40,39 +39,19 @@ fn play_in<M: Machine, T: Sink, F: Folder>(
     }
 }
 
-/// Puts what came of the packets of a capture into a buffer, or nothing. The packets that are told are copied into the
-/// room for digits.
-fn put_below_capture<M: Questions>(
-    quiet: bool,
-    machine: &M,
-    digits: &mut [u8],
-    looks: (&Snapshot, &Snapshot),
-    below: &mut Buffer<SHOWN>,
-)
-    requires { MAX_MTU ≤ length digits.old }
-    ensures { below.new ≡ below_of quiet looks.entry.0.now looks.entry.1.now (M.state machine.now).output }
-{
-    if quiet {
-        below.clear();
-    } else {
-        let room = &mut digits[..MAX_MTU as usize];
-        put_changes(below, None, looks, machine, room);
-    }
-}
-
 /// Plays in the capture that a line asks for, and puts what is told of it into the notes.
-pub(crate) fn tell_capture<M: Questions, T: Sink, F: Folder>(
-    scene: &mut Scene<M, T>,
+pub(crate) fn tell_capture<T: Sink, F: Folder>(
+    scene: &mut Scene<T>,
     shelf: &Shelf<F>,
     ask: Ask<'_>,
     quiet: bool,
     notes: &mut Notes,
 )
     requires { IsOrdered ask.details.range }
-    ensures { IsPlayed M.may_step F.may_have quiet ask.entry.details ask.entry.name.now
-        (scene_of (M.state scene.old.caller.machine) scene.old.tape.trace scene.old.tape.line)
+    ensures { IsPlayed Moves F.may_have quiet ask.entry.details ask.entry.name.now
+        (scene_of (state_of scene.old.caller.machine) scene.old.tape.trace scene.old.tape.line)
         (Some notes.new.told) notes.new.below
-        (scene_of (M.state scene.new.caller.machine) scene.new.tape.trace scene.new.tape.line) }
+        (scene_of (state_of scene.new.caller.machine) scene.new.tape.trace scene.new.tape.line) }
 {
     let before = snapshot_of(&scene.caller.machine);
     let outcome = play_in(scene, shelf, ask);
@@ -81,11 +60,11 @@ pub(crate) fn tell_capture<M: Questions, T: Sink, F: Folder>(
     notes.told.clear();
     put_outcome(&mut notes.told, outcome);
     notes.told.append(bytes_of(&notes.drops));
-    put_below_capture(
+    put_below(
         quiet,
         &scene.caller.machine,
         scene.caller.buffers.digits.as_mut_slice(),
-        (&before, &after),
+        (None, &before, &after),
         &mut notes.below,
     );
 }

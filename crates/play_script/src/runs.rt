@@ -9,6 +9,8 @@ ghost use Rattle.link_script.specs.Boots.{Boots};
 ghost use Rattle.play_script.specs.declared.print.TheConstants.{NAME};
 ghost use Rattle.play_pcap.specs.Files.{no_folder};
 ghost use Rattle.play_script.specs.Tells.{Play, Tells, started, status_of};
+ghost use Rattle.net_stack.specs.Stack.{state_of};
+ghost use Rattle.stack_call.specs.Moves.{Moves};
 
 use crate::capture::Tape;
 use crate::player::{Desk, Notes, Player, Sheet};
@@ -16,12 +18,11 @@ use crate::print::NAME;
 use crate::replay::Shelf;
 use crate::scene::Scene;
 use flat_model::Config;
-use link_script::Caller;
+use link_script::{Caller, booted};
 use net_stack::Stack;
 use play_packet::LineReader;
 use play_pcap::{Folder, NoFolder, Nowhere, Trace};
 use play_print::Form;
-use play_show::Questions;
 use script_loop::{Buffer, LineBuffers, RunFault, Sink, Source, serve_script};
 use std::alloc::{AllocError, Global};
 
@@ -107,7 +108,6 @@ fn desk_for(alloc: Global) -> Result<Desk, AllocError> {
 /// Notes of no line.
 fn notes_for(alloc: Global) -> Result<Notes, AllocError> {
     Ok(Notes {
-        reply: Buffer::new(alloc)?,
         drops: Buffer::new(alloc)?,
         told: Buffer::new(alloc)?,
         shown: Buffer::new(alloc)?,
@@ -146,19 +146,19 @@ pub struct Captured<T: Sink> {
 }
 
 /// Plays a script on a machine of this configuration, and spends it.
-fn play_machine<M: Questions, R: Source, W: Sink, T: Sink, F: Folder>(
+fn play_machine<R: Source, W: Sink, T: Sink, F: Folder>(
     alloc: Global,
-    booted: (M, Start<T, F>),
+    booted: (Stack, Start<T, F>),
     style: Style<'_>,
     reader: &mut R,
     writer: &mut W,
 ) -> Captured<T>
-    requires { (M.state booted.0).config ≡ booted.1.config }
+    requires { (state_of booted.0).config ≡ booted.1.config }
     ensures read { MoreBy (reader_failures result.played.outcome) (R.failures reader.old) (R.failures reader.new) }
     ensures wrote { MoreBy (writer_failures result.played.outcome) (W.failures writer.old) (W.failures writer.new) }
     ensures served { (new : Play)
-        × Serves (Tells M.may_step F.may_have)
-        (started (M.state booted.0) booted.1.trace style.entry.form (take NAME style.entry.name.now)) new
+        × Serves (Tells Moves F.may_have)
+        (started (state_of booted.0) booted.1.trace style.entry.form (take NAME style.entry.name.now)) new
         (R.remaining reader.old) (R.remaining reader.new)
         (W.contents writer.old) (W.contents writer.new) result.played.outcome
         × (result.played.sound ≡ new.sound) × (result.trace ≡ new.traced) }
@@ -173,7 +173,7 @@ fn play_machine<M: Questions, R: Source, W: Sink, T: Sink, F: Folder>(
         },
     ) = booted;
     let Ok(parts) = parts_for(alloc, style) else {
-        machine.end();
+        let _ = machine.end();
         let played = Played {
             outcome: Err(RunFault::Memory),
             sound: true,
@@ -211,7 +211,7 @@ fn play_machine<M: Questions, R: Source, W: Sink, T: Sink, F: Folder>(
 }
 
 /// Plays a script on a new machine, which is spent then.
-fn play_on<M: Questions, R: Source, W: Sink, T: Sink, F: Folder>(
+fn play_on<R: Source, W: Sink, T: Sink, F: Folder>(
     alloc: Global,
     start: Start<T, F>,
     style: Style<'_>,
@@ -222,7 +222,7 @@ fn play_on<M: Questions, R: Source, W: Sink, T: Sink, F: Folder>(
     ensures read { MoreBy (reader_failures result.played.outcome) (R.failures reader.old) (R.failures reader.new) }
     ensures wrote { MoreBy (writer_failures result.played.outcome) (W.failures writer.old) (W.failures writer.new) }
     ensures served { (new : Play)
-        × Serves (Tells M.may_step F.may_have)
+        × Serves (Tells Moves F.may_have)
         (started (boot start.config) start.trace style.entry.form (take NAME style.entry.name.now)) new
         (R.remaining reader.old) (R.remaining reader.new)
         (W.contents writer.old) (W.contents writer.new) result.played.outcome
@@ -233,7 +233,7 @@ fn play_on<M: Questions, R: Source, W: Sink, T: Sink, F: Folder>(
         trace,
         folder,
     } = start;
-    match M::boot(alloc, config) {
+    match booted(alloc, config) {
         Ok(machine) => {
             let start = Start {
                 config,
@@ -253,19 +253,19 @@ fn play_on<M: Questions, R: Source, W: Sink, T: Sink, F: Folder>(
 }
 
 /// Plays a script on a machine of this configuration, without a capture, and spends it.
-fn play_untraced<M: Questions, R: Source, W: Sink>(
+fn play_untraced<R: Source, W: Sink>(
     alloc: Global,
-    booted: (M, Config),
+    booted: (Stack, Config),
     style: Style<'_>,
     reader: &mut R,
     writer: &mut W,
 ) -> Played
-    requires { (M.state booted.0).config ≡ booted.1 }
+    requires { (state_of booted.0).config ≡ booted.1 }
     ensures read { MoreBy (reader_failures result.outcome) (R.failures reader.old) (R.failures reader.new) }
     ensures wrote { MoreBy (writer_failures result.outcome) (W.failures writer.old) (W.failures writer.new) }
     ensures served { (traced : Traced) × (new : Play)
-        × Serves (Tells M.may_step no_folder)
-        (started (M.state booted.0) traced style.entry.form (take NAME style.entry.name.now)) new
+        × Serves (Tells Moves no_folder)
+        (started (state_of booted.0) traced style.entry.form (take NAME style.entry.name.now)) new
         (R.remaining reader.old) (R.remaining reader.new)
         (W.contents writer.old) (W.contents writer.new) result.outcome
         × (result.sound ≡ new.sound) }
@@ -273,7 +273,7 @@ fn play_untraced<M: Questions, R: Source, W: Sink>(
 {
     let (machine, config) = booted;
     let Ok(room) = Buffer::new(alloc) else {
-        machine.end();
+        let _ = machine.end();
         return Played {
             outcome: Err(RunFault::Memory),
             sound: true,
@@ -290,7 +290,7 @@ fn play_untraced<M: Questions, R: Source, W: Sink>(
 }
 
 /// Plays a script on a new machine, without a capture, and spends the machine.
-fn play_plainly<M: Questions, R: Source, W: Sink>(
+fn play_plainly<R: Source, W: Sink>(
     alloc: Global,
     config: Config,
     style: Style<'_>,
@@ -301,13 +301,13 @@ fn play_plainly<M: Questions, R: Source, W: Sink>(
     ensures read { MoreBy (reader_failures result.outcome) (R.failures reader.old) (R.failures reader.new) }
     ensures wrote { MoreBy (writer_failures result.outcome) (W.failures writer.old) (W.failures writer.new) }
     ensures served { (traced : Traced) × (new : Play)
-        × Serves (Tells M.may_step no_folder)
+        × Serves (Tells Moves no_folder)
         (started (boot config) traced style.entry.form (take NAME style.entry.name.now)) new
         (R.remaining reader.old) (R.remaining reader.new)
         (W.contents writer.old) (W.contents writer.new) result.outcome
         × (result.sound ≡ new.sound) }
 {
-    match M::boot(alloc, config) {
+    match booted(alloc, config) {
         Ok(machine) => play_untraced(alloc, (machine, config), style, reader, writer),
         Err(fault) => Played {
             outcome: Err(fault),
@@ -332,6 +332,7 @@ fn play_plainly<M: Questions, R: Source, W: Sink>(
 /// error, or takes none of the bytes that it is given: a front of the answers was written. `TooManyLines` at a byte
 /// after the 10,000,000th line, or one that makes a line longer than 1,048,576 bytes: each whole line before it was
 /// answered.
+#[tactic(auto, unfolding(stack_call::specs::Moves::Moves))]
 pub fn play<R: Source, W: Sink>(
     alloc: Global,
     config: Config,
@@ -352,7 +353,7 @@ pub fn play<R: Source, W: Sink>(
         (W.contents writer.old) (W.contents writer.new) result.outcome
         × (result.sound ≡ new.sound) }
 {
-    play_plainly::<Stack, R, W>(alloc, config, style, reader, writer)
+    play_plainly(alloc, config, style, reader, writer)
 }
 
 /// Plays a script on a new stack, as [`play`] does, and adds each packet that comes or goes to a capture: one that a
@@ -363,6 +364,7 @@ pub fn play<R: Source, W: Sink>(
 /// # Errors
 ///
 /// Those of [`play`], with which nothing is added to the capture unless a line was answered.
+#[tactic(auto, unfolding(stack_call::specs::Moves::Moves))]
 pub fn play_captured<R: Source, W: Sink, T: Sink, F: Folder>(
     alloc: Global,
     start: Start<T, F>,
@@ -381,5 +383,5 @@ pub fn play_captured<R: Source, W: Sink, T: Sink, F: Folder>(
         (W.contents writer.old) (W.contents writer.new) result.played.outcome
         × (result.played.sound ≡ new.sound) × (result.trace ≡ new.traced) }
 {
-    play_on::<Stack, R, W, T, F>(alloc, start, style, reader, writer)
+    play_on(alloc, start, style, reader, writer)
 }

@@ -4,11 +4,12 @@ ghost use Rattle.params.specs.declared.TheConstants.{IP_MAX_PACKET, MAX_MTU, MAX
 ghost use Rattle.ip_out.specs.Questions.{nth_packet};
 ghost use Rattle.play_decode.specs.Packets as packets;
 ghost use Rattle.play_show.specs.Changes as texts;
+ghost use Rattle.net_stack.specs.Stack.{state_of};
 
 use crate::amounts::{SHOWN, put_long};
-use crate::questions::Questions;
 use crate::snapshot::{SOCKETS, Snapshot};
 use flat_model::Counter;
+use net_stack::Stack;
 use params::FIRST_DESCRIPTOR;
 use play_decode::{put_amount, put_kept, put_packet, put_whole};
 use script_loop::{Buffer, put_number};
@@ -119,21 +120,22 @@ fn put_all_delivered(text: &mut Buffer<SHOWN>, before: &[u32; SOCKETS], after: &
 }
 
 /// Puts a line after the text for the packet in front of which `i` others wait for the link, if there is one.
-fn put_waiting_line<M: Questions>(text: &mut Buffer<SHOWN>, machine: &M, i: u32, room: &mut [u8])
+fn put_waiting_line(text: &mut Buffer<SHOWN>, machine: &Stack, i: u32, room: &mut [u8])
     requires room { length room.old ≡ MAX_MTU }
     requires text { length text.old + 180 ≤ SHOWN }
-    ensures items { text.new ≡ text.old ++ texts.waiting_line (nth_packet i (M.state machine.now).output) }
+    ensures items { text.new ≡ text.old ++ texts.waiting_line (nth_packet i (state_of machine.now).output) }
     ensures len { length text.new ≤ length text.old + 180 }
 {
+    machine.laws();
     if let Some(len) = machine.output_packet(i, room) {
         put_packet_line(text, &room[..len]);
     }
 }
 
 /// Puts a line after the text for each of so many packets that wait for the link, from a place on.
-fn put_all_waiting<M: Questions>(
+fn put_all_waiting(
     text: &mut Buffer<SHOWN>,
-    machine: &M,
+    machine: &Stack,
     from: u32,
     count: u32,
     room: &mut [u8],
@@ -142,7 +144,7 @@ fn put_all_waiting<M: Questions>(
     requires most { count ≤ MOST_SENT }
     requires small { from + count < 2 ^ 32 }
     requires text { length text.old + 2880 ≤ SHOWN }
-    ensures items { text.new ≡ text.old ++ texts.packets_below count from (M.state machine.now).output }
+    ensures items { text.new ≡ text.old ++ texts.packets_below count from (state_of machine.now).output }
     ensures len { length text.new ≤ length text.old + 2880 }
 {
     'packets: for i in 0..count {
@@ -175,16 +177,10 @@ fn put_more_line(text: &mut Buffer<SHOWN>, all: u32)
 }
 
 /// Puts lines after the text if more packets wait for the link than before: how many, and the first of them.
-fn put_sent<M: Questions>(
-    text: &mut Buffer<SHOWN>,
-    machine: &M,
-    before: u32,
-    after: u32,
-    room: &mut [u8],
-)
+fn put_sent(text: &mut Buffer<SHOWN>, machine: &Stack, before: u32, after: u32, room: &mut [u8])
     requires room { length room.old ≡ MAX_MTU }
     requires text { length text.old + 2950 ≤ SHOWN }
-    ensures items { text.new ≡ text.old ++ texts.sent_text before after (M.state machine.now).output }
+    ensures items { text.new ≡ text.old ++ texts.sent_text before after (state_of machine.now).output }
     ensures len { length text.new ≤ length text.old + 2950 }
 {
     if before < after {
@@ -276,17 +272,17 @@ fn put_pool_changes(text: &mut Buffer<SHOWN>, before: &Snapshot, after: &Snapsho
 /// machine; how many unfinished datagrams were dropped; and how many mbufs and clusters were taken or given back. What
 /// doesn't change isn't told, and what the buffer held before is lost. The packets are copied into the room, one after
 /// another; it has 4,352 bytes.
-pub fn put_changes<M: Questions>(
+pub fn put_changes(
     text: &mut Buffer<SHOWN>,
     packet: Option<&[u8]>,
     looks: (&Snapshot, &Snapshot),
-    machine: &M,
+    machine: &Stack,
     room: &mut [u8],
 )
     requires packet { IfSome packet (λ p. length p.now ≤ IP_MAX_PACKET) }
     requires room { length room.old ≡ MAX_MTU }
     ensures { text.new ≡ texts.changes_text (option_map (λ p. p.now) packet.entry) looks.entry.0.now looks.entry.1.now
-        (M.state machine.now).output }
+        (state_of machine.now).output }
 {
     let (before, after) = looks;
     put_moved(text, packet, before, after);

@@ -5,7 +5,6 @@
 mod amounts;
 mod changes;
 mod counters;
-mod questions;
 mod shown_law;
 mod snapshot;
 mod sockets;
@@ -15,7 +14,6 @@ mod unfinished;
 
 pub use amounts::SHOWN;
 pub use changes::put_changes;
-pub use questions::Questions;
 pub use shown_law::{looks_law, shows_law};
 pub use snapshot::{Snapshot, snapshot_of};
 pub use tell::tell_topic;

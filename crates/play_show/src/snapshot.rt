@@ -2,9 +2,11 @@
 ghost use Rattle.std.specs.Prelude.{◌≡◌};
 ghost use Rattle.sock_calls.specs.Questions.{next_datagram};
 ghost use Rattle.play_show.specs.Changes.{IsSnapshot, waiting_of};
+ghost use Rattle.stack_call.specs.Moves.{Moves};
+ghost use Rattle.net_stack.specs.Stack.{state_of};
 
-use crate::questions::Questions;
 use flat_model::{Counters, Mbstat};
+use net_stack::Stack;
 use params::{FIRST_DESCRIPTOR, MAX_SOCKETS};
 
 /// How many sockets there can be.
@@ -24,8 +26,8 @@ pub struct Snapshot {
 }
 
 /// How many datagrams wait in a descriptor's socket.
-fn waiting_in<M: Questions>(machine: &M, fd: u32) -> u32
-    ensures { result ≡ waiting_of (next_datagram fd (M.state machine.now)) }
+fn waiting_in(machine: &Stack, fd: u32) -> u32
+    ensures { result ≡ waiting_of (next_datagram fd (state_of machine.now)) }
 {
     match machine.next_datagram(fd) {
         Ok(next) => next.waiting,
@@ -34,8 +36,9 @@ fn waiting_in<M: Questions>(machine: &M, fd: u32) -> u32
 }
 
 /// Looks at a machine, which isn't changed. It takes a step for each of the 64 descriptors, and one for each cluster.
-pub fn snapshot_of<M: Questions>(machine: &M) -> Snapshot
-    ensures { IsSnapshot M.may_step (M.state machine.now) result }
+#[tactic(auto, unfolding(stack_call::specs::Moves::Moves))]
+pub fn snapshot_of(machine: &Stack) -> Snapshot
+    ensures { IsSnapshot Moves (state_of machine.now) result }
 {
     let mut waiting = [0; SOCKETS];
     'places: for place in 0..SOCKETS {

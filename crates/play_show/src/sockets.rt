@@ -4,11 +4,11 @@ ghost use Rattle.flat_model.specs.Machine.State.{State};
 ghost use Rattle.params.specs.declared.TheConstants.{MAX_SOCKETS};
 ghost use Rattle.play_show.specs.Texts.{peer_text, switch_text, ends_text, options_text, queued_text, waiting_text, socket_line, queue_text};
 ghost use Rattle.play_show.specs.Sockets.{descriptor_line, is_open, sockets_below, open_below, one_if};
+ghost use Rattle.net_stack.specs.Stack.{state_of};
 
 use crate::amounts::{SHOWN, put_ip, put_port};
-use crate::questions::Questions;
 use flat_model::{Addr, Errno};
-use net_stack::{NextDatagram, SocketName};
+use net_stack::{NextDatagram, SocketName, Stack};
 use params::{FIRST_DESCRIPTOR, MAX_SOCKETS, UDP_RECEIVE_SPACE};
 use play_decode::{put_amount, put_end};
 use script_loop::{Buffer, put_number};
@@ -121,10 +121,10 @@ fn put_socket(
 }
 
 /// Puts the line of a descriptor's socket after the text, if one is open, and answers whether one is.
-fn put_descriptor<M: Questions>(machine: &M, text: &mut Buffer<SHOWN>, fd: u32) -> bool
+fn put_descriptor(machine: &Stack, text: &mut Buffer<SHOWN>, fd: u32) -> bool
     requires { length text.old + 360 ≤ SHOWN }
-    ensures items { text.new ≡ text.old ++ descriptor_line (M.state machine.now) fd }
-    ensures counted { result ≡ is_open (M.state machine.now) fd }
+    ensures items { text.new ≡ text.old ++ descriptor_line (state_of machine.now) fd }
+    ensures counted { result ≡ is_open (state_of machine.now) fd }
     ensures len { length text.new ≤ length text.old + 360 }
 {
     match machine.socket_name(fd) {
@@ -152,9 +152,9 @@ fn one_more(count: u32, more: bool) -> u32
 
 /// Puts the lines of all open sockets into a buffer, and answers how many are open.
 #[tactic(auto, using(crate::proofs::SocketLemmas::socket_steps))]
-pub(crate) fn put_sockets<M: Questions>(machine: &M, text: &mut Buffer<SHOWN>) -> u32
-    ensures items { text.new ≡ sockets_below MAX_SOCKETS (M.state machine.now) }
-    ensures counted { result ≡ open_below MAX_SOCKETS (M.state machine.now) }
+pub(crate) fn put_sockets(machine: &Stack, text: &mut Buffer<SHOWN>) -> u32
+    ensures items { text.new ≡ sockets_below MAX_SOCKETS (state_of machine.now) }
+    ensures counted { result ≡ open_below MAX_SOCKETS (state_of machine.now) }
 {
     text.clear();
     let mut count = 0;

@@ -1,12 +1,14 @@
 //! What is told of a machine.
 ghost use Rattle.play_show.specs.Tells.{Shows};
+ghost use Rattle.stack_call.specs.Moves.{Moves};
+ghost use Rattle.net_stack.specs.Stack.{state_of};
 
 use crate::amounts::SHOWN;
 use crate::counters::{put_counters, put_pool};
-use crate::questions::Questions;
 use crate::sockets::{put_queue, put_sockets};
 use crate::topic::Topic;
 use crate::unfinished::put_unfinished;
+use net_stack::Stack;
 use play_decode::put_amount;
 use script_loop::Buffer;
 
@@ -16,13 +18,14 @@ use script_loop::Buffer;
 /// in the order of [`Counter::all`](flat_model::Counter::all); no line for the output queue and the pool. What the
 /// buffers held before is lost. The machine isn't changed. It takes a step for each of the 64 descriptors, and for the
 /// pool one for each cluster.
-pub fn tell_topic<M: Questions>(
-    machine: &M,
+#[tactic(auto, unfolding(stack_call::specs::Moves::Moves))]
+pub fn tell_topic(
+    machine: &Stack,
     topic: Topic,
     told: &mut Buffer<SHOWN>,
     below: &mut Buffer<SHOWN>,
 )
-    ensures { Shows M.may_step (M.state machine.now) topic told.new below.new }
+    ensures { Shows Moves (state_of machine.now) topic told.new below.new }
 {
     told.clear();
     below.clear();

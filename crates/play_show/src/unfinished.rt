@@ -2,10 +2,10 @@
 ghost use Rattle.std.specs.Prelude.{◌≡◌, ◌+◌, ◌≤◌, ◌++◌, length};
 ghost use Rattle.ip_reass.specs.Questions.{nth_range, nth_unfinished};
 ghost use Rattle.play_show.specs.Unfinished as texts;
+ghost use Rattle.net_stack.specs.Stack.{state_of};
 
 use crate::amounts::{SHOWN, put_long};
-use crate::questions::Questions;
-use net_stack::{HeldRange, UnfinishedDatagram};
+use net_stack::{HeldRange, Stack, UnfinishedDatagram};
 use play_decode::{put_amount, put_way};
 use script_loop::{Buffer, put_number};
 
@@ -54,9 +54,9 @@ fn put_held(text: &mut Buffer<SHOWN>, range: HeldRange)
 }
 
 /// Puts a range of the datagram at a place after the text, if it has that range.
-fn put_range_at<M: Questions>(machine: &M, text: &mut Buffer<SHOWN>, i: u32, k: u32)
+fn put_range_at(machine: &Stack, text: &mut Buffer<SHOWN>, i: u32, k: u32)
     requires { length text.old + 45 ≤ SHOWN }
-    ensures items { text.new ≡ text.old ++ texts.held_option (nth_range i k (M.state machine.now).unfinished) }
+    ensures items { text.new ≡ text.old ++ texts.held_option (nth_range i k (state_of machine.now).unfinished) }
     ensures len { length text.new ≤ length text.old + 45 }
 {
     if let Some(range) = machine.unfinished_range(i, k) {
@@ -65,9 +65,9 @@ fn put_range_at<M: Questions>(machine: &M, text: &mut Buffer<SHOWN>, i: u32, k: 
 }
 
 /// Puts the first ranges of the datagram at a place after the text.
-fn put_ranges<M: Questions>(machine: &M, text: &mut Buffer<SHOWN>, i: u32)
+fn put_ranges(machine: &Stack, text: &mut Buffer<SHOWN>, i: u32)
     requires { length text.old + 720 ≤ SHOWN }
-    ensures items { text.new ≡ text.old ++ texts.ranges_below MOST_RANGES i (M.state machine.now) }
+    ensures items { text.new ≡ text.old ++ texts.ranges_below MOST_RANGES i (state_of machine.now) }
     ensures len { length text.new ≤ length text.old + 720 }
 {
     'places: for k in 0..MOST_RANGES {
@@ -102,14 +102,9 @@ fn put_left(text: &mut Buffer<SHOWN>, datagram: UnfinishedDatagram)
 }
 
 /// Puts the line of the datagram at a place after the text.
-fn put_datagram<M: Questions>(
-    machine: &M,
-    text: &mut Buffer<SHOWN>,
-    datagram: UnfinishedDatagram,
-    i: u32,
-)
+fn put_datagram(machine: &Stack, text: &mut Buffer<SHOWN>, datagram: UnfinishedDatagram, i: u32)
     requires { length text.old + 930 ≤ SHOWN }
-    ensures items { text.new ≡ text.old ++ texts.datagram_line datagram i (M.state machine.now) }
+    ensures items { text.new ≡ text.old ++ texts.datagram_line datagram i (state_of machine.now) }
     ensures len { length text.new ≤ length text.old + 930 }
 {
     put_key(text, datagram);
@@ -120,10 +115,10 @@ fn put_datagram<M: Questions>(
 }
 
 /// Puts the line of the datagram at a place after the text, if there is one.
-fn put_datagram_at<M: Questions>(machine: &M, text: &mut Buffer<SHOWN>, i: u32)
+fn put_datagram_at(machine: &Stack, text: &mut Buffer<SHOWN>, i: u32)
     requires { length text.old + 930 ≤ SHOWN }
     ensures items { text.new ≡ text.old
-        ++ texts.line_option (nth_unfinished i (M.state machine.now).unfinished) i (M.state machine.now) }
+        ++ texts.line_option (nth_unfinished i (state_of machine.now).unfinished) i (state_of machine.now) }
     ensures len { length text.new ≤ length text.old + 930 }
 {
     if let Some(datagram) = machine.unfinished(i) {
@@ -133,8 +128,8 @@ fn put_datagram_at<M: Questions>(machine: &M, text: &mut Buffer<SHOWN>, i: u32)
 
 /// Puts the lines of the first unfinished datagrams into a buffer.
 #[tactic(auto, using(crate::proofs::UnfinishedLemmas::datagram_steps))]
-fn put_datagrams<M: Questions>(machine: &M, text: &mut Buffer<SHOWN>)
-    ensures items { text.new ≡ texts.unfinished_below MOST_DATAGRAMS (M.state machine.now) }
+fn put_datagrams(machine: &Stack, text: &mut Buffer<SHOWN>)
+    ensures items { text.new ≡ texts.unfinished_below MOST_DATAGRAMS (state_of machine.now) }
     ensures len { length text.new ≤ 29760 }
 {
     text.clear();
@@ -144,8 +139,8 @@ fn put_datagrams<M: Questions>(machine: &M, text: &mut Buffer<SHOWN>)
 }
 
 /// Puts the lines of the unfinished datagrams into a buffer, in the order of their beginning.
-pub(crate) fn put_unfinished<M: Questions>(machine: &M, text: &mut Buffer<SHOWN>)
-    ensures { text.new ≡ texts.unfinished_lines (M.state machine.now) }
+pub(crate) fn put_unfinished(machine: &Stack, text: &mut Buffer<SHOWN>)
+    ensures { text.new ≡ texts.unfinished_lines (state_of machine.now) }
 {
     put_datagrams(machine, text);
     let all = machine.unfinished_len();

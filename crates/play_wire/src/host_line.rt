@@ -1,5 +1,6 @@
 //! The lines of one host.
-ghost use Rattle.std.specs.Prelude.{◌≡◌, ◌≤◌, ◌⊎◌, List, Option, [], length};
+ghost use Rattle.std.specs.Prelude.{◌≡◌, ◌*◌, ◌≤◌, ◌⊎◌, List, Option, [], length};
+ghost use Rattle.params.specs.declared.TheConstants.{IP_MAX_PACKET};
 ghost use Rattle.flat_model.specs.Machine.Event.{Reply};
 ghost use Rattle.flat_model.specs.Machine.Step.{Step};
 ghost use Rattle.flat_model.specs.Runs.Run.{Turn};
@@ -17,17 +18,19 @@ ghost use Rattle.play_wire.specs.Inside.{came_of};
 use crate::fault::Fault;
 use crate::print::LINE;
 use crate::ticks::{exchange, tick_stack};
-use link_script::{Caller, TEXT};
+use link_script::Caller;
 use net_stack::Stack;
-use play_script::{DROPS, TOLD, put_drops, tell_answer, ticks_of};
+use params::IP_MAX_PACKET;
+use play_script::{DROPS, TOLD, put_drops, put_told, ticks_of};
 use play_show::{SHOWN, Topic, tell_topic, topic_of};
-use script_loop::{Answers, Buffer};
+use request::request_of;
+use script_loop::Buffer;
 use segment::Segment;
+use stack_call::call;
 
 /// Memory for what comes of a line.
 #[derive(Drop)]
 pub(crate) struct Notes {
-    pub(crate) reply: Buffer<TEXT>,
     pub(crate) drops: Buffer<DROPS>,
     pub(crate) told: Buffer<TOLD>,
     /// What is shown, and the lines below what is told.
@@ -47,26 +50,36 @@ pub(crate) fn bytes_of<const N: usize>(buffer: &Buffer<N>) -> &[u8]
 }
 
 /// Makes the call that a line asks for, and puts what is told of it into the notes. Whether it asks for one.
-fn call(caller: &mut Caller<Stack>, words: &[u8], notes: &mut Notes) -> bool
+#[tactic(auto, unfolding(stack_call::specs::Moves::Moves))]
+fn call_line(
+    stack: &mut Stack,
+    bytes: &mut [u8],
+    digits: &mut [u8],
+    words: &[u8],
+    notes: &mut Notes,
+) -> bool
+    requires bytes { length bytes.old ≡ IP_MAX_PACKET }
+    requires digits { length digits.old ≡ 2 * IP_MAX_PACKET }
     ensures answers { (answer : Option Reply)
-        × script.Answers all_events Step (state_of caller.old.machine) words.now answer (state_of caller.new.machine)
+        × script.Answers all_events Step (state_of stack.old) words.now answer (state_of stack.new)
         × (if_there result notes.new.told
-        ≡ outcome answer (state_of caller.old.machine).counters (state_of caller.new.machine).counters) }
+        ≡ outcome answer (state_of stack.old).counters (state_of stack.new).counters) }
     ensures below { notes.new.below ≡ notes.old.below }
 {
-    let before = caller.machine.counters();
-    notes.reply.clear();
-    caller.answer(words, &mut notes.reply);
-    let after = caller.machine.counters();
+    let (named, _) = digits.split_at_mut(IP_MAX_PACKET as usize);
+    let Some(request) = request_of(words, named) else {
+        return false;
+    };
+    let before = stack.counters();
+    let reply = call(stack, request, bytes);
+    let after = stack.counters();
     put_drops(&mut notes.drops, &before, &after);
-    tell_answer(
-        bytes_of(&notes.reply),
-        bytes_of(&notes.drops),
-        &mut notes.told,
-    )
+    put_told(&mut notes.told, digits, &reply, bytes_of(&notes.drops));
+    true
 }
 
 /// Tells of a stack what is asked.
+#[tactic(auto, unfolding(stack_call::specs::Moves::Moves))]
 fn show(stack: &Stack, topic: Topic, notes: &mut Notes)
     ensures { Shows Step (state_of stack.now) topic notes.new.told notes.new.below }
 {
@@ -76,7 +89,7 @@ fn show(stack: &Stack, topic: Topic, notes: &mut Notes)
 }
 
 /// Does what a line asks of a stack, and puts what is told of it into the notes.
-fn answer_stack(caller: &mut Caller<Stack>, words: &[u8], notes: &mut Notes) -> Result<(), Fault>
+fn answer_stack(caller: &mut Caller, words: &[u8], notes: &mut Notes) -> Result<(), Fault>
     ensures { (turns : List Turn) × IsAnswered words.now caller.old.machine turns
         (came_of result notes.new.told notes.new.below) caller.new.machine }
 {
@@ -91,7 +104,13 @@ fn answer_stack(caller: &mut Caller<Stack>, words: &[u8], notes: &mut Notes) -> 
         notes.told.append(b"ok");
         return Ok(());
     }
-    if call(caller, words, notes) {
+    if call_line(
+        &mut caller.machine,
+        caller.buffers.bytes.as_mut_slice(),
+        caller.buffers.digits.as_mut_slice(),
+        words,
+        notes,
+    ) {
         Ok(())
     } else {
         Err(Fault::Nothing)
@@ -102,7 +121,7 @@ fn answer_stack(caller: &mut Caller<Stack>, words: &[u8], notes: &mut Notes) -> 
 /// stands in the host's place meanwhile.
 pub(crate) fn answer_host(
     segment: &mut Segment,
-    caller: &mut Caller<Stack>,
+    caller: &mut Caller,
     place: usize,
     words: &[u8],
     notes: &mut Notes,

@@ -49,7 +49,7 @@ pub(crate) struct Hosts<T: Sink + Drop> {
     /// What goes on the wire is kept here.
     pub(crate) tape: Tape<T>,
     /// Its machine is a spare one. It stands in the place of a host while a line of that host is played.
-    pub(crate) caller: Caller<Stack>,
+    pub(crate) caller: Caller,
 }
 
 /// The configuration that the words after a host's name tell.

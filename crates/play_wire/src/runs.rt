@@ -65,7 +65,6 @@ fn desk_for(alloc: Global) -> Result<Desk, AllocError> {
 /// Notes of no line.
 fn notes_for(alloc: Global) -> Result<Notes, AllocError> {
     Ok(Notes {
-        reply: Buffer::new(alloc)?,
         drops: Buffer::new(alloc)?,
         told: Buffer::new(alloc)?,
         shown: Buffer::new(alloc)?,

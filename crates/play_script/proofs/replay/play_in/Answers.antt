@@ -1,6 +1,8 @@
 use Rattle.std.proofs.Common.{List, ℕ, inl, inr, refl, subst}
 use Rattle.play_pcap.specs.Events.{PlaysFile}
 use Rattle.play_script.specs.Plays.{ComesTo, scene_of}
+use Rattle.stack_call.specs.Moves.{Moves}
+use Rattle.net_stack.specs.Stack.{state_of}
 use Rattle.play_script.proofs.replay.play_in.Goals as goal
 
 pub returns-in-Ok : goal.returns-in-Ok
@@ -10,9 +12,9 @@ returns-in-Ok g c =
     inl (
       c.in-Ok.file.items,
       c.in-Ok.ensures,
-      subst (λ (file : List ℕ). PlaysFile (ComesTo g.M.Machine.may_step) c.args.ask.details file c.play_file.result
-          (scene_of (g.M.Machine.state old.caller.machine) old.tape.trace old.tape.line)
-          (scene_of (g.M.Machine.state new.caller.machine) new.tape.trace new.tape.line))
+      subst (λ (file : List ℕ). PlaysFile (ComesTo Moves) c.args.ask.details file c.play_file.result
+          (scene_of (state_of old.caller.machine) old.tape.trace old.tape.line)
+          (scene_of (state_of new.caller.machine) new.tape.trace new.tape.line))
           c.as_slice.ensures.value c.play_file.ensures,
     )
 

@@ -13,5 +13,5 @@ returns g c = (
   ap Some (c.append.ensures.items ∙ ap₂ (λ (a b : List ℕ). a ++ b)
       (c.put_outcome.ensures.items ∙ ap (λ (t : List ℕ). t ++ outcome_text c.play_in-outcome.result) c.clear.ensures)
       (c.bytes_of.ensures.is ∙ c.put_drops.ensures)),
-  c.put_below_capture.ensures,
+  c.put_below.ensures,
 )

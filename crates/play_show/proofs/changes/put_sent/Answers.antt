@@ -3,11 +3,12 @@ use Rattle.flat_model.specs.Amounts.Weight.{Item}
 use Rattle.play_show.specs.Changes.{sent_line, packets_below, more_line}
 use Rattle.play_show.specs.declared.changes.TheConstants.{MOST_SENT}
 use Rattle.play_show.proofs.JoinLemmas.{joined_three, put_if_less}
+use Rattle.net_stack.specs.Stack.{state_of}
 use Rattle.play_show.proofs.changes.put_sent.Goals as goal
 
 pub returns-then-before-after-clause-items : goal.returns-then-before-after-clause-items
-returns-then-before-after-clause-items g c =
-    let output : List Item = (g.M.Machine.state c.args.machine.now).output in
+returns-then-before-after-clause-items c =
+    let output : List Item = (state_of c.args.machine.now).output in
     let all : ℕ = c.args.after - c.args.before in
     put_if_less c.args.before c.args.after c.args.text.now c.put_more_line.new.text
     (sent_line all ++ packets_below (min all MOST_SENT) c.args.before output ++ more_line all) c.if-before-after.true

@@ -23,13 +23,13 @@ returns-in-Some-ticks_of c =
       ),
     )
 
-pub returns-then-call : goal.returns-then-call
-returns-then-call c =
-    let said = c.if-call.ensures.answers in
-    answered_by_call c.args.words.now c.args.caller.now.machine c.call.new.caller.machine c.call.new.notes.told c.call.new.notes.below
-    said.0 said.1 said.2 (c.if-call.ensures.below ∙ c.clear.ensures)
+pub returns-then-call_line : goal.returns-then-call_line
+returns-then-call_line c =
+    let said = c.if-call_line.ensures.answers in
+    answered_by_call c.args.words.now c.args.caller.now.machine c.call_line.new.stack c.call_line.new.notes.told c.call_line.new.notes.below
+    said.0 said.1 said.2 (c.if-call_line.ensures.below ∙ c.clear.ensures)
 
-pub returns-else-call : goal.returns-else-call
-returns-else-call c =
-    let said = c.if-call.ensures.answers in
-    answered_idly c.args.words.now c.args.caller.now.machine c.call.new.caller.machine c.call.new.notes.told said.0 said.1 said.2
+pub returns-else-call_line : goal.returns-else-call_line
+returns-else-call_line c =
+    let said = c.if-call_line.ensures.answers in
+    answered_idly c.args.words.now c.args.caller.now.machine c.call_line.new.stack c.call_line.new.notes.told said.0 said.1 said.2

@@ -2,9 +2,11 @@ use Rattle.std.proofs.Common.{refl, arith}
 use Rattle.flat_model.specs.Machine.Event.{Done}
 use Rattle.play_script.proofs.CaptureLemmas.{Captures-comes}
 use Rattle.play_script.proofs.PlayLemmas.{are_bytes}
+use Rattle.stack_call.specs.Moves.{Moves}
 use Rattle.play_script.proofs.scene.SceneWire.rx.Goals as goal
 
 pub returns : goal.returns
+unfolding Moves
 returns g c = (
   (are_bytes c.args.packet.now (λ k. omega (arith, c.type_inv.packet k)), c.requires),
   c.rx.ensures,

@@ -1,9 +1,11 @@
 use Rattle.std.proofs.Common.{refl}
 use Rattle.flat_model.specs.Machine.Event.{Done}
 use Rattle.play_script.proofs.CaptureLemmas.{Captures-tick}
+use Rattle.stack_call.specs.Moves.{Moves}
 use Rattle.play_script.proofs.scene.SceneWire.tick.Goals as goal
 
 pub returns : goal.returns
+unfolding Moves
 returns g c = (
   tt,
   c.tick.ensures,

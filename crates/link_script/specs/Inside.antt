@@ -1,3 +1,0 @@
--- What only this crate reads.
-pub mod Parts
-pub mod Requests

@@ -1,0 +1,42 @@
+-- What a line asks of a machine: events, one after another, and what they do (this project's own).
+use Rattle.std.specs.Prelude.{◌≡◌, ◌⊎◌, ℕ, Bool, true, false, List, [], ◌∷◌, map, replicate, Option, None}
+use Rattle.flat_model.specs.Amounts.Weight.{Item}
+use Rattle.flat_model.specs.Machine.Event.{Event, Reply, Tick}
+use Rattle.flat_model.specs.Machine.State.{State}
+use Rattle.flat_model.specs.Runs.Run.{Turn}
+use Rattle.flat_model.specs.Scripts.Script as script
+use Rattle.flat_model.specs.Scripts.Script.{all_events}
+use Rattle.play_show.specs.Changes.{changes_text}
+use Rattle.play_show.specs.declared.snapshot.Snapshot.{Snapshot}
+use Rattle.play_script.specs.Captures.{moved_by, turn_of}
+use Rattle.play_script.specs.Lines.{IsTicks}
+
+-- the one that its form says, or so many ticks
+abbrev pub AsksFor : List ℕ → List Event → Type 0
+AsksFor plain events =
+    ((event : Event) × script.Asks all_events plain event × (events ≡ event ∷ []))
+    ⊎ ((n : ℕ) × IsTicks plain n × (events ≡ replicate n Tick))
+
+-- the line asks for neither
+abbrev pub AsksNothing : List ℕ → Type 0
+AsksNothing plain = ((event : Event) → ¬ script.Asks all_events plain event) × ((n : ℕ) → ¬ IsTicks plain n)
+
+-- the turns of events that all have this reply
+abbrev pub turns_of : List Event → Reply → List Turn
+turns_of events reply = map (λ event. turn_of event reply) events
+
+-- the packet that they move: no more than one event moves one
+abbrev pub moved_in : List Event → Reply → Option (List ℕ)
+moved_in [] reply = None
+moved_in (event ∷ events) reply = moved_by event reply
+
+-- what is told below their reply; nothing if the form is quiet
+abbrev pub below_text : Bool → Option (List ℕ) → Snapshot → Snapshot → List Item → List ℕ
+below_text true moved before after output = []
+below_text false moved before after output = changes_text moved before after output
+
+module _ (step : State → Event → Reply → State → Type 0) where
+  -- from old these events, one after another, have this reply and lead to new
+  abbrev pub Does : State → List Event → Reply → State → Type 0
+  Does old [] reply new = new ≡ old
+  Does old (event ∷ events) reply new = (mid : State) × step old event reply mid × Does mid events reply new

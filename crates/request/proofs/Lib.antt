@@ -1,0 +1,5 @@
+mod AddressLemmas
+mod KeywordLemmas
+mod FormLemmas
+mod CountLemmas
+mod EventLemmas

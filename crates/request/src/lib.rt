@@ -1,0 +1,17 @@
+//! What may be asked of a machine and what it answers, as values, and the lines that say so.
+#![tactic(auto)]
+
+mod address;
+mod keyword;
+mod laws;
+mod print;
+mod read;
+mod reply;
+mod request;
+
+pub use address::address_of;
+pub use laws::lines_law;
+pub use print::{TEXT, put_line, put_reply};
+pub use read::request_of;
+pub use reply::Reply;
+pub use request::Request;

@@ -1,0 +1,184 @@
+//! What a line asks for.
+ghost use Rattle.std.specs.Prelude.{◌≡◌, ◌≤◌, ℕ, Bool, List, [], length, MatchOption, IfSome};
+ghost use Rattle.flat_model.specs.declared.address.Addr.{Addr};
+ghost use Rattle.flat_model.specs.Machine.Event.{Event};
+ghost use Rattle.flat_model.specs.Scripts.Grammar.{IsEnd, option_name, switch_name};
+ghost use Rattle.flat_model.specs.Scripts.Script.{Asks, all_events};
+ghost use Rattle.request.specs.Requests.{event_of, room_of};
+ghost use Rattle.request.specs.declared.keyword.Keyword.TheVariants as line;
+ghost use Rattle.script_loop.specs.Left.{left};
+ghost use Rattle.request.specs.Inside.{ReadsForm};
+
+use crate::address::address_of;
+use crate::keyword::{Keyword, keyword_of};
+use crate::request::Request;
+use flat_model::{Addr, Opt};
+use params::{IP_MAX_PACKET, LONGEST_REQUEST};
+use script_loop::{bytes, first_word, is_end, number, one, three, two};
+
+/// The address and the port that two words write.
+fn end_of(ip: &[u8], port: &[u8]) -> Option<Addr>
+    ensures { MatchOption result ((end : Addr) → IsEnd ip.now port.now end →
+        ⊥) (λ end. IsEnd ip.now port.now end) }
+{
+    let ip = address_of(ip)?;
+    let port = number(port, u32::from(u16::MAX))?;
+    Some(Addr {
+        ip,
+        port: port as u16,
+    })
+}
+
+/// The option that a word names.
+fn option_of(word: &[u8]) -> Option<Opt>
+    ensures { MatchOption result ((option : Opt) → word.now ≡ option_name option → ⊥)
+        (λ option. word.now ≡ option_name option) }
+{
+    match word {
+        b"broadcast" => Some(Opt::Broadcast),
+        b"reuseport" => Some(Opt::ReusePort),
+        _ => None,
+    }
+}
+
+/// Whether a word sets an option or clears it.
+fn switch_of(word: &[u8]) -> Option<bool>
+    ensures { MatchOption result ((on : Bool) → word.now ≡ switch_name on → ⊥) (λ on. word.now ≡ switch_name on) }
+{
+    match word {
+        b"0" => Some(false),
+        b"1" => Some(true),
+        _ => None,
+    }
+}
+
+/// The request, where no word is left.
+fn alone<'a>(rest: Option<&[u8]>, request: Request<'a>) -> Option<Request<'a>>
+    ensures { MatchOption result (left rest.entry ≡ [] → ⊥) (λ r. (r ≡ request.entry) × (left rest.entry ≡ [])) }
+{
+    if is_end(rest) { Some(request) } else { None }
+}
+
+fn bind_of(rest: Option<&[u8]>) -> Option<Request<'static>>
+    ensures form { ReadsForm line.Bind (left rest.entry) result }
+    ensures fits { IfSome result (λ request. room_of request ≤ IP_MAX_PACKET) }
+{
+    let (fd, ip, port) = three(rest)?;
+    let fd = number(fd, u32::MAX)?;
+    let end = end_of(ip, port)?;
+    Some(Request::Bind(fd, end))
+}
+
+fn connect_of(rest: Option<&[u8]>) -> Option<Request<'static>>
+    ensures form { ReadsForm line.Connect (left rest.entry) result }
+    ensures fits { IfSome result (λ request. room_of request ≤ IP_MAX_PACKET) }
+{
+    let (fd, ip, port) = three(rest)?;
+    let fd = number(fd, u32::MAX)?;
+    let end = end_of(ip, port)?;
+    Some(Request::Connect(fd, end))
+}
+
+fn sendto_of<'a>(rest: Option<&[u8]>, room: &'a mut [u8]) -> Option<Request<'a>>
+    requires { length room.old ≡ IP_MAX_PACKET }
+    ensures form { ReadsForm line.SendTo (left rest.entry) result }
+    ensures fits { IfSome result (λ request. room_of request ≤ IP_MAX_PACKET) }
+{
+    let (fd, rest) = first_word(rest?);
+    let (ip, port, data) = three(rest)?;
+    let fd = number(fd, u32::MAX)?;
+    let end = end_of(ip, port)?;
+    let len = bytes(data, room)?;
+    Some(Request::Send(fd, Some(end), &room[..len]))
+}
+
+fn send_of<'a>(rest: Option<&[u8]>, room: &'a mut [u8]) -> Option<Request<'a>>
+    requires { length room.old ≡ IP_MAX_PACKET }
+    ensures form { ReadsForm line.Send (left rest.entry) result }
+    ensures fits { IfSome result (λ request. room_of request ≤ IP_MAX_PACKET) }
+{
+    let (fd, data) = two(rest)?;
+    let fd = number(fd, u32::MAX)?;
+    let len = bytes(data, room)?;
+    Some(Request::Send(fd, None, &room[..len]))
+}
+
+fn receive_of(rest: Option<&[u8]>) -> Option<Request<'static>>
+    ensures form { ReadsForm line.RecvFrom (left rest.entry) result }
+    ensures fits { IfSome result (λ request. room_of request ≤ IP_MAX_PACKET) }
+{
+    let (fd, most) = two(rest)?;
+    let fd = number(fd, u32::MAX)?;
+    let most = number(most, IP_MAX_PACKET)?;
+    if most == 0 {
+        return None;
+    }
+    Some(Request::Receive(fd, most as usize))
+}
+
+fn close_of(rest: Option<&[u8]>) -> Option<Request<'static>>
+    ensures form { ReadsForm line.Close (left rest.entry) result }
+    ensures fits { IfSome result (λ request. room_of request ≤ IP_MAX_PACKET) }
+{
+    let fd = number(one(rest)?, u32::MAX)?;
+    Some(Request::Close(fd))
+}
+
+fn set_option_of(rest: Option<&[u8]>) -> Option<Request<'static>>
+    ensures form { ReadsForm line.SetSockOpt (left rest.entry) result }
+    ensures fits { IfSome result (λ request. room_of request ≤ IP_MAX_PACKET) }
+{
+    let (fd, option, on) = three(rest)?;
+    let fd = number(fd, u32::MAX)?;
+    let option = option_of(option)?;
+    let on = switch_of(on)?;
+    Some(Request::SetOption(fd, option, on))
+}
+
+fn packet_of<'a>(rest: Option<&[u8]>, room: &'a mut [u8]) -> Option<Request<'a>>
+    requires { length room.old ≡ IP_MAX_PACKET }
+    ensures form { ReadsForm line.Rx (left rest.entry) result }
+    ensures fits { IfSome result (λ request. room_of request ≤ IP_MAX_PACKET) }
+{
+    let word = one(rest)?;
+    let len = bytes(word, room)?;
+    Some(Request::Packet(&room[..len]))
+}
+
+/// What a keyword and the words after it ask for.
+fn form_of<'a>(word: Keyword, rest: Option<&[u8]>, room: &'a mut [u8]) -> Option<Request<'a>>
+    requires { length room.old ≡ IP_MAX_PACKET }
+    ensures form { ReadsForm word (left rest.entry) result }
+    ensures fits { IfSome result (λ request. room_of request ≤ IP_MAX_PACKET) }
+{
+    match word {
+        Keyword::Socket => alone(rest, Request::Socket),
+        Keyword::Bind => bind_of(rest),
+        Keyword::Connect => connect_of(rest),
+        Keyword::SendTo => sendto_of(rest, room),
+        Keyword::Send => send_of(rest, room),
+        Keyword::RecvFrom => receive_of(rest),
+        Keyword::Close => close_of(rest),
+        Keyword::SetSockOpt => set_option_of(rest),
+        Keyword::Rx => packet_of(rest, room),
+        Keyword::Tx => alone(rest, Request::Transmit),
+        Keyword::Tick => alone(rest, Request::Tick),
+        Keyword::Stat => alone(rest, Request::Counters),
+        Keyword::MbStat => alone(rest, Request::Usage),
+    }
+}
+
+/// What the line asks for, where it is of a form.
+pub fn request_of<'a>(line: &[u8], room: &'a mut [u8]) -> Option<Request<'a>>
+    requires { length room.old ≡ IP_MAX_PACKET }
+    ensures event { MatchOption result ((event : Event) → Asks all_events line.now event → ⊥)
+        (λ request. Asks all_events line.now (event_of request)) }
+    ensures fits { IfSome result (λ request. room_of request ≤ IP_MAX_PACKET) }
+{
+    if line.len() > LONGEST_REQUEST as usize {
+        return None;
+    }
+    let (word, rest) = first_word(line);
+    let word = keyword_of(word)?;
+    form_of(word, rest, room)
+}

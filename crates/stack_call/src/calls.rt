@@ -1,0 +1,103 @@
+//! The one call of a stack.
+ghost use Rattle.std.specs.Prelude.{◌≡◌, ◌≤◌, length};
+ghost use Rattle.params.specs.declared.TheConstants.{IP_MAX_PACKET, MAX_MTU};
+ghost use Rattle.flat_model.specs.Machine.Event.{Receive, Transmit};
+ghost use Rattle.flat_model.specs.Machine.Replies.{done_reply, opened_reply, sent_reply};
+ghost use Rattle.net_stack.specs.Stack.{state_of};
+ghost use Rattle.request.specs.Requests.{event_of, room_of};
+ghost use Rattle.request.specs.Replies.{reply_of, len_of};
+ghost use Rattle.stack_call.specs.Moves.{Moves};
+
+use flat_model::Errno;
+use net_stack::Stack;
+use request::{Reply, Request};
+
+/// The reply of a call that answers nothing else.
+fn done(outcome: Result<(), Errno>) -> Reply<'static>
+    ensures reply { reply_of result ≡ done_reply outcome }
+    ensures len { len_of result ≡ 0 }
+{
+    match outcome {
+        Ok(()) => Reply::Done,
+        Err(errno) => Reply::Refused(errno),
+    }
+}
+
+/// The reply of `socket`.
+fn opened(outcome: Result<u32, Errno>) -> Reply<'static>
+    ensures reply { reply_of result ≡ opened_reply outcome }
+    ensures len { len_of result ≡ 0 }
+{
+    match outcome {
+        Ok(fd) => Reply::Opened(fd),
+        Err(errno) => Reply::Refused(errno),
+    }
+}
+
+/// The reply of a send.
+fn sent(outcome: Result<usize, Errno>) -> Reply<'static>
+    ensures reply { reply_of result ≡ sent_reply outcome }
+    ensures len { len_of result ≡ 0 }
+{
+    match outcome {
+        Ok(len) => Reply::Sent(len),
+        Err(errno) => Reply::Refused(errno),
+    }
+}
+
+/// Receives as many bytes as there is room for.
+#[tactic(auto, unfolding(crate::specs::Moves::Moves))]
+fn receive<'r>(stack: &mut Stack, fd: u32, room: &'r mut [u8]) -> Reply<'r>
+    ensures step { Moves (state_of stack.old) (Receive fd (length room.old)) (reply_of result) (state_of stack.new) }
+    ensures len { len_of result ≤ length room.old }
+{
+    match stack.recvfrom(fd, room) {
+        Ok((sender, len)) => Reply::Received(sender, &room[..len]),
+        Err(errno) => Reply::Refused(errno),
+    }
+}
+
+/// Lets the link take the oldest packet.
+#[tactic(auto, unfolding(crate::specs::Moves::Moves))]
+fn transmit<'r>(stack: &mut Stack, room: &'r mut [u8]) -> Reply<'r>
+    requires { MAX_MTU ≤ length room.old }
+    ensures step { Moves (state_of stack.old) Transmit (reply_of result) (state_of stack.new) }
+    ensures len { len_of result ≤ length room.old }
+{
+    stack.laws();
+    match stack.tx(room) {
+        Some(len) => Reply::Given(Some(&room[..len])),
+        None => Reply::Given(None),
+    }
+}
+
+/// Asks a stack: makes the call that a request stands for, and answers its reply, whose bytes stand in front of the
+/// room.
+#[tactic(auto, unfolding(crate::specs::Moves::Moves))]
+pub fn call<'r>(stack: &mut Stack, request: Request<'_>, room: &'r mut [u8]) -> Reply<'r>
+    requires fits { room_of request ≤ IP_MAX_PACKET }
+    requires room { length room.old ≡ IP_MAX_PACKET }
+    ensures step { Moves (state_of stack.old) (event_of request.entry) (reply_of result) (state_of stack.new) }
+    ensures len { len_of result ≤ IP_MAX_PACKET }
+{
+    match request {
+        Request::Socket => opened(stack.socket()),
+        Request::Bind(fd, local) => done(stack.bind(fd, local)),
+        Request::Connect(fd, peer) => done(stack.connect(fd, peer)),
+        Request::Send(fd, to, bytes) => sent(stack.sendto(fd, to, bytes)),
+        Request::Receive(fd, most) => receive(stack, fd, &mut room[..most]),
+        Request::Close(fd) => done(stack.close(fd)),
+        Request::SetOption(fd, option, on) => done(stack.setsockopt(fd, option, on)),
+        Request::Packet(bytes) => {
+            stack.rx(bytes);
+            Reply::Done
+        }
+        Request::Transmit => transmit(stack, room),
+        Request::Tick => {
+            stack.tick();
+            Reply::Done
+        }
+        Request::Counters => Reply::Counted(stack.counters()),
+        Request::Usage => Reply::Shown(stack.mbstat()),
+    }
+}
