@@ -1,0 +1,19 @@
+/* The network card of the board, by polling: a LAN9118 of SMSC, which ARM's MPS2 boards and QEMU's mps2-an385 have at
+   0x40200000. It has no interrupt and no DMA here. A frame is without its check sequence, which the card makes and
+   tests, and the card pads a short one to 60 bytes. */
+#include <stddef.h>
+#include <stdint.h>
+
+enum { LAN9118_FRAME = 1514 }; /* the longest frame: 14 bytes of header, and 1,500 */
+
+/* Resets the card, and begins to hear frames for this address and for everyone. The answer is 0, or -1 if there is no
+   card, or it doesn't come out of its reset. */
+int lan9118_start(const uint8_t mac[6]);
+
+/* Takes the frame that came first: its bytes stand in front of `room`, which has LAN9118_FRAME bytes. The answer is how
+   many they are, or 0 if none waits. A frame that came damaged, or is longer, is dropped. */
+size_t lan9118_receive(uint8_t *room);
+
+/* Sends a frame of 14 to LAN9118_FRAME bytes. It waits until the card has room for it. The answer is 0, or -1 if the
+   card told since the last call that a frame couldn't be sent: that one is lost. */
+int lan9118_send(const uint8_t *frame, size_t len);
