@@ -22,6 +22,10 @@ pub record HostView : Type 0 where
 abbrev pub view : EtherHost → HostView
 view h = record { stack = h.stack; link = seen h.layer }
 
+-- the host of a stack and a link
+abbrev pub halves : StackView → LinkState → Host
+halves s l = record { machine = state_of s; link = l }
+
 -- the host that it means
 abbrev pub host_of : HostView → Host
 host_of v = record { machine = state_of v.stack; link = v.link }

@@ -11,9 +11,9 @@ use flat_ether::{
 use flat_model::Config;
 use std::alloc::{AllocError, Global};
 
-/// The link's state. All its memory is taken at boot.
+/// The link's half of a host: its state beside the stack. All its memory is taken at boot.
 #[derive(Drop)]
-pub(crate) struct LinkLayer {
+pub struct LinkLayer {
     pub(crate) config: Config,
     pub(crate) link: Link,
     pub(crate) neighbours: ArrayVec<Neighbour, NEIGHBOURS>,
@@ -33,7 +33,7 @@ impl LinkLayer {
     ghost use Rattle.ether_host.specs.Inside.{seen};
 
     /// A link of which nothing is known. `AllocError` comes if the host has no memory for the packets that it may hold.
-    pub(crate) fn boot(alloc: Global, config: Config, link: Link) -> Result<LinkLayer, AllocError>
+    pub fn boot(alloc: Global, config: Config, link: Link) -> Result<LinkLayer, AllocError>
         ensures { IfOk result (λ l. seen l ≡ link_up config link) }
     {
         let held = Vec::with_capacity(alloc, HELD_PACKETS)?;

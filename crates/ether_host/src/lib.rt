@@ -7,6 +7,7 @@ mod buffer;
 mod bytes;
 mod errors;
 mod frames;
+mod halves;
 mod hear;
 mod host;
 mod layer;
@@ -18,3 +19,4 @@ mod tick;
 
 pub use flat_ether::{AddressState, Link, Mac, Neighbour, NetFault, Tallies};
 pub use host::{EtherFault, EtherHost};
+pub use layer::LinkLayer;

@@ -59,7 +59,7 @@ impl LinkLayer {
 
     /// A tick: what isn't known any more is forgotten, and the packets that waited for it are given up (`arptimer` of
     /// volume 2, chapter 21).
-    pub(crate) fn tick(&mut self)
+    pub fn tick(&mut self)
         ensures { seen self.new ≡ ticks (seen self.old) }
     {
         self.claim = self.claim.ticked();

@@ -1,2 +1,4 @@
 mod Boxes
 mod Answered
+mod LinkBoxes
+mod EtherAnswered

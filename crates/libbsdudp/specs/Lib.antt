@@ -4,3 +4,6 @@ pub mod Plain
 pub mod Calls
 pub mod Told
 pub mod Life
+pub mod LinkHeld
+pub mod LinkPlain
+pub mod Ether

@@ -16,6 +16,12 @@ pub(crate) const INVALID: i32 = -22;
 /// EDOM: sizes that no pool has.
 pub(crate) const BAD_SIZES: i32 = -33;
 
+/// EOPNOTSUPP: the stack has no link.
+pub(crate) const NO_LINK: i32 = -45;
+
+/// EADDRINUSE: another host has the address.
+pub(crate) const IN_USE: i32 = -48;
+
 /// EMSGSIZE: a packet longer than any is, or a room shorter than the longest.
 pub(crate) const BAD_LENGTH: i32 = -40;
 

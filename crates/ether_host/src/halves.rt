@@ -1,0 +1,73 @@
+//! The link's half of a host with a stack that is kept elsewhere, as the C library keeps it.
+ghost use Rattle.std.specs.Prelude.{◌≡◌, ◌+◌, ◌≤◌, length, IfSome};
+ghost use Rattle.params.specs.declared.TheConstants.{IP_MAX_PACKET};
+ghost use Rattle.flat_ether.specs.Claims.{address_state};
+ghost use Rattle.flat_ether.specs.Hosts.{Hears, gives};
+ghost use Rattle.flat_ether.specs.declared.sizes.TheConstants.{ETHER_HEADER, ETHER_MTU};
+ghost use Rattle.ether_host.specs.Fronts.{front};
+ghost use Rattle.ether_host.specs.View.{halves};
+
+use crate::frames::{body_of, kind_of};
+use crate::layer::LinkLayer;
+use crate::packets::{drain, take_packet};
+use flat_ether::{AddressState, FrameKind, Neighbour, Tallies};
+use net_stack::Stack;
+
+impl LinkLayer {
+    ghost use Rattle.ether_host.specs.Inside.{seen};
+
+    /// A frame comes, as `EtherHost::receive` has it.
+    pub fn receive(&mut self, stack: &mut Stack, frame: &[u8])
+        requires { length frame.now ≤ ETHER_HEADER + IP_MAX_PACKET }
+        ensures { Hears frame.now (halves stack.old (seen self.old)) (halves stack.new (seen self.new)) }
+    {
+        match kind_of(&self.config, self.link.mac, frame) {
+            FrameKind::Packet => take_packet(stack, self, frame),
+            FrameKind::Martian => self.refuse(),
+            FrameKind::Arp => self.hear_arp(body_of(frame)),
+            FrameKind::Other => self.ignore(),
+        }
+    }
+
+    /// The next frame for the link, as `EtherHost::transmit` has it. A stack that a caller put in the place of this
+    /// link's may have a longer MTU, which is told before.
+    pub fn transmit(&mut self, stack: &mut Stack, room: &mut [u8]) -> Option<usize>
+        requires mtu { stack.old.config.mtu ≤ ETHER_MTU }
+        requires room { ETHER_HEADER + ETHER_MTU ≤ length room.old }
+        ensures step { (front result room.new, halves stack.new (seen self.new))
+            ≡ gives (halves stack.old (seen self.old)) }
+        ensures fits { IfSome result (λ n. n ≤ length room.new) }
+    {
+        if !self.claim.is_claimed() {
+            return self.give_claim(room);
+        }
+        if let Some(len) = self.give_own(room) {
+            return Some(len);
+        }
+        if let Some(len) = drain(stack, self, room) {
+            return Some(len);
+        }
+        self.give_own(room)
+    }
+
+    /// How far the host is with its address.
+    pub fn address(&self) -> AddressState
+        ensures { result ≡ address_state (seen self.now).claim }
+    {
+        self.claim.state()
+    }
+
+    /// What was counted of the link.
+    pub fn tallies(&self) -> Tallies
+        ensures { result ≡ (seen self.now).tallies }
+    {
+        self.tallies
+    }
+
+    /// The neighbours that are known or asked for, the one that was put last at the end.
+    pub fn neighbours(&self) -> &[Neighbour]
+        ensures { result.now ≡ (seen self.now).neighbours }
+    {
+        self.neighbours.as_slice()
+    }
+}

@@ -1,0 +1,129 @@
+-- What a call on a host does to its two halves, the stack and the link, and how its answer tells the reply (this
+-- project's own).
+use Rattle.std.specs.Prelude.{◌≡◌, ℕ, ℤ, pos, negsuc, ◌+◌, ◌<◌, ◌≤◌, ◌==◌, if◌then◌else◌, true, false, List, length, Option, Some, None, option_map, IfSome, slice_get}
+use Rattle.params.specs.declared.TheConstants.{IP_MAX_PACKET}
+use Rattle.flat_ether.specs.Claims.{address_state}
+use Rattle.flat_ether.specs.Hosts.{Hears, gives}
+use Rattle.flat_ether.specs.Links.{LinkState, link_up, ticks}
+use Rattle.flat_ether.specs.Routes.{is_link}
+use Rattle.flat_ether.specs.declared.claim.AddressState.{AddressState}
+use Rattle.flat_ether.specs.declared.claim.AddressState.TheVariants.{Probing, Conflict, InUse}
+use Rattle.flat_ether.specs.declared.neighbour.Neighbour.{Neighbour}
+use Rattle.flat_ether.specs.declared.sizes.TheConstants.{ETHER_HEADER, ETHER_MTU}
+use Rattle.net_stack.specs.Stack.{StackView}
+use Rattle.ether_host.specs.Fronts.{front}
+use Rattle.ether_host.specs.Inside.{seen}
+use Rattle.ether_host.specs.View.{HostView, host_of}
+use Rattle.libbsdudp.specs.declared.link_handle.LinkHandle.{LinkHandle}
+use Rattle.libbsdudp.specs.declared.link_plain.CLink.{CLink}
+use Rattle.libbsdudp.specs.declared.link_plain.CNeighbour.{CNeighbour}
+use Rattle.libbsdudp.specs.declared.link_plain.CTallies.{CTallies}
+use Rattle.libbsdudp.specs.declared.plain.CConfig.{CConfig}
+use Rattle.libbsdudp.specs.Answers.{no_stack, bad_length, invalid, given_code}
+use Rattle.libbsdudp.specs.LinkPlain.{link_of, neighbour_told, tallies_told}
+use Rattle.libbsdudp.specs.Plain.{config_of}
+
+-- EOPNOTSUPP, 45
+abbrev pub no_link : ℤ
+no_link = negsuc 44
+
+-- the link that a handle holds
+abbrev pub link_in : LinkHandle → Option LinkState
+link_in h = if h.live == 1651731563 then option_map (λ b. seen b.layer) h.held.kept else None
+
+-- the halves of a host
+abbrev pub both : StackView → LinkState → HostView
+both s l = record { stack = s; link = l }
+
+-- A call on both halves. Without a stack the answer is -ENXIO, and without a link -EOPNOTSUPP; then both stay as they
+-- were, and `idle` says that all else is. If there are both, `call` says what becomes of them.
+abbrev pub AnswersHost : Option StackView → Option LinkState → ℤ → Option StackView → Option LinkState → Type 0 → (HostView → HostView → Type 0) → Type 0
+AnswersHost None l answer s_after l_after idle call = (answer ≡ no_stack) × (s_after ≡ None) × (l_after ≡ l) × idle
+AnswersHost (Some s) None answer s_after l_after idle call = (answer ≡ no_link) × (s_after ≡ Some s) × (l_after ≡ None) × idle
+AnswersHost (Some s) (Some l) answer s_after l_after idle call =
+    (n : HostView) × (s_after ≡ Some n.stack) × (l_after ≡ Some n.link) × call (both s l) n
+
+-- a call on the link alone
+abbrev pub AnswersLink : Option LinkState → ℤ → Option LinkState → Type 0 → (LinkState → LinkState → Type 0) → Type 0
+AnswersLink None answer after idle call = (answer ≡ no_link) × (after ≡ None) × idle
+AnswersLink (Some l) answer after idle call = (n : LinkState) × (after ≡ Some n) × call l n
+
+-- ---- the calls, each as one fact that nothing opens by itself
+
+-- `receive`: the answer is 0, or -EMSGSIZE of what is longer than a frame with the longest packet, and then nothing
+-- changes
+pub record HasHeard (frame : List ℕ) (answer : ℤ) (h n : HostView) : Type 0 where
+  pub long : ETHER_HEADER + IP_MAX_PACKET < length frame → (answer ≡ bad_length) × (n ≡ h)
+  pub hears : length frame ≤ ETHER_HEADER + IP_MAX_PACKET → (answer ≡ pos 0) × Hears frame (host_of h) (host_of n)
+
+-- a frame stands in front of the room, or none waits
+pub record GivesFrame (room : List ℕ) (answer : ℤ) (h n : HostView) : Type 0 where
+  pub told : Option ℕ
+  pub is : answer ≡ given_code told
+  pub fits : IfSome told (λ len. len ≤ length room)
+  pub step : (front told room, host_of n) ≡ gives (host_of h)
+
+-- `transmit`: the answer is the frame's length, 0 if none waits, or -EMSGSIZE if the room is too short, or the stack's
+-- packets are too long for an Ethernet, and then nothing changes
+pub record IsFramed (before room : List ℕ) (answer : ℤ) (h n : HostView) : Type 0 where
+  pub short : length before < ETHER_HEADER + ETHER_MTU → (answer ≡ bad_length) × (n ≡ h) × (room ≡ before)
+  pub wide : ETHER_MTU < h.stack.config.mtu → (answer ≡ bad_length) × (n ≡ h) × (room ≡ before)
+  pub gives : ETHER_HEADER + ETHER_MTU ≤ length before → h.stack.config.mtu ≤ ETHER_MTU → GivesFrame room answer h n
+
+-- `tick`: the answer is 0
+pub record HasAged (answer : ℤ) (l n : LinkState) : Type 0 where
+  pub is : answer ≡ pos 0
+  pub ticked : n ≡ ticks l
+
+-- a question: the link is as it was, and the answer says something of it
+pub record IsLinkAsked (Says : LinkState → Type 0) (l n : LinkState) : Type 0 where
+  pub same : n ≡ l
+  pub says : Says l
+
+-- 1 if the address is used, 0 while the host asks for it, and -EADDRINUSE if another host has it
+abbrev pub address_code : AddressState → ℤ
+address_code Probing = pos 0
+address_code InUse = pos 1
+address_code Conflict = negsuc 47
+
+pub record TellsAddress (answer : ℤ) (l : LinkState) : Type 0 where
+  pub is : answer ≡ address_code (address_state l.claim)
+
+-- what was counted
+pub record TellsTallies (answer : ℤ) (tallies : CTallies) (l : LinkState) : Type 0 where
+  pub is : answer ≡ pos 0
+  pub told : tallies ≡ tallies_told l.tallies
+
+-- a neighbour is told, or -EINVAL if there is none at this place
+abbrev pub IsNeighbour : Option Neighbour → ℤ → CNeighbour → CNeighbour → Type 0
+IsNeighbour (Some n) answer old new = (answer ≡ pos 0) × (new ≡ neighbour_told n)
+IsNeighbour None answer old new = (answer ≡ invalid) × (new ≡ old)
+
+pub record TellsNeighbour (i : ℕ) (answer : ℤ) (old new : CNeighbour) (l : LinkState) : Type 0 where
+  pub is : IsNeighbour (slice_get l.neighbours i) answer old new
+
+-- ---- how a link comes, and goes
+
+-- 0, or -ENOMEM
+abbrev pub link_boot_code : Option LinkState → ℤ
+link_boot_code (Some l) = pos 0
+link_boot_code None = negsuc 11
+
+-- a link of which nothing is known, or memory was refused
+pub record IsLinkUp (config : CConfig) (link : CLink) (answer : ℤ) (after : Option LinkState) : Type 0 where
+  pub is : answer ≡ link_boot_code after
+  pub up : IfSome after (λ l. l ≡ link_up (config_of config) (link_of link))
+
+pub record HasLinkBooted (config : CConfig) (link : CLink) (answer : ℤ) (after : Option LinkState) : Type 0 where
+  pub bad : is_link (config_of config) (link_of link) ≡ false → (answer ≡ invalid) × (after ≡ None)
+  pub good : is_link (config_of config) (link_of link) ≡ true → IsLinkUp config link answer after
+
+-- A link is booted into a handle without one. If it has one, that stays as it was, and the answer is -ENXIO.
+abbrev pub IsLinkBooted : Option LinkState → CConfig → CLink → ℤ → Option LinkState → Type 0
+IsLinkBooted (Some l) config link answer after = (answer ≡ no_stack) × (after ≡ Some l)
+IsLinkBooted None config link answer after = HasLinkBooted config link answer after
+
+-- A link goes. If there was none, the answer is -EOPNOTSUPP.
+abbrev pub IsLinkEnded : Option LinkState → ℤ → Option LinkState → Type 0
+IsLinkEnded (Some l) answer after = (answer ≡ pos 0) × (after ≡ None)
+IsLinkEnded None answer after = (answer ≡ no_link) × (after ≡ None)

@@ -1,0 +1,200 @@
+//! The stack as a host on an Ethernet. Beside the handle of the stack there is one of its link, the link's half of the
+//! host: a call on a stack changes nothing of its link, and it's booted and ended apart.
+ghost use Rattle.std.specs.Prelude.{◌≡◌, ⊤};
+ghost use Rattle.libbsdudp.specs.Calls.{stack_in};
+ghost use Rattle.libbsdudp.specs.Ether.{AnswersHost, AnswersLink, HasAged, HasHeard, IsFramed, IsLinkAsked, IsLinkBooted, IsLinkEnded, TellsAddress, TellsNeighbour, TellsTallies, link_in};
+
+use crate::errors::{INVALID, NO_LINK, NO_MEMORY, NO_STACK};
+use crate::ether_calls;
+use crate::handle::Handle;
+use crate::link_handle::LinkHandle;
+use crate::link_owned::OwnedLink;
+use crate::link_plain::{CLink, CNeighbour, CTallies};
+use crate::plain::CConfig;
+use ether_host::LinkLayer;
+use std::alloc::Global;
+
+/// Boots the link of a stack with this configuration, into a handle that holds none.
+///
+///     int bsdudp_core_ether_boot(struct bsdudp_core *link, const struct bsdudp_config *, const struct core_link *)
+///
+/// 0, or refused, in this order: -ENXIO if the handle holds a link, which stays; -EINVAL for a link that no host has;
+/// -ENOMEM.
+#[unsafe(no_mangle)]
+pub extern "C" fn bsdudp_core_ether_boot(
+    alloc: Global,
+    handle: &mut LinkHandle,
+    config: &CConfig,
+    link: &CLink,
+) -> i32
+    ensures { IsLinkBooted (link_in handle.old) config.now link.now result (link_in handle.new) }
+{
+    if let Some(boxed) = handle.take(alloc) {
+        handle.put(boxed);
+        return NO_STACK;
+    }
+    let config = config.config();
+    let link = link.link();
+    if !link.check(&config) {
+        return INVALID;
+    }
+    let Ok(layer) = LinkLayer::boot(alloc, config, link) else {
+        return NO_MEMORY;
+    };
+    match Box::new(alloc, OwnedLink { layer }) {
+        Ok(boxed) => {
+            handle.put(boxed);
+            0
+        }
+        Err(_) => NO_MEMORY,
+    }
+}
+
+/// Ends the link, frees all that it holds, and leaves the handle without one.
+///
+///     int bsdudp_core_ether_end(struct bsdudp_core *link)
+///
+/// 0, or -EOPNOTSUPP if the handle holds no link.
+#[unsafe(no_mangle)]
+pub extern "C" fn bsdudp_core_ether_end(alloc: Global, handle: &mut LinkHandle) -> i32
+    ensures { IsLinkEnded (link_in handle.old) result (link_in handle.new) }
+{
+    match handle.take(alloc) {
+        Some(boxed) => {
+            drop(boxed);
+            0
+        }
+        None => NO_LINK,
+    }
+}
+
+/// A frame comes. 0, or -EMSGSIZE of more than 65,549 bytes.
+///
+///     int bsdudp_core_ether_receive(struct bsdudp_core *, struct bsdudp_core *link, const uint8_t *frame, size_t len)
+#[tactic(auto, using(crate::proofs::EtherAnswered::host_answered))]
+#[unsafe(no_mangle)]
+pub extern "C" fn bsdudp_core_ether_receive(
+    alloc: Global,
+    handle: &mut Handle,
+    link: &mut LinkHandle,
+    frame: &[u8],
+) -> i32
+    ensures { AnswersHost (stack_in handle.old) (link_in link.old) result (stack_in handle.new) (link_in link.new) ⊤
+        (HasHeard frame.now result) }
+{
+    let Some(mut stack) = handle.take(alloc) else {
+        return NO_STACK;
+    };
+    let Some(mut layer) = link.take(alloc) else {
+        handle.put(stack);
+        return NO_LINK;
+    };
+    let answer = ether_calls::receive(&mut stack.stack, &mut layer.layer, frame);
+    handle.put(stack);
+    link.put(layer);
+    answer
+}
+
+/// The next frame for the link: how many bytes it has, or 0 if none waits; -EMSGSIZE for a room of fewer than 1,514
+/// bytes, and of a stack whose MTU is above 1,500.
+///
+///     int bsdudp_core_ether_transmit(struct bsdudp_core *, struct bsdudp_core *link, uint8_t *room, size_t len)
+#[tactic(auto, using(crate::proofs::EtherAnswered::host_answered))]
+#[unsafe(no_mangle)]
+pub extern "C" fn bsdudp_core_ether_transmit(
+    alloc: Global,
+    handle: &mut Handle,
+    link: &mut LinkHandle,
+    room: &mut [u8],
+) -> i32
+    ensures { AnswersHost (stack_in handle.old) (link_in link.old) result (stack_in handle.new) (link_in link.new)
+        (room.new ≡ room.old) (IsFramed room.old room.new result) }
+{
+    let Some(mut stack) = handle.take(alloc) else {
+        return NO_STACK;
+    };
+    let Some(mut layer) = link.take(alloc) else {
+        handle.put(stack);
+        return NO_LINK;
+    };
+    let answer = ether_calls::transmit(&mut stack.stack, &mut layer.layer, room);
+    handle.put(stack);
+    link.put(layer);
+    answer
+}
+
+/// Half a second passed: the link's part of it, beside `bsdudp_core_tick`. 0.
+///
+///     int bsdudp_core_ether_tick(struct bsdudp_core *link)
+#[tactic(auto, using(crate::proofs::EtherAnswered::link_answered))]
+#[unsafe(no_mangle)]
+pub extern "C" fn bsdudp_core_ether_tick(alloc: Global, link: &mut LinkHandle) -> i32
+    ensures { AnswersLink (link_in link.old) result (link_in link.new) ⊤ (HasAged result) }
+{
+    let Some(mut boxed) = link.take(alloc) else {
+        return NO_LINK;
+    };
+    let answer = ether_calls::tick(&mut boxed.layer);
+    link.put(boxed);
+    answer
+}
+
+/// How far the host is with its address: 1 if it's used, 0 while the host asks for it, or -EADDRINUSE if another host
+/// has it.
+///
+///     int bsdudp_core_ether_address(struct bsdudp_core *link)
+#[tactic(auto, using(crate::proofs::EtherAnswered::link_asked))]
+#[unsafe(no_mangle)]
+pub extern "C" fn bsdudp_core_ether_address(alloc: Global, link: &mut LinkHandle) -> i32
+    ensures { AnswersLink (link_in link.old) result (link_in link.new) ⊤ (IsLinkAsked (TellsAddress result)) }
+{
+    let Some(boxed) = link.take(alloc) else {
+        return NO_LINK;
+    };
+    let answer = ether_calls::address(&boxed.layer);
+    link.put(boxed);
+    answer
+}
+
+/// What was counted of the link. 0.
+///
+///     int bsdudp_core_ether_tallies(struct bsdudp_core *link, struct bsdudp_tallies *)
+#[tactic(auto, using(crate::proofs::EtherAnswered::link_asked))]
+#[unsafe(no_mangle)]
+pub extern "C" fn bsdudp_core_ether_tallies(
+    alloc: Global,
+    link: &mut LinkHandle,
+    tallies: &mut CTallies,
+) -> i32
+    ensures { AnswersLink (link_in link.old) result (link_in link.new) (tallies.new ≡ tallies.old)
+        (IsLinkAsked (TellsTallies result tallies.new)) }
+{
+    let Some(boxed) = link.take(alloc) else {
+        return NO_LINK;
+    };
+    let answer = ether_calls::tallies(&boxed.layer, tallies);
+    link.put(boxed);
+    answer
+}
+
+/// A neighbour, by its place in the table, the one that was put last at the end. 0, or -EINVAL if there is none.
+///
+///     int bsdudp_core_ether_neighbour(struct bsdudp_core *link, uint32_t i, struct core_neighbour *)
+#[tactic(auto, using(crate::proofs::EtherAnswered::link_asked))]
+#[unsafe(no_mangle)]
+pub extern "C" fn bsdudp_core_ether_neighbour(
+    alloc: Global,
+    link: &mut LinkHandle,
+    i: u32,
+    neighbour: &mut CNeighbour,
+) -> i32
+    ensures { AnswersLink (link_in link.old) result (link_in link.new) (neighbour.new ≡ neighbour.old)
+        (IsLinkAsked (TellsNeighbour i result neighbour.old neighbour.new)) }
+{
+    let Some(boxed) = link.take(alloc) else {
+        return NO_LINK;
+    };
+    let answer = ether_calls::neighbour(&boxed.layer, i, neighbour);
+    link.put(boxed);
+    answer
+}

@@ -1,0 +1,94 @@
+//! The calls on a host, as C gives their arguments and takes their answers.
+ghost use Rattle.std.specs.Prelude.{◌≡◌, ◌+◌, ◌≤◌, length, IfSome};
+ghost use Rattle.params.specs.declared.TheConstants.{IP_MAX_PACKET};
+ghost use Rattle.flat_ether.specs.Hosts.{Hears, gives};
+ghost use Rattle.flat_ether.specs.declared.sizes.TheConstants.{ETHER_HEADER, ETHER_MTU};
+ghost use Rattle.ether_host.specs.Inside.{seen};
+ghost use Rattle.ether_host.specs.View.{host_of};
+ghost use Rattle.libbsdudp.specs.Ether.{GivesFrame, HasAged, HasHeard, IsFramed, TellsAddress, TellsNeighbour, TellsTallies, both};
+
+use crate::errors::{BAD_LENGTH, INVALID, IN_USE, count};
+use crate::link_plain::{CNeighbour, CTallies};
+use ether_host::LinkLayer;
+use flat_ether::{AddressState, ETHER_HEADER, ETHER_MTU};
+use net_stack::Stack;
+use params::IP_MAX_PACKET;
+
+/// The longest frame that is taken.
+const LONGEST: usize = (ETHER_HEADER + IP_MAX_PACKET) as usize;
+
+/// The room that each frame finds place in.
+const ROOM: usize = (ETHER_HEADER + ETHER_MTU) as usize;
+
+/// A frame comes.
+pub(crate) fn receive(stack: &mut Stack, layer: &mut LinkLayer, frame: &[u8]) -> i32
+    ensures { HasHeard frame.now result (both stack.old (seen layer.old)) (both stack.new (seen layer.new)) }
+{
+    if frame.len() > LONGEST {
+        return BAD_LENGTH;
+    }
+    layer.receive(stack, frame);
+    0
+}
+
+/// The next frame, into a room that is long enough.
+fn give(stack: &mut Stack, layer: &mut LinkLayer, room: &mut [u8]) -> i32
+    requires mtu { stack.old.config.mtu ≤ ETHER_MTU }
+    requires room { ETHER_HEADER + ETHER_MTU ≤ length room.old }
+    ensures { GivesFrame room.new result (both stack.old (seen layer.old)) (both stack.new (seen layer.new)) }
+{
+    match layer.transmit(stack, room) {
+        Some(len) => count(len),
+        None => 0,
+    }
+}
+
+/// The next frame.
+pub(crate) fn transmit(stack: &mut Stack, layer: &mut LinkLayer, room: &mut [u8]) -> i32
+    ensures { IsFramed room.old room.new result (both stack.old (seen layer.old)) (both stack.new (seen layer.new)) }
+{
+    if room.len() < ROOM || u32::from(stack.mtu()) > ETHER_MTU {
+        return BAD_LENGTH;
+    }
+    give(stack, layer, room)
+}
+
+/// Half a second passed.
+pub(crate) fn tick(layer: &mut LinkLayer) -> i32
+    ensures { HasAged result (seen layer.old) (seen layer.new) }
+{
+    layer.tick();
+    0
+}
+
+/// How far the host is with its address.
+pub(crate) fn address(layer: &LinkLayer) -> i32
+    ensures { TellsAddress result (seen layer.now) }
+{
+    match layer.address() {
+        AddressState::Probing => 0,
+        AddressState::InUse => 1,
+        AddressState::Conflict => IN_USE,
+    }
+}
+
+/// What was counted of the link.
+pub(crate) fn tallies(layer: &LinkLayer, tallies: &mut CTallies) -> i32
+    ensures { TellsTallies result tallies.new (seen layer.now) }
+{
+    *tallies = CTallies::of(layer.tallies());
+    0
+}
+
+/// The neighbour at a place.
+pub(crate) fn neighbour(layer: &LinkLayer, i: u32, neighbour: &mut CNeighbour) -> i32
+    ensures { TellsNeighbour i result neighbour.old neighbour.new (seen layer.now) }
+{
+    match layer.neighbours().get(i as usize) {
+        Some(told) => {
+            *neighbour = CNeighbour::of(*told);
+            0
+        }
+        None => INVALID,
+    }
+}

@@ -1,0 +1,65 @@
+//! What C's structs say of a link, and how C is told of it.
+ghost use Rattle.std.specs.Prelude.{◌≡◌};
+ghost use Rattle.libbsdudp.specs.LinkPlain.{link_of, neighbour_told, tallies_told};
+
+use crate::link_plain::{CLink, CNeighbour, CTallies};
+use flat_ether::{Link, Mac, NO_MAC, Neighbour, Tallies};
+
+impl CLink {
+    pub(crate) fn link(&self) -> Link
+        ensures { result ≡ link_of self.now }
+    {
+        let gateway = if self.gateway == 0 {
+            None
+        } else {
+            Some(self.gateway)
+        };
+        Link {
+            mac: Mac {
+                high: self.mac_high,
+                low: self.mac_low,
+            },
+            mask: self.mask,
+            gateway,
+            probe: self.probe != 0,
+        }
+    }
+}
+
+impl CNeighbour {
+    pub(crate) fn of(neighbour: Neighbour) -> CNeighbour
+        ensures { result ≡ neighbour_told neighbour }
+    {
+        let mac = neighbour.mac.unwrap_or(NO_MAC);
+        CNeighbour {
+            ip: neighbour.ip,
+            mac_low: mac.low,
+            mac_high: mac.high,
+            ticks: neighbour.ticks,
+            tries: neighbour.tries,
+            known: u8::from(neighbour.mac.is_some()),
+        }
+    }
+}
+
+impl CTallies {
+    pub(crate) fn of(tallies: Tallies) -> CTallies
+        ensures { result ≡ tallies_told tallies }
+    {
+        CTallies {
+            ignored: tallies.ignored,
+            martians: tallies.martians,
+            bad_arp: tallies.bad_arp,
+            conflicts: tallies.conflicts,
+            replies_dropped: tallies.replies_dropped,
+            no_route: tallies.no_route,
+            held_dropped: tallies.held_dropped,
+            unresolved: tallies.unresolved,
+            too_long: tallies.too_long,
+            echoes: tallies.echoes,
+            unreachable: tallies.unreachable,
+            limited: tallies.limited,
+            icmp_dropped: tallies.icmp_dropped,
+        }
+    }
+}

@@ -1,0 +1,49 @@
+//! How a link is taken out of its handle, and put back.
+ghost use Rattle.std.specs.Prelude.{◌≡◌, MatchOption, None, Some};
+ghost use Rattle.ether_host.specs.Inside.{seen};
+ghost use Rattle.libbsdudp.specs.Ether.{link_in};
+
+use crate::link_handle::LinkHandle;
+use crate::link_held::LinkHeld;
+use crate::link_owned::OwnedLink;
+use crate::parts::{open, shut};
+use std::alloc::Global;
+use std::mem::replace;
+
+/// The mark of a handle that holds a link.
+const LIVE: u32 = 0x6273_6c6b;
+
+impl LinkHandle {
+    /// A handle without a link.
+    fn empty(alloc: Global) -> LinkHandle
+        ensures { result.live ≡ 0 }
+    {
+        LinkHandle {
+            live: 0,
+            held: LinkHeld::nothing(alloc),
+        }
+    }
+
+    /// Takes out the link, and leaves the handle without one. `None` if it has none, and then it stays without.
+    pub(crate) fn take(&mut self, alloc: Global) -> Option<Box<OwnedLink, Global>>
+        ensures taken { MatchOption result (link_in self.old ≡ None)
+            (λ b. link_in self.old ≡ Some (seen b.value.layer)) }
+        ensures left { link_in self.new ≡ None }
+    {
+        if self.live != LIVE {
+            return None;
+        }
+        let LinkHandle { live: _, held } = replace(self, LinkHandle::empty(alloc));
+        Some(shut(held.into_parts()))
+    }
+
+    /// Puts a link in. The handle has to be without one, or that one isn't ended.
+    pub(crate) fn put(&mut self, boxed: Box<OwnedLink, Global>)
+        ensures { link_in self.new ≡ Some (seen boxed.value.layer) }
+    {
+        *self = LinkHandle {
+            live: LIVE,
+            held: LinkHeld::of_parts(open(boxed)),
+        };
+    }
+}

@@ -1,0 +1,58 @@
+//! A boxed link as C keeps it, as `held` has it of a stack.
+ghost use Rattle.std.specs.Prelude.{◌≡◌, None, Some};
+ghost use Rattle.libbsdudp.specs.LinkHeld.{IsFull, Kept, kept_coded, kept_owns};
+
+use crate::link_owned::OwnedLink;
+use crate::parts::Parts;
+use std::alloc::Global;
+use std::marker::Model;
+use std::ptr::null_mut;
+
+/// The place of a boxed link, or none. A contract sees what the box holds. Its type names no type of the host, since
+/// an export may not take one that does.
+#[repr(C)]
+#[derive(Drop)]
+pub struct LinkHeld {
+    at: *mut u8,
+    alloc: Global,
+    pub(crate) ghost kept: { Kept } by { kept_coded },
+}
+
+impl Model for LinkHeld {
+    ghost also_owns = { λ h. kept_owns h.alloc h.at h.kept };
+}
+
+impl LinkHeld {
+    /// No box.
+    pub(crate) fn nothing(alloc: Global) -> LinkHeld
+        ensures { result.kept ≡ None }
+    {
+        LinkHeld {
+            at: null_mut(),
+            alloc,
+        }
+    }
+
+    /// The place of the box that these parts make.
+    pub(crate) fn of_parts(parts: Parts<OwnedLink, Global>) -> LinkHeld
+        ensures { result.kept ≡ Some parts.value }
+    {
+        let Parts { at, alloc } = parts;
+        LinkHeld {
+            at: at as *mut u8,
+            alloc,
+        }
+    }
+
+    /// The parts of the box at the place. There has to be one.
+    pub(crate) fn into_parts(self) -> Parts<OwnedLink, Global>
+        requires { IsFull self.kept }
+        ensures { self.kept ≡ Some result.value }
+    {
+        let LinkHeld { at, alloc } = self;
+        Parts {
+            at: at as *mut OwnedLink,
+            alloc,
+        }
+    }
+}
