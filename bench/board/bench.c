@@ -1,12 +1,32 @@
-/* Our echo: rx, recvfrom, sendto, tx. */
+/* Our echo: rx, recvfrom, sendto, tx; with ETHER as a host on an Ethernet, which takes and gives frames. */
 #include "bsdudp.h"
 
 #include "echo.h"
 
-static unsigned char memory[BSDUDP_MEMORY(64, 16)] __attribute__((aligned(BSDUDP_ALIGNMENT)));
 static struct bsdudp stack;
-static uint8_t room[LONGEST], packet[MTU];
+static uint8_t room[LONGEST], packet[FRAME_HEAD + MTU];
 static uint32_t fd;
+
+#ifdef ETHER
+static unsigned char memory[BSDUDP_ETHER_MEMORY(64, 16)] __attribute__((aligned(BSDUDP_ALIGNMENT)));
+
+static int boot(const struct bsdudp_config *config)
+{
+    static const struct bsdudp_link link = {{2, 0, 0, 0, 0, 1}, 0xffffff00, 0x0a000002, 0};
+    return bsdudp_ether_boot_in(&stack, config, &link, memory, sizeof memory);
+}
+#define come bsdudp_ether_receive
+#define go bsdudp_ether_transmit
+#else
+static unsigned char memory[BSDUDP_MEMORY(64, 16)] __attribute__((aligned(BSDUDP_ALIGNMENT)));
+
+static int boot(const struct bsdudp_config *config)
+{
+    return bsdudp_boot_in(&stack, config, memory, sizeof memory);
+}
+#define come bsdudp_rx
+#define go bsdudp_tx
+#endif
 
 static void turn(void)
 {
@@ -14,10 +34,10 @@ static void turn(void)
     uint32_t i;
     int len;
     for (i = 0; i < packet_count; i++)
-        bsdudp_rx(&stack, packets[i], lengths[i]);
+        come(&stack, packets[i], lengths[i]);
     while ((len = bsdudp_recvfrom(&stack, fd, room, sizeof room, &from)) >= 0)
         bsdudp_sendto(&stack, fd, &from, room, (size_t)len);
-    while (bsdudp_tx(&stack, packet, sizeof packet) > 0)
+    while (go(&stack, packet, sizeof packet) > 0)
         gone++;
 }
 
@@ -25,7 +45,7 @@ int main(void)
 {
     static const struct bsdudp_config config = {0x0a000001, 0x0a0000ff, 64, 16, MTU, 1};
     static const struct bsdudp_addr echo = {0, 7};
-    if (bsdudp_boot_in(&stack, &config, memory, sizeof memory) < 0)
+    if (boot(&config) < 0)
         return 1;
     fd = (uint32_t)bsdudp_socket(&stack);
     bsdudp_bind(&stack, fd, &echo);

@@ -1,12 +1,19 @@
-/* What both echoes of bench/board share: datagrams as packets of at most 1,500 bytes, and what one turn costs. */
+/* What the echoes of bench/board share: datagrams as packets of at most 1,500 bytes, and what one turn costs. With ETHER
+   they come in frames from 02:00:00:00:00:02 to 02:00:00:00:00:01, and an ARP request and a ping are measured, too. */
 #include "machine.h"
 
 #include <string.h>
 
 enum { MTU = 1500, LONGEST = 4000, PACKETS = 3, TURNS = 200 };
 
-/* The packets of a datagram from 10.0.0.2 port 5000 to 10.0.0.1 port 7. */
-static uint8_t packets[PACKETS][MTU];
+#ifdef ETHER
+enum { FRAME_HEAD = 14, ARP = 28, ICMP = 1 };
+#else
+enum { FRAME_HEAD = 0 };
+#endif
+
+/* The packets of a datagram from 10.0.0.2 port 5000 to 10.0.0.1 port 7, or frames with them. */
+static uint8_t packets[PACKETS][FRAME_HEAD + MTU];
 static uint32_t lengths[PACKETS], packet_count;
 
 /* How many packets went out. */
@@ -47,22 +54,33 @@ static const uint8_t *datagram(uint32_t len)
     return bytes;
 }
 
-/* The packets that carry it (RFC 791). */
+/* A packet with its header (RFC 791), and in front of it that of its frame (RFC 894). */
+static void put_packet(const uint8_t *bytes, uint32_t len, uint32_t protocol, uint32_t fragment)
+{
+    static const uint8_t head[20] = {0x45, 0, 0, 0, 0, 9, 0, 0, 64, 0, 0, 0, 10, 0, 0, 2, 10, 0, 0, 1};
+    uint8_t *packet = packets[packet_count] + FRAME_HEAD;
+#ifdef ETHER
+    static const uint8_t frame_head[FRAME_HEAD] = {2, 0, 0, 0, 0, 1, 2, 0, 0, 0, 0, 2, 8, 0};
+    memcpy(packets[packet_count], frame_head, FRAME_HEAD);
+#endif
+    memcpy(packet, head, sizeof head);
+    packet[9] = (uint8_t)protocol;
+    put(packet + 2, 20 + len);
+    put(packet + 6, fragment);
+    put(packet + 10, ~folded(packet, 20, 0) & 65535);
+    memcpy(packet + 20, bytes, len);
+    lengths[packet_count++] = FRAME_HEAD + 20 + len;
+}
+
+/* The packets that carry it. */
 static void make_packets(uint32_t len)
 {
     const uint8_t *bytes = datagram(len);
     uint32_t offset, piece, last = 8 + len;
     packet_count = 0;
     for (offset = 0; offset < last; offset += piece) {
-        static const uint8_t head[20] = {0x45, 0, 0, 0, 0, 9, 0, 0, 64, 17, 0, 0, 10, 0, 0, 2, 10, 0, 0, 1};
-        uint8_t *packet = packets[packet_count];
         piece = last - offset > MTU - 20 ? MTU - 20 : last - offset;
-        memcpy(packet, head, sizeof head);
-        put(packet + 2, 20 + piece);
-        put(packet + 6, (offset + piece < last ? 0x2000 : 0) | offset / 8);
-        put(packet + 10, ~folded(packet, 20, 0) & 65535);
-        memcpy(packet + 20, bytes + offset, piece);
-        lengths[packet_count++] = 20 + piece;
+        put_packet(bytes + offset, piece, 17, (offset + piece < last ? 0x2000 : 0) | offset / 8);
     }
 }
 
@@ -78,11 +96,10 @@ static void say_number(uint32_t number)
     machine_say(digits + at);
 }
 
-/* Says how many instructions the echo of so many bytes takes, or 0 if not all of it came back. */
-static void measure(uint32_t len)
+/* Says how many instructions a turn takes, or 0 if not all of it was answered. */
+static void measure_turn(void)
 {
     uint32_t k, ticks;
-    make_packets(len);
     for (k = 0; k < 2; k++) /* what is made once has been made then */
         turn();
     gone = 0;
@@ -93,12 +110,53 @@ static void measure(uint32_t len)
     say_number(gone == TURNS * packet_count ? ticks / (TURNS / MACHINE_INSTRUCTIONS) : 0);
 }
 
-/* The measurements: instructions of 2, 1,472 and 4,000 bytes, and the call stack. */
+/* The echo of so many bytes. */
+static void measure(uint32_t len)
+{
+    make_packets(len);
+    measure_turn();
+}
+
+#ifdef ETHER
+/* An ARP request of 10.0.0.2 (RFC 826). */
+static void make_arp(void)
+{
+    static const uint8_t request[FRAME_HEAD + ARP] = {255, 255, 255, 255, 255, 255, 2, 0, 0, 0, 0, 2, 8, 6,
+                                                      0,   1,   8,   0,   6,   4,   0, 1, 2, 0, 0, 0, 0, 2,
+                                                      10,  0,   0,   2,   0,   0,   0, 0, 0, 0, 10, 0, 0, 1};
+    memcpy(packets[0], request, sizeof request);
+    lengths[0] = sizeof request;
+    packet_count = 1;
+}
+
+/* A ping of so many bytes (RFC 792). */
+static void make_ping(uint32_t len)
+{
+    static uint8_t bytes[8 + MTU] = {8, 0, 0, 0, 0, 1, 0, 1};
+    put(bytes + 2, 0);
+    put(bytes + 2, ~folded(bytes, 8 + len, 0) & 65535);
+    packet_count = 0;
+    put_packet(bytes, 8 + len, ICMP, 0);
+}
+#endif
+
+/* The measurements: instructions of 2, 1,472 and 4,000 bytes, with ETHER of an ARP request and of a ping of 56 bytes, and
+   the call stack. */
 static void measure_all(void)
 {
+#ifdef ETHER
+    make_arp(); /* the neighbour is known from now on */
+    turn();
+#endif
     measure(2);
     measure(1472);
     measure(LONGEST);
+#ifdef ETHER
+    make_arp();
+    measure_turn();
+    make_ping(56);
+    measure_turn();
+#endif
     say_number(machine_stack());
     machine_say("\n");
 }

@@ -1,6 +1,7 @@
 /* lwIP's echo by its own interface: a callback sends what came, as its own echo does. With COPIES the bytes are copied
    out of the packet and into another, as sockets copy them. A packet from the link is copied in, and one for it out, as
-   ours are. */
+   ours are. With ETHER packets come and go in frames, by its own etharp. */
+#include "lwip/etharp.h"
 #include "lwip/init.h"
 #include "lwip/netif.h"
 #include "lwip/udp.h"
@@ -8,20 +9,39 @@
 #include "echo.h"
 
 static struct netif interface;
-static uint8_t packet[MTU];
+static uint8_t packet[FRAME_HEAD + MTU];
 
 u32_t sys_now(void)
 {
     return 0;
 }
 
-static err_t put_out(struct netif *netif, struct pbuf *bytes, const ip4_addr_t *to)
+static err_t send_out(struct netif *netif, struct pbuf *bytes)
 {
     (void)netif;
-    (void)to;
     pbuf_copy_partial(bytes, packet, bytes->tot_len, 0);
     gone++;
     return ERR_OK;
+}
+
+#ifdef ETHER
+static err_t link_of(struct netif *netif)
+{
+    static const uint8_t mac[6] = {2, 0, 0, 0, 0, 1};
+    netif->mtu = MTU;
+    netif->hwaddr_len = sizeof mac;
+    memcpy(netif->hwaddr, mac, sizeof mac);
+    netif->output = etharp_output;
+    netif->linkoutput = send_out;
+    netif->flags = NETIF_FLAG_BROADCAST | NETIF_FLAG_LINK_UP | NETIF_FLAG_ETHARP;
+    return ERR_OK;
+}
+#define input_of_link netif_input
+#else
+static err_t put_out(struct netif *netif, struct pbuf *bytes, const ip4_addr_t *to)
+{
+    (void)to;
+    return send_out(netif, bytes);
 }
 
 static err_t link_of(struct netif *netif)
@@ -31,6 +51,8 @@ static err_t link_of(struct netif *netif)
     netif->flags = NETIF_FLAG_BROADCAST | NETIF_FLAG_LINK_UP;
     return ERR_OK;
 }
+#define input_of_link ip_input
+#endif
 
 static void echo(void *of, struct udp_pcb *pcb, struct pbuf *bytes, const ip_addr_t *from, u16_t port)
 {
@@ -72,7 +94,7 @@ int main(void)
     IP4_ADDR(&mask, 255, 255, 255, 0);
     IP4_ADDR(&gateway, 10, 0, 0, 2);
     lwip_init();
-    netif_add(&interface, &addr, &mask, &gateway, NULL, link_of, ip_input);
+    netif_add(&interface, &addr, &mask, &gateway, NULL, link_of, input_of_link);
     netif_set_default(&interface);
     netif_set_up(&interface);
     pcb = udp_new();

@@ -7,13 +7,25 @@
 #define SYS_LIGHTWEIGHT_PROT 0
 #define LWIP_NOASSERT 1
 
-/* What our stack doesn't have. */
-#define LWIP_IPV6 0
-#define LWIP_TCP 0
+/* What our stack doesn't have, and a host on an Ethernet has: as many neighbours, and packets that wait for one. */
+#ifdef ETHER
+#define LWIP_ICMP 1
+#define LWIP_ARP 1
+#define LWIP_ETHERNET 1
+#define ARP_TABLE_SIZE 32
+#define ARP_QUEUEING 1
+#define ARP_QUEUE_LEN 8
+#define MEMP_NUM_ARP_QUEUE 8
+#else
 #define LWIP_ICMP 0
-#define LWIP_RAW 0
 #define LWIP_ARP 0
 #define LWIP_ETHERNET 0
+#endif
+
+/* What neither has. */
+#define LWIP_IPV6 0
+#define LWIP_TCP 0
+#define LWIP_RAW 0
 #define LWIP_NETCONN 0
 #define LWIP_SOCKET 0
 #define LWIP_NETIF_API 0

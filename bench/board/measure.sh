@@ -22,7 +22,8 @@ board_program() { # WORK PROGRAM OBJECT..
         --specs=nano.specs --specs=nosys.specs -Wl,--defsym=MEMORY_SIZE=262144 "$@" "$work/machine.o" -o "$program"
 }
 
-# What a program says on the board: instructions of 2, 1,472 and 4,000 bytes, and the call stack.
+# What a program says on the board: instructions of 2, 1,472 and 4,000 bytes, of a host also of an ARP request and of a
+# ping, and the call stack.
 on_board() { # PROGRAM
     timeout 300 qemu-system-arm -M mps2-an385 -display none -monitor none -serial null -icount shift=0 \
         -semihosting-config enable=on,target=native -kernel "$1" 2>&1
@@ -49,21 +50,24 @@ board_row() { # WORK NAME LIBRARY PROGRAM
     read -r text data bss < <(bytes_of "$program")
     read -r text0 data0 bss0 < <(bytes_of "$work/nothing.elf")
     read -ra said < <(on_board "$program")
-    table_row "$name" "$library" $((text - text0)) $((data - data0)) $((bss - bss0)) "${said[3]:-0}" "${said[@]:0:3}"
+    [ ${#said[@]} -gt 0 ] || said=(0)
+    table_row "$name" "$library" $((text - text0)) $((data - data0)) $((bss - bss0)) "${said[-1]}" \
+        "${said[@]::${#said[@]}-1}"
 }
 
 # Our echo over a library or an object.
-board_ours() { # WORK NAME HEADERS LIBRARY
+board_ours() { # WORK NAME HEADERS LIBRARY FLAG..
     local work=$1 name=$2
-    board_object "$bench/board/bench.c" "$work/bench.o" "-I$3" -Wall -Wextra
+    board_object "$bench/board/bench.c" "$work/bench.o" "-I$3" -Wall -Wextra "${@:5}"
     board_program "$work" "$work/bench.elf" "$work/bench.o" "$4"
     board_row "$work" "$name" "$(bytes_of "$4" | cut -d' ' -f1)" "$work/bench.elf"
 }
 
 # lwIP's two echoes.
-board_lwip() { # WORK
-    local work=$1 core=$LWIP/src/core file objects=() how=("-I$LWIP/src/include") name
-    for file in def inet_chksum init ip mem memp netif pbuf stats timeouts udp ipv4/{ip4,ip4_addr,ip4_frag}; do
+board_lwip() { # WORK FLAG..
+    local work=$1 core=$LWIP/src/core file objects=() how=("-I$LWIP/src/include" "${@:2}") name
+    for file in def inet_chksum init ip mem memp netif pbuf stats timeouts udp \
+        ipv4/{ip4,ip4_addr,ip4_frag,icmp,etharp} ../netif/ethernet; do
         objects+=("$work/lwip_$(basename "$file").o")
         board_object "$core/$file.c" "${objects[-1]}" "${how[@]}"
     done
@@ -102,6 +106,20 @@ board_echoes() { # WORK
     else
         echo "lwIP's sources can't be had by apt-get: its rows are left out"
     fi
+}
+
+# The same as hosts on an Ethernet: ours, and lwIP with its etharp and icmp. Neighbours are known.
+board_hosts() { # WORK
+    local work=$1 level made
+    echo
+    table_row 'Cortex-M3, frames' library 'echo: text' data bss 'call stack' '2 bytes' '1,472' '4,000' \
+        'ARP request' 'ping of 56'
+    echo '|---|---:|---:|---:|---:|---:|---:|---:|---:|---:|---:|'
+    for level in -Oz -Os -O2; do
+        made=$(core_of "$work" cortex-m3 $level)
+        board_ours "$work" "\`portable/core $level\`" "$made" "$made/libbsdudp.a" -DETHER
+    done
+    ! lwip_sources "$work" || board_lwip "$work" -DETHER
 }
 
 # The bytes of code and constants of the library, with every call in.
@@ -153,6 +171,7 @@ measure_board() { # WORK
     board_program "$work" "$work/nothing.elf" "$work/nothing.o"
     board_echoes "$work"
     [ -z "${BRIEF:-}" ] || return 0
+    board_hosts "$work"
     board_processors "$work"
     board_crates "$work"
     board_stacks "$work"

@@ -44,8 +44,11 @@ struct bsdudp {
     struct bsdudp_core core;
     void *block;
     void (*give_back)(void *);
+    struct bsdudp_core link;
+    int (*tick_link)(struct bsdudp *);
+    int (*end_link)(struct bsdudp *);
 };
-#define BSDUDP_NONE {{0, 0, 0}, NULL, NULL}
+#define BSDUDP_NONE {{0, 0, 0}, NULL, NULL, {0, 0, 0}, NULL, NULL}
 
 /* What a stack is booted with. */
 struct bsdudp_config {
@@ -106,6 +109,40 @@ struct bsdudp_range {
     uint8_t more;    /* 1 if more come after the fragment that brought them, else 0 */
 };
 
+/* The link of a host on an Ethernet: bsdudp_ether_boot_in. */
+struct bsdudp_link {
+    uint8_t mac[6];   /* its hardware address, as in a frame; no group's, so mac[0] is even */
+    uint32_t mask;    /* which bits of an address tell its network: 0xffffff00 for 10.0.0.1/24 */
+    uint32_t gateway; /* a neighbour that takes what goes to other networks; 0: none, and such packets are dropped */
+    uint8_t probe;    /* 0: it uses its address at once; else it asks first if another host has it (RFC 5227) */
+};
+
+/* What the link of a host counted since boot. Each stops at 2 to the 64th, less 1. */
+struct bsdudp_tallies {
+    uint64_t ignored;         /* frames that aren't for the host, or neither IPv4 nor ARP */
+    uint64_t martians;        /* packets from or to an address that can't be on a link (RFC 1122, 3.2.1.3) */
+    uint64_t bad_arp;         /* ARP packets not of Ethernet and IPv4, or from the host itself, or from all */
+    uint64_t conflicts;       /* ARP packets of another host that claims this one's address */
+    uint64_t replies_dropped; /* ARP requests for the host that found no place: 8 replies wait at most */
+    uint64_t no_route;        /* packets to another network, without a gateway */
+    uint64_t held_dropped;    /* packets that waited for a hardware address, and gave way to newer ones: 8 wait */
+    uint64_t unresolved;      /* packets that waited for a hardware address that nobody told */
+    uint64_t too_long;        /* packets that no frame can carry: none, of a host of this library */
+    uint64_t echoes;          /* echo requests that were answered */
+    uint64_t unreachable;     /* datagrams whose sender was told by ICMP that no socket takes them */
+    uint64_t limited;         /* datagrams whose sender wasn't told so, since too many were in this second */
+    uint64_t icmp_dropped;    /* ICMP answers that weren't given, since another one still waited */
+};
+
+/* A neighbour whose hardware address is known or asked for. */
+struct bsdudp_neighbour {
+    uint32_t ip;    /* its address */
+    uint8_t mac[6]; /* its hardware address; 0 while it isn't known */
+    uint8_t known;  /* 1 if the hardware address is known, else 0 */
+    uint8_t tries;  /* how many requests for it went out; 0 if it told by itself */
+    uint16_t ticks; /* for how many ticks it's known still; while it isn't, after how many the next request goes out */
+};
+
 /* Refusals, by 4.4BSD's numbers: a call answers the negative of one. */
 enum {
     BSDUDP_ENXIO = 6,           /* the handle has no stack; of boot: it has one */
@@ -119,6 +156,7 @@ enum {
     BSDUDP_EDESTADDRREQ = 39,   /* a send without an address on an unconnected socket */
     BSDUDP_EMSGSIZE = 40,       /* too long, or too little room */
     BSDUDP_ENOPROTOOPT = 42,    /* no such option */
+    BSDUDP_EOPNOTSUPP = 45,     /* bsdudp_rx and bsdudp_tx of a host; the calls for frames of a bare stack */
     BSDUDP_EADDRINUSE = 48,     /* another socket stands in the way */
     BSDUDP_EADDRNOTAVAIL = 49,  /* no address of this machine; a destination with port 0 */
     BSDUDP_ENOBUFS = 55,        /* the pool has too few buffers; nothing was sent or spent */
@@ -140,6 +178,9 @@ enum {
     BSDUDP_DATAGRAM = 9216, /* the longest datagram that is sent */
     BSDUDP_PACKET = 65535,  /* the longest packet that may come */
     BSDUDP_ALIGNMENT = 16,  /* of the memory of a stack */
+    BSDUDP_ETHER_ROOM = 1514,   /* room enough for bsdudp_ether_transmit: a frame of 14 and 1,500 bytes */
+    BSDUDP_ETHER_FRAME = 65549, /* the longest frame that bsdudp_ether_receive takes */
+    BSDUDP_NEIGHBOURS = 32, /* how many neighbours a host knows or asks for at most */
     BSDUDP_COUNTERS = 26
 };
 
@@ -166,17 +207,64 @@ int bsdudp_end(struct bsdudp *);
 
 /* A packet came from the link. It's delivered, kept for the other fragments of its datagram, or dropped and counted;
    that is no refusal. Bytes after its total length are ignored. `packet` isn't kept. The answer is 0.
-   ENXIO. EMSGSIZE: `len` is above 65535. */
+   ENXIO. EOPNOTSUPP: it's a host, which takes frames. EMSGSIZE: `len` is above 65535. */
 int bsdudp_rx(struct bsdudp *, const void *packet, size_t len);
 
 /* Gives the packet that has waited longest for the link: its bytes stand in front of `room`, and the answer is its
    length, at most the MTU; 0 if none waits. What stands behind it in the room stays.
-   ENXIO. EMSGSIZE: `len` is below the MTU. */
+   ENXIO. EOPNOTSUPP: it's a host, which gives frames. EMSGSIZE: `len` is below the MTU. */
 int bsdudp_tx(struct bsdudp *, void *room, size_t len);
 
-/* Half a second passed. A datagram of which fragments are missing is dropped after 60 of these. The answer is 0.
-   ENXIO. */
+/* Half a second passed. A datagram of which fragments are missing is dropped after 60 of these, and a host's neighbours
+   grow older. The answer is 0. ENXIO. */
 int bsdudp_tick(struct bsdudp *);
+
+/* ---- a host on an Ethernet: a stack whose frames come and go (RFC 894), with ARP (RFC 826), replies to ping and "port
+   unreachable" (RFC 792). All calls but bsdudp_rx and bsdudp_tx serve it as they serve a bare stack. */
+
+/* How many bytes of memory a host takes with so many mbufs and clusters: a constant if they are. */
+#define BSDUDP_ETHER_MEMORY(mbufs, clusters) (BSDUDP_MEMORY(mbufs, clusters) + 14592)
+
+/* Boots a host in memory that you give, as bsdudp_boot_in boots a stack; BSDUDP_ETHER_MEMORY bytes of it do. It knows
+   no neighbour yet. It announces its address (RFC 5227); with `probe` it asks before whether another host has it, and
+   sends nothing else for 3 to 5 seconds. The answer is 0. Refused, in this order: ENXIO: the handle has a stack,
+   which goes on. EINVAL: the MTU is above 1500, the hardware address is a group's, or the gateway is no neighbour:
+   not on the network that the mask tells, or this host's address, or the broadcast address. Then as bsdudp_boot_in:
+   EDOM, EINVAL, ENOMEM. */
+int bsdudp_ether_boot_in(struct bsdudp *, const struct bsdudp_config *, const struct bsdudp_link *, void *memory,
+                         size_t len);
+
+/* The same with memory from malloc, which bsdudp_end gives back. ENOMEM also if malloc refuses. */
+int bsdudp_ether_boot(struct bsdudp *, const struct bsdudp_config *, const struct bsdudp_link *);
+
+/* A frame came from the network card: 14 bytes of header, and what it carries, without the check sequence. An IPv4
+   packet is taken as bsdudp_rx takes one, an ARP packet is heard and may be answered, and all else is counted and
+   dropped; that is no refusal. What it is answered with waits for bsdudp_ether_transmit. `frame` isn't kept. The answer
+   is 0. ENXIO. EOPNOTSUPP: it's a bare stack. EMSGSIZE: `len` is above 65549. */
+int bsdudp_ether_receive(struct bsdudp *, const void *frame, size_t len);
+
+/* Gives the next frame for the network card: its bytes stand in front of `room`, and the answer is its length, at most
+   1514; 0 if none waits. What stands behind it in the room is anything, and all of it if none waits. The card, or its
+   driver, fills a short frame up to 60 bytes, and adds the check sequence. First come ARP replies and requests, then
+   packets that waited for a hardware address, then ICMP's answers, and then what the stack has for its link.
+   ENXIO. EOPNOTSUPP: it's a bare stack. EMSGSIZE: `len` is below 1514. */
+int bsdudp_ether_transmit(struct bsdudp *, void *room, size_t len);
+
+/* How far a host is with its address. The answer is 1 if it uses it, and 0 while it asks for it. ENXIO. EOPNOTSUPP:
+   it's a bare stack. EADDRINUSE: another host has the address, and this one stays silent: end it, and boot with
+   another. */
+int bsdudp_ether_address(struct bsdudp *);
+
+/* What the link of a host counted. The answer is 0. ENXIO. EOPNOTSUPP: it's a bare stack. Then `tallies` is as it
+   was. */
+int bsdudp_ether_tallies(struct bsdudp *, struct bsdudp_tallies *tallies);
+
+/* A neighbour, by its number, from 0 on, 32 at most; the one that was heard or asked for last is the last. The answer
+   is 0. ENXIO. EOPNOTSUPP: it's a bare stack. EINVAL: there is none with this number. Then `neighbour` is as it was.
+   */
+int bsdudp_ether_neighbour(struct bsdudp *, uint32_t i, struct bsdudp_neighbour *neighbour);
+
+/* ---- sockets */
 
 /* Opens a UDP socket. The answer is its descriptor, the least that is free. ENXIO. EMFILE. */
 int bsdudp_socket(struct bsdudp *);

@@ -1,22 +1,25 @@
-/* A stack in memory of malloc. */
+/* A stack, or a host, in memory of malloc. */
 #include "bsdudp.h"
 
 #include <stdlib.h>
 
-int bsdudp_boot(struct bsdudp *stack, const struct bsdudp_config *config)
+/* A block of `len` bytes, or NULL where boot needs none to refuse: bsdudp_boot_in without memory tells why. */
+static unsigned char *block_of(struct bsdudp *stack, const struct bsdudp_config *config, size_t len)
 {
-    const size_t len = bsdudp_memory(config), spare = BSDUDP_ALIGNMENT - 1;
+    const int has_sizes = config->mbufs >= 1 && config->mbufs <= 65535 && config->clusters <= 4096;
     struct bsdudp_mbstat usage;
-    unsigned char *block;
-    int answer;
-    if (bsdudp_mbstat(stack, &usage) == 0)
-        return -BSDUDP_ENXIO;
-    if (config->mbufs < 1 || config->mbufs > 65535 || config->clusters > 4096)
-        return -BSDUDP_EDOM;
-    block = malloc(len + spare); /* a malloc for 32 bits may align to 8 alone */
-    if (block == NULL)
-        return -BSDUDP_ENOMEM;
-    answer = bsdudp_boot_in(stack, config, block + (-(uintptr_t)block & spare), len);
+    return bsdudp_mbstat(stack, &usage) < 0 && has_sizes ? malloc(len + BSDUDP_ALIGNMENT - 1) : NULL;
+}
+
+/* Where the memory begins in a block: a malloc for 32 bits may align to 8 alone. */
+static unsigned char *aligned(unsigned char *block)
+{
+    return block + (-(uintptr_t)block & (BSDUDP_ALIGNMENT - 1));
+}
+
+/* The block is the stack's, or free again. */
+static int kept(struct bsdudp *stack, unsigned char *block, int answer)
+{
     if (answer < 0) {
         free(block);
         return answer;
@@ -24,4 +27,22 @@ int bsdudp_boot(struct bsdudp *stack, const struct bsdudp_config *config)
     stack->block = block;
     stack->give_back = free;
     return 0;
+}
+
+int bsdudp_boot(struct bsdudp *stack, const struct bsdudp_config *config)
+{
+    const size_t len = bsdudp_memory(config);
+    unsigned char *block = block_of(stack, config, len);
+    if (block == NULL)
+        return bsdudp_boot_in(stack, config, NULL, 0);
+    return kept(stack, block, bsdudp_boot_in(stack, config, aligned(block), len));
+}
+
+int bsdudp_ether_boot(struct bsdudp *stack, const struct bsdudp_config *config, const struct bsdudp_link *link)
+{
+    const size_t len = BSDUDP_ETHER_MEMORY(config->mbufs, config->clusters);
+    unsigned char *block = block_of(stack, config, len);
+    if (block == NULL)
+        return bsdudp_ether_boot_in(stack, config, link, NULL, 0);
+    return kept(stack, block, bsdudp_ether_boot_in(stack, config, link, aligned(block), len));
 }

@@ -31,6 +31,11 @@ int bsdudp_core_mbstat(struct bsdudp_core *, struct bsdudp_mbstat *);
 int bsdudp_end(struct bsdudp *stack)
 {
     int answer = bsdudp_core_end(&stack->core);
+    if (answer == 0 && stack->end_link != NULL) {
+        stack->end_link(stack);
+        stack->tick_link = NULL;
+        stack->end_link = NULL;
+    }
     if (answer == 0 && stack->block != NULL) {
         stack->give_back(stack->block);
         stack->block = NULL;
@@ -39,9 +44,24 @@ int bsdudp_end(struct bsdudp *stack)
     return answer;
 }
 
-int bsdudp_rx(struct bsdudp *s, const void *packet, size_t len) { return bsdudp_core_rx(&s->core, packet, len); }
-int bsdudp_tx(struct bsdudp *s, void *room, size_t len) { return bsdudp_core_tx(&s->core, room, len); }
-int bsdudp_tick(struct bsdudp *s) { return bsdudp_core_tick(&s->core); }
+/* A host's packets come and go in frames. Its calls stand in ether.c, and are reached here by pointers that its boot
+   sets: so a program that boots none is linked without them. */
+int bsdudp_rx(struct bsdudp *s, const void *packet, size_t len)
+{
+    return s->tick_link != NULL ? -BSDUDP_EOPNOTSUPP : bsdudp_core_rx(&s->core, packet, len);
+}
+
+int bsdudp_tx(struct bsdudp *s, void *room, size_t len)
+{
+    return s->tick_link != NULL ? -BSDUDP_EOPNOTSUPP : bsdudp_core_tx(&s->core, room, len);
+}
+
+int bsdudp_tick(struct bsdudp *s)
+{
+    int answer = bsdudp_core_tick(&s->core);
+    return s->tick_link != NULL ? s->tick_link(s) : answer;
+}
+
 int bsdudp_socket(struct bsdudp *s) { return bsdudp_core_socket(&s->core); }
 int bsdudp_close(struct bsdudp *s, uint32_t fd) { return bsdudp_core_close(&s->core, fd); }
 

@@ -67,15 +67,26 @@ size_t bsdudp_memory(const struct bsdudp_config *config)
     return BSDUDP_MEMORY(config->mbufs, config->clusters);
 }
 
-/* The core gets nothing of memory that isn't aligned. So it refuses for want of memory if it has no other reason. */
-int bsdudp_boot_in(struct bsdudp *stack, const struct bsdudp_config *config, void *memory, size_t len)
+/* What boot may take from now on: nothing of memory that isn't aligned, so the core refuses for want of memory then, if
+   it has no other reason. ether.c calls it, too. */
+void bsdudp_lend(void *memory, size_t len);
+void bsdudp_lend(void *memory, size_t len)
 {
-    const bool is_aligned = (uintptr_t)memory % BSDUDP_ALIGNMENT == 0;
-    int answer;
     arena = memory;
-    left = is_aligned ? len / 16 * 16 : 0;
-    answer = bsdudp_core_boot(&stack->core, config);
+    left = (uintptr_t)memory % BSDUDP_ALIGNMENT == 0 ? len / 16 * 16 : 0;
+}
+
+/* Boot is over; its answer. */
+int bsdudp_lent(const void *memory, int answer);
+int bsdudp_lent(const void *memory, int answer)
+{
     arena = NULL;
     left = 0;
-    return answer == -BSDUDP_ENOMEM && !is_aligned ? -BSDUDP_EINVAL : answer;
+    return answer == -BSDUDP_ENOMEM && (uintptr_t)memory % BSDUDP_ALIGNMENT != 0 ? -BSDUDP_EINVAL : answer;
+}
+
+int bsdudp_boot_in(struct bsdudp *stack, const struct bsdudp_config *config, void *memory, size_t len)
+{
+    bsdudp_lend(memory, len);
+    return bsdudp_lent(memory, bsdudp_core_boot(&stack->core, config));
 }

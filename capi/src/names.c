@@ -61,6 +61,8 @@ const char *bsdudp_strerror(int answer)
         return "bad length";
     case -BSDUDP_ENOPROTOOPT:
         return "no such option";
+    case -BSDUDP_EOPNOTSUPP:
+        return "operation not supported";
     case -BSDUDP_EADDRINUSE:
         return "address in use";
     case -BSDUDP_EADDRNOTAVAIL:

@@ -2,6 +2,7 @@
    port. All memory is static: 64 KB are enough, stack and all. A packet of one byte 4 ends it, which no board needs. */
 #include "bsdudp.h"
 #include "machine.h"
+#include "report.h"
 
 enum { END = 0300, ESC = 0333, ESC_END = 0334, ESC_ESC = 0335, MTU = 1500, END_OF_TEXT = 4 };
 
@@ -63,21 +64,6 @@ static void serve(uint32_t fd)
         transmit(room, len);
 }
 
-/* Tells what the stack was, and what the pool has, in words. */
-static void report(void)
-{
-    struct bsdudp_mbstat usage;
-    uint32_t stack_used = machine_stack(), bit;
-    char digits[] = "stack 00000 ";
-    for (bit = 10; bit > 5; bit--, stack_used /= 10)
-        digits[bit] = (char)('0' + stack_used % 10);
-    machine_say(digits);
-    bsdudp_mbstat(&stack, &usage);
-    if (usage.free_mbufs != usage.mbufs || usage.free_clusters != usage.clusters)
-        machine_say("not ");
-    machine_say("all free\n");
-}
-
 int main(void)
 {
     static const struct bsdudp_config config = {0x0a000001, 0x0a0000ff, MBUFS, CLUSTERS, MTU, 1};
@@ -99,7 +85,7 @@ int main(void)
         length = 0;
         serve((uint32_t)fd);
     }
-    report();
+    report(&stack);
     bsdudp_end(&stack);
     return 0;
 }

@@ -1,11 +1,13 @@
 #!/usr/bin/env python3
-"""Linux as the peer of echo.c, in a network namespace of its own (unshare -n). Datagrams of 0
-to 4,096 bytes go to 10.0.0.1 port 7 and come back. The kernel's counters have no error then,
-and the board's pool is full again. It says the first thing that is wrong and exits with 1, else how much stack was
-used."""
+"""Linux as the peer of the board, in a network namespace of its own (unshare -n). The command is bridge.py with the
+machine that runs echo.elf; with --tap it's the machine that runs host.elf, whose card is the TAP device bsdudp0.
+Datagrams of 0 to 4,096 bytes go to 10.0.0.1 port 7 and come back; a host is pinged, too. The kernel's counters have no
+error then, and the board's pool is full again. It says the first thing that is wrong and exits with 1, else how much
+stack was used."""
 import pathlib
 import random
 import re
+import shutil
 import signal
 import socket
 import subprocess
@@ -22,10 +24,15 @@ IP_MTU_DISCOVER = 10
 WAIT, TRIES = 60, 3  # seconds: much more than any needs, for a busy machine
 
 
+def make_device():
+    for words in ("tuntap add dev bsdudp0 mode tap", "addr add 10.0.0.2/24 dev bsdudp0", "link set bsdudp0 up"):
+        subprocess.run(["ip", *words.split()], check=True)
+
+
 def wait_for_device():
     for _ in range(1200):
         shown = subprocess.run(["ip", "addr", "show", "bsdudp0"], capture_output=True, text=True, check=False).stdout
-        if "10.0.0.2" in shown and "UP" in shown:
+        if "10.0.0.2" in shown and "LOWER_UP" in shown:  # and whoever runs the other end has it
             return
         time.sleep(0.05)
     sys.exit("peer.py: the device doesn't come up")
@@ -65,21 +72,46 @@ def echo(lengths):
     return f"the kernel counted {wrong}" if wrong else ""
 
 
+def pinged():
+    """Says what is wrong with the replies to pings of several lengths; ping itself compares their bytes."""
+    for length in (0, 56, 57, 1472) if shutil.which("ping") else ():
+        words = ["ping", "-q", "-c", "3", "-i", "0.2", "-w", str(WAIT), "-s", str(length), BOARD[0]]
+        said = subprocess.run(words, capture_output=True, text=True, check=False).stdout
+        if " 3 received" not in said or "corrupted" in said:
+            return f"pings of {length} bytes: {said.strip()}"
+    return ""
+
+
+def end_host():
+    """A datagram of one byte 4 ends host.elf, and comes back before."""
+    with socket.socket(socket.AF_INET, socket.SOCK_DGRAM) as it:
+        it.settimeout(WAIT)
+        it.sendto(b"\x04", BOARD)
+        it.recv(1)
+
+
 def main():
     parser = command_line.parser(__doc__)
     parser.add_argument("--all", action="store_true", help="sends datagrams of each length")
-    said = command_line.with_command(parser, "BRIDGE", "bridge.py with its words")
+    parser.add_argument("--tap", action="store_true", help="makes the TAP device bsdudp0 for a host on an Ethernet")
+    said = command_line.with_command(parser, "COMMAND", "bridge.py with its words, or the machine with its words")
     rng = random.Random(2)
     lengths = range(MOST + 1) if said.all else LENGTHS + [rng.randrange(MOST + 1) for _ in range(100)]
+    fault = ""
+    if said.tap:
+        make_device()
     with subprocess.Popen(said.command, stderr=subprocess.PIPE, text=True) as bridge:
         try:
             wait_for_device()
-            fault = echo(lengths)
+            fault = echo(lengths) or (pinged() if said.tap else "")
             if bridge.poll() is not None:
                 fault = "the board ended before its time"
+            elif said.tap and not fault:
+                end_host()
         finally:
-            bridge.send_signal(signal.SIGTERM)
-            heard = bridge.communicate()[1]
+            if fault or not said.tap:
+                bridge.send_signal(signal.SIGTERM)
+            heard = bridge.communicate(timeout=WAIT)[1]
     told = re.search(r"stack (\d+) all free", heard)
     if fault or bridge.returncode or not told:
         sys.exit(f"peer.py: {fault or f'the board ended with {bridge.returncode} and said {heard.strip()!r}'}")

@@ -2,38 +2,40 @@
 /* ---- between bsdudp.h and the compiled code */
 
 /* The end of the frames has a handle without a stack, and room for a struct that the compiled code reads or writes. */
-enum { HANDLE = 16, ARGUMENT = 32 };
+enum { HANDLE = 16, ARGUMENT = 32, LONG_ARGUMENT = 112 };
 
-/* The front of a stack's memory has its handle, and which part of the memory is left: arena.c reads it. */
-enum { ARENA_NEXT = HANDLE, ARENA_END = HANDLE + 8, ARENA_HEAD = HANDLE + 16 };
+/* The front of a stack's memory has its handle, and which part of the memory is left: arena.c reads it. A host's has
+   the handle of its link behind that. */
+enum { ARENA_NEXT = HANDLE, ARENA_END = HANDLE + 8, ARENA_HEAD = HANDLE + 16, HOST_HEAD = ARENA_HEAD + HANDLE };
 
 /* A call of the compiled code begins: `it` gets a stack pointer and the windows on constants, on the frames and on the
    stack's memory. */
-static void begin(struct core *it, const struct bsdudp *stack, u8 *frames, u32 size)
+static void begin(struct core *it, const struct bsdudp *stack, u8 *frames, u32 size, u32 argument)
 {
     const struct window none = {NULL, 0, 0};
-    size -= HANDLE + ARGUMENT;
+    size -= HANDLE + argument;
     memset(frames + size, 0, HANDLE);
     it->top = FRAMES + size;
     it->windows[WINDOW(CONSTANTS)].start = (u8 *)constants;
     it->windows[WINDOW(CONSTANTS)].readable = sizeof constants;
     it->windows[WINDOW(CONSTANTS)].writable = 0;
     it->windows[WINDOW(FRAMES)].start = frames;
-    it->windows[WINDOW(FRAMES)].readable = size + HANDLE + ARGUMENT;
-    it->windows[WINDOW(FRAMES)].writable = size + HANDLE + ARGUMENT;
+    it->windows[WINDOW(FRAMES)].readable = size + HANDLE + argument;
+    it->windows[WINDOW(FRAMES)].writable = size + HANDLE + argument;
     it->windows[WINDOW(MEMORY)].start = (u8 *)(uintptr_t)stack->core.at;
     it->windows[WINDOW(MEMORY)].readable = stack->core.live;
     it->windows[WINDOW(MEMORY)].writable = stack->core.live;
     it->windows[WINDOW(BYTES)] = none;
 }
 
-/* The frames of a call, with its windows. */
-#define BEGIN(call, stack) \
-    u8 frames[FRAMES_OF_##call + HANDLE + ARGUMENT]; \
+/* The frames of a call, with its windows, and room for structs of so many bytes. */
+#define BEGIN(call, stack) BEGIN_WITH(call, stack, ARGUMENT)
+#define BEGIN_WITH(call, stack, bytes) \
+    u8 frames[FRAMES_OF_##call + HANDLE + (bytes)]; \
     struct core it; \
     const u32 argument = FRAMES + FRAMES_OF_##call + HANDLE; \
     u8 *const plain = frames + FRAMES_OF_##call + HANDLE; \
-    begin(&it, stack, frames, sizeof frames); \
+    begin(&it, stack, frames, sizeof frames, bytes); \
     (void)argument; \
     (void)plain
 
@@ -46,7 +48,7 @@ static u32 handle_of(const struct core *it)
 /* How many bytes the compiled code hears of: no call tells lengths above this one apart. */
 static u32 heard(size_t len)
 {
-    return len < 65536 ? (u32)len : 65536;
+    return len <= BSDUDP_ETHER_FRAME ? (u32)len : BSDUDP_ETHER_FRAME + 1;
 }
 
 /* A window on bytes that are read. */
@@ -83,33 +85,40 @@ size_t bsdudp_memory(const struct bsdudp_config *config)
     return BSDUDP_MEMORY(config->mbufs, config->clusters);
 }
 
-/* The memory of a stack that isn't booted yet, as the compiled code finds it: no stack, and all of it left. */
-static void make_arena(struct bsdudp *fresh, u8 *memory, size_t len)
+/* The memory of a stack that isn't booted yet, as the compiled code finds it: no stack, and all of it left behind a
+   head of so many bytes. */
+static void make_arena(struct bsdudp *fresh, u8 *memory, size_t len, u32 head)
 {
     const size_t most = 0x3ffffff0;
     fresh->core.at = (uintptr_t)memory;
     fresh->core.live = (u32)((len < most ? len : most) / 16 * 16);
-    memset(memory, 0, HANDLE);
-    put_u64(memory + ARENA_NEXT, MEMORY + ARENA_HEAD);
+    memset(memory, 0, head);
+    put_u64(memory + ARENA_NEXT, MEMORY + head);
     put_u64(memory + ARENA_END, (u64)MEMORY + fresh->core.live);
 }
 
-/* The same as bsdudp_boot_in, in memory of any alignment: bytes alone are read and written here. */
-static int boot_at(struct bsdudp *stack, const struct bsdudp_config *config, u8 *memory, size_t len)
+static void put_config(u8 *plain, const struct bsdudp_config *config)
 {
-    u8 head[ARENA_HEAD];
+    put_u32(plain, config->addr);
+    put_u32(plain + 4, config->bcast);
+    put_u32(plain + 8, config->mbufs);
+    put_u32(plain + 12, config->clusters);
+    put_u16(plain + 16, config->mtu);
+    put_u16(plain + 18, config->first_id);
+}
+
+/* The same as bsdudp_boot_in, in memory of any alignment: bytes alone are read and written here. The memory begins with
+   a head of so many bytes, which are set. */
+static int boot_at(struct bsdudp *stack, const struct bsdudp_config *config, u8 *memory, size_t len, u32 head)
+{
+    u8 front[HOST_HEAD];
     struct bsdudp fresh = *stack;
     int answer;
     if (stack->core.at == 0)
-        make_arena(&fresh, len < ARENA_HEAD ? head : memory, len < ARENA_HEAD ? ARENA_HEAD : len);
+        make_arena(&fresh, len < head ? front : memory, len < head ? head : len, head);
     {
         BEGIN(boot, &fresh);
-        put_u32(plain, config->addr);
-        put_u32(plain + 4, config->bcast);
-        put_u32(plain + 8, config->mbufs);
-        put_u32(plain + 12, config->clusters);
-        put_u16(plain + 16, config->mtu);
-        put_u16(plain + 18, config->first_id);
+        put_config(plain, config);
         answer = answer_of(core_boot(&it, MEMORY, argument));
     }
     if (answer == 0)
@@ -120,28 +129,165 @@ static int boot_at(struct bsdudp *stack, const struct bsdudp_config *config, u8 
 int bsdudp_boot_in(struct bsdudp *stack, const struct bsdudp_config *config, void *memory, size_t len)
 {
     const int is_aligned = (uintptr_t)memory % BSDUDP_ALIGNMENT == 0;
-    int answer = boot_at(stack, config, memory, is_aligned ? len : 0);
+    int answer = boot_at(stack, config, memory, is_aligned ? len : 0, ARENA_HEAD);
     return answer == -BSDUDP_ENOMEM && !is_aligned ? -BSDUDP_EINVAL : answer;
 }
 
-#if BSDUDP_MALLOC
-int bsdudp_boot(struct bsdudp *stack, const struct bsdudp_config *config)
+/* ---- a host: its link has a handle of its own, behind the head of the stack's memory */
+
+enum { LINK = MEMORY + ARENA_HEAD };
+
+/* Boots the link in the memory of a stack that is booted, or tells why it isn't; without a stack nothing is booted. */
+static int boot_link(const struct bsdudp *stack, const struct bsdudp_config *config, const struct bsdudp_link *link)
 {
-    void *block;
+    enum { CONFIG = 20 };
+    u8 head[HOST_HEAD];
+    struct bsdudp none = *stack;
+    if (stack->core.at == 0)
+        make_arena(&none, head, sizeof head, HOST_HEAD);
+    BEGIN_WITH(ether_boot, &none, LONG_ARGUMENT);
+    put_config(plain, config);
+    put_u16(plain + CONFIG, (u16)(link->mac[0] << 8 | link->mac[1]));
+    put_u32(plain + CONFIG + 4, BSDUDP_IP(link->mac[2], link->mac[3], link->mac[4], link->mac[5]));
+    put_u32(plain + CONFIG + 8, link->mask);
+    put_u32(plain + CONFIG + 12, link->gateway);
+    plain[CONFIG + 16] = link->probe;
+    return answer_of(core_ether_boot(&it, LINK, argument, argument + CONFIG));
+}
+
+static int tick_link(struct bsdudp *stack)
+{
+    BEGIN(ether_tick, stack);
+    return answer_of(core_ether_tick(&it, LINK));
+}
+
+static int boot_host_at(struct bsdudp *stack, const struct bsdudp_config *config, const struct bsdudp_link *link,
+                        u8 *memory, size_t len)
+{
+    const struct bsdudp none = BSDUDP_NONE;
     int answer;
     if (stack->core.at != 0)
         return -BSDUDP_ENXIO;
-    if (config->mbufs < 1 || config->mbufs > 65535 || config->clusters > 4096)
-        return -BSDUDP_EDOM;
-    block = malloc(bsdudp_memory(config));
-    if (block == NULL)
-        return -BSDUDP_ENOMEM;
-    answer = boot_at(stack, config, block, bsdudp_memory(config));
+    answer = boot_link(stack, config, link); /* without memory a right one wants some */
+    if (answer != -BSDUDP_ENOMEM)
+        return answer;
+    answer = boot_at(stack, config, memory, len, HOST_HEAD);
+    if (answer == 0)
+        answer = boot_link(stack, config, link);
+    if (answer < 0)
+        *stack = none;
+    else
+        stack->tick_link = tick_link;
+    return answer;
+}
+
+int bsdudp_ether_boot_in(struct bsdudp *stack, const struct bsdudp_config *config, const struct bsdudp_link *link,
+                         void *memory, size_t len)
+{
+    const int is_aligned = (uintptr_t)memory % BSDUDP_ALIGNMENT == 0;
+    int answer = boot_host_at(stack, config, link, memory, is_aligned ? len : 0);
+    return answer == -BSDUDP_ENOMEM && !is_aligned ? -BSDUDP_EINVAL : answer;
+}
+
+/* What a call for a host's link answers of a handle that has none. */
+static int without_link(const struct bsdudp *stack)
+{
+    return stack->core.at == 0 ? -BSDUDP_ENXIO : stack->tick_link == NULL ? -BSDUDP_EOPNOTSUPP : 0;
+}
+
+int bsdudp_ether_receive(struct bsdudp *stack, const void *frame, size_t len)
+{
+    BEGIN(ether_receive, stack);
+    if (without_link(stack) < 0)
+        return without_link(stack);
+    return answer_of(core_ether_receive(&it, MEMORY, LINK, lend(&it, frame, len), heard(len)));
+}
+
+int bsdudp_ether_transmit(struct bsdudp *stack, void *room, size_t len)
+{
+    BEGIN(ether_transmit, stack);
+    if (without_link(stack) < 0)
+        return without_link(stack);
+    return answer_of(core_ether_transmit(&it, MEMORY, LINK, give(&it, room, len), heard(len)));
+}
+
+int bsdudp_ether_address(struct bsdudp *stack)
+{
+    BEGIN(ether_address, stack);
+    if (without_link(stack) < 0)
+        return without_link(stack);
+    return answer_of(core_ether_address(&it, LINK));
+}
+
+int bsdudp_ether_tallies(struct bsdudp *stack, struct bsdudp_tallies *tallies)
+{
+    uint64_t *const members[] = {&tallies->ignored,         &tallies->martians,     &tallies->bad_arp,
+                                 &tallies->conflicts,       &tallies->replies_dropped, &tallies->no_route,
+                                 &tallies->held_dropped,    &tallies->unresolved,   &tallies->too_long,
+                                 &tallies->echoes,          &tallies->unreachable,  &tallies->limited,
+                                 &tallies->icmp_dropped};
+    size_t i;
+    BEGIN_WITH(ether_tallies, stack, LONG_ARGUMENT);
+    if (without_link(stack) < 0)
+        return without_link(stack);
+    core_ether_tallies(&it, LINK, argument);
+    for (i = 0; i < sizeof members / sizeof members[0]; i++)
+        *members[i] = get_u64(plain + 8 * i);
+    return 0;
+}
+
+int bsdudp_ether_neighbour(struct bsdudp *stack, uint32_t i, struct bsdudp_neighbour *neighbour)
+{
+    int answer, at;
+    BEGIN(ether_neighbour, stack);
+    if (without_link(stack) < 0)
+        return without_link(stack);
+    answer = answer_of(core_ether_neighbour(&it, LINK, i, argument));
+    if (answer < 0)
+        return answer;
+    neighbour->ip = get_u32(plain);
+    for (at = 0; at < 4; at++)
+        neighbour->mac[2 + at] = plain[7 - at]; /* numbers have the byte of least weight first */
+    neighbour->mac[0] = plain[9];
+    neighbour->mac[1] = plain[8];
+    neighbour->ticks = get_u16(plain + 10);
+    neighbour->tries = plain[12];
+    neighbour->known = plain[13];
+    return 0;
+}
+
+#if BSDUDP_MALLOC
+/* A block of `len` bytes, or NULL where boot needs none to refuse: without memory it tells why. */
+static u8 *block_of(const struct bsdudp *stack, const struct bsdudp_config *config, size_t len)
+{
+    const int has_sizes = config->mbufs >= 1 && config->mbufs <= 65535 && config->clusters <= 4096;
+    return stack->core.at == 0 && has_sizes ? malloc(len) : NULL;
+}
+
+/* The block is the stack's, or free again. */
+static int kept(struct bsdudp *stack, u8 *block, int answer)
+{
     if (answer < 0)
         free(block);
     else
         stack->block = block;
     return answer;
+}
+
+int bsdudp_boot(struct bsdudp *stack, const struct bsdudp_config *config)
+{
+    const size_t len = bsdudp_memory(config);
+    u8 *block = block_of(stack, config, len);
+    return block == NULL ? bsdudp_boot_in(stack, config, NULL, 0)
+                         : kept(stack, block, boot_at(stack, config, block, len, ARENA_HEAD));
+}
+
+int bsdudp_ether_boot(struct bsdudp *stack, const struct bsdudp_config *config, const struct bsdudp_link *link)
+{
+    const size_t len = BSDUDP_ETHER_MEMORY(config->mbufs, config->clusters);
+    u8 *block = block_of(stack, config, len);
+    return block == NULL ? bsdudp_ether_boot_in(stack, config, link, NULL, 0)
+                         : kept(stack, block, boot_host_at(stack, config, link, block, len));
 }
 #endif
 
@@ -163,19 +309,26 @@ int bsdudp_end(struct bsdudp *stack)
 int bsdudp_rx(struct bsdudp *stack, const void *packet, size_t len)
 {
     BEGIN(rx, stack);
+    if (stack->tick_link != NULL)
+        return -BSDUDP_EOPNOTSUPP;
     return answer_of(core_rx(&it, handle_of(&it), lend(&it, packet, len), heard(len)));
 }
 
 int bsdudp_tx(struct bsdudp *stack, void *room, size_t len)
 {
     BEGIN(tx, stack);
+    if (stack->tick_link != NULL)
+        return -BSDUDP_EOPNOTSUPP;
     return answer_of(core_tx(&it, handle_of(&it), give(&it, room, len), heard(len)));
 }
 
+/* The link's calls are reached by a pointer that its boot sets: so a program that boots none is linked without them. */
 int bsdudp_tick(struct bsdudp *stack)
 {
+    int answer;
     BEGIN(tick, stack);
-    return answer_of(core_tick(&it, handle_of(&it)));
+    answer = answer_of(core_tick(&it, handle_of(&it)));
+    return stack->tick_link != NULL ? stack->tick_link(stack) : answer;
 }
 
 int bsdudp_socket(struct bsdudp *stack)

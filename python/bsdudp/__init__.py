@@ -9,9 +9,11 @@
     ...     to.recvfrom()
     (b'hi', ('10.0.0.1', 1024))
 
-`Stack` is a machine, `Socket` a socket of it, `Wire` joins machines and loses packets, `sweep` runs a scenario for many
+`Stack` is a machine, `Host` one on an Ethernet, `Socket` a socket of it, `Wire` joins machines and loses packets, `sweep` runs a scenario for many
 seeds. What the stack itself does is proved; this package hands bytes to it and back, and is tested."""
 from ._counters import Counters, MbStat
+from ._frame import Frame
+from ._host import Host, Neighbour, Tallies
 from ._library import NoBuffersError
 from ._packet import Packet
 from ._socket import CutDatagramWarning, Socket, Waiting
@@ -26,12 +28,16 @@ __all__ = [
     "Carried",
     "Counters",
     "CutDatagramWarning",
+    "Frame",
     "HeldRange",
+    "Host",
     "MbStat",
+    "Neighbour",
     "NoBuffersError",
     "Packet",
     "Socket",
     "Stack",
+    "Tallies",
     "UnfinishedDatagram",
     "Waiting",
     "Wire",

@@ -16,6 +16,9 @@ FIRST_DESCRIPTOR = 3
 MAX_SOCKETS = 64
 MAX_PACKET = 65_535
 ALIGNMENT = 16
+ETHER_ROOM = 1514
+LINK_MEMORY = 14592
+NEIGHBOURS = 32
 
 SO_BROADCAST = 0x20
 SO_REUSEPORT = 0x200
@@ -98,6 +101,52 @@ class Range(ctypes.Structure):
     _fields_ = [("offset", ctypes.c_uint32), ("len", ctypes.c_uint32), ("more", ctypes.c_uint8)]
 
 
+class Link(ctypes.Structure):
+    """`struct bsdudp_link`."""
+
+    _fields_ = [
+        ("mac", ctypes.c_uint8 * 6),
+        ("mask", ctypes.c_uint32),
+        ("gateway", ctypes.c_uint32),
+        ("probe", ctypes.c_uint8),
+    ]
+
+
+class TalliesOfC(ctypes.Structure):
+    """`struct bsdudp_tallies`."""
+
+    _fields_ = [
+        (name, ctypes.c_uint64)
+        for name in (
+            "ignored",
+            "martians",
+            "bad_arp",
+            "conflicts",
+            "replies_dropped",
+            "no_route",
+            "held_dropped",
+            "unresolved",
+            "too_long",
+            "echoes",
+            "unreachable",
+            "limited",
+            "icmp_dropped",
+        )
+    ]
+
+
+class NeighbourOfC(ctypes.Structure):
+    """`struct bsdudp_neighbour`."""
+
+    _fields_ = [
+        ("ip", ctypes.c_uint32),
+        ("mac", ctypes.c_uint8 * 6),
+        ("known", ctypes.c_uint8),
+        ("tries", ctypes.c_uint8),
+        ("ticks", ctypes.c_uint16),
+    ]
+
+
 class Refusal(NamedTuple):
     """What a refusal of the library is called here: the host's error of that name, and a text."""
 
@@ -118,6 +167,7 @@ REFUSALS = {
     39: Refusal("EDESTADDRREQ", "the socket isn't connected, and no address is given"),
     40: Refusal("EMSGSIZE", "the datagram is too long"),
     42: Refusal("ENOPROTOOPT", "there's no such option"),
+    45: Refusal("EOPNOTSUPP", "a host takes and gives frames (receive, transmit), and a stack packets (rx, tx)"),
     48: Refusal("EADDRINUSE", "another socket stands in the way"),
     49: Refusal("EADDRNOTAVAIL", "no address of this machine, or port 0 as a destination"),
     55: Refusal("ENOBUFS", "the pool has too few buffers; nothing was sent"),
@@ -182,6 +232,12 @@ CALLS: Dict[str, List[Any]] = {
     "unfinished_range": [_u32, _u32, ctypes.POINTER(Range)],
     "counter": [_u32, ctypes.POINTER(ctypes.c_uint64)],
     "mbstat": [ctypes.POINTER(Usage)],
+    "ether_boot_in": [ctypes.POINTER(Config), ctypes.POINTER(Link), ctypes.c_void_p, _size],
+    "ether_receive": [_bytes, _size],
+    "ether_transmit": [ctypes.c_void_p, _size],
+    "ether_address": [],
+    "ether_tallies": [ctypes.POINTER(TalliesOfC)],
+    "ether_neighbour": [_u32, ctypes.POINTER(NeighbourOfC)],
 }
 
 
@@ -225,6 +281,10 @@ class Library:
     def memory(self, config: Config) -> int:
         """How many bytes a stack of this configuration takes."""
         return int(self._library.bsdudp_memory(ctypes.byref(config)))
+
+    def ether_memory(self, config: Config) -> int:
+        """How many bytes a host of this configuration takes: BSDUDP_ETHER_MEMORY of its sizes."""
+        return self.memory(config) + LINK_MEMORY
 
 
 LIBRARY = Library()

@@ -90,16 +90,24 @@ class Stack(Uncopied):
         self._boot()
 
     def _boot(self) -> None:
-        size = LIBRARY.memory(self._config)
+        size = self._memory_size()
         self._memory = ctypes.create_string_buffer(size + ALIGNMENT)
         at = ctypes.addressof(self._memory)
         at += -at % ALIGNMENT
         self._handle = Handle()
         self._room = ctypes.create_string_buffer(self.mtu)
-        answer = LIBRARY.call("boot_in", self._handle, ctypes.byref(self._config), at, size)
+        answer = self._boot_in(at, size)
         if answer < 0:
             raise refused(answer)
         self._live = True
+
+    def _memory_size(self) -> int:
+        """How many bytes of memory boot takes."""
+        return LIBRARY.memory(self._config)
+
+    def _boot_in(self, at: int, size: int) -> int:
+        """Boots in this memory; the library's answer."""
+        return LIBRARY.call("boot_in", self._handle, ctypes.byref(self._config), at, size)
 
     def _ask(self, name: str, *arguments: object) -> int:
         """Makes a call of the library, if no other thread is in the stack."""
@@ -246,11 +254,11 @@ class Stack(Uncopied):
 
     def __repr__(self) -> str:
         if not self._live:
-            return f"<Stack {self.addr}, ended>"
+            return f"<{type(self).__name__} {self.addr}, ended>"
         try:
-            return f"<Stack {self.addr}, {len(self._sockets)} sockets, {self.output_len} packets wait for the link>"
+            return f"<{type(self).__name__} {self.addr}, {len(self._sockets)} sockets, {self.output_len} packets wait for the link>"
         except RuntimeError:
-            return f"<Stack {self.addr}, another thread is in it>"
+            return f"<{type(self).__name__} {self.addr}, another thread is in it>"
 
     def _repr_html_(self) -> str:
         with self._turn:

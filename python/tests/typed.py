@@ -29,6 +29,20 @@ def right(stack: bsdudp.Stack, it: bsdudp.Socket, buffer: bytearray) -> None:
     results: List[int] = bsdudp.sweep(lambda seed: seed * 2, range(3))
 
 
+def right_of_a_host(host: bsdudp.Host) -> None:
+    frame: Optional[bsdudp.Frame] = host.transmit()
+    host.receive(frame or memoryview(b""))
+    known: List[Optional[str]] = [near.mac for near in host.neighbours]
+    echoes: int = host.tallies.echoes
+    machine: bsdudp.Stack = bsdudp.Host("10.0.0.1", b"123456", gateway=ipaddress.IPv4Address("10.0.0.2"))
+
+
+def wrong_of_a_host(host: bsdudp.Host) -> None:
+    host.receive("a")  # type: ignore[arg-type]
+    bsdudp.Host(mac=2)  # type: ignore[arg-type]
+    text: str = host.neighbours[0].mac  # type: ignore[assignment]
+
+
 def wrong(stack: bsdudp.Stack, it: bsdudp.Socket) -> None:
     it.sendto("a", ("10.0.0.2", 7))  # type: ignore[call-overload]
     it.sendto(b"a", "10.0.0.2")  # type: ignore[call-overload]

@@ -1,0 +1,46 @@
+# A host on an Ethernet beside the bare stack, and beside lwIP with its etharp and icmp, on x86-64 at -O3: instructions
+# of an echo by the programs of bench/board, as callgrind counts them. The table is that of docs/ethernet.md.
+. "$bench/peers/measure.sh"
+
+# Builds a program for this host.
+ether_program() { # WORK NAME FILE..
+    local work=$1 name=$2
+    shift 2
+    "${CC:-gcc}" -O3 -march=x86-64-v2 -I "$bench/board" -I "$bench/../portable/board" -I "$bench/../capi/include" \
+        "$bench/ether/machine.c" "$@" -o "$work/$name"
+}
+
+# A row: the instructions of each turn.
+ether_row() { # WORK NAME PROGRAM
+    local work=$1 name=$2 program=$3 said file row="| $2 |"
+    rm -f "$work"/counts.*
+    said=$(valgrind --tool=callgrind "--callgrind-out-file=$work/counts" "$work/$program" 2> "$work/valgrind.log")
+    [[ " $said" != *" 0 "*" 0"* ]] || { echo "$name doesn't answer all" >&2; return 1; }
+    for file in $(ls "$work"/counts.* | sort -t. -k2n); do
+        row+=" $(awk '/^summary:|^totals:/ {total = $2} END {printf "%d", total / 200}' "$file" |
+            sed ':a;s/\B[0-9]\{3\}\>/,&/;ta') |"
+    done
+    echo "$row"
+}
+
+measure_ether() { # WORK
+    local work=$1 core files=() file
+    command -v valgrind > /dev/null || { echo "skipped: no valgrind"; return 0; }
+    "$bench/../capi/build" "$work/lib"
+    echo "| x86-64, \`-O3\` | 2 bytes | 1,472 | 4,000 | ARP request | ping of 56 |"
+    echo "|---|---:|---:|---:|---:|---:|"
+    ether_program "$work" bare "$bench/board/bench.c" "$work/lib/libbsdudp.a"
+    ether_row "$work" "the bare stack" bare
+    ether_program "$work" host -DETHER "$bench/board/bench.c" "$work/lib/libbsdudp.a"
+    ether_row "$work" "the host" host
+    lwip_sources "$work" || { echo "lwIP's sources can't be had by apt-get: its rows are left out"; return 0; }
+    core=$LWIP/src/core
+    for file in def inet_chksum init ip mem memp netif pbuf stats timeouts udp \
+        ipv4/{ip4,ip4_addr,ip4_frag,icmp,etharp} ../netif/ethernet; do
+        files+=("$core/$file.c")
+    done
+    for file in "" -DCOPIES; do
+        ether_program "$work" lwip -DETHER $file -I "$LWIP/src/include" "$bench/board/lwip.c" "${files[@]}"
+        ether_row "$work" "lwIP 2.1.3${file:+, with two copies more}" lwip
+    done
+}

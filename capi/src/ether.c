@@ -1,0 +1,105 @@
+/* A host on an Ethernet, between the header and the proved core: a stack, and beside it its link, each behind a
+   handle of its own. */
+#include "bsdudp.h"
+
+/* memory.c's: what boot may take, and that it's over. */
+void bsdudp_lend(void *memory, size_t len);
+int bsdudp_lent(const void *memory, int answer);
+
+/* The core's exports, and its structs: a hardware address is two numbers, of its first two bytes and of its last
+   four. */
+struct core_link {
+    uint16_t mac_high;
+    uint32_t mac_low, mask, gateway;
+    uint8_t probe;
+};
+struct core_neighbour {
+    uint32_t ip, mac_low;
+    uint16_t mac_high, ticks;
+    uint8_t tries, known;
+};
+int bsdudp_core_boot(struct bsdudp_core *, const struct bsdudp_config *);
+int bsdudp_core_end(struct bsdudp_core *);
+int bsdudp_core_output_len(struct bsdudp_core *);
+int bsdudp_core_ether_boot(struct bsdudp_core *link, const struct bsdudp_config *, const struct core_link *);
+int bsdudp_core_ether_end(struct bsdudp_core *link);
+int bsdudp_core_ether_tick(struct bsdudp_core *link);
+int bsdudp_core_ether_receive(struct bsdudp_core *, struct bsdudp_core *link, const uint8_t *, uint64_t);
+int bsdudp_core_ether_transmit(struct bsdudp_core *, struct bsdudp_core *link, uint8_t *, uint64_t);
+int bsdudp_core_ether_address(struct bsdudp_core *link);
+int bsdudp_core_ether_tallies(struct bsdudp_core *link, struct bsdudp_tallies *);
+int bsdudp_core_ether_neighbour(struct bsdudp_core *link, uint32_t, struct core_neighbour *);
+
+static int tick_link(struct bsdudp *stack) { return bsdudp_core_ether_tick(&stack->link); }
+static int end_link(struct bsdudp *stack) { return bsdudp_core_ether_end(&stack->link); }
+
+/* A wrong link is told before anything of the stack: without memory a right one wants some. */
+int bsdudp_ether_boot_in(struct bsdudp *stack, const struct bsdudp_config *config, const struct bsdudp_link *link,
+                         void *memory, size_t len)
+{
+    const uint8_t *mac = link->mac;
+    const struct core_link told = {(uint16_t)(mac[0] << 8 | mac[1]), BSDUDP_IP(mac[2], mac[3], mac[4], mac[5]),
+                                   link->mask, link->gateway, link->probe};
+    int answer;
+    if (bsdudp_core_output_len(&stack->core) >= 0)
+        return -BSDUDP_ENXIO;
+    answer = bsdudp_core_ether_boot(&stack->link, config, &told);
+    if (answer != -BSDUDP_ENOMEM)
+        return answer;
+    bsdudp_lend(memory, len);
+    answer = bsdudp_core_boot(&stack->core, config);
+    if (answer == 0) {
+        answer = bsdudp_core_ether_boot(&stack->link, config, &told);
+        if (answer < 0)
+            bsdudp_core_end(&stack->core);
+    }
+    if (answer == 0) {
+        stack->tick_link = tick_link;
+        stack->end_link = end_link;
+    }
+    return bsdudp_lent(memory, answer);
+}
+
+int bsdudp_ether_receive(struct bsdudp *s, const void *frame, size_t len)
+{
+    return bsdudp_core_ether_receive(&s->core, &s->link, frame, len);
+}
+
+int bsdudp_ether_transmit(struct bsdudp *s, void *room, size_t len)
+{
+    return bsdudp_core_ether_transmit(&s->core, &s->link, room, len);
+}
+
+/* The answer of a question for the link; a handle without a stack is told first. */
+static int answer_of(struct bsdudp *s, int answer)
+{
+    return answer < 0 && bsdudp_core_output_len(&s->core) < 0 ? -BSDUDP_ENXIO : answer;
+}
+
+int bsdudp_ether_address(struct bsdudp *s)
+{
+    return answer_of(s, bsdudp_core_ether_address(&s->link));
+}
+
+int bsdudp_ether_tallies(struct bsdudp *s, struct bsdudp_tallies *tallies)
+{
+    return answer_of(s, bsdudp_core_ether_tallies(&s->link, tallies));
+}
+
+int bsdudp_ether_neighbour(struct bsdudp *s, uint32_t i, struct bsdudp_neighbour *neighbour)
+{
+    struct core_neighbour told;
+    const int answer = bsdudp_core_ether_neighbour(&s->link, i, &told);
+    int at;
+    if (answer < 0)
+        return answer_of(s, answer);
+    neighbour->ip = told.ip;
+    neighbour->mac[0] = (uint8_t)(told.mac_high >> 8);
+    neighbour->mac[1] = (uint8_t)told.mac_high;
+    for (at = 0; at < 4; at++)
+        neighbour->mac[2 + at] = (uint8_t)(told.mac_low >> (24 - 8 * at));
+    neighbour->known = told.known;
+    neighbour->tries = told.tries;
+    neighbour->ticks = told.ticks;
+    return 0;
+}

@@ -1,0 +1,359 @@
+/* A host on an Ethernet: every call on its plain path, and every refusal that it can have; its memory, refused in
+   turn; each tally with a value of its own. It compiles as C99 and as C++, says the line of the first answer that is
+   wrong, and then exits with 1. */
+#include "bsdudp.h"
+
+#include <stdio.h>
+#include <string.h>
+
+#define WANT(call, answer) \
+    do { \
+        long got_ = (long)(call); \
+        if (got_ != (long)(answer)) { \
+            fprintf(stderr, "capi/tests/ether.c:%d: %s: %ld, not %ld\n", __LINE__, #call, got_, (long)(answer)); \
+            return 1; \
+        } \
+    } while (0)
+
+#define ALIGNED __attribute__((aligned(BSDUDP_ALIGNMENT)))
+
+enum { GUARD = 64, UNTOUCHED = 0xa5, ARP_FRAME = 42, KEPT = 2400, OWN = 0x0a000001, PEER = 0x0a000002 };
+
+static unsigned char memory[GUARD + BSDUDP_ETHER_MEMORY(64, 16) + GUARD] ALIGNED;
+static uint8_t frame[BSDUDP_ETHER_FRAME + 1], room[BSDUDP_ETHER_ROOM], bytes[2000];
+static struct bsdudp host = BSDUDP_NONE;
+static const struct bsdudp_link own_link = {{2, 1, 3, 5, 7, 9}, 0xffffff00, PEER, 0};
+static const uint8_t peer_mac[6] = {0x12, 0x34, 0x56, 0x78, 0x9a, 0xbc}, all[6] = {255, 255, 255, 255, 255, 255};
+
+static struct bsdudp_config config(void)
+{
+    struct bsdudp_config c = {OWN, 0x0a0000ff, 64, 16, 1500, 1};
+    return c;
+}
+
+static void put32(uint8_t *at, uint32_t value)
+{
+    at[0] = (uint8_t)(value >> 24);
+    at[1] = (uint8_t)(value >> 16);
+    at[2] = (uint8_t)(value >> 8);
+    at[3] = (uint8_t)value;
+}
+
+static void put_head(uint8_t *to, const uint8_t *mac, const uint8_t *from, unsigned type)
+{
+    memcpy(to, mac, 6);
+    memcpy(to + 6, from, 6);
+    to[12] = 8;
+    to[13] = (uint8_t)type;
+}
+
+/* An ARP packet in its frame (RFC 826). */
+static void put_arp(uint8_t *to, const uint8_t *mac, int op, const uint8_t *from, uint32_t ip,
+                    const uint8_t *target_mac, uint32_t target)
+{
+    static const uint8_t head[7] = {0, 1, 8, 0, 6, 4, 0};
+    put_head(to, mac, from, 6);
+    memcpy(to + 14, head, sizeof head);
+    to[21] = (uint8_t)op;
+    memcpy(to + 22, from, 6);
+    put32(to + 28, ip);
+    memcpy(to + 32, target_mac, 6);
+    put32(to + 38, target);
+}
+
+/* An ARP request comes for the host, or for another. */
+static int asked(uint32_t ip, uint32_t target)
+{
+    static const uint8_t nobody[6] = {0, 0, 0, 0, 0, 0};
+    put_arp(frame, all, 1, peer_mac, ip, nobody, target);
+    return bsdudp_ether_receive(&host, frame, ARP_FRAME);
+}
+
+/* A packet of the peer comes: its protocol, and what it carries, of which the first bytes are `bytes`. */
+static int came(int protocol, size_t len)
+{
+    static const uint8_t head[20] = {0x45, 0, 0, 0, 0, 9, 0, 0, 64, 0, 0, 0, 10, 0, 0, 2, 10, 0, 0, 1};
+    uint32_t sum = 0;
+    size_t k;
+    put_head(frame, own_link.mac, peer_mac, 0);
+    memcpy(frame + 14, head, sizeof head);
+    frame[14 + 3] = (uint8_t)(20 + len);
+    frame[14 + 9] = (uint8_t)protocol;
+    for (k = 14; k < 34; k += 2)
+        sum += (uint32_t)frame[k] << 8 | frame[k + 1];
+    sum = (sum & 0xffff) + (sum >> 16);
+    frame[14 + 10] = (uint8_t)(~sum >> 8);
+    frame[14 + 11] = (uint8_t)~sum;
+    memcpy(frame + 34, bytes, len);
+    return bsdudp_ether_receive(&host, frame, 34 + len);
+}
+
+/* A ping without bytes, and a datagram without a checksum to a port that no socket has. */
+static int pinged(void)
+{
+    static const uint8_t echo[8] = {8, 0, 0xf7, 0xff, 0, 0, 0, 0};
+    memcpy(bytes, echo, sizeof echo);
+    return came(1, sizeof echo);
+}
+
+static int sent_to_nobody(void)
+{
+    static const uint8_t datagram[8] = {0, 5, 0, 9, 0, 8, 0, 0};
+    memcpy(bytes, datagram, sizeof datagram);
+    return came(17, sizeof datagram);
+}
+
+/* Takes all frames that wait; how many they were. */
+static int drained(void)
+{
+    int count = 0;
+    while (bsdudp_ether_transmit(&host, room, sizeof room) > 0)
+        count++;
+    return count;
+}
+
+/* The calls of a host answer so: of a handle without a stack, or of a bare one. */
+static int answers(struct bsdudp *s, int answer)
+{
+    struct bsdudp_tallies tallies;
+    struct bsdudp_neighbour neighbour;
+    tallies.ignored = 99;
+    neighbour.ip = 99;
+    WANT(bsdudp_ether_address(s), answer);
+    WANT(bsdudp_ether_receive(s, frame, 14), answer);
+    WANT(bsdudp_ether_transmit(s, room, sizeof room), answer);
+    WANT(bsdudp_ether_tallies(s, &tallies), answer);
+    WANT(bsdudp_ether_neighbour(s, 0, &neighbour), answer);
+    WANT(tallies.ignored == 99 && neighbour.ip == 99, 1);
+    return 0;
+}
+
+static int boot(const struct bsdudp_config *c, const struct bsdudp_link *l, size_t len)
+{
+    return bsdudp_ether_boot_in(&host, c, l, memory + GUARD, len);
+}
+
+/* Which links, and which configurations, no host has; a wrong link is told first. */
+static int refusals(void)
+{
+    const size_t len = sizeof memory - 2 * GUARD;
+    struct bsdudp_config c = config(), wrong;
+    struct bsdudp_link l = own_link;
+    l.mac[0] |= 1;
+    WANT(boot(&c, &l, len), -BSDUDP_EINVAL);
+    l = own_link;
+    l.gateway = 0x0a000102;
+    WANT(boot(&c, &l, len), -BSDUDP_EINVAL);
+    l.gateway = c.addr;
+    WANT(boot(&c, &l, len), -BSDUDP_EINVAL);
+    l.gateway = c.bcast;
+    wrong = c;
+    wrong.mbufs = 0;
+    WANT(boot(&wrong, &l, len), -BSDUDP_EINVAL);
+    WANT(boot(&wrong, &own_link, len), -BSDUDP_EDOM);
+    wrong = c;
+    wrong.mtu = 1501;
+    WANT(boot(&wrong, &own_link, len), -BSDUDP_EINVAL);
+    wrong.mtu = 67;
+    WANT(boot(&wrong, &own_link, len), -BSDUDP_EINVAL);
+    WANT(boot(&c, &own_link, 0), -BSDUDP_ENOMEM);
+    WANT(bsdudp_ether_boot_in(&host, &c, &own_link, memory + GUARD + 1, len - 1), -BSDUDP_EINVAL);
+    return answers(&host, -BSDUDP_ENXIO);
+}
+
+/* Boot with ever more memory: each of its blocks is refused in turn, until all fit. Not a byte around it is touched. */
+static int grows(void)
+{
+    const size_t most = BSDUDP_ETHER_MEMORY(64, 16);
+    struct bsdudp_config c = config();
+    size_t len, k;
+    int answer = -1;
+    memset(memory, UNTOUCHED, sizeof memory);
+    for (len = 0; len <= most && answer != 0; len += 16) {
+        answer = boot(&c, &own_link, len);
+        WANT(answer == 0 || answer == -BSDUDP_ENOMEM, 1);
+        WANT(bsdudp_output_len(&host), answer == 0 ? 0 : -BSDUDP_ENXIO);
+        WANT(bsdudp_tick(&host), answer == 0 ? 0 : -BSDUDP_ENXIO);
+        for (k = 0; k < GUARD; k++)
+            WANT(memory[k] == UNTOUCHED && memory[GUARD + len + k] == UNTOUCHED, 1);
+    }
+    WANT(answer, 0);
+    WANT(len + most / 50 + 128 >= most, 1);
+    WANT(boot(&c, &own_link, most), -BSDUDP_ENXIO);
+    WANT(bsdudp_boot_in(&host, &c, memory, sizeof memory), -BSDUDP_ENXIO);
+    return 0;
+}
+
+/* A stack that is no host has no link; a host takes no packet past its own. */
+static int one_or_the_other(void)
+{
+    static unsigned char other[BSDUDP_MEMORY(64, 16)] ALIGNED;
+    struct bsdudp bare = BSDUDP_NONE;
+    struct bsdudp_config c = config();
+    WANT(bsdudp_boot_in(&bare, &c, other, sizeof other), 0);
+    WANT(answers(&bare, -BSDUDP_EOPNOTSUPP), 0);
+    WANT(bsdudp_ether_boot_in(&bare, &c, &own_link, memory, sizeof memory), -BSDUDP_ENXIO);
+    WANT(bsdudp_rx(&bare, bytes, 20), 0);
+    WANT(bsdudp_end(&bare), 0);
+    WANT(bsdudp_rx(&host, bytes, 20), -BSDUDP_EOPNOTSUPP);
+    WANT(bsdudp_tx(&host, room, sizeof room), -BSDUDP_EOPNOTSUPP);
+    return 0;
+}
+
+/* Frames come and go, and neighbours are known, asked for, and grow older. */
+static int frames(void)
+{
+    struct bsdudp_addr to = {0x0a000003, 99};
+    struct bsdudp_neighbour near_;
+    uint8_t wanted[ARP_FRAME];
+    static const uint8_t nobody[6] = {0, 0, 0, 0, 0, 0};
+    near_.ip = 99;
+    WANT(bsdudp_ether_address(&host), 1);
+    put_arp(wanted, all, 1, own_link.mac, OWN, nobody, OWN);
+    WANT(bsdudp_ether_transmit(&host, room, sizeof room), ARP_FRAME); /* it announces its address */
+    WANT(memcmp(room, wanted, ARP_FRAME), 0);
+    WANT(bsdudp_ether_receive(&host, frame, BSDUDP_ETHER_FRAME + 1), -BSDUDP_EMSGSIZE);
+    WANT(bsdudp_ether_transmit(&host, room, sizeof room - 1), -BSDUDP_EMSGSIZE);
+    WANT(bsdudp_ether_transmit(&host, room, sizeof room), 0);
+    WANT(bsdudp_ether_neighbour(&host, 0, &near_), -BSDUDP_EINVAL);
+    WANT(near_.ip, 99);
+    WANT(asked(PEER, OWN), 0);
+    put_arp(wanted, peer_mac, 2, own_link.mac, OWN, peer_mac, PEER);
+    WANT(bsdudp_ether_transmit(&host, room, sizeof room), ARP_FRAME);
+    WANT(memcmp(room, wanted, ARP_FRAME), 0);
+    WANT(bsdudp_ether_neighbour(&host, 0, &near_), 0);
+    WANT(near_.ip == PEER && near_.known == 1 && near_.tries == 0 && near_.ticks == KEPT, 1);
+    WANT(memcmp(near_.mac, peer_mac, 6), 0);
+    WANT(bsdudp_tick(&host), 0);
+    WANT(bsdudp_ether_neighbour(&host, 0, &near_) == 0 && near_.ticks == KEPT - 1, 1);
+    WANT(bsdudp_socket(&host), 3);
+    WANT(bsdudp_sendto(&host, 3, &to, "hi", 2), 2);
+    put_arp(wanted, all, 1, own_link.mac, OWN, nobody, to.ip);
+    WANT(bsdudp_ether_transmit(&host, room, sizeof room), ARP_FRAME);
+    WANT(memcmp(room, wanted, ARP_FRAME), 0);
+    WANT(bsdudp_ether_transmit(&host, room, sizeof room), 0);
+    WANT(bsdudp_ether_neighbour(&host, 1, &near_), 0);
+    WANT(near_.ip == to.ip && near_.known == 0 && near_.tries == 1 && near_.ticks == 3, 1);
+    WANT(memcmp(near_.mac, nobody, 6), 0);
+    WANT(bsdudp_ether_neighbour(&host, 2, &near_), -BSDUDP_EINVAL);
+    put_arp(frame, own_link.mac, 2, peer_mac, to.ip, own_link.mac, OWN);
+    WANT(bsdudp_ether_receive(&host, frame, ARP_FRAME), 0);
+    WANT(bsdudp_ether_transmit(&host, room, sizeof room), 14 + 20 + 8 + 2);
+    WANT(memcmp(room, peer_mac, 6), 0);
+    return 0;
+}
+
+/* Each tally gets a value of its own. */
+static int tallied(void)
+{
+    struct bsdudp_tallies it;
+    struct bsdudp_addr near_ = {0x0a000009, 9}, far_ = {BSDUDP_IP(192, 168, 1, 1), 9};
+    struct bsdudp_config c = config();
+    struct bsdudp_link alone = own_link;
+    int k;
+    WANT(bsdudp_end(&host), 0);
+    alone.gateway = 0;
+    WANT(boot(&c, &alone, sizeof memory - 2 * GUARD), 0);
+    WANT(bsdudp_socket(&host), 3);
+    WANT(asked(PEER, OWN), 0);
+    WANT(drained(), 2);
+    for (k = 0; k < 1; k++)
+        WANT(bsdudp_ether_receive(&host, frame, 13), 0);
+    for (k = 0; k < 2; k++)
+        WANT(asked(PEER, OWN) == 0 && bsdudp_ether_receive(&host, frame, ARP_FRAME - 1) == 0, 1);
+    for (k = 0; k < 3; k++)
+        WANT(asked(OWN, OWN), 0);
+    drained();
+    for (k = 0; k < 12; k++)
+        WANT(asked(PEER, OWN), 0);
+    drained();
+    for (k = 0; k < 5; k++)
+        WANT(bsdudp_sendto(&host, 3, &far_, "", 0), 0);
+    WANT(drained(), 0);
+    for (k = 0; k < 14; k++)
+        WANT(bsdudp_sendto(&host, 3, &near_, "", 0) == 0 && drained() <= 1, 1);
+    for (k = 0; k < 16; k++)
+        WANT(bsdudp_tick(&host) == 0 && drained() <= 2, 1);
+    for (k = 0; k < 9; k++)
+        WANT(pinged() == 0 && drained() == 1, 1);
+    for (k = 0; k < 9; k++)
+        WANT(sent_to_nobody() == 0 && drained() == 1, 1);
+    WANT(sent_to_nobody(), 0);
+    for (k = 0; k < 7; k++)
+        WANT(pinged(), 0);
+    WANT(drained(), 1);
+    for (k = 0; k < 12; k++)
+        WANT(sent_to_nobody() == 0 && drained() == 0, 1);
+    frame[14 + 12] = 127; /* its source */
+    for (k = 0; k < 13; k++)
+        WANT(bsdudp_ether_receive(&host, frame, 14 + 28), 0);
+    WANT(bsdudp_ether_tallies(&host, &it), 0);
+    WANT(it.ignored, 1);
+    WANT(it.bad_arp, 2);
+    WANT(it.conflicts, 3);
+    WANT(it.replies_dropped, 4);
+    WANT(it.no_route, 5);
+    WANT(it.held_dropped, 6);
+    WANT(it.unresolved, 8);
+    WANT(it.too_long, 0);
+    WANT(it.echoes, 9);
+    WANT(it.unreachable, 10);
+    WANT(it.limited, 12);
+    WANT(it.martians, 13);
+    WANT(it.icmp_dropped, 7);
+    return 0;
+}
+
+/* A host that asks first: it uses its address after some seconds, or another host has it. */
+static int probes(void)
+{
+    struct bsdudp_config c = config();
+    struct bsdudp_link careful = own_link;
+    int ticks;
+    careful.probe = 1;
+    WANT(bsdudp_end(&host), 0);
+    WANT(boot(&c, &careful, sizeof memory - 2 * GUARD), 0);
+    WANT(bsdudp_ether_address(&host), 0);
+    for (ticks = 0; bsdudp_ether_address(&host) == 0 && ticks < 20; ticks++) {
+        drained();
+        WANT(bsdudp_tick(&host), 0);
+    }
+    WANT(bsdudp_ether_address(&host), 1);
+    WANT(ticks > 6 && ticks < 20, 1);
+    WANT(bsdudp_end(&host), 0);
+    WANT(boot(&c, &careful, sizeof memory - 2 * GUARD), 0);
+    WANT(drained(), 1);
+    WANT(asked(OWN, OWN), 0);
+    WANT(bsdudp_ether_address(&host), -BSDUDP_EADDRINUSE);
+    for (ticks = 0; ticks < 20; ticks++)
+        WANT(bsdudp_tick(&host) == 0 && drained() == 0, 1);
+    return 0;
+}
+
+/* Once it has ended the handle is free, for a bare stack too. */
+static int ends(void)
+{
+    struct bsdudp_config c = config();
+    WANT(bsdudp_end(&host), 0);
+    WANT(answers(&host, -BSDUDP_ENXIO), 0);
+    WANT(bsdudp_tick(&host), -BSDUDP_ENXIO);
+    WANT(bsdudp_boot_in(&host, &c, memory, sizeof memory), 0);
+    WANT(bsdudp_tick(&host), 0);
+    WANT(bsdudp_rx(&host, bytes, 20), 0);
+    WANT(answers(&host, -BSDUDP_EOPNOTSUPP), 0);
+    WANT(bsdudp_end(&host), 0);
+    WANT(bsdudp_ether_boot(&host, &c, &own_link), 0);
+    WANT(bsdudp_ether_boot(&host, &c, &own_link), -BSDUDP_ENXIO);
+    WANT(asked(PEER, OWN), 0);
+    WANT(drained(), 2);
+    WANT(bsdudp_end(&host), 0);
+    c.mbufs = 0;
+    WANT(bsdudp_ether_boot(&host, &c, &own_link), -BSDUDP_EDOM);
+    return 0;
+}
+
+int main(void)
+{
+    return answers(&host, -BSDUDP_ENXIO) || refusals() || grows() || one_or_the_other() || frames() || tallied() ||
+           probes() || ends();
+}

@@ -1,0 +1,388 @@
+"""ether_judge.py CAPTURE: scapy's own frames as judges of a host on an Ethernet (bsdudp.Host over libbsdudp), with no
+network: each frame that it gives is compared with the one that scapy makes. Time passes by its ticks, so nothing here
+waits. It says the first thing that is wrong and exits with 1, and writes all frames of the host to CAPTURE."""
+import errno
+import random
+import socket as c
+import sys
+
+from scapy.layers.inet import ICMP, IP, UDP
+from scapy.layers.l2 import ARP, Ether
+from scapy.utils import PcapWriter
+
+import bsdudp
+
+OWN_IP, OWN_MAC, ALL, NOBODY = "10.0.0.1", "02:00:00:00:00:01", "ff:ff:ff:ff:ff:ff", "00:00:00:00:00:00"
+TABLE, HELD, TRIES, TICKS_APART, KEPT = 32, 8, 5, 3, 2400
+PROBES, PROBES_APART, ANNOUNCEMENTS_APART, UNREACHABLE_A_TICK = 3, 3, 5, 10  # RFC 5227, in ticks; RFC 1812
+ECHO, CLOSED = 7, 9
+captured = []
+
+
+def check(holds, what):
+    if not holds:
+        raise AssertionError(what)
+
+
+def mac_of(n):
+    return f"02:00:00:00:{n >> 8:02x}:{n & 255:02x}"
+
+
+def ip_of(n):
+    return f"10.0.{n >> 8}.{n & 255}"
+
+
+def own_claim(source):
+    """A probe, or an announcement (RFC 5227)."""
+    return bytes(Ether(dst=ALL, src=OWN_MAC) / ARP(op=1, hwsrc=OWN_MAC, psrc=source, hwdst=NOBODY, pdst=OWN_IP))
+
+
+def host(**words):
+    """A host that listens on port 7 and has announced its address, and its socket."""
+    it = bsdudp.Host(OWN_IP, OWN_MAC, mask="255.255.0.0", bcast="10.0.255.255", **words)
+    for _ in range(2):
+        check(given(it) == [own_claim(OWN_IP)], "the announcement isn't scapy's")
+        it.tick(ANNOUNCEMENTS_APART)
+    check(given(it) == [], "a third announcement")
+    socket = it.socket()
+    socket.bind(("", ECHO))
+    return it, socket
+
+
+def given(it):
+    """All frames that the host has for its link, as bytes."""
+    found = [bytes(frame) for frame in it.frames()]
+    captured.extend(found)
+    return found
+
+
+def asks(n, target=OWN_IP):
+    return Ether(dst=ALL, src=mac_of(n)) / ARP(op=1, hwsrc=mac_of(n), psrc=ip_of(n), hwdst=NOBODY, pdst=target)
+
+
+def replies(n):
+    return Ether(dst=OWN_MAC, src=mac_of(n)) / ARP(op=2, hwsrc=mac_of(n), psrc=ip_of(n), hwdst=OWN_MAC, pdst=OWN_IP)
+
+
+def own_reply(n):
+    reply = ARP(op=2, hwsrc=OWN_MAC, psrc=OWN_IP, hwdst=mac_of(n), pdst=ip_of(n))
+    return bytes(Ether(dst=mac_of(n), src=OWN_MAC) / reply)
+
+
+def own_request(n):
+    return bytes(Ether(dst=ALL, src=OWN_MAC) / ARP(op=1, hwsrc=OWN_MAC, psrc=OWN_IP, hwdst=NOBODY, pdst=ip_of(n)))
+
+
+def knows(it, *who):
+    """Neighbours tell the host their hardware addresses."""
+    for n in who:
+        it.receive(asks(n))
+        check(given(it) == [own_reply(n)], f"the reply to neighbour {n} isn't scapy's")
+
+
+def from_near(n, body, **words):
+    return Ether(dst=OWN_MAC, src=mac_of(n)) / IP(src=ip_of(n), dst=OWN_IP, **words) / body
+
+
+def echoed(it, socket, n, data, port=1234):
+    """What the host gives after a datagram of a neighbour came and was sent back."""
+    it.receive(from_near(n, UDP(sport=port, dport=ECHO) / data))
+    got, sender = socket.recvfrom()
+    check((got, sender) == (data, (ip_of(n), port)), f"neighbour {n}'s datagram came as another")
+    socket.sendto(got, sender)
+    return given(it)
+
+
+def carries(frame, n, data, port=1234):
+    """Whether a frame is the echo to a neighbour, as scapy reads it."""
+    it = Ether(frame)
+    told = (it.dst, it.src, it[IP].dst, it[UDP].dport, bytes(it[UDP].payload))
+    return told == (mac_of(n), OWN_MAC, ip_of(n), port, data)
+
+
+# ---- what is tried
+
+
+def arp():
+    it, socket = host()
+    knows(it, 2)
+    check(it.neighbours == [bsdudp.Neighbour(ip_of(2), mac_of(2), KEPT, 0)], f"neighbours: {it.neighbours}")
+    # one that asks for another is neither answered nor learnt
+    it.receive(asks(3, ip_of(2)))
+    check(given(it) == [] and len(it.neighbours) == 1, "a request for another host was answered, or taught something")
+    # what is for another teaches nothing, but of one that is known (RFC 826, "Packet Reception")
+    other = ARP(op=2, hwsrc=mac_of(4), psrc=ip_of(4), hwdst=mac_of(9), pdst=ip_of(9))
+    it.receive(Ether(dst=ALL, src=mac_of(4)) / other)
+    check(len(it.neighbours) == 1, "a reply for another host was learnt")
+    it.receive(Ether(dst=ALL, src=mac_of(9)) / ARP(op=1, hwsrc=mac_of(9), psrc=ip_of(2), hwdst=NOBODY, pdst=ip_of(2)))
+    check(it.neighbours[0].mac == mac_of(9), "a neighbour's new hardware address wasn't learnt")
+    # a probe (RFC 5227) has no address, and is answered
+    it.receive(Ether(dst=ALL, src=mac_of(5)) / ARP(op=1, hwsrc=mac_of(5), psrc="0.0.0.0", hwdst=NOBODY, pdst=OWN_IP))
+    check([Ether(frame)[ARP].op for frame in given(it)] == [2], "a probe isn't answered")
+    check(len(it.neighbours) == 1, "a probe was learnt")
+    # another host claims the address
+    it.receive(Ether(dst=ALL, src=mac_of(6)) / ARP(op=1, hwsrc=mac_of(6), psrc=OWN_IP, hwdst=NOBODY, pdst=OWN_IP))
+    check(it.tallies.conflicts == 1, "a conflict isn't counted")
+    check(own_claim(OWN_IP) in given(it), "the address isn't defended")
+    del socket
+
+
+def claims():
+    """A host that asks first whether another host has its address (RFC 5227)."""
+    it = bsdudp.Host(OWN_IP, OWN_MAC, probe=True)
+    it.receive(asks(2))
+    for _ in range(PROBES):
+        check(not it.uses_address and given(it) == [own_claim("0.0.0.0")], "the probe isn't scapy's")
+        it.tick(PROBES_APART)
+    it.tick(ANNOUNCEMENTS_APART)
+    check(it.uses_address and given(it) == [own_claim(OWN_IP)], "the announcement after the probes isn't scapy's")
+    it = bsdudp.Host(OWN_IP, OWN_MAC, probe=True)
+    given(it)
+    claim = ARP(op=2, hwsrc=mac_of(6), psrc=OWN_IP, hwdst=OWN_MAC, pdst="0.0.0.0")
+    it.receive(Ether(dst=OWN_MAC, src=mac_of(6)) / claim)
+    try:
+        check(not it.uses_address, "an address that another host has is used")
+        raise AssertionError("another host's claim isn't told")
+    except OSError as fault:
+        check(fault.errno == errno.EADDRINUSE, f"another host's claim is told as {fault}")
+    it.tick(100)
+    it.receive(asks(2))
+    check(given(it) == [], "a host without an address sends")
+
+
+def martians():
+    """Packets whose addresses can't be on a link are dropped (RFC 1122, section 3.2.1.3)."""
+    it, socket = host()
+    wrong = ("255.255.255.255", "224.0.0.1", "0.1.2.3", "127.0.0.1", "10.0.255.255")
+    for source in wrong:
+        it.receive(Ether(dst=OWN_MAC, src=mac_of(2)) / IP(src=source, dst=OWN_IP) / UDP(sport=5, dport=ECHO) / b"x")
+    check(it.tallies.martians == len(wrong) and not it.readable() and given(it) == [], "a martian came in")
+    del socket
+
+
+def held():
+    """Packets wait for a hardware address, and go in order; the request is repeated, and then given up."""
+    it, socket = host()
+    data = random.Random(1).randbytes(9216)
+    socket.sendto(data, (ip_of(2), 99))
+    check(given(it) == [own_request(2)], "not one request for seven fragments")
+    it.receive(replies(2))
+    sent = [Ether(frame) for frame in given(it)]
+    check(b"".join(bytes(frame[IP].payload) for frame in sent)[8:] == data, "the fragments aren't the datagram")
+    check([frame[IP].frag * 8 for frame in sent] == list(range(0, 9224, 1480)), "the fragments go in another order")
+    check({frame.dst for frame in sent} == {mac_of(2)}, "a fragment goes to another hardware address")
+    for k in range(HELD + 2):
+        socket.sendto(bytes([k]), (ip_of(3), 99))
+    requests = given(it)
+    it.receive(replies(3))
+    left = [Ether(frame)[UDP].load for frame in given(it)]
+    check(requests == [own_request(3)] and left == [bytes([k]) for k in range(2, HELD + 2)], f"eight newest: {left}")
+    check(it.tallies.held_dropped == 2, "what was dropped isn't counted")
+    socket.sendto(b"x", (ip_of(4), 99))
+    at = []
+    for tick in range(30):
+        at += [tick for frame in given(it) if frame == own_request(4)]
+        it.tick()
+    check(at == [k * TICKS_APART for k in range(TRIES)], f"requests at the ticks {at}")
+    check(it.tallies.unresolved == 1 and [n.ip for n in it.neighbours] == [ip_of(2), ip_of(3)], "it isn't given up")
+    it.tick(2 * KEPT)
+    given(it)
+    it.tick(TRIES * TICKS_APART + 1)
+    check(it.neighbours == [], f"neighbours are kept for ever: {it.neighbours}")
+
+
+def ways():
+    """The next hop: a neighbour, the gateway, everyone, or none."""
+    it, socket = host(gateway=ip_of(2))
+    knows(it, 2, 3)
+    socket.sendto(b"near", (ip_of(3), 99))
+    socket.sendto(b"far", ("192.168.7.7", 99))
+    sent = [Ether(frame) for frame in given(it)]
+    hops = [(frame.dst, frame[IP].dst) for frame in sent]
+    check(hops == [(mac_of(3), ip_of(3)), (mac_of(2), "192.168.7.7")], f"other next hops: {hops}")
+    socket.setsockopt(c.SOL_SOCKET, c.SO_BROADCAST, 1)
+    socket.sendto(b"all", ("10.0.255.255", 99))
+    check([Ether(frame).dst for frame in given(it)] == [ALL], "a broadcast goes to one")
+    it, socket = host()
+    socket.sendto(b"far", ("192.168.7.7", 99))
+    check(given(it) == [] and it.tallies.no_route == 1, "a packet without a way goes out, or isn't counted")
+
+
+def ping():
+    it, _ = host()
+    knows(it, 2)
+    rng = random.Random(2)
+    for length in [*range(80), 500, 1471, 1472]:
+        request = ICMP(type=8, id=rng.randrange(65536), seq=rng.randrange(65536)) / rng.randbytes(length)
+        it.receive(from_near(2, request, id=length, tos=rng.randrange(256)))
+        answer = IP(src=OWN_IP, dst=ip_of(2), id=length, ttl=64) / ICMP(type=0, id=request.id, seq=request.seq)
+        wanted = bytes(Ether(dst=mac_of(2), src=OWN_MAC) / answer / bytes(request.payload))
+        check(given(it) == [wanted], f"the echo reply of {length} bytes isn't scapy's")
+    # not answered: to everyone, of another type, with a wrong checksum, to a broadcast address
+    silent = [
+        Ether(dst=ALL, src=mac_of(2)) / IP(src=ip_of(2), dst=OWN_IP) / ICMP() / b"all",
+        from_near(2, ICMP(type=0) / b"a reply"),
+        from_near(2, ICMP(type=13) / bytes(12)),
+        from_near(2, ICMP(chksum=1) / b"wrong"),
+        Ether(dst=ALL, src=mac_of(2)) / IP(src=ip_of(2), dst="10.0.255.255") / ICMP() / b"all",
+        Ether(dst=mac_of(7), src=mac_of(2)) / IP(src=ip_of(2), dst=OWN_IP) / ICMP() / b"another's",
+    ]
+    for frame in silent:
+        it.receive(frame)
+        check(given(it) == [], f"this was answered: {frame.summary()}")
+
+
+def unreachable():
+    it, _ = host()
+    knows(it, 2)
+    for length in (0, 1, 7, 8, 9, 100, 1472):
+        request = from_near(2, UDP(sport=5, dport=CLOSED) / bytes(length), id=length)
+        it.receive(request)
+        quoted = bytes(request[IP])[:28]
+        answer = IP(src=OWN_IP, dst=ip_of(2), id=length, ttl=64) / ICMP(type=3, code=3) / quoted
+        wanted = bytes(Ether(dst=mac_of(2), src=OWN_MAC) / answer)
+        check(given(it) == [wanted], f"port unreachable for {length} bytes isn't scapy's")
+    it.receive(Ether(dst=ALL, src=mac_of(2)) / IP(src=ip_of(2), dst="10.0.255.255") / UDP(sport=5, dport=CLOSED))
+    check(given(it) == [], "a broadcast was answered with port unreachable")
+    it.tick()
+    answered = 0
+    for _ in range(UNREACHABLE_A_TICK + 2):
+        it.receive(from_near(2, UDP(sport=5, dport=CLOSED)))
+        answered += len(given(it))
+    check(answered == UNREACHABLE_A_TICK and it.tallies.limited == 2, f"{answered} were told in one tick")
+
+
+def truncations():
+    """Every truncation of ARP packets and of ICMP messages, and every byte of an ARP packet's head changed."""
+    it, _ = host()
+    knows(it, 2)
+    whole = {"request": bytes(asks(3)), "reply": bytes(replies(2)), "echo": bytes(from_near(2, ICMP() / bytes(20)))}
+    for name, frame in whole.items():
+        for cut in range(len(frame)):
+            it.receive(frame[:cut])
+            check(given(it) == [], f"an {name} cut to {cut} bytes was answered")
+    check([n.ip for n in it.neighbours] == [ip_of(2)], "a cut ARP packet taught something")
+    for cut in range(28):
+        message = bytes(ICMP(type=8, id=1, seq=2) / bytes(range(20)))[:cut]
+        it.receive(from_near(2, message, proto=1))
+        check(given(it) == [], f"an ICMP message cut to {cut} bytes was answered")
+        # with a checksum that is right again, what has a whole head is a shorter request
+        it.receive(from_near(2, ICMP(type=8, id=1, seq=2) / bytes(range(cut))))
+        check(len(given(it)) == 1, f"an echo request of {cut} bytes wasn't answered")
+    for at in range(14, 22):
+        frame = bytearray(whole["request"])
+        frame[at] ^= 0x55
+        it.receive(bytes(frame))
+        check(given(it) == [] and len(it.neighbours) == 1, f"ARP with another byte {at} was answered or learnt")
+
+
+def hundred():
+    """A hundred neighbours on a table of 32: the 32 that were heard last stand in it, and each is answered."""
+    it, socket = host()
+    everyone = range(2, 102)
+    knows(it, *everyone)
+    check([n.ip for n in it.neighbours] == [ip_of(n) for n in everyone[-TABLE:]], "not the 32 that were heard last")
+    rng = random.Random(3)
+    order = list(everyone) * 3
+    rng.shuffle(order)
+    for n in order:
+        is_known = any(near.ip == ip_of(n) for near in it.neighbours)
+        data = rng.randbytes(rng.randrange(1400))
+        frames = echoed(it, socket, n, data)
+        if not is_known:
+            check(frames == [own_request(n)], f"forgotten neighbour {n} isn't asked for")
+            it.receive(replies(n))
+            frames = given(it)
+        check(len(frames) == 1 and carries(frames[0], n, data), f"the echo to neighbour {n} is wrong")
+        check(len(it.neighbours) <= TABLE, "more than 32 neighbours")
+
+
+def flood():
+    """ARP packets at random. Those for others change nothing of the table. Those for the host may, and it goes on."""
+    it, socket = host()
+    knows(it, 2)
+    rng = random.Random(4)
+    for _ in range(3000):
+        n = rng.randrange(1000, 60000)
+        op = rng.choice((1, 2))
+        other = ARP(op=op, hwsrc=mac_of(n), psrc=ip_of(n), pdst=ip_of(rng.randrange(3, 900)))
+        it.receive(Ether(dst=ALL, src=mac_of(n)) / other)
+    check(given(it) == [] and [n.ip for n in it.neighbours] == [ip_of(2)], "ARP packets for others changed the table")
+    for _ in range(1000):
+        n = rng.randrange(1000, 60000)
+        it.receive(rng.choice((asks, replies))(n))
+        if rng.random() < 0.1:
+            check(len(given(it)) <= HELD, "more than eight ARP replies waited")
+    given(it)
+    check(len(it.neighbours) == TABLE, "the table isn't full after a flood of requests")
+    check(it.tallies.replies_dropped > 0, "replies that found no place aren't counted")
+    for _ in range(2000):
+        it.receive(bytes(asks(2))[:14] + rng.randbytes(rng.randrange(60)))
+    given(it)
+    frames = echoed(it, socket, 2, b"still here")
+    if frames == [own_request(2)]:
+        it.receive(replies(2))
+        frames = given(it)
+    check(len(frames) == 1 and carries(frames[0], 2, b"still here"), "after a flood of ARP an echo is wrong")
+    usage = it.mbstat
+    check(usage.free_mbufs == usage.mbufs and usage.free_clusters == usage.clusters, "the flood holds buffers")
+
+
+def lossy():
+    """2,000 datagrams at random between two hosts over a bridge that loses frames, of ARP too: none comes as
+    another."""
+    rng = random.Random(5)
+    near = bsdudp.Host("10.0.0.1", mac_of(1), mbufs=2000, clusters=400)
+    far = bsdudp.Host("10.0.0.2", mac_of(2), mbufs=2000, clusters=400)
+    pairs = ((near, far), (far, near))
+    out, service = near.socket(), far.socket()
+    service.bind(("", ECHO))
+    sent, came, back, lost = [], 0, 0, 0
+    for k in range(2000):
+        data = k.to_bytes(4, "big") + rng.randbytes(rng.choice((0, 10, 1000, 1468, 1469, 4000, 9000)))
+        sent.append(data)
+        try:
+            out.sendto(data, ("10.0.0.2", ECHO))
+        except bsdudp.NoBuffersError:
+            continue
+        moved = True
+        while moved:
+            moved = False
+            for giver, taker in pairs:
+                for frame in given(giver):
+                    moved = True
+                    if rng.random() < 0.1:
+                        lost += 1
+                    else:
+                        taker.receive(frame)
+            for it in far.readable():
+                got, sender = it.recvfrom()
+                check(got == sent[int.from_bytes(got[:4], "big")], "a datagram came as another")
+                came += 1
+                it.sendto(got, sender)
+        for it in near.readable():
+            got = it.recv()
+            check(got == sent[int.from_bytes(got[:4], "big")], "a datagram came back as another")
+            back += 1
+        if k % 7 == 0:
+            near.tick()
+            far.tick()
+    check(came > 500 and back > 200 and lost > 500, f"{came} came, {back} came back, {lost} frames were lost")
+
+
+def main(capture):
+    for tried in (arp, claims, martians, held, ways, ping, unreachable, truncations, hundred, flood, lossy):
+        try:
+            tried()
+        except AssertionError as fault:
+            sys.exit(f"ether_judge.py: {tried.__name__}: {fault}")
+    with PcapWriter(capture, linktype=1) as writer:
+        for at, frame in enumerate(captured):
+            layer = Ether(frame)
+            layer.time = at / 1000
+            writer.write(layer)
+    print(f"{len(captured)} frames")
+
+
+if __name__ == "__main__":
+    main(sys.argv[1])

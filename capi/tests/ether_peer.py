@@ -1,0 +1,333 @@
+"""ether_peer.py TAP_HOST CAPTURE: Linux as the peer of capi/examples/tap_host.c, in a network namespace of its own
+(unshare -n). Frames pass through this program, which can lose them, from the TAP device of Linux to that of the host,
+and are written to CAPTURE. At last two hosts stand on one bridge with Linux. It says the first thing that is wrong
+and exits with 1; what lacks a tool is left out, and said in one line."""
+import contextlib
+import fcntl
+import os
+import pathlib
+import random
+import re
+import select
+import shutil
+import socket
+import struct
+import subprocess
+import sys
+import threading
+import time
+
+HOST, HOST_MAC, LINUX_MAC = "10.0.0.1", "02:00:00:00:00:01", "02:00:00:00:00:02"
+TUNSETIFF, IFF_TAP, IFF_NO_PI = 0x400454CA, 2, 0x1000
+ETH_P_ALL, PACKET_OUTGOING = 3, 4
+ARP, IPV4 = b"\x08\x06", b"\x08\x00"
+ECHO, CLOSED = 7, 9
+WAIT, TRIES = 20, 3  # seconds: much more than any needs, for a busy machine
+IP_MTU_DISCOVER = 10
+
+
+class Fault(Exception):
+    """What is wrong."""
+
+
+def check(holds, what):
+    if not holds:
+        raise Fault(what)
+
+
+def run(*words):
+    """What a command printed."""
+    return subprocess.run(words, text=True, stdout=subprocess.PIPE, stderr=subprocess.STDOUT, check=False).stdout
+
+
+def must(line):
+    done = subprocess.run(line.split(), text=True, capture_output=True, check=False)
+    check(done.returncode == 0, f"{line}: {done.stderr.strip()}")
+
+
+def has(tool, what):
+    if shutil.which(tool):
+        return True
+    print(f"ethernet: no {tool}: {what} is left out")
+    return False
+
+
+def device_up(name):
+    """Waits until a device is there, and sets it up, without addresses of IPv6."""
+    for _ in range(1200):
+        with contextlib.suppress(OSError):
+            socket.if_nametoindex(name)
+            break
+        time.sleep(0.05)
+    setting = pathlib.Path(f"/proc/sys/net/ipv6/conf/{name}/disable_ipv6")
+    if setting.exists():
+        setting.write_text("1")
+    must(f"ip link set {name} up")
+
+
+class Capture:
+    """Frames, written as a capture of Ethernet."""
+
+    def __init__(self, path):
+        self.file = open(path, "wb")
+        self.file.write(struct.pack("<IHHiIII", 0xA1B2C3D4, 2, 4, 0, 0, 65535, 1))
+
+    def add(self, frame):
+        now = time.time()
+        head = struct.pack("<IIII", int(now), int(now % 1 * 1e6), len(frame), len(frame))
+        self.file.write(head + frame)
+
+
+class Relay(threading.Thread):
+    """Carries frames between Linux's device and the host's, but those that `loses` names."""
+
+    def __init__(self, capture):
+        super().__init__(daemon=True)
+        self.tap = os.open("/dev/net/tun", os.O_RDWR)
+        fcntl.ioctl(self.tap, TUNSETIFF, struct.pack("16sH", b"lin0", IFF_TAP | IFF_NO_PI))
+        must(f"ip link set lin0 address {LINUX_MAC}")
+        device_up("lin0")
+        must("ip addr add 10.0.0.2/24 broadcast 10.0.0.255 dev lin0")
+        self.card, self.capture = None, capture
+        self.gave, self.loses, self.is_over = [], lambda frame: False, False
+
+    def plug(self, name):
+        """Joins the host's device, on which the kernel itself hears nothing."""
+        device_up(name)
+        must(f"ip link set {name} arp off")
+        card = socket.socket(socket.AF_PACKET, socket.SOCK_RAW, socket.htons(ETH_P_ALL))
+        card.bind((name, 0))
+        self.card = card
+
+    def run(self):
+        while not self.is_over:
+            card = self.card
+            ready, _, _ = select.select([self.tap, *([card] if card else [])], [], [], 0.1)
+            if self.tap in ready:
+                self.carry(os.read(self.tap, 2048), self.to_host)
+            if card in ready:
+                with contextlib.suppress(OSError):  # its device went
+                    frame, place = card.recvfrom(2048)
+                    if place[2] != PACKET_OUTGOING:
+                        self.gave.append(frame)
+                        self.carry(frame, lambda frame: os.write(self.tap, frame))
+
+    def to_host(self, frame):
+        with contextlib.suppress(OSError):  # there is no host, or it just went
+            self.card.send(frame)
+
+    def carry(self, frame, to):
+        if not self.loses(frame):
+            self.capture.add(frame)
+            to(frame)
+
+
+@contextlib.contextmanager
+def tap_host(program, *words):
+    """A host while the block lasts, and what it printed at its end, in a list."""
+    said = []
+    with subprocess.Popen([program, *words], stdout=subprocess.PIPE, stderr=subprocess.STDOUT, text=True) as child:
+        try:
+            yield said
+        finally:
+            child.terminate()
+            said.append(child.communicate()[0])
+    check(child.returncode == 0, f"the host ended with {child.returncode}: {said[0].strip()}")
+
+
+def is_announcement(frame):
+    """An ARP packet that tells and asks the same (RFC 5227)."""
+    return frame[12:14] == ARP and frame[28:32] == frame[38:42]
+
+
+def client(source=""):
+    it = socket.socket(socket.AF_INET, socket.SOCK_DGRAM)
+    it.setsockopt(socket.SOL_SOCKET, socket.SO_BROADCAST, 1)
+    it.setsockopt(socket.SOL_SOCKET, socket.SO_RCVBUF, 1 << 20)
+    it.setsockopt(socket.IPPROTO_IP, IP_MTU_DISCOVER, 0)
+    it.bind((source, 0))
+    it.settimeout(WAIT)
+    return it
+
+
+def echoed(it, data, to=HOST):
+    """Sends a datagram until it comes back; nothing else comes."""
+    for _ in range(TRIES):
+        it.sendto(data, (to, ECHO))
+        with contextlib.suppress(TimeoutError):
+            back, sender = it.recvfrom(65536)
+            check(back == data, f"{len(data)} bytes came back as {len(back)} others from {sender}")
+            return
+    raise Fault(f"{len(data)} bytes to {to} didn't come back")
+
+
+def pings(wanted, *words):
+    """Pings until so many replies have come; a reply that a busy machine gives late is worth another try."""
+    for _ in range(TRIES):
+        said = run("ping", "-q", *words)
+        if f" {wanted} received" in said:
+            return
+    raise Fault(f"ping {' '.join(words)}: {said.strip().splitlines()[-1] if said.strip() else 'nothing'}")
+
+
+# ---- what is tried
+
+
+def known(relay):
+    """ARP and ping."""
+    if has("ping", "ping"):
+        pings(3, "-c", "3", "-i", "0.2", HOST)
+        pings(2, "-c", "2", "-i", "0.2", "-s", "1472", HOST)
+        pings(2000, "-f", "-c", "2000", "-w", "30", HOST)
+    echoed(client(), b"hello")
+    check(HOST_MAC in run("ip", "neigh", "show", "dev", "lin0"), "Linux doesn't know the host's hardware address")
+    if has("arping", "arping"):
+        said = run("arping", "-c", "2", "-w", str(WAIT), "-I", "lin0", HOST)
+        check("Received 2 response" in said, f"arping: {said.strip().splitlines()[-1]}")
+        said = run("arping", "-D", "-c", "1", "-w", str(WAIT), "-I", "lin0", HOST)
+        check("Received 1 response" in said, "a probe of the host's address isn't answered")
+    del relay
+
+
+def datagrams(relay):
+    """Datagrams of all lengths, by all ways."""
+    it = client()
+    for length in [*range(0, 9217, 16), 1471, 1472, 1473, 9215, 9216]:
+        echoed(it, os.urandom(length))
+    echoed(it, b"to all", "10.0.0.255")
+    must("ip addr add 192.168.1.9/32 dev lin0")
+    far = client("192.168.1.9")
+    for length in (100, 3000):
+        echoed(far, os.urandom(length))
+    it.connect((HOST, CLOSED))
+    for _ in range(TRIES):
+        it.send(b"x")
+        try:
+            it.recv(10)
+        except ConnectionRefusedError:
+            return
+        except TimeoutError:
+            pass
+    del relay
+    raise Fault("Linux isn't told that no socket has a port")
+
+
+def moved(relay):
+    """Linux gets another hardware address, and the host hears of it."""
+    must("ip link set lin0 down")
+    must("ip link set lin0 address 02:00:00:00:00:99")
+    must("ip link set lin0 up")
+    must(f"ip neigh replace {HOST} lladdr {HOST_MAC} dev lin0 nud permanent")
+    it = client()
+    relay.loses = lambda frame: frame[12:14] == ARP
+    relay.gave.clear()
+    it.sendto(b"x", (HOST, ECHO))
+    for _ in range(WAIT * 20):
+        gave = [frame for frame in relay.gave if frame[12:14] == IPV4]
+        if gave:
+            break
+        time.sleep(0.05)
+    to = gave[0][:6].hex(":") if gave else "nowhere"
+    check(to == LINUX_MAC, f"the host sends to {to}, and not to the hardware address that it heard last")
+    relay.loses = lambda frame: False
+    if has("arping", "an announcement"):
+        run("arping", "-c", "1", "-U", "-I", "lin0", "10.0.0.2")
+        echoed(it, os.urandom(9216))
+    must(f"ip neigh del {HOST} dev lin0")
+
+
+def lossy(relay):
+    """2,000 datagrams while frames are lost, those of ARP too, and Linux forgets the host now and then: none wrong."""
+    rng = random.Random(7)
+    relay.loses = lambda frame: rng.random() < 0.1
+    it, back = client(), 0
+    sent = {}
+    for k in range(2000):
+        data = k.to_bytes(4, "big") + rng.randbytes(rng.choice((0, 10, 500, 1468, 1469, 3000)))
+        sent[data[:4]] = data
+        if k % 200 == 0:
+            run("ip", "neigh", "flush", "dev", "lin0")
+        with contextlib.suppress(TimeoutError):  # too many wait for an ARP reply that was lost
+            it.sendto(data, (HOST, ECHO))
+        if k % 10 == 9:
+            back += drained(it, sent, 0.02)
+    back += drained(it, sent, 2)
+    relay.loses = lambda frame: False
+    check(back >= 200, f"{back} of 2,000 datagrams came back over a lossy wire")
+
+
+def drained(it, sent, wait):
+    """How many datagrams come until nothing does for a while: each is one that was sent."""
+    came = 0
+    it.settimeout(wait)
+    with contextlib.suppress(TimeoutError):
+        while True:
+            data = it.recv(65536)
+            check(sent.get(data[:4]) == data, "a datagram came back as another over a lossy wire")
+            came += 1
+    return came
+
+
+def asked(relay):
+    """A host that knows nobody holds seven fragments for one request."""
+    relay.gave.clear()
+    must(f"ip neigh replace {HOST} lladdr {HOST_MAC} dev lin0 nud permanent")
+    echoed(client(), os.urandom(9216))
+    kinds = [frame[12:14] for frame in relay.gave if not is_announcement(frame)]
+    check(kinds == [ARP] + 7 * [IPV4], f"the host gave {[kind.hex() for kind in kinds]}")
+
+
+def bridged(program):
+    """Two hosts on one bridge with Linux."""
+    if "Error" in run("ip", "link", "add", "br0", "type", "bridge"):
+        print("ethernet: the kernel has no bridge: two hosts on one are left out")
+        return
+    must("ip addr flush dev lin0")
+    must("ip addr add 10.0.0.2/24 broadcast 10.0.0.255 dev br0")
+    device_up("br0")
+    words = {"10.0.0.11": "02:00:00:00:00:11", "10.0.0.12": "02:00:00:00:00:12"}
+    with contextlib.ExitStack() as hosts:
+        for at, (addr, mac) in enumerate(words.items()):
+            hosts.enter_context(tap_host(program, f"h{at}", addr, mac))
+            device_up(f"h{at}")
+            must(f"ip link set h{at} master br0")
+        it = client()
+        for length in (0, 100, 1472, 1473, 9216):
+            for addr in words:
+                echoed(it, os.urandom(length), addr)
+        for addr in words:
+            if shutil.which("ping"):
+                pings(3, "-c", "3", "-i", "0.2", addr)
+        # a broadcast reaches both, and each answers it
+        it.sendto(b"both", ("10.0.0.255", ECHO))
+        came = {it.recvfrom(100)[1][0] for _ in words}
+        check(came == set(words), f"a broadcast was answered by {sorted(came)}")
+        near = run("ip", "neigh", "show", "dev", "br0")
+        check(all(mac in near for mac in words.values()), "Linux doesn't know both hosts")
+
+
+def main(program, path):
+    capture = Capture(path)
+    relay = Relay(capture)
+    relay.start()
+    try:
+        with tap_host(program, "h0", HOST, HOST_MAC, "10.0.0.2") as said:
+            relay.plug("h0")
+            for tried in (known, datagrams, moved, lossy):
+                tried(relay)
+        told = re.search(r"echoes (\d+), unreachable (\d+)", said[0])
+        check(told and int(told[2]) > 0, f"the host's tallies: {said[0].strip()}")
+        with tap_host(program, "h0", HOST, HOST_MAC):
+            relay.plug("h0")
+            asked(relay)
+        bridged(program)
+    except Fault as fault:
+        sys.exit(f"ether_peer.py: {fault}")
+    finally:
+        relay.is_over = True
+        relay.join()
+        capture.file.close()
+
+
+if __name__ == "__main__":
+    main(*sys.argv[1:])

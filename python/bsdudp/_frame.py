@@ -1,0 +1,83 @@
+"""Ethernet frames as bytes, and hardware addresses."""
+from __future__ import annotations
+
+import re
+from typing import TYPE_CHECKING, Union
+
+from ._buffers import octets
+from ._packet import LayeredPacket, Packet
+
+if TYPE_CHECKING:
+    from _typeshed import ReadableBuffer
+
+HEADER = 14
+MAX_FRAME = HEADER + 65_535
+IPV4, ARP = 0x0800, 0x0806
+
+AnyFrame = Union["ReadableBuffer", LayeredPacket]
+
+
+def mac_text(mac: bytes) -> str:
+    """A hardware address as people write it, "02:00:00:00:00:01"."""
+    return mac.hex(":")
+
+
+def mac_bytes(mac: Union[str, bytes]) -> bytes:
+    """The six bytes of a hardware address: of "02:00:00:00:00:01", or six bytes."""
+    if isinstance(mac, str):
+        if not re.fullmatch(r"[0-9a-fA-F]{2}(:[0-9a-fA-F]{2}){5}", mac):
+            raise ValueError(f'a hardware address is six bytes in hexadecimal, as "02:00:00:00:00:01", and not {mac!r}')
+        return bytes.fromhex(mac.replace(":", ""))
+    found = octets(mac)
+    if len(found) != 6:
+        raise ValueError(f"a hardware address has six bytes, and not {len(found)}")
+    return found
+
+
+class Frame(bytes):
+    """An Ethernet frame, as bytes, from its header on and without the check sequence. The properties are those of a
+    frame that has a whole header, as all have that `Host.transmit` gives (RFC 894)."""
+
+    @property
+    def destination(self) -> str:
+        """The hardware address that it goes to."""
+        return mac_text(self[:6])
+
+    @property
+    def source(self) -> str:
+        """The hardware address that it comes from."""
+        return mac_text(self[6:12])
+
+    @property
+    def type(self) -> int:
+        """What it carries: 0x0800 is IPv4, 0x0806 ARP."""
+        return int.from_bytes(self[12:14], "big")
+
+    @property
+    def body(self) -> bytes:
+        """What follows the header; of a frame with IPv4 it's a `Packet`."""
+        return Packet(self[HEADER:]) if self.type == IPV4 else bytes(self[HEADER:])
+
+    def __repr__(self) -> str:
+        if len(self) < HEADER:
+            return f"<Frame of {len(self)} bytes, too short for a header>"
+        kind = {IPV4: f"{Packet(self.body)!r}", ARP: "ARP"}.get(self.type, f"type {self.type:#06x}")
+        return f"<Frame {self.source} > {self.destination}, {kind}, {len(self)} bytes>"
+
+    __str__ = __repr__  # print shows what it is, and not its bytes
+
+
+def frame_bytes(frame: AnyFrame) -> bytes:
+    """The bytes of a frame: of anything like bytes, or of a scapy packet, from its Ethernet layer on."""
+    if isinstance(frame, LayeredPacket):
+        if not frame.haslayer("Ethernet"):
+            raise ValueError("the scapy packet has no Ethernet layer: put Ether() / in front")
+        found = bytes(frame["Ethernet"])
+    else:
+        try:
+            found = octets(frame)
+        except TypeError:
+            raise TypeError(f"a frame is bytes or a scapy packet, and not {type(frame).__name__}") from None
+    if len(found) > MAX_FRAME:
+        raise ValueError(f"a frame has at most {MAX_FRAME} bytes, and not {len(found)}")
+    return found
