@@ -1,6 +1,7 @@
-"""ether_judge.py CAPTURE: scapy's own frames as judges of a host on an Ethernet (bsdudp.Host over libbsdudp), with no
+"""Scapy's own frames as judges of a host on an Ethernet (bsdudp.Host over libbsdudp), with no
 network: each frame that it gives is compared with the one that scapy makes. Time passes by its ticks, so nothing here
 waits. It says the first thing that is wrong and exits with 1, and writes all frames of the host to CAPTURE."""
+import argparse
 import errno
 import random
 import socket as c
@@ -385,4 +386,6 @@ def main(capture):
 
 
 if __name__ == "__main__":
-    main(sys.argv[1])
+    parser = argparse.ArgumentParser(description=__doc__)
+    parser.add_argument("capture", metavar="CAPTURE", help="the file that is written")
+    main(parser.parse_args().capture)

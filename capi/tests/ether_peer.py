@@ -1,7 +1,8 @@
-"""ether_peer.py TAP_HOST CAPTURE: Linux as the peer of capi/examples/tap_host.c, in a network namespace of its own
+"""Linux as the peer of capi/examples/tap_host.c, in a network namespace of its own
 (unshare -n). Frames pass through this program, which can lose them, from the TAP device of Linux to that of the host,
 and are written to CAPTURE. At last two hosts stand on one bridge with Linux. It says the first thing that is wrong
 and exits with 1; what lacks a tool is left out, and said in one line."""
+import argparse
 import contextlib
 import fcntl
 import os
@@ -330,4 +331,8 @@ def main(program, path):
 
 
 if __name__ == "__main__":
-    main(*sys.argv[1:])
+    parser = argparse.ArgumentParser(description=__doc__)
+    parser.add_argument("program", metavar="TAP_HOST", help="the built program")
+    parser.add_argument("capture", metavar="CAPTURE", help="the file that is written")
+    said = parser.parse_args()
+    main(said.program, said.capture)
