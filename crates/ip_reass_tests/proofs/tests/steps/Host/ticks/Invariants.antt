@@ -1,5 +1,0 @@
-use Rattle.ip_reass.specs.Table.{IsReady}
-use Rattle.ip_reass_tests.proofs.tests.steps.Host.ticks.Given as goal
-
-abbrev pub invariant-ticks : goal.invariant-ticks
-invariant-ticks l = IsReady l.self.pool l.self.table

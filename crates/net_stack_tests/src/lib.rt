@@ -1,7 +1,0 @@
-//! Tests of `net_stack`, and a caller of its laws over whole runs. They stand in a crate of their own so that they're
-//! checked over its contracts, and it isn't checked twice.
-#![tactic(auto)]
-
-#[cfg(test)]
-mod tests;
-pub mod wire;

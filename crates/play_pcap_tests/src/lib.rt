@@ -1,5 +1,0 @@
-//! Tests of `play_pcap`, over its contracts.
-#![tactic(auto)]
-
-#[cfg(test)]
-mod tests;

@@ -1,5 +1,0 @@
-use Rattle.sock_calls_tests.proofs.Hosted.{after_call}
-use Rattle.sock_calls_tests.proofs.tests.host.Host.bind.Goals as goal
-
-pub invariant_of-self : goal.invariant_of-self
-invariant_of-self c = after_call c.self.inside.net c.self.invariant (c.bind.ensures c.self.inside.pool c.self.invariant.0)

@@ -1,5 +1,0 @@
-use Rattle.sock_calls_tests.proofs.Hosted.{queue_left}
-use Rattle.sock_calls_tests.proofs.tests.host.Host.end.Goals as goal
-
-pub end-requires-2-clause-out : goal.end-requires-2-clause-out
-end-requires-2-clause-out c = queue_left c.self.inside.net c.self.invariant c.end.ensures

@@ -1,6 +1,0 @@
-//! Tests of `sock_calls`. They stand in a crate of their own so that they're checked over its contracts, and it isn't
-//! checked twice.
-#![tactic(auto)]
-
-#[cfg(test)]
-mod tests;

@@ -1,0 +1,13 @@
+//! Tests of socket calls, whole stacks, segments and hosts on an Ethernet, and a caller of the laws over whole runs,
+//! over the contracts of their crates alone: so they're checked apart from these, and these aren't checked twice.
+#![tactic(auto)]
+
+#[cfg(test)]
+mod calls;
+#[cfg(test)]
+mod ethernet;
+#[cfg(test)]
+mod hosts;
+#[cfg(test)]
+mod segments;
+pub mod wire;
