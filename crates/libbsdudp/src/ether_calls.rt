@@ -7,7 +7,7 @@ ghost use Rattle.ether_host.specs.Inside.{seen};
 ghost use Rattle.ether_host.specs.View.{host_of};
 ghost use Rattle.libbsdudp.specs.Ether.{GivesFrame, HasAged, HasHeard, IsFramed, TellsAddress, TellsNeighbour, TellsTallies, both};
 
-use crate::errors::{BAD_LENGTH, INVALID, IN_USE, count};
+use crate::errors::{BAD_LENGTH, IN_USE, INVALID, count};
 use crate::link_plain::{CNeighbour, CTallies};
 use ether_host::LinkLayer;
 use flat_ether::{AddressState, ETHER_HEADER, ETHER_MTU};
