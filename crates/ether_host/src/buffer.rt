@@ -29,17 +29,15 @@ impl PacketBuffer {
         }
     }
 
-    /// One with these bytes.
+    /// Takes this packet, and its next hop, into its room.
     #[tactic(auto, using(crate::proofs::Rooms::written_front))]
-    pub(crate) fn of(hop: u32, packet: &[u8]) -> PacketBuffer
+    pub(crate) fn fill(&mut self, hop: u32, packet: &[u8])
         requires { length packet.now ≤ ETHER_MTU }
-        ensures { held_in result ≡ record { hop = hop; packet = packet.now } }
+        ensures { held_in self.new ≡ record { hop = hop; packet = packet.now } }
     {
-        let mut buffer = PacketBuffer::blank();
-        buffer.hop = hop;
-        buffer.len = packet.len();
-        put_bytes(&mut buffer.room, 0, packet);
-        buffer
+        self.hop = hop;
+        self.len = packet.len();
+        put_bytes(&mut self.room, 0, packet);
     }
 
     /// Its bytes.

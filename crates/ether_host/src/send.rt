@@ -1,9 +1,10 @@
 //! A packet that goes out: to its next hop, or into a place where it waits.
-ghost use Rattle.std.specs.Prelude.{◌≡◌, ◌+◌, ◌≤◌, length, take, drop, IfSome};
+ghost use Rattle.std.specs.Prelude.{◌≡◌, ◌+◌, ◌<◌, ◌≤◌, ◌∷◌, ◌++◌, [], length, map, take, drop, IfSome, vec_capacity, vec_len};
 ghost use Rattle.params.specs.declared.TheConstants.{IP_HEADER};
-ghost use Rattle.flat_ether.specs.declared.sizes.TheConstants.{ETHER_HEADER, ETHER_TYPE_IP};
+ghost use Rattle.flat_ether.specs.declared.sizes.TheConstants.{ETHER_HEADER, ETHER_MTU, ETHER_TYPE_IP};
 ghost use Rattle.flat_ether.specs.Frames.{frame};
 ghost use Rattle.flat_ether.specs.Links.{asks, holds, sends, route_of};
+ghost use Rattle.ether_host.specs.Buffers.{held_in};
 ghost use Rattle.ether_host.specs.Fronts.{front};
 
 use crate::buffer::{PacketBuffer, ROOM};
@@ -13,6 +14,21 @@ use crate::layer::LinkLayer;
 use crate::table::{mac_of, place_of, put};
 use flat_ether::{ETHER_BROADCAST, ETHER_TYPE_IP, HELD_PACKETS, Mac, Neighbour, Route};
 use params::IP_HEADER;
+
+/// Puts a packet, with its next hop, behind those that wait already. It's written in its place, so that no copy of a
+/// whole buffer stands on the call stack.
+fn put_packet(held: &mut Vec<PacketBuffer>, hop: u32, packet: &[u8])
+    requires capacity { vec_len held.old < vec_capacity held.old }
+    requires fits { length packet.now ≤ ETHER_MTU }
+    ensures items { map held_in held.new.items
+        ≡ map held_in held.old.items ++ record { hop = hop; packet = packet.now } ∷ [] }
+    ensures capacity { vec_capacity held.new ≡ vec_capacity held.old }
+{
+    held.push_reserved(PacketBuffer::blank());
+    if let Some(place) = held.last_mut() {
+        place.fill(hop, packet);
+    }
+}
 
 impl LinkLayer {
     ghost use Rattle.ether_host.specs.Inside.{seen};
@@ -30,7 +46,7 @@ impl LinkLayer {
             self.held.remove(0);
             self.tallies.held_dropped = self.tallies.held_dropped.saturating_add(1);
         }
-        self.held.push_reserved(PacketBuffer::of(hop, packet));
+        put_packet(&mut self.held, hop, packet);
     }
 
     /// A next hop that isn't known is asked for.

@@ -1,6 +1,5 @@
-use Rattle.std.proofs.Common.{◌≡◌, Option, sym, ap, ◌∙◌}
-use Rattle.std.specs.Prelude.{Result, Ok}
-use Rattle.flat_model.specs.declared.errno.Errno.{Errno}
+use Rattle.std.proofs.Common.{Option, sym, ap, ◌∙◌}
+use Rattle.std.specs.Prelude.{Ok}
 use Rattle.flat_ether.specs.Hosts.{Host}
 use Rattle.flat_ether.specs.Links.{LinkState, takes_error}
 use Rattle.flat_ether.specs.declared.error.NetFault.{NetFault}
