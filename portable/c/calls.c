@@ -135,7 +135,7 @@ int bsdudp_boot_in(struct bsdudp *stack, const struct bsdudp_config *config, voi
 
 /* ---- a host: its link has a handle of its own, behind the head of the stack's memory */
 
-enum { LINK = MEMORY + ARENA_HEAD };
+#define LINK (MEMORY + ARENA_HEAD)
 
 /* Boots the link in the memory of a stack that is booted, or tells why it isn't; without a stack nothing is booted. */
 static int boot_link(const struct bsdudp *stack, const struct bsdudp_config *config, const struct bsdudp_link *link)
@@ -161,6 +161,12 @@ static int tick_link(struct bsdudp *stack)
     return answer_of(core_ether_tick(&it, LINK));
 }
 
+static int end_link(struct bsdudp *stack)
+{
+    BEGIN(ether_end, stack);
+    return answer_of(core_ether_end(&it, LINK));
+}
+
 static int boot_host_at(struct bsdudp *stack, const struct bsdudp_config *config, const struct bsdudp_link *link,
                         u8 *memory, size_t len)
 {
@@ -176,8 +182,10 @@ static int boot_host_at(struct bsdudp *stack, const struct bsdudp_config *config
         answer = boot_link(stack, config, link);
     if (answer < 0)
         *stack = none;
-    else
+    else {
         stack->tick_link = tick_link;
+        stack->end_link = end_link;
+    }
     return answer;
 }
 
@@ -296,6 +304,8 @@ int bsdudp_end(struct bsdudp *stack)
     const struct bsdudp none = BSDUDP_NONE;
     int answer;
     BEGIN(end, stack);
+    if (stack->end_link != NULL)
+        stack->end_link(stack);
     answer = answer_of(core_end(&it, handle_of(&it)));
     if (answer == 0) {
 #if BSDUDP_MALLOC
