@@ -223,7 +223,7 @@ int bsdudp_tick(struct bsdudp *);
    unreachable" (RFC 792). All calls but bsdudp_rx and bsdudp_tx serve it as they serve a bare stack. */
 
 /* How many bytes of memory a host takes with so many mbufs and clusters: a constant if they are. */
-#define BSDUDP_ETHER_MEMORY(mbufs, clusters) (BSDUDP_MEMORY(mbufs, clusters) + 14656)
+#define BSDUDP_ETHER_MEMORY(mbufs, clusters) (BSDUDP_MEMORY(mbufs, clusters) + 14752)
 
 /* Boots a host in memory that you give, as bsdudp_boot_in boots a stack; BSDUDP_ETHER_MEMORY bytes of it do. It knows
    no neighbour yet. It announces its address (RFC 5227); with `probe` it asks before whether another host has it, and
