@@ -4,7 +4,7 @@
 #include "echo.h"
 
 static struct bsdudp stack;
-static uint8_t room[LONGEST], packet[FRAME_HEAD + MTU];
+static uint8_t room[LONGEST], out[PAD + FRAME_HEAD + MTU] __attribute__((aligned(4)));
 static uint32_t fd;
 
 #ifdef ETHER
@@ -37,7 +37,7 @@ static void turn(void)
         come(&stack, packets[i], lengths[i]);
     while ((len = bsdudp_recvfrom(&stack, fd, room, sizeof room, &from)) >= 0)
         bsdudp_sendto(&stack, fd, &from, room, (size_t)len);
-    while (go(&stack, packet, sizeof packet) > 0)
+    while (go(&stack, out + PAD, sizeof out - PAD) > 0)
         gone++;
 }
 

@@ -7,13 +7,14 @@
 enum { MTU = 1500, LONGEST = 4000, PACKETS = 3, TURNS = 200 };
 
 #ifdef ETHER
-enum { FRAME_HEAD = 14, ARP = 28, ICMP = 1 };
+enum { PAD = 2, FRAME_HEAD = 14, ARP = 28, ICMP = 1 }; /* with PAD in front of a frame the packet in it is aligned */
 #else
-enum { FRAME_HEAD = 0 };
+enum { PAD = 0, FRAME_HEAD = 0 };
 #endif
 
 /* The packets of a datagram from 10.0.0.2 port 5000 to 10.0.0.1 port 7, or frames with them. */
-static uint8_t packets[PACKETS][FRAME_HEAD + MTU];
+static uint8_t rooms[PACKETS][PAD + FRAME_HEAD + MTU] __attribute__((aligned(4)));
+static uint8_t *const packets[PACKETS] = {rooms[0] + PAD, rooms[1] + PAD, rooms[2] + PAD};
 static uint32_t lengths[PACKETS], packet_count;
 
 /* How many packets went out. */

@@ -16,7 +16,11 @@ enum { END_OF_TEXT = 4 };
 
 static unsigned char memory[BSDUDP_ETHER_MEMORY(MBUFS, CLUSTERS)] __attribute__((aligned(BSDUDP_ALIGNMENT)));
 static struct bsdudp host;
-static uint8_t frame[BSDUDP_ETHER_ROOM], bytes[4096];
+static uint8_t bytes[4096];
+
+/* A frame begins 2 bytes behind an aligned place, so that the packet in it is aligned: memcpy takes words then. */
+static uint8_t room[2 + BSDUDP_ETHER_ROOM] __attribute__((aligned(4)));
+static uint8_t *const frame = room + 2;
 
 /* What waits in the socket goes back, and what waits for the link goes out. Whether it goes on. */
 static int serve(uint32_t fd)
@@ -27,7 +31,7 @@ static int serve(uint32_t fd)
         is_over |= len == 1 && bytes[0] == END_OF_TEXT;
         bsdudp_sendto(&host, fd, &from, bytes, (size_t)len);
     }
-    while ((len = bsdudp_ether_transmit(&host, frame, sizeof frame)) > 0)
+    while ((len = bsdudp_ether_transmit(&host, frame, BSDUDP_ETHER_ROOM)) > 0)
         lan9118_send(frame, (size_t)len);
     return !is_over;
 }
