@@ -1,12 +1,16 @@
 //! A request to a stack, and its reply.
+ghost use Rattle.std.specs.Prelude.{◌≡◌, length};
+ghost use Rattle.params.specs.declared.TheConstants.{IP_MAX_PACKET};
+
 use net_stack::Stack;
 use request::{Reply, Request};
-use script_loop::LineBuffers;
 use stack_call::call;
 
-/// Lets the link take the oldest packet, and answers how many bytes it has. `None` if no packet waits.
-pub fn taken_len(stack: &mut Stack, buffers: &mut LineBuffers) -> Option<usize> {
-    match call(stack, Request::Transmit, buffers.bytes.as_mut_slice()) {
+/// Lets the link take the oldest packet, into the room, and answers how many bytes it has. `None` if no packet waits.
+pub fn taken_len(stack: &mut Stack, room: &mut [u8]) -> Option<usize>
+    requires { length room.old ≡ IP_MAX_PACKET }
+{
+    match call(stack, Request::Transmit, room) {
         Reply::Given(Some(packet)) => Some(packet.len()),
         _ => None,
     }
