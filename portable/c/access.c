@@ -6,7 +6,7 @@
  *
  * Switches, each as -DNAME=VALUE:
  *   BSDUDP_TESTS=0    leaves out the tests of each access to memory. They are on if nothing is said.
- *   BSDUDP_MALLOC=0   leaves out bsdudp_boot, the one call that needs malloc and free.
+ *   BSDUDP_MALLOC=0   leaves out bsdudp_boot and bsdudp_ether_boot, which alone need malloc and free.
  *   BSDUDP_STOP=f     calls f() where a test fails. It must not return. Else the program stops by a trap, or in an
  *                     endless loop.
  *
