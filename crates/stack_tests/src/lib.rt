@@ -3,11 +3,11 @@
 #![tactic(auto)]
 
 #[cfg(test)]
-mod calls;
-#[cfg(test)]
 mod ethernet;
 #[cfg(test)]
 mod hosts;
 #[cfg(test)]
 mod segments;
+#[cfg(test)]
+mod socket_calls;
 pub mod wire;

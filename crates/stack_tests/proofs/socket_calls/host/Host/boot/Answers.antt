@@ -1,5 +1,5 @@
 use Rattle.stack_tests.proofs.Hosted.{starts}
-use Rattle.stack_tests.proofs.calls.host.Host.boot.Goals as goal
+use Rattle.stack_tests.proofs.socket_calls.host.Host.boot.Goals as goal
 
 pub invariant_of-result : goal.invariant_of-result
 invariant_of-result g c =

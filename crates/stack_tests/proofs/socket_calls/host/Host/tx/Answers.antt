@@ -1,7 +1,7 @@
 use Rattle.std.proofs.Common.{[], ◌∷◌}
 use Rattle.mbuf_chain.proofs.Laws.Owners.{moves_without}
 use Rattle.stack_tests.proofs.Hosted.{Held, in_hand, of_queue}
-use Rattle.stack_tests.proofs.calls.host.Host.tx.Goals as goal
+use Rattle.stack_tests.proofs.socket_calls.host.Host.tx.Goals as goal
 
 pub invariant_of-self-2 : goal.invariant_of-self-2
 invariant_of-self-2 g c =
