@@ -7,7 +7,8 @@ use Rattle.mbuf_chain.specs.Steps.{with_back}
 -- is moved into it
 abbrev pub filled_up : Entry → List Entry → List Entry
 filled_up e [] = e ∷ []
-filled_up e (f ∷ fs) = if nat_lt (length f.bytes) (trailing_space e) then filled_up (with_back e f.bytes) fs else e ∷ f ∷ fs
+filled_up e (f ∷ fs) =
+    if nat_lt (length f.bytes) (trailing_space e) then filled_up (with_back e f.bytes) fs else e ∷ f ∷ fs
 
 -- the entries of two chains joined: the last one of the first chain is filled up by those of the second
 abbrev pub cat : List Entry → List Entry → List Entry

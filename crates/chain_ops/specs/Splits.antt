@@ -22,13 +22,16 @@ rest_of header e off =
 -- the entries in front of the cut, and those after it: the first entry that is as long as the offset left is cut
 abbrev pub split_front : List Entry → ℕ → List Entry
 split_front [] off = []
-split_front (e ∷ es) off = if nat_lt (length e.bytes) off then e ∷ split_front es (off - length e.bytes) else narrowed e 0 off ∷ []
+split_front (e ∷ es) off =
+    if nat_lt (length e.bytes) off then e ∷ split_front es (off - length e.bytes) else narrowed e 0 off ∷ []
 
 abbrev pub split_back : Bool → List Entry → ℕ → List Entry
 split_back header [] off = []
-split_back header (e ∷ es) off = if nat_lt (length e.bytes) off then split_back header es (off - length e.bytes) else rest_of header e off ++ es
+split_back header (e ∷ es) off =
+    if nat_lt (length e.bytes) off then split_back header es (off - length e.bytes) else rest_of header e off ++ es
 
 -- how many mbufs that takes
 abbrev pub split_need : Bool → List Entry → ℕ → ℕ
 split_need header [] off = 0
-split_need header (e ∷ es) off = if nat_lt (length e.bytes) off then split_need header es (off - length e.bytes) else length (rest_of header e off)
+split_need header (e ∷ es) off =
+    if nat_lt (length e.bytes) off then split_need header es (off - length e.bytes) else length (rest_of header e off)

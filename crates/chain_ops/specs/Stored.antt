@@ -18,9 +18,11 @@ pub record AreFree (p : PoolView) (cs : List ℕ) : Type 0 where
 -- the bytes in mbufs of these rooms, after a first one
 abbrev pub stored : List ℕ → List Room → List ℕ → List Entry
 stored cs [] xs = []
-stored cs (Plain n ∷ rooms) xs = record { bytes = take n xs; start = MBUF_HEADER; cluster = None } ∷ stored cs rooms (drop n xs)
+stored cs (Plain n ∷ rooms) xs =
+    record { bytes = take n xs; start = MBUF_HEADER; cluster = None } ∷ stored cs rooms (drop n xs)
 stored [] (Cluster n ∷ rooms) xs = []
-stored (c ∷ cs) (Cluster n ∷ rooms) xs = record { bytes = take n xs; start = 0; cluster = Some c } ∷ stored cs rooms (drop n xs)
+stored (c ∷ cs) (Cluster n ∷ rooms) xs =
+    record { bytes = take n xs; start = 0; cluster = Some c } ∷ stored cs rooms (drop n xs)
 
 -- where the bytes of a first plain mbuf begin: at the end, or at the front
 abbrev pub first_start : Bool → ℕ → ℕ
@@ -29,9 +31,11 @@ first_start ends n = if ends then at_end true n else room_low true
 -- the bytes in mbufs of these rooms; in a first cluster they begin at `large`
 abbrev pub stored_first : ℕ → Bool → List ℕ → List Room → List ℕ → List Entry
 stored_first large ends cs [] xs = []
-stored_first large ends cs (Plain n ∷ rooms) xs = record { bytes = take n xs; start = first_start ends n; cluster = None } ∷ stored cs rooms (drop n xs)
+stored_first large ends cs (Plain n ∷ rooms) xs =
+    record { bytes = take n xs; start = first_start ends n; cluster = None } ∷ stored cs rooms (drop n xs)
 stored_first large ends [] (Cluster n ∷ rooms) xs = []
-stored_first large ends (c ∷ cs) (Cluster n ∷ rooms) xs = record { bytes = take n xs; start = large; cluster = Some c } ∷ stored cs rooms (drop n xs)
+stored_first large ends (c ∷ cs) (Cluster n ∷ rooms) xs =
+    record { bytes = take n xs; start = large; cluster = Some c } ∷ stored cs rooms (drop n xs)
 
 -- the rooms for n bytes, of which a first cluster begins at `large`: `user` with 56, CLUSTER_LEADING_SPACE, and `wire`
 -- with 0

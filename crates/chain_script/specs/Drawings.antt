@@ -42,7 +42,9 @@ cluster_text (Some k) = codes "cluster " ++ decimal k ++ codes " "
 
 -- an mbuf: its packet header, its cluster, where its bytes begin in the mbuf or in the cluster, and the bytes
 abbrev pub mbuf_line : List ℕ → Bool → Entry → List ℕ
-mbuf_line seen header e = header_text header ++ cluster_text (place_in seen e.cluster) ++ decimal e.start ++ codes " " ++ hex_text e.bytes ++ codes "\n"
+mbuf_line seen header e =
+    header_text header ++ cluster_text (place_in seen e.cluster) ++ decimal e.start ++ codes " " ++ hex_text e.bytes
+      ++ codes "\n"
 
 -- all mbufs of a chain, of which the first one has the packet header, if there is one
 abbrev pub mbuf_lines : List ℕ → Bool → List Entry → List ℕ

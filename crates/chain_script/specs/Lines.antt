@@ -59,11 +59,13 @@ abbrev pub HasWords : Request → List (List ℕ) → Type 0
 HasWords (User slot bytes) args = (s h : List ℕ) × (args ≡ s ∷ h ∷ []) × IsSlot s slot × IsHex h bytes
 HasWords (Wire slot bytes) args = (s h : List ℕ) × (args ≡ s ∷ h ∷ []) × IsSlot s slot × IsHex h bytes
 HasWords (Copy to slot extent) args =
-    (d s : List ℕ) × (rest : List (List ℕ)) × (args ≡ d ∷ s ∷ rest) × IsSlot d to × IsSlot s slot × IsExtentWords rest extent
+    (d s : List ℕ) × (rest : List (List ℕ)) × (args ≡ d ∷ s ∷ rest) × IsSlot d to × IsSlot s slot
+      × IsExtentWords rest extent
 HasWords (Prepend slot bytes) args = (s h : List ℕ) × (args ≡ s ∷ h ∷ []) × IsSlot s slot × IsHex h bytes
 HasWords (Pull_up slot n) args = (s w : List ℕ) × (args ≡ s ∷ w ∷ []) × IsSlot s slot × IsOffset w n
 HasWords (Adjust slot n) args = (s w : List ℕ) × (args ≡ s ∷ w ∷ []) × IsSlot s slot × IsSigned w n
-HasWords (Split to slot at) args = (d s w : List ℕ) × (args ≡ d ∷ s ∷ w ∷ []) × IsSlot d to × IsSlot s slot × IsOffset w at
+HasWords (Split to slot at) args =
+    (d s w : List ℕ) × (args ≡ d ∷ s ∷ w ∷ []) × IsSlot d to × IsSlot s slot × IsOffset w at
 HasWords (Join slot other) args = (s o : List ℕ) × (args ≡ s ∷ o ∷ []) × IsSlot s slot × IsSlot o other
 HasWords (Write_over slot off bytes) args =
     (s o h : List ℕ) × (args ≡ s ∷ o ∷ h ∷ []) × IsSlot s slot × IsOffset o off × IsHex h bytes

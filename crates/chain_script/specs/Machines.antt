@@ -124,7 +124,8 @@ is_range (Part off len) n = nat_lt 0 len && nat_le (off + len) n
 -- its condition holds
 abbrev pub is_in_range : Machine → Request → Bool
 is_in_range b (Copy to slot extent) = is_range extent (length_at b slot)
-is_in_range b (Prepend slot bytes) = nat_lt 0 (length bytes) && (nat_le (length bytes) MHLEN && nat_le (length bytes + length_at b slot) IP_MAX_PACKET)
+is_in_range b (Prepend slot bytes) =
+    nat_lt 0 (length bytes) && (nat_le (length bytes) MHLEN && nat_le (length bytes + length_at b slot) IP_MAX_PACKET)
 is_in_range b (Split to slot at) = nat_lt at (length_at b slot)
 is_in_range b (Join slot other) = nat_le (length_at b slot + length_at b other) IP_MAX_PACKET
 is_in_range b (Write_over slot off bytes) = nat_le (off + length bytes) IP_MAX_PACKET

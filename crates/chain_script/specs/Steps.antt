@@ -69,19 +69,26 @@ Does b (Wire slot bytes) reply new =
     (reply ≡ Ready) × (cs : List ℕ) × AreFreeIn b cs × (length cs ≡ count_by is_cluster (wire (length bytes)))
     × (new ≡ put b slot true (stored_first 0 false cs (wire (length bytes)) bytes))
 Does b (Copy to slot extent) reply new =
-    (reply ≡ Ready) × (new ≡ put b to (extent_header extent (header_at b slot)) (extent_copied extent (header_at b slot) (entries_at b slot)))
-Does b (Prepend slot bytes) reply new = (reply ≡ Ready) × (new ≡ put b slot (header_at b slot) (prepended (view_at b slot) bytes))
-Does b (Pull_up slot n) reply new = (reply ≡ Ready) × (new ≡ put b slot (header_at b slot) (pulled_up (view_at b slot) n))
-Does b (Adjust slot n) reply new = (reply ≡ Ready) × (new ≡ put b slot (header_at b slot) (adjusted n (entries_at b slot)))
+    (reply ≡ Ready) × (new ≡ put b to (extent_header extent (header_at b slot))
+      (extent_copied extent (header_at b slot) (entries_at b slot)))
+Does b (Prepend slot bytes) reply new =
+    (reply ≡ Ready) × (new ≡ put b slot (header_at b slot) (prepended (view_at b slot) bytes))
+Does b (Pull_up slot n) reply new =
+    (reply ≡ Ready) × (new ≡ put b slot (header_at b slot) (pulled_up (view_at b slot) n))
+Does b (Adjust slot n) reply new =
+    (reply ≡ Ready) × (new ≡ put b slot (header_at b slot) (adjusted n (entries_at b slot)))
 Does b (Split to slot at) reply new =
     (reply ≡ Ready)
-    × (new ≡ put (put b slot (header_at b slot) (split_front (entries_at b slot) at)) to (header_at b slot) (split_back (header_at b slot) (entries_at b slot) at))
+    × (new ≡ put (put b slot (header_at b slot) (split_front (entries_at b slot) at)) to (header_at b slot)
+      (split_back (header_at b slot) (entries_at b slot) at))
 Does b (Join slot other) reply new =
-    (reply ≡ Ready) × (new ≡ put (emptied b other) slot (header_at b slot) (cat (entries_at b slot) (entries_at b other)))
+    (reply ≡ Ready) × (new ≡ put (emptied b other) slot (header_at b slot)
+      (cat (entries_at b slot) (entries_at b other)))
 Does b (Write_over slot off bytes) reply new =
     (reply ≡ Ready)
     × (new ≡ put b slot (header_at b slot) (copied_back (entries_at b slot) off bytes))
-Does b (Read_out slot off len) reply new = (reply ≡ Held (take len (drop off (flat_bytes (entries_at b slot))))) × (new ≡ b)
+Does b (Read_out slot off len) reply new =
+    (reply ≡ Held (take len (drop off (flat_bytes (entries_at b slot))))) × (new ≡ b)
 Does b (Show slot) reply new = (reply ≡ Laid (length_at b slot) (shapes_of (count b) (entries_at b slot))) × (new ≡ b)
 Does b (Free slot) reply new = (reply ≡ Ready) × (new ≡ emptied b slot)
 Does b Ask_usage reply new = (reply ≡ Shown (usage_of b)) × (new ≡ b)

@@ -47,7 +47,9 @@ has_strings ss Ask_usage = true
 
 abbrev pub is_in_strings : List (Option (List ℕ)) → Request → Bool
 is_in_strings ss (Copy to slot extent) = is_range extent (length (bytes_at ss slot))
-is_in_strings ss (Prepend slot bytes) = nat_lt 0 (length bytes) && (nat_le (length bytes) MHLEN && nat_le (length bytes + length (bytes_at ss slot)) IP_MAX_PACKET)
+is_in_strings ss (Prepend slot bytes) =
+    nat_lt 0 (length bytes) && (nat_le (length bytes) MHLEN
+      && nat_le (length bytes + length (bytes_at ss slot)) IP_MAX_PACKET)
 is_in_strings ss (Split to slot at) = nat_lt at (length (bytes_at ss slot))
 is_in_strings ss (Join slot other) = nat_le (length (bytes_at ss slot) + length (bytes_at ss other)) IP_MAX_PACKET
 is_in_strings ss (Write_over slot off bytes) = nat_le (off + length bytes) IP_MAX_PACKET
@@ -74,8 +76,10 @@ strings_after ss (Wire slot bytes) = slice_set ss slot (Some bytes)
 strings_after ss (Copy to slot extent) = slice_set ss to (Some (extent_bytes extent (bytes_at ss slot)))
 strings_after ss (Prepend slot bytes) = slice_set ss slot (Some (bytes ++ bytes_at ss slot))
 strings_after ss (Adjust slot n) = slice_set ss slot (Some (adjusted_bytes n (bytes_at ss slot)))
-strings_after ss (Split to slot at) = slice_set (slice_set ss slot (Some (take at (bytes_at ss slot)))) to (Some (drop at (bytes_at ss slot)))
-strings_after ss (Join slot other) = slice_set (slice_set ss other None) slot (Some (bytes_at ss slot ++ bytes_at ss other))
+strings_after ss (Split to slot at) =
+    slice_set (slice_set ss slot (Some (take at (bytes_at ss slot)))) to (Some (drop at (bytes_at ss slot)))
+strings_after ss (Join slot other) =
+    slice_set (slice_set ss other None) slot (Some (bytes_at ss slot ++ bytes_at ss other))
 strings_after ss (Write_over slot off bytes) = slice_set ss slot (Some (written_bytes (bytes_at ss slot) off bytes))
 strings_after ss (Free slot) = slice_set ss slot None
 strings_after ss request = ss
@@ -93,7 +97,8 @@ IsSilent old reply new = ((reply ≡ No_buffers) ⊎ (reply ≡ Shared)) × (new
 
 abbrev pub TellsUnless : Option Reply → List (Option (List ℕ)) → Request → Reply → List (Option (List ℕ)) → Type 0
 TellsUnless (Some fault) old request reply new = (reply ≡ fault) × (new ≡ old)
-TellsUnless None old request reply new = IsSilent old reply new ⊎ (TellsDone old request reply × (new ≡ strings_after old request))
+TellsUnless None old request reply new =
+    IsSilent old reply new ⊎ (TellsDone old request reply × (new ≡ strings_after old request))
 
 -- from the strings old a request may have this reply and lead to the strings new
 abbrev pub StringStep : List (Option (List ℕ)) → Request → Reply → List (Option (List ℕ)) → Type 0
@@ -101,7 +106,8 @@ StringStep old request reply new = TellsUnless (string_fault old request) old re
 
 -- ---- lines
 abbrev pub StringAnswers : List (Option (List ℕ)) → List ℕ → Option Reply → List (Option (List ℕ)) → Type 0
-StringAnswers old line (Some reply) new = (request : Request) × IsRequest line request × StringStep old request reply new
+StringAnswers old line (Some reply) new =
+    (request : Request) × IsRequest line request × StringStep old request reply new
 StringAnswers old line None new = ((request : Request) → ¬ IsRequest line request) × (new ≡ old)
 
 abbrev pub StringSays : List (Option (List ℕ)) → List ℕ → List ℕ → List (Option (List ℕ)) → Type 0

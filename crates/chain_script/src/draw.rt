@@ -198,8 +198,8 @@ pub fn draw_slot<R: Source, W: Sink>(
     ensures read { MoreBy (reader_failures (served result)) (R.failures reader.old) (R.failures reader.new) }
     ensures wrote { MoreBy (writer_failures (served result)) (W.failures writer.old) (W.failures writer.new) }
     // The script is served as by `run_chains`, and what is drawn is the slot as the machine has it afterwards.
-    ensures drawn { (new : Machine) × Serves Says (booted sizes.mbufs sizes.clusters) new
-        (R.remaining reader.old) (R.remaining reader.new) (W.contents writer.old) (W.contents writer.new) (served result)
+    ensures drawn { (new : Machine) × Serves Says (booted sizes.mbufs sizes.clusters) new (R.remaining reader.old)
+        (R.remaining reader.new) (W.contents writer.old) (W.contents writer.new) (served result)
         × IfOk result (λ text. IfSome text (λ bytes. bytes.items ≡ drawing new slot)) }
 {
     match Caller::boot(alloc, sizes) {

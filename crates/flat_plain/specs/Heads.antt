@@ -3,4 +3,6 @@ use Rattle.flat_model.specs.Packets.Header as Header
 use Rattle.flat_plain.specs.declared.headers.Head.{Head}
 
 abbrev pub head_for : Head → Header.Head
-head_for h = record { id = h.id; more = h.more; offset = h.offset; protocol = h.protocol; source = h.source; destination = h.destination }
+head_for h =
+    record { id = h.id; more = h.more; offset = h.offset; protocol = h.protocol; source = h.source;
+      destination = h.destination }

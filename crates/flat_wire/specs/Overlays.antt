@@ -26,9 +26,11 @@ IsLaid fragments p = Any (λ f. f.offset ≡ p.offset) fragments
 -- In any order and with repeats: the string's byte at each offset of a part laid, and nothing elsewhere;
 -- and whole exactly where each part was laid.
 pub record OverlayOrder (s : List ℕ) (mtu : ℕ) (fragments : List Fragment) : Type 0 where
-  pub bytes : (p : Part) (offset : ℕ) → Contains (cuts (length s) mtu) p → IsLaid fragments p → p.offset ≤ offset → offset < p.offset + p.size →
+  pub bytes : (p : Part) (offset : ℕ) → Contains (cuts (length s) mtu) p → IsLaid fragments p → p.offset ≤ offset
+      → offset < p.offset + p.size →
       option_map (λ held. held.byte) (laid fragments offset) ≡ Some (slice_index s offset)
   pub elsewhere : (offset : ℕ) → IsSome (laid fragments offset) →
-      (p : Part) × Contains (cuts (length s) mtu) p × IsLaid fragments p × (p.offset ≤ offset) × (offset < p.offset + p.size)
+      (p : Part) × Contains (cuts (length s) mtu) p × IsLaid fragments p × (p.offset ≤ offset)
+        × (offset < p.offset + p.size)
   pub whole : IsWhole (laid fragments) (length s) ↔ ((p : Part) → Contains (cuts (length s) mtu) p → IsLaid fragments p)
   pub length : (n : ℕ) → IsWhole (laid fragments) n → n ≡ length s

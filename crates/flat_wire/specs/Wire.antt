@@ -45,7 +45,8 @@ pub record ComesFrom (address : ℕ) (packet : List ℕ) : Type 0 where
 
 -- A send that the run of these turns to `last` answered with its number of bytes: from which port, and where to,
 -- 0.0.0.0 and 255.255.255.255 read as the machine reads them.
-pub record IsAnswered (L : Ledger) (config : Config) (turns : List Turn) (last : State) (port : ℕ) (to : Addr) (bytes : List ℕ) : Type 0 where
+pub record IsAnswered (L : Ledger) (config : Config) (turns : List Turn) (last : State) (port : ℕ) (to : Addr)
+    (bytes : List ℕ) : Type 0 where
   pub before : List Turn
   pub after : List Turn
   pub fd : ℕ
@@ -74,7 +75,8 @@ pub record AreWired (L M : Ledger) (first second : Config) (sent came : List Tur
   pub not_addr : first.addr ≢ second.addr
   pub not_bcast : first.addr ≢ second.bcast
   pub few : value_of IpLocalout s.counters < 2 ^ 16
-  pub wire : All (λ packet. ComesFrom first.addr packet → Contains (filter_map packet_out sent) packet) (filter_map packet_in came)
+  pub wire : All (λ packet. ComesFrom first.addr packet → Contains (filter_map packet_out sent) packet)
+      (filter_map packet_in came)
 
 -- Then what waits in the second's queues with the first's address as its sender was sent so by the first, whole, from
 -- that port and to one of the second's addresses and the port of the socket that has it, and the send was answered with
@@ -82,12 +84,14 @@ pub record AreWired (L M : Ledger) (first second : Config) (sent came : List Tur
 abbrev pub WireLaw : Ledger → Ledger → Type 0
 WireLaw L M = (first second : Config) (sent came : List Turn) (s t : State) → AreWired L M first second sent came s t →
     (socket : Socket) (d : Datagram) → Contains t.sockets socket → Contains socket.queue d → d.sender.ip ≡ first.addr →
-    (to : Addr) × IsAnswered L first sent s d.sender.port to d.item.bytes × (socket.port ≡ Some to.port) × ((to.ip ≡ second.addr) ⊎ (to.ip ≡ second.bcast))
+    (to : Addr) × IsAnswered L first sent s d.sender.port to d.item.bytes × (socket.port ≡ Some to.port)
+      × ((to.ip ≡ second.addr) ⊎ (to.ip ≡ second.bcast))
 
 -- The run of the second that these turns make, and then a `recvfrom` of at most `most` bytes, answered with `bytes`
 -- from `sender`: the first answered a send of `whole`, of which these bytes are the front, from that port and to one of
 -- the second's addresses and the port that the socket had then.
-pub record WasSent (L M : Ledger) (first second : Config) (sent before : List Turn) (s : State) (fd most : ℕ) (sender : Addr) (bytes : List ℕ) : Type 0 where
+pub record WasSent (L M : Ledger) (first second : Config) (sent before : List Turn) (s : State) (fd most : ℕ)
+    (sender : Addr) (bytes : List ℕ) : Type 0 where
   pub whole : List ℕ
   pub bytes_are : bytes ≡ take most whole
   pub to : Addr
@@ -102,6 +106,9 @@ pub record WasSent (L M : Ledger) (first second : Config) (sent before : List Tu
 -- So of each answer of the second's `recvfrom` that names the first's address as the sender's: what is received was
 -- sent.
 abbrev pub ReceivedLaw : Ledger → Ledger → Type 0
-ReceivedLaw L M = (first second : Config) (sent before after : List Turn) (s t : State) (fd most : ℕ) (sender : Addr) (bytes : List ℕ) →
-    AreWired L M first second sent (before ++ record { event = Receive fd most; reply = Received sender bytes } ∷ after) s t →
+ReceivedLaw L M =
+    (first second : Config) (sent before after : List Turn) (s t : State) (fd most : ℕ) (sender : Addr)
+      (bytes : List ℕ) →
+    AreWired L M first second sent (before ++ record { event = Receive fd most; reply = Received sender bytes } ∷ after)
+      s t →
     sender.ip ≡ first.addr → WasSent L M first second sent before s fd most sender bytes

@@ -26,7 +26,8 @@ later_parts n mtu = drop 1 (cuts (n + UDP_HEADER) mtu)
 -- m is the number of the later parts, and a stretch of the datagram meets so many of them: c is their length
 pub record Counts (n mtu c m : ℕ) : Type 0 where
   pub parts : m ≡ length (later_parts n mtu)
-  pub counts : (at end : ℕ) → at < end → end ≤ IP_UDP_HEADERS + n → sum_by (here at end) (later_parts n mtu) ≡ (end - (IP_HEADER + 1)) / c - ((at - IP_HEADER) / c - 1)
+  pub counts : (at end : ℕ) → at < end → end ≤ IP_UDP_HEADERS + n
+      → sum_by (here at end) (later_parts n mtu) ≡ (end - (IP_HEADER + 1)) / c - ((at - IP_HEADER) / c - 1)
 
 -- ---- packets
 
@@ -36,7 +37,8 @@ head_entry h = record { bytes = head_bytes h; start = PACKET_START; cluster = No
 
 -- the packet of a later part
 abbrev pub later_item : ChainView → IpHead → Part → Item
-later_item v h p = record { bytes = part_bytes h (drop IP_HEADER (string v)) p; weight = later_weight (laid v.entries) p }
+later_item v h p =
+    record { bytes = part_bytes h (drop IP_HEADER (string v)) p; weight = later_weight (laid v.entries) p }
 
 -- the parts after the first, up to part i
 abbrev pub parts_to : ℕ → ℕ → ℕ → List Part

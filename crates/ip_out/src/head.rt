@@ -224,8 +224,8 @@ fn head_or_fault(bytes: &[u8; IP_HEADER as usize], len: u32) -> Result<IpHead, W
     }
 }
 
-/// What the header of a packet says that isn't stored yet, or the first test that it fails: `read_head` of its bytes. It
-/// has at most 65,535.
+/// What the header of a packet says that isn't stored yet, or the first test that it fails: `read_head` of its bytes.
+/// It has at most 65,535.
 #[inline(always)]
 pub fn parse_head(packet: &[u8]) -> Result<IpHead, Why>
     requires { length packet.now ≤ IP_MAX_PACKET }

@@ -41,4 +41,5 @@ pub record IsAccounted (p : PoolView) (s : State) (held : Weight) : Type 0 where
 -- `after`
 pub record Shifts (s : State) (held before : Weight) (t : State) (kept after : Weight) : Type 0 where
   pub mbufs : (weight_of_state s ⊕ held).mbufs + after.mbufs ≡ (weight_of_state t ⊕ kept).mbufs + before.mbufs
-  pub bag : (c : ℕ) → times c (weight_of_state s ⊕ held).bag + times c after.bag ≡ times c (weight_of_state t ⊕ kept).bag + times c before.bag
+  pub bag : (c : ℕ) → times c (weight_of_state s ⊕ held).bag + times c after.bag
+      ≡ times c (weight_of_state t ⊕ kept).bag + times c before.bag

@@ -16,7 +16,8 @@ option_rule name = record (new_rule name) { long = Some name }
 
 -- a command that has neither help nor version of its own
 abbrev pub bare_app : List ℕ → App
-bare_app name = record (new_app name) { top = record (new_app name).top { disable_help_flag = true; disable_version_flag = true } }
+bare_app name =
+    record (new_app name) { top = record (new_app name).top { disable_help_flag = true; disable_version_flag = true } }
 
 -- `run` with its six options
 abbrev pub run_app : App
@@ -31,7 +32,8 @@ run_app =
 
 -- `chain` with its two options
 abbrev pub chain_app : App
-chain_app = with_rule (with_rule (bare_app (codes "chain")) (option_rule (codes "mbufs"))) (option_rule (codes "clusters"))
+chain_app =
+    with_rule (with_rule (bare_app (codes "chain")) (option_rule (codes "mbufs"))) (option_rule (codes "clusters"))
 
 -- `bsdudp`, which wants a subcommand
 abbrev pub top_app : App

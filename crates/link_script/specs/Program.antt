@@ -40,15 +40,18 @@ IsWordsFault asks Usage = (task : Task) → ¬ asks task
 IsWordsFault asks (failure.Run fault) = fault ≡ Memory
 
 -- the script of a task was served: on a machine of this configuration, or on chains over a pool of these sizes
-abbrev pub Served : Task → Option (List ℕ) → Option (List ℕ) → Option (List ℕ) → Option (List ℕ) → Result Unit RunFault → Type 0
+abbrev pub Served : Task → Option (List ℕ) → Option (List ℕ) → Option (List ℕ) → Option (List ℕ) → Result Unit RunFault
+    → Type 0
 Served (task.Run config) unread rest before after outcome =
     Boots config outcome × (new : State) × Serves (Says Step) (boot config) new unread rest before after outcome
 Served (task.Chain sizes) unread rest before after outcome =
-    chains.Boots sizes outcome × (new : Machine) × Serves steps.Says (booted sizes.mbufs sizes.clusters) new unread rest before after outcome
+    chains.Boots sizes outcome × (new : Machine)
+      × Serves steps.Says (booted sizes.mbufs sizes.clusters) new unread rest before after outcome
 
 -- What was done by words that ask for these tasks. They ask for none, or memory was lacking to read them, and nothing
 -- was read or written; or the script that they ask for was served.
-abbrev pub Ran : (Task → Type 0) → Option (List ℕ) → Option (List ℕ) → Option (List ℕ) → Option (List ℕ) → Result Unit Failure → Type 0
+abbrev pub Ran : (Task → Type 0) → Option (List ℕ) → Option (List ℕ) → Option (List ℕ) → Option (List ℕ)
+    → Result Unit Failure → Type 0
 Ran asks unread rest before after (Err Usage) = ((task : Task) → ¬ asks task) × Moves unread rest [] before after []
 Ran asks unread rest before after (Err (failure.Run fault)) =
     ((fault ≡ Memory) × Moves unread rest [] before after [])

@@ -23,7 +23,8 @@ pub record IsBounded (p : PoolView) : Type 0 where
   pub numbers : (c : ℕ) → IsLive p c → c < p.mbufs
   pub cells : (c : ℕ) → IsLive p c → length (chain_of p c).cells ≡ mbufs_of (chain_of p c)
   pub once : (c k : ℕ) → IsLive p c → times k (chain_of p c).cells ≤ 1
-  pub apart : (c d k : ℕ) → IsLive p c → IsLive p d → c ≢ d → times k (chain_of p c).cells + times k (chain_of p d).cells ≤ 1
+  pub apart : (c d k : ℕ) → IsLive p c → IsLive p d → c ≢ d
+      → times k (chain_of p c).cells + times k (chain_of p d).cells ≤ 1
   pub fits : (c i : ℕ) → IsLive p c → i < mbufs_of (chain_of p c) → Fits p (chain_of p c) i
   pub few : held_mbufs p ≤ p.mbufs
   pub small : p.mbufs ≤ MAX_MBUFS

@@ -63,7 +63,8 @@ pub record IsHeld (p : PoolView) (t : TrainView) : Type 0 where
 
 -- from p and t to q and u, chain c was put in at place i with that tag
 pub record Inserts (p : PoolView) (t : TrainView) (i c tag : ℕ) (q : PoolView) (u : TrainView) : Type 0 where
-  pub queued_packets : queued_packets q u ≡ insert (queued_packets p t) i (record { number = c; entries = (chain_of p c).entries; tag = tag })
+  pub queued_packets : queued_packets q u
+      ≡ insert (queued_packets p t) i (record { number = c; entries = (chain_of p c).entries; tag = tag })
   pub held : IsHeld q u
   pub len : u.len ≡ t.len + 1
   pub moves : Moves p (c ∷ numbers p t) q (numbers q u)

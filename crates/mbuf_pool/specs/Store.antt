@@ -110,7 +110,9 @@ pub record TakesCluster (old new : StoreView) (c : ℕ) : Type 0 where
 -- the mbuf i has a new head, which takes some bytes of its own at the beginning of the mbuf; its other bytes are as
 -- they were
 abbrev pub SetsHead : StoreView → StoreView → ℕ → Head → Type 0
-SetsHead old new i h = (b : List ℕ) × (length b ≡ head_size h) × (new ≡ with_mbuf old i (Some (record { head = h; bytes = over (mbuf_of old i).bytes 0 b })))
+SetsHead old new i h =
+    (b : List ℕ) × (length b ≡ head_size h)
+      × (new ≡ with_mbuf old i (Some (record { head = h; bytes = over (mbuf_of old i).bytes 0 b })))
 
 -- ---- bytes
 abbrev pub bytes_in : StoreView → Buffer → List ℕ
@@ -124,7 +126,8 @@ with_bytes s (Cluster c) bs = with_cluster s c (record { count = count_of s c; b
 
 -- the n bytes from `at` on lie in a cluster in use, or after the head of an mbuf in use that refers to no cluster
 abbrev pub IsRoom : StoreView → Buffer → ℕ → ℕ → Type 0
-IsRoom s (Mbuf i) at n = IsTrue (is_out s i) × ((head_of s i).cluster ≡ None) × (head_size (head_of s i) ≤ at) × (at + n ≤ MSIZE)
+IsRoom s (Mbuf i) at n =
+    IsTrue (is_out s i) × ((head_of s i).cluster ≡ None) × (head_size (head_of s i) ≤ at) × (at + n ≤ MSIZE)
 IsRoom s (Cluster c) at n = (0 < count_of s c) × (at + n ≤ MCLBYTES)
 
 abbrev pub IsPart : StoreView → Part → Type 0

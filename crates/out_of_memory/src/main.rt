@@ -1,7 +1,7 @@
-//! What becomes of a refusal of host memory: a boot of the stack, one of a host on an Ethernet, a script of calls on sockets and one of calls on
-//! chains, each made once, and made again where memory was refused. `.ci/memory` runs it once for each of its
-//! allocations, with that one refused: the answer has to be `Memory`, with nothing read or written, and the second try
-//! has to succeed. It takes no memory of its own.
+//! What becomes of a refusal of host memory: a boot of the stack, one of a host on an Ethernet, a script of calls on
+//! sockets and one of calls on chains, each made once, and made again where memory was refused. `.ci/memory` runs it
+//! once for each of its allocations, with that one refused: the answer has to be `Memory`, with nothing read or
+//! written, and the second try has to succeed. It takes no memory of its own.
 #![tactic(auto)]
 
 mod streams;

@@ -82,7 +82,8 @@ pub record Drawn (pool : PagePool) (slot : ℕ) (script : List ℕ) (answer len 
   pub unread : Option (List ℕ)
   pub new : Machine
   pub allowed : Boots (sizes_of pool) (served outcome)
-  pub answered : Serves Says (booted pool.mbufs pool.clusters) new (Some script) unread (Some []) (Some replies) (served outcome)
+  pub answered : Serves Says (booted pool.mbufs pool.clusters) new (Some script) unread (Some []) (Some replies)
+      (served outcome)
   pub drawn : IfOk outcome (λ text. IfSome text (λ bytes. bytes ≡ drawing new slot))
   pub numbered : answer ≡ drawn_number outcome
   pub counted : len ≡ length (drawn_text outcome)

@@ -17,7 +17,8 @@ abbrev pub ◌>>=◌ : {A B : Type 0} → Result A NoPacket → (A → Result B 
 -- number is less than a header, or more than there is, it tells nothing, and nothing is taken off.
 abbrev pub unpadded : List ℕ → List ℕ
 unpadded bytes =
-    if nat_lt (number_of Big w16 (drop 2 bytes)) 20 || nat_lt (length bytes) (number_of Big w16 (drop 2 bytes)) then bytes
+    if nat_lt (number_of Big w16 (drop 2 bytes)) 20 || nat_lt (length bytes) (number_of Big w16 (drop 2 bytes))
+      then bytes
     else take (number_of Big w16 (drop 2 bytes)) bytes
 
 -- A protocol, and the bytes behind it. 0x8100 and 0x88a8 are VLAN tags: two bytes of the tag's own, then the protocol.
@@ -37,11 +38,13 @@ behind protocol rest = do
 -- the packet of a frame whose protocol stands at `at`, and whose header has so many bytes
 abbrev pub by_protocol : ℕ → ℕ → List ℕ → Result (List ℕ) NoPacket
 by_protocol at header frame =
-    if nat_lt (length frame) header then Err FrameCut else behind (number_of Big w16 (drop at frame)) (drop header frame)
+    if nat_lt (length frame) header then Err FrameCut
+      else behind (number_of Big w16 (drop at frame)) (drop header frame)
 
 -- A protocol family as some host wrote it. Families are below 65,536, so one that isn't was written in the other order.
 abbrev pub host_family : List ℕ → ℕ
-host_family frame = if nat_lt (number_of Little w32 frame) 65_536 then number_of Little w32 frame else number_of Big w32 frame
+host_family frame =
+    if nat_lt (number_of Little w32 frame) 65_536 then number_of Little w32 frame else number_of Big w32 frame
 
 -- the packet behind a protocol family
 abbrev pub by_family : (List ℕ → ℕ) → List ℕ → Result (List ℕ) NoPacket
@@ -81,8 +84,10 @@ IsTagged bytes carried =
 
 -- the frame of a link type carries these bytes as IPv4
 abbrev pub Carries : LinkType → List ℕ → List ℕ → Type 0
-Carries Ethernet frame carried = (addresses behind : List ℕ) × (length addresses ≡ 12) × IsTagged behind carried × (frame ≡ addresses ++ behind)
-Carries LinuxCooked frame carried = (front behind : List ℕ) × (length front ≡ 14) × IsTagged behind carried × (frame ≡ front ++ behind)
+Carries Ethernet frame carried =
+    (addresses behind : List ℕ) × (length addresses ≡ 12) × IsTagged behind carried × (frame ≡ addresses ++ behind)
+Carries LinuxCooked frame carried =
+    (front behind : List ℕ) × (length front ≡ 14) × IsTagged behind carried × (frame ≡ front ++ behind)
 Carries LinuxCooked2 frame carried = (others : List ℕ) × (length others ≡ 18) × (frame ≡ 8 ∷ 0 ∷ (others ++ carried))
 Carries Null frame carried = (frame ≡ 2 ∷ 0 ∷ 0 ∷ 0 ∷ carried) ⊎ (frame ≡ 0 ∷ 0 ∷ 0 ∷ 2 ∷ carried)
 Carries Loop frame carried = frame ≡ 0 ∷ 0 ∷ 0 ∷ 2 ∷ carried

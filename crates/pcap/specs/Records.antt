@@ -75,7 +75,8 @@ abbrev pub Steps : Reading → Reading → Result (Option Captured) Fault → Ty
 Steps old new (Ok None) = (old.rest ≡ []) × (new ≡ old)
 Steps old new (Ok (Some r)) = Fits r × (old.rest ≡ record_bytes old.header.order r ++ new.rest)
     × (new.offset ≡ old.offset + length (record_bytes old.header.order r)) × (new.header ≡ old.header)
-Steps old new (Err f) = ((at : ℕ) × (f.offset ≡ old.offset + at) × IsCut f.why old.header.order old.rest at) × (new ≡ old)
+Steps old new (Err f) =
+    ((at : ℕ) × (f.offset ≡ old.offset + at) × IsCut f.why old.header.order old.rest at) × (new ≡ old)
 
 -- ---- a whole file
 

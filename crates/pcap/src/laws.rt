@@ -32,6 +32,6 @@ pub fn one_reading()
 /// behind it.
 #[tactic(auto, using(crate::proofs::Framed::carried))]
 pub fn frames_hold_packets()
-    ensures { (link : LinkType) (frame packet padding : List ℕ) → IsPacket packet → Carries link frame (packet ++ padding)
-        → packet_of link frame ≡ Ok packet }
+    ensures { (link : LinkType) (frame packet padding : List ℕ) → IsPacket packet
+        → Carries link frame (packet ++ padding) → packet_of link frame ≡ Ok packet }
 {}

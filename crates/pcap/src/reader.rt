@@ -154,7 +154,8 @@ fn read_all<'a>(alloc: Global, file: &'a [u8]) -> Result<Capture<'a>, ReadError>
 #[tactic(auto, using(crate::proofs::Answered::only_one))]
 pub fn read<'a>(alloc: Global, file: &'a [u8]) -> Result<Capture<'a>, ReadError>
     ensures found { Answers result (Reads file.now) }
-    ensures only { (outcome : Result Whole Fault) → Reads file.now outcome → Answers result (λ answer. answer ≡ outcome) }
+    ensures only { (outcome : Result Whole Fault) → Reads file.now outcome
+        → Answers result (λ answer. answer ≡ outcome) }
 {
     read_all(alloc, file)
 }

@@ -86,8 +86,10 @@ pub fn put_record(out: &mut Vec<u8>, packet: &Packet<'_>) -> Result<(), WriteErr
 /// A whole file with these packets, in their order. Refused with `TooLong` only if one of them has more than
 /// [`LONGEST_PACKET`] bytes, and with `Memory`.
 pub fn write(alloc: Global, packets: &[Packet<'_>]) -> Result<Vec<u8>, WriteError>
-    ensures written { IfOk result (λ v. v.items ≡ header_bytes our_header ++ records_bytes Little (map sent packets.now)) }
-    ensures read_again { IfOk result (λ v. Reads v.items (Ok (record { header = our_header; records = map sent packets.now }))) }
+    ensures written { IfOk result (λ v.
+        v.items ≡ header_bytes our_header ++ records_bytes Little (map sent packets.now)) }
+    ensures read_again { IfOk result (λ v.
+        Reads v.items (Ok (record { header = our_header; records = map sent packets.now }))) }
     ensures short { OnOk result (All IsShort packets.now) }
     ensures too_long { IsErrOf result WriteError.TooLong → All IsShort packets.now → ⊥ }
 {

@@ -15,7 +15,8 @@ use Rattle.pcb_table.specs.Table.{Table, Queues, block_at, machine, socket_with,
 abbrev pub Finds : (List Socket → Option Socket) → Table → Option ℕ → Type 0
 Finds search t None = (queues : Queues) → search (sockets_with queues t) ≡ None
 Finds search t (Some fd) =
-    (b : Block) × (b.fd ≡ fd) × (block_at fd t ≡ Some b) × ((queues : Queues) → search (sockets_with queues t) ≡ Some (socket_with queues b))
+    (b : Block) × (b.fd ≡ fd) × (block_at fd t ≡ Some b)
+      × ((queues : Queues) → search (sockets_with queues t) ≡ Some (socket_with queues b))
 
 -- it finds the sockets of these descriptors, in this order, and none twice
 pub record FindsAll (search : List Socket → List Socket) (t : Table) (fds : List ℕ) : Type 0 where
@@ -30,19 +31,22 @@ pub record FindsAll (search : List Socket → List Socket) (t : Table) (fds : Li
 -- the source of its packets to the address
 abbrev pub SendsFrom : Table → ℕ → ℕ → ℕ → Type 0
 SendsFrom t fd ip source =
-    (rest : State) (queues : Queues) (b : Block) → block_at fd t ≡ Some b → source ≡ source_for (machine rest queues t).config (socket_with queues b) ip
+    (rest : State) (queues : Queues) (b : Block) → block_at fd t ≡ Some b
+      → source ≡ source_for (machine rest queues t).config (socket_with queues b) ip
 
 -- a destination is refused for the first of a send's faults of its address, or else it's the address as it's read
 abbrev pub ChecksDestination : Table → ℕ → Addr → Result Addr Errno → Type 0
 ChecksDestination t fd a result =
     (rest : State) (queues : Queues) (b : Block) → block_at fd t ≡ Some b →
     MatchResult result
-    (λ to. (first_fault (address_faults (machine rest queues t) (socket_with queues b) (Some a)) ≡ None) × (to ≡ read_addr (machine rest queues t).config a))
+    (λ to. (first_fault (address_faults (machine rest queues t) (socket_with queues b) (Some a)) ≡ None)
+      × (to ≡ read_addr (machine rest queues t).config a))
     (λ errno. first_fault (address_faults (machine rest queues t) (socket_with queues b) (Some a)) ≡ Some errno)
 
 -- the socket of the descriptor is changed, and nothing else
 abbrev pub Changes : Table → ℕ → (Socket → Socket) → Table → Type 0
-Changes old fd change new = (rest : State) (queues : Queues) → machine rest queues new ≡ change_socket fd change (machine rest queues old)
+Changes old fd change new =
+    (rest : State) (queues : Queues) → machine rest queues new ≡ change_socket fd change (machine rest queues old)
 
 -- The socket has this port now: the one that it had, or else the next free one, which is chosen then.
 pub record EnsuresPort (old : Table) (fd port : ℕ) (new : Table) : Type 0 where

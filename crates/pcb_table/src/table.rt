@@ -45,7 +45,8 @@ impl Model for Pcbs {
     ghost use Rattle.pcb_table.specs.Apart.{AreApart};
     ghost use Rattle.pcb_table.specs.Inside.Fields.{IsCached, IsInCircle};
 
-    ghost view = { λ p. record { addr = p.interface.addr; bcast = p.interface.bcast; blocks = p.blocks; last_port = p.last_port } };
+    ghost view = { λ p.
+        record { addr = p.interface.addr; bcast = p.interface.bcast; blocks = p.blocks; last_port = p.last_port } };
 
     ghost invariant = { λ p. AreApart p.blocks × IsCached p.blocks p.cache × IsInCircle p.last_port };
 }

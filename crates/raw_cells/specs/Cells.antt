@@ -40,7 +40,8 @@ region_size mbufs clusters = MSIZE * mbufs + MCLBYTES * clusters
 
 -- a region as it is made: every byte is 0
 abbrev pub zero_cells : ℕ → ℕ → Cells
-zero_cells mbufs clusters = record { heads = replicate mbufs zero_head; bytes = replicate (region_size mbufs clusters) 0; clusters = clusters }
+zero_cells mbufs clusters =
+    record { heads = replicate mbufs zero_head; bytes = replicate (region_size mbufs clusters) 0; clusters = clusters }
 
 -- what is true of every region
 pub record IsSized (c : Cells) : Type 0 where
@@ -59,7 +60,8 @@ place c p = origin c p.buffer + p.start
 
 -- the n bytes from s on lie in a cluster, or in the room of an mbuf that refers to no cluster
 abbrev pub IsRoom : Cells → Buffer → ℕ → ℕ → Type 0
-IsRoom c (Mbuf i) s n = (i < length c.heads) × ((head_of c i).cluster ≡ None) × (head_size (head_of c i) ≤ s) × (s + n ≤ MSIZE)
+IsRoom c (Mbuf i) s n =
+    (i < length c.heads) × ((head_of c i).cluster ≡ None) × (head_size (head_of c i) ≤ s) × (s + n ≤ MSIZE)
 IsRoom c (Cluster i) s n = (i < c.clusters) × (s + n ≤ MCLBYTES)
 
 abbrev pub IsPart : Cells → Part → Type 0

@@ -9,7 +9,8 @@ use Rattle.script_loop.specs.declared.fault.RunFault.{RunFault}
 use Rattle.script_loop.specs.declared.fault.RunFault.TheVariants.{Read, Write, Memory, TooManyLines, BadSizes, BadConfig}
 
 -- The whole lines seen were answered, on the way from `begin` to `now`, and this line is begun.
-pub record Answered {S : Type 0} (gives : S → List ℕ → List ℕ → S → Type 0) (begin now : S) (seen line : List ℕ) (count : ℕ) (written : List ℕ) : Type 0 where
+pub record Answered {S : Type 0} (gives : S → List ℕ → List ℕ → S → Type 0) (begin now : S) (seen line : List ℕ)
+    (count : ℕ) (written : List ℕ) : Type 0 where
   pub begun : line ≡ begun_line seen
   pub counted : count ≡ length (whole_lines seen)
   pub within : StaysWithin seen
@@ -43,7 +44,8 @@ pub record BreaksLimit (seen piece : List ℕ) : Type 0 where
 abbrev pub TakesPiece : {S : Type 0} → (S → List ℕ → List ℕ → S → Type 0) → S → S → List ℕ → List ℕ → List ℕ
     → List ℕ → List ℕ → List ℕ → Option ℕ → Type 0
 TakesPiece gives begin now seen piece printed before after line (Some count) =
-    (reply : List ℕ) × (after ≡ before ++ reply) × Answered gives begin now (seen ++ piece) line count (printed ++ reply)
+    (reply : List ℕ) × (after ≡ before ++ reply)
+      × Answered gives begin now (seen ++ piece) line count (printed ++ reply)
 TakesPiece gives begin now seen piece printed before after line None =
     BreaksLimit seen piece × (after ≡ before) × Prints gives begin (whole_lines seen) printed now
 
@@ -51,7 +53,8 @@ TakesPiece gives begin now seen piece printed before after line None =
 -- error.
 abbrev pub Flushes : Option (List ℕ) → Option (List ℕ) → List ℕ → List ℕ → Result Unit RunFault → Type 0
 Flushes before after text left (Ok done) = (sent : List ℕ) × (text ≡ sent ++ left) × Appends before after sent
-Flushes before after text left (Err Write) = (sent unsent : List ℕ) × (text ≡ sent ++ unsent) × Appends before after sent
+Flushes before after text left (Err Write) =
+    (sent unsent : List ℕ) × (text ≡ sent ++ unsent) × Appends before after sent
 Flushes before after text left (Err Read) = ⊥
 Flushes before after text left (Err Memory) = ⊥
 Flushes before after text left (Err TooManyLines) = ⊥
@@ -62,9 +65,11 @@ Flushes before after text left (Err BadConfig) = ⊥
 abbrev pub TakesChunk : {S : Type 0} → (S → List ℕ → List ℕ → S → Type 0) → S → S → List ℕ → List ℕ → List ℕ
     → Option (List ℕ) → Option (List ℕ) → List ℕ → List ℕ → Result ℕ RunFault → Type 0
 TakesChunk gives begin now seen chunk written before after held line (Ok count) =
-    (more : List ℕ) × Appends before after more × Answered gives begin now (seen ++ chunk) line count ((written ++ more) ++ held)
+    (more : List ℕ) × Appends before after more
+      × Answered gives begin now (seen ++ chunk) line count ((written ++ more) ++ held)
 TakesChunk gives begin now seen chunk written before after held line (Err Write) =
-    (front rest more unwritten : List ℕ) × (chunk ≡ front ++ rest) × Appends before after more × StaysWithin (seen ++ front)
+    (front rest more unwritten : List ℕ) × (chunk ≡ front ++ rest) × Appends before after more
+      × StaysWithin (seen ++ front)
     × Prints gives begin (whole_lines (seen ++ front)) ((written ++ more) ++ unwritten) now
 TakesChunk gives begin now seen chunk written before after held line (Err TooManyLines) =
     (front : List ℕ) × (byte : ℕ) × (rest more : List ℕ) × (chunk ≡ front ++ byte ∷ rest) × StaysWithin (seen ++ front)

@@ -21,7 +21,8 @@ StaysWithin input = (k : ℕ) → k < length input → GoesTooFar (take k input)
 -- ---- outcomes
 
 -- The reader gave the bytes read, and the writer took those written, where they tell.
-pub record Moves (unread rest : Option (List ℕ)) (read : List ℕ) (before after : Option (List ℕ)) (written : List ℕ) : Type 0 where
+pub record Moves (unread rest : Option (List ℕ)) (read : List ℕ) (before after : Option (List ℕ))
+    (written : List ℕ) : Type 0 where
   pub consumed : Consumes unread rest read
   pub appended : Appends before after written
 

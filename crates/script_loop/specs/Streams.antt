@@ -39,7 +39,8 @@ writer_failures other = 0
 -- A writer took all of the text at `Ok`, and a front of it at `Err(Write)`, which is the only error.
 abbrev pub Sends : Option (List ℕ) → Option (List ℕ) → List ℕ → Result Unit RunFault → Type 0
 Sends before after text (Ok done) = Appends before after text
-Sends before after text (Err Write) = (written unwritten : List ℕ) × (text ≡ written ++ unwritten) × Appends before after written
+Sends before after text (Err Write) =
+    (written unwritten : List ℕ) × (text ≡ written ++ unwritten) × Appends before after written
 Sends before after text (Err Read) = ⊥
 Sends before after text (Err Memory) = ⊥
 Sends before after text (Err TooManyLines) = ⊥

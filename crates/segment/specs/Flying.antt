@@ -38,7 +38,8 @@ is_named c ip = (ip == c.addr) || (ip == c.bcast) || (ip == LIMITED_BROADCAST)
 
 -- a packet goes to the host at this place: another has sent it, and its header names the host
 abbrev pub goes_to : ℕ → Config → Flying → Bool
-goes_to place c f = not (f.sender == place) && (nat_le IP_HEADER (length f.packet) && is_named c (destination_of f.packet))
+goes_to place c f =
+    not (f.sender == place) && (nat_le IP_HEADER (length f.packet) && is_named c (destination_of f.packet))
 
 -- the packets that come to the host at this place, in their order
 abbrev pub received : ℕ → Config → List Flying → List (List ℕ)

@@ -30,7 +30,8 @@ pub record SegmentView : Type 0 where
 
 -- a segment without hosts
 abbrev pub no_hosts : ℕ → SegmentView
-no_hosts room = record { configs = []; stacks = []; flight = []; room = room; chances = []; random = seeded 1; tallies = [] }
+no_hosts room =
+    record { configs = []; stacks = []; flight = []; room = room; chances = []; random = seeded 1; tallies = [] }
 
 -- both are there, and in this relation, or neither is
 abbrev pub AreBoth : {A B : Type 0} → (A → B → Type 0) → Option A → Option B → Type 0
@@ -82,8 +83,10 @@ pub record IsDelivered (old new : SegmentView) : Type 0 where
   pub chances : new.chances ≡ old.chances
   pub flight : new.flight ≡ map aged (filter is_early old.flight)
   pub random : new.random ≡ (leaving old).1
-  pub tallies : AtEach (λ place t u. u ≡ hears (length (received_in place (slice_get old.configs place) (leaving old).0)) t) old.tallies new.tallies
-  pub hosts : AtEach (λ place s t. AreCalls s (comes (received_in place (slice_get old.configs place) (leaving old).0)) t) old.stacks new.stacks
+  pub tallies : AtEach (λ place t u. u
+      ≡ hears (length (received_in place (slice_get old.configs place) (leaving old).0)) t) old.tallies new.tallies
+  pub hosts : AtEach (λ place s t. AreCalls s (comes (received_in place (slice_get old.configs place) (leaving old).0))
+      t) old.stacks new.stacks
 
 -- a carry is both
 abbrev pub IsCarried : SegmentView → SegmentView → Type 0
@@ -100,7 +103,8 @@ is_quiet v = (length v.flight == 0) && list_all is_silent v.stacks
 -- carries, one after another, as long as something is left, and at most so many
 abbrev pub AreCarried : ℕ → SegmentView → SegmentView → Type 0
 AreCarried zero old new = new ≡ old
-AreCarried (suc n) old new = Choice (is_quiet old) (new ≡ old) ((mid : SegmentView) × IsCarried old mid × AreCarried n mid new)
+AreCarried (suc n) old new =
+    Choice (is_quiet old) (new ≡ old) ((mid : SegmentView) × IsCarried old mid × AreCarried n mid new)
 
 -- ---- by hand
 
@@ -114,7 +118,9 @@ repeated_at place v = record v { flight = take v.room (v.flight ++ option_to_lis
 
 -- two packets change places, if both are there
 abbrev pub swapped_at : ℕ → ℕ → SegmentView → SegmentView
-swapped_at place other v = record v { flight = if nat_lt place (length v.flight) && nat_lt other (length v.flight) then swap v.flight place other else v.flight }
+swapped_at place other v =
+    record v { flight = if nat_lt place (length v.flight) && nat_lt other (length v.flight)
+      then swap v.flight place other else v.flight }
 
 -- ---- joining
 
@@ -142,4 +148,5 @@ abbrev pub IsRefused : SegmentView → Config → JoinFault → Type 0
 IsRefused v config TooManyHosts = 64 ≤ length v.stacks
 IsRefused v config AddressTaken = (length v.stacks < 64) × (list_all (are_apart config) v.configs ≡ false)
 IsRefused v config (Unbooted Memory) = (length v.stacks < 64) × (list_all (are_apart config) v.configs ≡ true)
-IsRefused v config (Unbooted fault) = (length v.stacks < 64) × (list_all (are_apart config) v.configs ≡ true) × IsUnbooted config fault
+IsRefused v config (Unbooted fault) =
+    (length v.stacks < 64) × (list_all (are_apart config) v.configs ≡ true) × IsUnbooted config fault

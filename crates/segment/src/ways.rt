@@ -37,7 +37,8 @@ fn take_one(flight: &mut Flight, impairment: &mut Impairment, sender: usize, sta
     requires { 0 < length (waiting stack.old) }
     ensures calls { AreCalls stack.old (gives (take 1 (waiting stack.old))) stack.new }
     ensures waits { waiting stack.new ≡ drop 1 (waiting stack.old) }
-    ensures taken { under_way flight.new ≡ behind flight.old impairment.old (sent_by sender (take 1 (waiting stack.old))) }
+    ensures taken { under_way flight.new
+        ≡ behind flight.old impairment.old (sent_by sender (take 1 (waiting stack.old))) }
     ensures random { impairment.new.random ≡ random_after impairment.old (sent_by sender (take 1 (waiting stack.old))) }
     ensures tallies { impairment.new.tallies.items
         ≡ tallies_after impairment.old (sent_by sender (take 1 (waiting stack.old))) }

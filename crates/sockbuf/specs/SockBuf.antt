@@ -45,7 +45,8 @@ address_entry a = record { bytes = sockaddr_bytes a; start = PACKET_START; clust
 -- the datagram that the mbufs of a queued chain mean: the first has the sender's address
 abbrev pub datagram_of : List Entry → Datagram
 datagram_of [] = record { sender = record { ip = 0; port = 0 }; item = record { bytes = []; weight = nothing } }
-datagram_of (front ∷ es) = record { sender = sockaddr_in front.bytes; item = record { bytes = flat_bytes es; weight = mbuf ⊕ weight_of es } }
+datagram_of (front ∷ es) =
+    record { sender = sockaddr_in front.bytes; item = record { bytes = flat_bytes es; weight = mbuf ⊕ weight_of es } }
 
 -- the first mbuf has an address, and one at least follows
 abbrev pub IsDatagram : List Entry → Type 0
@@ -78,7 +79,8 @@ pub record IsSockBuf (p : PoolView) (b : SockBufView) : Type 0 where
 
 -- the datagram that chain c is once it's queued: its weight has the mbuf of the address too
 abbrev pub datagram_from : Addr → PoolView → ℕ → Datagram
-datagram_from sender p c = record { sender = sender; item = record { bytes = string (chain_of p c); weight = mbuf ⊕ weight_at p c } }
+datagram_from sender p c =
+    record { sender = sender; item = record { bytes = string (chain_of p c); weight = mbuf ⊕ weight_at p c } }
 
 -- nothing came of it: chain c is handed back
 pub record IsRefused (p : PoolView) (b : SockBufView) (c back : ℕ) (q : PoolView) (d : SockBufView) : Type 0 where
@@ -92,13 +94,15 @@ abbrev pub AppendsAddr : PoolView → SockBufView → Addr → ℕ → Result Un
 AppendsAddr p b sender c (Ok done) q d =
     (fits (datagrams p b) (length (string (chain_of p c))) ≡ true) × (held_mbufs p < p.mbufs)
     × (datagrams q d ≡ datagrams p b ++ datagram_from sender p c ∷ []) × Moves p (c ∷ chains_of p b) q (chains_of q d)
-AppendsAddr p b sender c (Err (back, Full)) q d = (fits (datagrams p b) (length (string (chain_of p c))) ≡ false) × IsRefused p b c back q d
+AppendsAddr p b sender c (Err (back, Full)) q d =
+    (fits (datagrams p b) (length (string (chain_of p c))) ≡ false) × IsRefused p b c back q d
 AppendsAddr p b sender c (Err (back, NoBufs)) q d =
     (fits (datagrams p b) (length (string (chain_of p c))) ≡ true) × (held_mbufs p ≡ p.mbufs) × IsRefused p b c back q d
 
 -- The oldest datagram, of this sender and with the entries of chain c, was taken out, and its mbuf for the address
 -- freed. The chain has no packet header and is in no train.
-pub record TakesOldest (p : PoolView) (b : SockBufView) (sender : Addr) (c : ℕ) (q : PoolView) (d : SockBufView) : Type 0 where
+pub record TakesOldest (p : PoolView) (b : SockBufView) (sender : Addr) (c : ℕ) (q : PoolView) (d : SockBufView) : Type
+    0 where
   pub datagrams : datagrams p b ≡ datagram_from sender q c ∷ datagrams q d
   pub front : (chain_of q c).front ≡ alone false
   pub moves : Moves p (chains_of p b) q (c ∷ chains_of q d)

@@ -20,10 +20,12 @@ bag_of (Some c) = c ∷ []
 
 -- bytes in one mbuf, behind another with the sender's address
 abbrev pub stored_datagram : Addr → List ℕ → Option ℕ → Datagram
-stored_datagram sender bytes cluster = record { sender = sender; item = record { bytes = bytes; weight = record { mbufs = 2; bag = bag_of cluster } } }
+stored_datagram sender bytes cluster =
+    record { sender = sender; item = record { bytes = bytes; weight = record { mbufs = 2; bag = bag_of cluster } } }
 
 -- they are the newest datagram of the queue
-pub record StoresAt (p : PoolView) (b : SockBufView) (sender : Addr) (is_large : Bool) (bytes : List ℕ) (q : PoolView) (d : SockBufView) : Type 0 where
+pub record StoresAt (p : PoolView) (b : SockBufView) (sender : Addr) (is_large : Bool) (bytes : List ℕ) (q : PoolView)
+    (d : SockBufView) : Type 0 where
   pub cluster : Option ℕ
   pub taken : IsTaken p is_large cluster
   pub datagrams : datagrams q d ≡ datagrams p b ++ stored_datagram sender bytes cluster ∷ []

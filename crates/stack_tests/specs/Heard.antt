@@ -46,11 +46,15 @@ pub record IsHeard (lost late early : List ℕ) (most count : ℕ) (reply : Repl
   pub t : StackView
   pub late_packet : List ℕ
   pub early_packet : List ℕ
-  pub first_calls : events sent ≡ Open ∷ send_event lost ∷ send_event late ∷ send_event early ∷ Transmit ∷ Transmit ∷ Transmit ∷ []
-  pub second_calls : events before ≡ Open ∷ Bind SOCKET (record { ip = 0; port = PORT }) ∷ Comes early_packet ∷ Comes late_packet ∷ Comes early_packet ∷ []
+  pub first_calls : events sent ≡ Open ∷ send_event lost ∷ send_event late ∷ send_event early ∷ Transmit ∷ Transmit
+      ∷ Transmit ∷ []
+  pub second_calls : events before
+      ≡ Open ∷ Bind SOCKET (record { ip = 0; port = PORT }) ∷ Comes early_packet ∷ Comes late_packet
+        ∷ Comes early_packet ∷ []
   pub first_runs : Run FIRST sent (state_of s)
   pub second_runs : Run SECOND (before ++ receives most reply ∷ []) (state_of t)
   pub counts : value_of IpLocalout s.counters ≡ count
   pub wire : count < 2 ^ 16 → AreOnOneWire FIRST SECOND sent (before ++ receives most reply ∷ []) s t
-  pub was_sent : count < 2 ^ 16 → (sender : Addr) (bytes : List ℕ) → reply ≡ Received sender bytes → sender.ip ≡ FIRST.addr
+  pub was_sent : count < 2 ^ 16 → (sender : Addr) (bytes : List ℕ) → reply ≡ Received sender bytes
+      → sender.ip ≡ FIRST.addr
       → WasSent exact_ledger exact_ledger FIRST SECOND sent before (state_of s) SOCKET most sender bytes

@@ -18,7 +18,8 @@ pub record IsPlain (packet : List ℕ) : Type 0 where
 abbrev pub HasRightSum : ℕ → ℕ → List ℕ → Type 0
 HasRightSum src dst datagram = has_right_sum src dst datagram ≡ true
 
--- And what it carries is a datagram of UDP without a fault, with nothing after it, from one address and port to another.
+-- And what it carries is a datagram of UDP without a fault, with nothing after it, from one address and port to
+-- another.
 pub record IsChecked (packet : List ℕ) (from to : Addr) : Type 0 where
   pub plain : IsPlain packet
   pub headers : IP_UDP_HEADERS ≤ length packet

@@ -23,7 +23,9 @@ use Rattle.udp.specs.declared.arrival.Outcome.TheVariants.{Deliver, Drop}
 
 -- a packet whose UDP header is written: 8 bytes of the first mbuf, after the 20 of the IP header
 abbrev pub built : ℕ → ℕ → ℕ → ℕ → ChainView → ChainView
-built src dst sport dport v = with_entry v 0 (overwritten (entry_of v 0) IP_HEADER (take UDP_HEADER (udp src dst sport dport (drop IP_UDP_HEADERS (string v)))))
+built src dst sport dport v =
+    with_entry v 0 (overwritten (entry_of v 0) IP_HEADER
+      (take UDP_HEADER (udp src dst sport dport (drop IP_UDP_HEADERS (string v)))))
 
 -- ---- come
 
@@ -48,10 +50,12 @@ pub record AreHearers (t : Table) (destination : ℕ) (q : LookupKey) (fds : Lis
   pub named : fds ≡ map (λ b. b.fd) found
   pub once : (fd : ℕ) → times fd fds ≤ 1
   pub held : All (λ b. block_at b.fd t ≡ Some b) found
-  pub sockets : (rest : State) (queues : Queues) → hearers (machine rest queues t) destination q ≡ map (socket_with queues) found
+  pub sockets : (rest : State) (queues : Queues)
+      → hearers (machine rest queues t) destination q ≡ map (socket_with queues) found
 
 -- From p to q, chain c became the data of a datagram for these sockets.
-pub record IsDelivered (p : PoolView) (c : ℕ) (h : IpHead) (t : Table) (q : PoolView) (to : List ℕ) (from : Addr) (d : ℕ) : Type 0 where
+pub record IsDelivered (p : PoolView) (c : ℕ) (h : IpHead) (t : Table) (q : PoolView) (to : List ℕ) (from : Addr)
+    (d : ℕ) : Type 0 where
   pub faultless : fault_of h (string (chain_of p c)) ≡ None
   pub sender : from ≡ sender_of h (string (chain_of p c))
   pub heard : AreHearers t h.dst (key_by h (string (chain_of p c))) to

@@ -19,7 +19,8 @@ header_bytes h = (two_bytes h.source ++ two_bytes h.destination) ++ (two_bytes h
 
 -- it has no checksum, or the right one
 abbrev pub has_right_sum : ℕ → ℕ → List ℕ → Bool
-has_right_sum src dst s = (u16_at 6 s == 0) || (folded_sum (pseudo_header src dst (u16_at 4 s) ++ take (u16_at 4 s) s) == 65535)
+has_right_sum src dst s =
+    (u16_at 6 s == 0) || (folded_sum (pseudo_header src dst (u16_at 4 s) ++ take (u16_at 4 s) s) == 65535)
 
 -- a chain with no more than its first n bytes
 abbrev pub cut_to : ℕ → ChainView → ChainView

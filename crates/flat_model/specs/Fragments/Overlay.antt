@@ -45,7 +45,8 @@ stays a (Some held) = nat_le held.piece.first a
 -- The least offset that the fragment's piece owns. Of the fragment's offsets those where old bytes stay are the first
 -- ones, since a piece that begins no later and reaches so far has no gap in between: so it is enough to count them.
 unfoldable pub first_owned : Map → Fragment → ℕ
-first_owned map f = f.offset + count_by (λ offset. stays f.offset (map offset)) (range_with_len f.offset (length f.bytes))
+first_owned map f =
+    f.offset + count_by (λ offset. stays f.offset (map offset)) (range_with_len f.offset (length f.bytes))
 
 -- nothing is left for the fragment
 abbrev pub is_covered : Map → Fragment → Bool

@@ -63,7 +63,8 @@ counts_fragment s = record s { counters = counts_more IpFragments 1 s.counters }
 -- The weight once the header stands in one plain mbuf (`m_pullup` of volume 2, chapter 2, which moves 40 bytes): a
 -- packet of at most 40 bytes leaves its cluster, a longer one has one mbuf more.
 abbrev pub pulled_up : ℕ → Weight → Weight
-pulled_up total w = if nat_lt MAX_PROTOCOL_HEADER total then record w { mbufs = w.mbufs + 1 } else record w { bag = drop 1 w.bag }
+pulled_up total w =
+    if nat_lt MAX_PROTOCOL_HEADER total then record w { mbufs = w.mbufs + 1 } else record w { bag = drop 1 w.bag }
 
 -- How far a join may shrink the weight of the pieces (`m_cat` of volume 2, chapter 2, moves what fits): they take no
 -- more than before, refer to no other cluster, and have room for all n bytes.
@@ -112,7 +113,8 @@ module _ (L : Ledger) where
   Appends held sender item to old new =
       Choice (fits to.queue (length item.bytes))
       (Tests old (held ⊕ item.weight) 1 new (λ mid.
-      new ≡ change_socket to.fd (queued (record { sender = sender; item = record item { weight = mbuf ⊕ item.weight } })) mid))
+      new ≡ change_socket to.fd (queued
+        (record { sender = sender; item = record item { weight = mbuf ⊕ item.weight } })) mid))
       (new ≡ ends UdpFullSocket old)
 
   -- Each receiver but the last gets a copy, of the same weight. One that lacks something ends its own part alone.
@@ -121,7 +123,8 @@ module _ (L : Ledger) where
   Delivers held sender item (last ∷ []) old new = Appends held sender item last old new
   Delivers held sender item (to ∷ next ∷ more) old new =
       (after : State)
-      × Tests old (held ⊕ item.weight) item.weight.mbufs after (λ mid. Appends (held ⊕ item.weight) sender item to mid after)
+      × Tests old (held ⊕ item.weight) item.weight.mbufs after
+        (λ mid. Appends (held ⊕ item.weight) sender item to mid after)
       × Delivers held sender item (next ∷ more) after new
 
   -- a datagram goes to those who hear it
@@ -194,7 +197,8 @@ module _ (L : Ledger) where
   -- a packet arrives, while the step holds `held` beside it
   abbrev pub Arrives : Origin → Weight → Item → State → State → Type 0
   Arrives origin held item old new =
-      Case (head_fault item.bytes) (Passes origin held item (counts_packet old) new) (λ why. new ≡ ends why (counts_packet old))
+      Case (head_fault item.bytes) (Passes origin held item (counts_packet old) new)
+        (λ why. new ≡ ends why (counts_packet old))
 
   -- the packets that came back arrive in order, and those still to come are held
   abbrev pub AllArrive : List Item → State → State → Type 0

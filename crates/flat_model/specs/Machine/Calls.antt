@@ -43,7 +43,8 @@ read_addr c a = record a { ip = read_address c a.ip }
 -- Some interface leads there: the one that there is leads everywhere but to 0/8, to 127/8 and from 224.0.0.0 on, and
 -- 127.0.0.1 is reached by loopback. For an address that was read (this project's own).
 abbrev pub is_reached : ℕ → Bool
-is_reached ip = (ip == loopback) || (not (ip / 2 ^ 24 == 0) && not (ip / 2 ^ 24 == LOOPBACK / 2 ^ 24) && nat_lt ip FIRST_MULTICAST)
+is_reached ip =
+    (ip == loopback) || (not (ip / 2 ^ 24 == 0) && not (ip / 2 ^ 24 == LOOPBACK / 2 ^ 24) && nat_lt ip FIRST_MULTICAST)
 
 -- one of the three addresses of this machine
 abbrev pub is_ours : Config → ℕ → Bool
@@ -108,7 +109,8 @@ Opens most old reply new =
 
 -- The socket goes with its queue. What it sent, and what has come for it in part, stays.
 abbrev pub Closes : ℕ → State → Reply → State → Type 0
-Closes fd old reply new = (reply ≡ Done) × (new ≡ record old { sockets = filter (λ socket. not (socket.fd == fd)) old.sockets })
+Closes fd old reply new =
+    (reply ≡ Done) × (new ≡ record old { sockets = filter (λ socket. not (socket.fd == fd)) old.sockets })
 
 -- ---- bind
 
@@ -152,7 +154,8 @@ abbrev pub connect_faults : State → Socket → Addr → List (Bool × Errno)
 connect_faults s me a =
     (a.port == 0, AddressNotAvailable)
     ∷ (not (is_reached a.ip), HostUnreachable)
-    ∷ (is_some (exact (record { local = Some (source_for s.config me a.ip); port = me.port; peer = Some a }) s.sockets), AddressInUse)
+    ∷ (is_some (exact (record { local = Some (source_for s.config me a.ip); port = me.port; peer = Some a }) s.sockets),
+      AddressInUse)
     ∷ []
 
 -- an unconnected socket is connected to an address that was read, and gets a port and a local address if it has none

@@ -76,7 +76,9 @@ value_of counter c = slice_index c.values (place counter)
 -- it counts k more, and each other has counted what it had
 abbrev pub counts_more : Counter → ℕ → Counters → Counters
 counts_more counter k c = record {
-  values = map (λ other. if place other == place counter then more_by k (value_of other c) else value_of other c) all_counters;
+  values =
+      map (λ other. if place other == place counter then more_by k (value_of other c) else value_of other c)
+        all_counters;
 }
 
 -- ---- what ends a packet

@@ -13,10 +13,12 @@ use Rattle.flat_model.specs.declared.address.Addr.{Addr}
 use Rattle.flat_model.specs.Machine.Send.{need_to, to_link, to_self, overflows, enqueued, spent}
 
 -- what a send leaves whose packets are `out`: those for the link wait for it, and `looped` are to come back
-pub record Queues (fd : ℕ) (out : List Item) (x : Sending) (old : State) (reply : Reply) (looped : List Item) (new : State) : Type 0 where
+pub record Queues (fd : ℕ) (out : List Item) (x : Sending) (old : State) (reply : Reply) (looped : List Item)
+    (new : State) : Type 0 where
   pub back : looped ≡ to_self old.config x.to.ip out
   pub state : new ≡ enqueued (to_link old.config x.to.ip out) (spent fd x.port (parts_of old.config x) old)
-  pub answer : reply ≡ (if overflows (spent fd x.port (parts_of old.config x) old) (to_link old.config x.to.ip out) then Refused (NoBufs Queue) else Sent (length x.bytes))
+  pub answer : reply ≡ (if overflows (spent fd x.port (parts_of old.config x) old) (to_link old.config x.to.ip out)
+      then Refused (NoBufs Queue) else Sent (length x.bytes))
 
 module _ (L : Ledger) where
   -- a send that has its buffers, up to the arrival of what comes back
@@ -25,5 +27,6 @@ module _ (L : Ledger) where
       (port : ℕ) × (named : State) × (clusters : List ℕ)
       × GetsPort old me.local me.port port named
       × AreTaken L old (need_to old.config to.ip (length bytes)).clusters clusters
-      × (let x : Sending = record { id = old.next_id; source = source_for old.config me to.ip; to = to; port = port; bytes = bytes } in
+      × (let x : Sending = record { id = old.next_id; source = source_for old.config me to.ip; to = to; port = port;
+        bytes = bytes } in
       Queues fd (packets named.config clusters x) x named reply looped new)

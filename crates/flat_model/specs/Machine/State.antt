@@ -108,11 +108,14 @@ socket_at fd s = find (λ socket. socket.fd == fd) s.sockets
 
 -- the socket with this descriptor is changed
 abbrev pub change_socket : ℕ → (Socket → Socket) → State → State
-change_socket fd change s = record s { sockets = map (λ socket. if socket.fd == fd then change socket else socket) s.sockets }
+change_socket fd change s =
+    record s { sockets = map (λ socket. if socket.fd == fd then change socket else socket) s.sockets }
 
 -- the datagram goes by this key
 abbrev pub is_key : Key → Unfinished → Bool
-is_key k u = (u.key.source == k.source) && (u.key.destination == k.destination) && (u.key.id == k.id) && (u.key.protocol == k.protocol)
+is_key k u =
+    (u.key.source == k.source) && (u.key.destination == k.destination) && (u.key.id == k.id)
+      && (u.key.protocol == k.protocol)
 
 -- the unfinished datagram with this key, where there is one
 abbrev pub unfinished_at : Key → State → Option Unfinished
@@ -128,7 +131,8 @@ begin_unfinished k s = record s { unfinished = s.unfinished ++ begun k ∷ [] }
 
 -- these are the bytes that have come under the key; the time stays
 abbrev pub set_bytes : Key → Map → State → State
-set_bytes k bytes s = record s { unfinished = map (λ u. if is_key k u then record u { bytes = bytes } else u) s.unfinished }
+set_bytes k bytes s =
+    record s { unfinished = map (λ u. if is_key k u then record u { bytes = bytes } else u) s.unfinished }
 
 -- no datagram with this key is held any more
 abbrev pub end_unfinished : Key → State → State

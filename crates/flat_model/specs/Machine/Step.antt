@@ -39,7 +39,8 @@ module _ (L : Ledger) where
       × Choice yes
       ((clusters : List ℕ)
       × AreTaken L mid (need_of (wire (length packet))).clusters clusters
-      × Arrives L (By_wire (length packet)) nothing (record { bytes = packet; weight = weight_of (laid_on clusters (wire (length packet))) }) mid new)
+      × Arrives L (By_wire (length packet)) nothing
+        (record { bytes = packet; weight = weight_of (laid_on clusters (wire (length packet))) }) mid new)
       (new ≡ ends NoBufs mid)
 
   -- a step, whatever answers for the buffers
@@ -50,7 +51,8 @@ module _ (L : Ledger) where
   StepBy old (Send fd to bytes) reply new = OnSocket fd old reply new (λ me. Sends L fd to bytes me old reply new)
   StepBy old (Receive fd most) reply new = OnSocket fd old reply new (λ me. Receives fd most me.queue old reply new)
   StepBy old (Close fd) reply new = OnSocket fd old reply new (λ me. Closes fd old reply new)
-  StepBy old (Set_option fd option on) reply new = OnSocket fd old reply new (λ me. SetsOption fd option on old reply new)
+  StepBy old (Set_option fd option on) reply new =
+      OnSocket fd old reply new (λ me. SetsOption fd option on old reply new)
   StepBy old (Comes packet) reply new = (reply ≡ Done) × ComesIn packet old new
   StepBy old Transmit reply new = Transmits old.output old reply new
   StepBy old Tick reply new = (reply ≡ Done) × (new ≡ ticked old)

@@ -11,5 +11,6 @@ bytes_of s p = take p.size (drop p.offset s)
 -- header.
 pub record CutsJoin (s : List ℕ) (mtu : ℕ) : Type 0 where
   pub joined : flat_map (bytes_of s) (cuts (length s) mtu) ≡ s
-  pub multiples : (k : ℕ) (d : Part) → k + 1 < length (cuts (length s) mtu) → (slice_index_or (cuts (length s) mtu) k d).size % FRAGMENT_UNIT ≡ 0
+  pub multiples : (k : ℕ) (d : Part) → k + 1 < length (cuts (length s) mtu)
+      → (slice_index_or (cuts (length s) mtu) k d).size % FRAGMENT_UNIT ≡ 0
   pub within : All (λ p. IP_HEADER + p.size ≤ mtu) (cuts (length s) mtu)

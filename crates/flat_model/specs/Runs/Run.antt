@@ -14,7 +14,8 @@ pub record Turn : Type 0 where
 -- from old, these events may be answered so, and lead to new
 abbrev pub Leads : Ledger → State → List Turn → State → Type 0
 Leads L old [] new = new ≡ old
-Leads L old (turn ∷ turns) new = IsEvent turn.event × (mid : State) × StepBy L old turn.event turn.reply mid × Leads L mid turns new
+Leads L old (turn ∷ turns) new =
+    IsEvent turn.event × (mid : State) × StepBy L old turn.event turn.reply mid × Leads L mid turns new
 
 -- these turns lead from the start to this state, by the machine that keeps exact accounts
 abbrev pub Run : Config → List Turn → State → Type 0

@@ -46,7 +46,8 @@ AreTurns serves (line ∷ lines) (None ∷ answers) turns =
 AreTurns serves lines answers turns = ⊥
 
 -- what is printed for the lines is what a run from old to new replies
-pub record IsPrintOfRun (L : Ledger) (serves : Event → Bool) (old : State) (lines : List (List ℕ)) (printed : List ℕ) (new : State) : Type 0 where
+pub record IsPrintOfRun (L : Ledger) (serves : Event → Bool) (old : State) (lines : List (List ℕ)) (printed : List ℕ)
+    (new : State) : Type 0 where
   pub answers : List (Option Reply)
   pub turns : List Turn
   pub are : AreTurns serves lines answers turns

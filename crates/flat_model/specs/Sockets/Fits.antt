@@ -14,4 +14,6 @@ memory_queued queue = sum_by (λ d. MSIZE * d.item.weight.mbufs + MCLBYTES * len
 
 -- Whether a datagram of n bytes fits. Its own mbufs don't count yet, as in the book.
 abbrev pub fits : List Datagram → ℕ → Bool
-fits queue n = nat_le (SOCKADDR_BYTES + n + bytes_queued queue) UDP_RECEIVE_SPACE && nat_le (SOCKADDR_BYTES + n + memory_queued queue) UDP_RECEIVE_MEMORY
+fits queue n =
+    nat_le (SOCKADDR_BYTES + n + bytes_queued queue) UDP_RECEIVE_SPACE
+      && nat_le (SOCKADDR_BYTES + n + memory_queued queue) UDP_RECEIVE_MEMORY

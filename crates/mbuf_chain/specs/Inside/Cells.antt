@@ -46,7 +46,8 @@ place_bytes s i (Some c) = (cluster_of s c).bytes
 
 -- what it shows under a head
 abbrev pub entry_from : StoreView → ℕ → Head → Entry
-entry_from s i h = record { bytes = take h.len (drop h.start (place_bytes s i h.cluster)); start = h.start; cluster = h.cluster }
+entry_from s i h =
+    record { bytes = take h.len (drop h.start (place_bytes s i h.cluster)); start = h.start; cluster = h.cluster }
 
 abbrev pub entry_at : StoreView → ℕ → Entry
 entry_at s i = entry_from s i (head_of s i)
@@ -102,7 +103,8 @@ is_pointed (suc n) s q = (is_out s n && option_eq nat_eq (head_of s n).next (Som
 
 -- the chain that begins at an mbuf, if one does
 abbrev pub chain_at : StoreView → ℕ → Option ChainView
-chain_at s q = cond (is_out s q && not (is_pointed (length s.mbufs) s q)) (Some (read_chain s (cells_from s (Some q)))) None
+chain_at s q =
+    cond (is_out s q && not (is_pointed (length s.mbufs) s q)) (Some (read_chain s (cells_from s (Some q)))) None
 
 abbrev pub view_of : StoreView → FinMap nat_cmp ChainView
 view_of s = tabulate (length s.mbufs) (chain_at s)
@@ -162,7 +164,9 @@ off_at first n l = cond (nat_eq (first_of l) first) n 0
 -- the packet length is off at the chain that begins at `first`, and right elsewhere: `added` more and `removed` less
 -- would be right there
 abbrev pub IsTotalBy : StoreView → ℕ → ℕ → ℕ → List ℕ → Type 0
-IsTotalBy s first added removed l = (packet : PacketHeader) → (head_of s (first_of l)).packet ≡ Some packet → packet.len + off_at first added l ≡ weigh (len_at s) l + off_at first removed l
+IsTotalBy s first added removed l =
+    (packet : PacketHeader) → (head_of s (first_of l)).packet ≡ Some packet
+      → packet.len + off_at first added l ≡ weigh (len_at s) l + off_at first removed l
 
 -- 1 where the mbuf is handed out
 abbrev pub out_at : StoreView → ℕ → ℕ
@@ -182,7 +186,8 @@ IsPool s = (lists : List (List ℕ)) × IsSound s lists × AllByRecursion (IsTot
 
 -- a pool, but for the packet length of the chain that begins at `first`
 abbrev pub IsOff : StoreView → ℕ → ℕ → ℕ → Type 0
-IsOff s first added removed = (lists : List (List ℕ)) × IsSound s lists × AllByRecursion (IsTotalBy s first added removed) lists
+IsOff s first added removed =
+    (lists : List (List ℕ)) × IsSound s lists × AllByRecursion (IsTotalBy s first added removed) lists
 
 -- ---- a new mbuf
 -- the head of the only mbuf of a chain
@@ -211,13 +216,18 @@ pub record Taken (s t : StoreView) (i : ℕ) (h : Head) : Type 0 where
 -- ---- bytes written
 -- the entry that an mbuf shows with ws written over the bytes of its place, from `start` on
 abbrev pub entry_over : StoreView → ℕ → ℕ → List ℕ → Entry
-entry_over s x start ws = record { bytes = take (head_of s x).len (drop (head_of s x).start (over (place_bytes s x (head_of s x).cluster) start ws)); start = (head_of s x).start; cluster = (head_of s x).cluster }
+entry_over s x start ws =
+    record { bytes = take (head_of s x).len
+      (drop (head_of s x).start (over (place_bytes s x (head_of s x).cluster) start ws)); start =
+        (head_of s x).start; cluster = (head_of s x).cluster }
 
 -- from s to t bytes were written over those of the mbuf at a place of chain c, which no other mbuf shows
 pub record WritesPlace (s t : StoreView) (c : ℕ) (at : Place) (start : ℕ) (ws : List ℕ) : Type 0 where
   pub head : head_of t at.cell ≡ head_of s at.cell
-  pub bytes : place_bytes t at.cell (head_of s at.cell).cluster ≡ over (place_bytes s at.cell (head_of s at.cell).cluster) start ws
-  pub map_is : pool_of t ≡ with_chain (pool_of s) c (with_entry (chain_of (pool_of s) c) at.index (entry_over s at.cell start ws))
+  pub bytes : place_bytes t at.cell (head_of s at.cell).cluster
+      ≡ over (place_bytes s at.cell (head_of s at.cell).cluster) start ws
+  pub map_is : pool_of t ≡ with_chain (pool_of s) c
+      (with_entry (chain_of (pool_of s) c) at.index (entry_over s at.cell start ws))
 
 -- ---- mbufs given back
 -- the store with the cluster's count one less, where there is a cluster

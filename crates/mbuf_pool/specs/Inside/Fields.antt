@@ -25,10 +25,12 @@ next_cluster r c = link_in (cells.read r (link_part c))
 
 -- ---- what is shown of each
 abbrev pub mbuf_seen : Cells → List ℕ → ℕ → Option MbufView
-mbuf_seen r free i = if times i free == 0 then Some (record { head = cells.head_of r i; bytes = mbuf_bytes r i }) else None
+mbuf_seen r free i =
+    if times i free == 0 then Some (record { head = cells.head_of r i; bytes = mbuf_bytes r i }) else None
 
 abbrev pub cluster_seen : Cells → List ℕ → ℕ → ClusterView
-cluster_seen r counts c = record { count = slice_index counts c; bytes = if slice_index counts c == 0 then [] else cluster_bytes r c }
+cluster_seen r counts c =
+    record { count = slice_index counts c; bytes = if slice_index counts c == 0 then [] else cluster_bytes r c }
 
 -- a store over the region whose free mbufs are those of the list
 abbrev pub shown : Cells → List ℕ → List ℕ → StoreView
@@ -46,7 +48,8 @@ seen s = seen_in s.region s.counts.items s.first_mbuf
 
 -- ---- the invariant
 -- the mbufs of the one list are free, and the clusters of the other, which are those that no one holds
-pub record IsSound (r : Cells) (counts : List ℕ) (first_mbuf : Option ℕ) (mbufs : ℕ) (first_cluster : Option ℕ) (clusters : ℕ) (free free_clusters : List ℕ) : Type 0 where
+pub record IsSound (r : Cells) (counts : List ℕ) (first_mbuf : Option ℕ) (mbufs : ℕ) (first_cluster : Option ℕ)
+    (clusters : ℕ) (free free_clusters : List ℕ) : Type 0 where
   pub sized : IsSized r
   pub mbuf_list : IsFreeList (next_mbuf r) (length r.heads) first_mbuf mbufs free
   pub cluster_list : IsFreeList (next_cluster r) r.clusters first_cluster clusters free_clusters
@@ -55,7 +58,10 @@ pub record IsSound (r : Cells) (counts : List ℕ) (first_mbuf : Option ℕ) (mb
 
 abbrev pub IsAccount : Cells → List ℕ → Option ℕ → ℕ → Option ℕ → ℕ → Type 0
 IsAccount r counts first_mbuf mbufs first_cluster clusters =
-    (free : List ℕ) × (free_clusters : List ℕ) × IsSound r counts first_mbuf mbufs first_cluster clusters free free_clusters
+    (free : List ℕ) × (free_clusters : List ℕ)
+      × IsSound r counts first_mbuf mbufs first_cluster clusters free free_clusters
 
 abbrev pub IsInside : Inside → Type 0
-IsInside s = (s.mbufs ≡ length s.region.heads) × IsAccount s.region s.counts.items s.first_mbuf s.free_mbufs s.first_cluster s.free_clusters
+IsInside s =
+    (s.mbufs ≡ length s.region.heads)
+      × IsAccount s.region s.counts.items s.first_mbuf s.free_mbufs s.first_cluster s.free_clusters

@@ -29,7 +29,8 @@ disconnected_block b = if is_some b.peer then record b { local = None; peer = No
 -- ---- the connection that may be remembered (chapter 23)
 
 abbrev pub connection_by : ℕ → Option ℕ → Option ℕ → Option Addr → Option Connection
-connection_by fd (Some ip) (Some port) (Some peer) = Some (record { fd = fd; local = record { ip = ip; port = port }; peer = peer })
+connection_by fd (Some ip) (Some port) (Some peer) =
+    Some (record { fd = fd; local = record { ip = ip; port = port }; peer = peer })
 connection_by fd _ _ _ = None
 
 -- where all four are set

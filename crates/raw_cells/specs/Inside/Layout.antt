@@ -11,7 +11,8 @@ abbrev pub u16_at : List ℕ → ℕ → ℕ
 u16_at bs i = get_or bs i 0 + get_or bs (i + 1) 0 * 0x100
 
 abbrev pub u32_at : List ℕ → ℕ → ℕ
-u32_at bs i = get_or bs i 0 + get_or bs (i + 1) 0 * 0x100 + get_or bs (i + 2) 0 * 0x10000 + get_or bs (i + 3) 0 * 0x1000000
+u32_at bs i =
+    get_or bs i 0 + get_or bs (i + 1) 0 * 0x100 + get_or bs (i + 2) 0 * 0x10000 + get_or bs (i + 3) 0 * 0x1000000
 
 -- the link that a number stands for
 abbrev pub link_of : ℕ → Option ℕ
@@ -19,7 +20,8 @@ link_of n = if n == 0xffffffff then None else Some n
 
 -- bit 1 of the flags: there is a packet header
 abbrev pub packet_in : List ℕ → ℕ → ℕ → Option PacketHeader
-packet_in bs at flags = if flags / 2 % 2 == 0 then None else Some (record { len = u32_at bs at; arrival = u32_at bs (at + 4) })
+packet_in bs at flags =
+    if flags / 2 % 2 == 0 then None else Some (record { len = u32_at bs at; arrival = u32_at bs (at + 4) })
 
 -- bit 0 of the flags: the data lies in a cluster
 abbrev pub cluster_in : List ℕ → ℕ → ℕ → Option ℕ
@@ -50,4 +52,6 @@ abbrev pub seen : Inside → Cells
 seen r = record { heads = heads_in r.mbufs r.block; bytes = r.block; clusters = r.clusters }
 
 abbrev pub IsRegion : Inside → Type 0
-IsRegion r = (length r.block ≡ region_size r.mbufs r.clusters) × (0 < r.mbufs) × (r.mbufs ≤ MAX_MBUFS) × (r.clusters ≤ MAX_CLUSTERS)
+IsRegion r =
+    (length r.block ≡ region_size r.mbufs r.clusters) × (0 < r.mbufs) × (r.mbufs ≤ MAX_MBUFS)
+      × (r.clusters ≤ MAX_CLUSTERS)

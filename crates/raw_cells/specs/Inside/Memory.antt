@@ -15,7 +15,8 @@ block_type n = ty_array (ty_int w8) n
 
 -- the bytes xs, and after them room for n more, fewer than 2 ^ 63 in all
 abbrev pub bytes_owned : Ptr → List ℕ → ℕ → Fml
-bytes_owned (block_ptr b o) xs n = fsep (flt (length xs + n) (2 ^ 63)) (fsep (cells (mem u8) xs b o) (froom (block_type n) b (o + length xs)))
+bytes_owned (block_ptr b o) xs n =
+    fsep (flt (length xs + n) (2 ^ 63)) (fsep (cells (mem u8) xs b o) (froom (block_type n) b (o + length xs)))
 bytes_owned null_ptr xs n = ffalse
 
 -- the bytes xs, to read
