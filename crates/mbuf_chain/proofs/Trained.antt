@@ -6,12 +6,12 @@ use Rattle.std.proofs.lemmas.Option.{same_Some}
 use Rattle.mbuf_pool.specs.Cells.{Head, PacketHeader, head_size, with_arrival}
 use Rattle.mbuf_pool.proofs.Laws.{sets_head, sets_twice}
 use Rattle.mbuf_pool.specs.Store.{StoreView, head_of, SetsHead, IsStore}
-use Rattle.mbuf_chain.specs.Chain.{chain_of, IsLive, with_chain}
+use Rattle.mbuf_chain.specs.Chain.{Front, chain_of, IsLive, with_chain}
 use Rattle.mbuf_chain.specs.Steps.{placed}
-use Rattle.mbuf_chain.specs.Inside.Cells.{entry_at, front_of, room_low, pool_of, IsPool}
+use Rattle.mbuf_chain.specs.Inside.Cells.{arrival_of, entry_at, front_of, room_low, pool_of, IsPool}
 use Rattle.mbuf_chain.proofs.Focused.{first_out, open_on}
 use Rattle.mbuf_chain.proofs.Heads.{rehead, enter_first, set_same}
-use Rattle.mbuf_chain.proofs.Places.{header_is}
+use Rattle.mbuf_chain.proofs.Places.{front_is, header_is}
 
 abbrev pub trained : Head → Option ℕ → ℕ → PacketHeader → Head
 trained h after tag packet = record h { next_packet = after; packet = Some (record { len = packet.len; arrival = tag }) }
@@ -69,3 +69,13 @@ pub packet_after : (s t : StoreView) (c : ℕ) (after : Option ℕ) (packet : Pa
 packet_after s t c after packet pool live is first =
     let o = open_on s c pool live in
     subst (λ (p : Option PacketHeader). IsSome p) (sym (ap (λ (h : Head). h.packet) (sets_head s t c (record (head_of s c) { next_packet = after }) (first_out s c o.at) first) ∙ is)) refl
+
+-- the link alone: the tag stays
+pub relinked : (s t : StoreView) (c : ℕ) (after : Option ℕ) → IsPool s → IsLive (pool_of s) c → (chain_of (pool_of s) c).front.header ≡ true → SetsHead s t c (record (head_of s c) { next_packet = after }) → IsStore t
+    → Placed s t c after (chain_of (pool_of s) c).front.tag
+relinked s t c after pool live headed sets store =
+    let there = packet_there s c pool live headed in
+    let packet : PacketHeader = there.0 in
+    let tag : packet.arrival ≡ (chain_of (pool_of s) c).front.tag = sym (ap arrival_of there.1) ∙ ap (λ (f : Front). f.tag) (front_is s c pool live) in
+    subst (Placed s t c after) tag
+    (placed_made s t c after packet.arrival packet pool live headed there.1 (subst (SetsHead s t c) (ap (λ (p : Option PacketHeader). record (head_of s c) { next_packet = after; packet = p }) there.1) sets) store)

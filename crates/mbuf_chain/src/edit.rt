@@ -59,6 +59,20 @@ pub(crate) fn narrow(store: &mut Store, first: u32, at: Place, skip: u32, keep: 
     resize(store, first, at, head.start + skip, keep);
 }
 
+/// Puts a chain with packet header in its place before another in a train. Its tag stays.
+pub(crate) fn relink(store: &mut Store, first: u32, next: Option<u32>)
+    requires pool { IsPool store.old }
+    requires live { IsLive (pool_of store.old) first }
+    requires headed { (chain_of (pool_of store.old) first).front.header ≡ true }
+    requires link { IsLink next }
+    ensures pool { IsPool store.new }
+    ensures change { pool_of store.new ≡
+        with_chain (pool_of store.old) first
+        (placed (chain_of (pool_of store.old) first) next (chain_of (pool_of store.old) first).front.tag) }
+{
+    store.set_next_packet(first, next);
+}
+
 /// Puts a chain with packet header in its place before another in a train, with a tag.
 pub(crate) fn set_after(store: &mut Store, first: u32, after: Option<u32>, tag: u32)
     requires pool { IsPool store.old }

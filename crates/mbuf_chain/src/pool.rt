@@ -549,6 +549,18 @@ impl Pool {
         links::tag(&self.store, chain.first)
     }
 
+    /// Puts a chain in its place before another in a train. Its tag stays.
+    pub(crate) fn relink(&mut self, chain: &Chain, after: Option<u32>)
+        requires live { IsLive self.old chain.now }
+        requires headed { (chain_of self.old chain.now).front.header ≡ true }
+        requires link { IfSome after (IsLive self.old) }
+        ensures placed { self.new ≡ with_chain self.old chain.now
+            (placed (chain_of self.old chain.now) after (chain_of self.old chain.now).front.tag) }
+        ensures bounds { IsBounded self.new }
+    {
+        edit::relink(&mut self.store, chain.first, after);
+    }
+
     /// Puts a chain in its place before another in a train, with a tag.
     pub(crate) fn set_after(&mut self, chain: &Chain, after: Option<u32>, tag: u32)
         requires live { IsLive self.old chain.now }

@@ -326,8 +326,7 @@ impl Train {
     {
         let after = after(pool, before.number);
         place(pool, number, after, tag);
-        let kept = tag_of(pool, before.number);
-        place(pool, before.number, Some(number), kept);
+        relink(pool, before.number, Some(number));
         if self.len == before.index + 1 {
             self.last = number;
         }
@@ -450,6 +449,20 @@ fn tag_of(pool: &Pool, number: u32) -> u32
     let tag = pool.tag(&chain);
     let _ = chain.into_number();
     tag
+}
+
+/// Puts a chain before another. Its tag stays.
+fn relink(pool: &mut Pool, number: u32, after: Option<u32>)
+    requires live { IsLive pool.old number }
+    requires headed { (chain_of pool.old number).front.header ≡ true }
+    requires link { IfSome after (IsLive pool.old) }
+    ensures placed { pool.new ≡ with_chain pool.old number
+        (placed (chain_of pool.old number) after (chain_of pool.old number).front.tag) }
+    ensures bounds { IsBounded pool.new }
+{
+    let chain = Chain::from_number(number);
+    pool.relink(&chain, after);
+    let _ = chain.into_number();
 }
 
 /// Puts a chain before another, with a tag.

@@ -1,4 +1,4 @@
-use Rattle.std.proofs.Common.{◌+◌, ◌<◌, Some, ◌∙◌, sym, ap, arith, subst}
+use Rattle.std.proofs.Common.{refl, ◌+◌, ◌<◌, Some, ◌∙◌, sym, ap, arith, subst}
 use Rattle.std.specs.Option.{IfSome}
 use Rattle.mbuf_chain.specs.Chain.{ChainView, IsLive, chain_of}
 use Rattle.mbuf_chain.specs.Steps.{placed}
@@ -12,18 +12,13 @@ use Rattle.mbuf_chain.proofs.train.Train.insert_next.Goals.{then-self-before, el
 pub after-after-requires : goal.after-after-requires
 after-after-requires c = live_queued c.args.pool.now c.args.self.now c.args.before.index c.args.before.number c.requires.held c.requires.before.number
 
-pub tag_of-kept-requires : goal.tag_of-kept-requires
-tag_of-kept-requires c =
+pub relink-requires-clause-live : goal.relink-requires-clause-live
+relink-requires-clause-live c =
     live_with c.args.pool.now c.place.new.pool c.args.number (placed (chain_of c.args.pool.now c.args.number) c.after-after.result c.args.tag) c.args.before.number c.place.ensures.placed
     (live_queued c.args.pool.now c.args.self.now c.args.before.index c.args.before.number c.requires.held c.requires.before.number)
 
-pub place-requires-2-clause-live : goal.place-requires-2-clause-live
-place-requires-2-clause-live c =
-    live_with c.args.pool.now c.place.new.pool c.args.number (placed (chain_of c.args.pool.now c.args.number) c.after-after.result c.args.tag) c.args.before.number c.place.ensures.placed
-    (live_queued c.args.pool.now c.args.self.now c.args.before.index c.args.before.number c.requires.held c.requires.before.number)
-
-pub place-requires-2-clause-headed : goal.place-requires-2-clause-headed
-place-requires-2-clause-headed c =
+pub relink-requires-clause-headed : goal.relink-requires-clause-headed
+relink-requires-clause-headed c =
     ap (λ (v : ChainView). v.front.header)
     (kept_with c.args.pool.now c.place.new.pool c.args.number (placed (chain_of c.args.pool.now c.args.number) c.after-after.result c.args.tag) c.args.before.number c.place.ensures.placed
     (apart_queued c.args.pool.now c.args.self.now c.args.before.index c.args.before.number c.args.number c.requires.apart c.requires.before.number))
@@ -46,12 +41,12 @@ returns-clause-change c =
     let last = sym (end_there c.self.inside.len c.self.inside.last some) ∙ ap (λ (t : TrainView). t.last) c.self.view_is in
     elim c.if-self-before.branch [
       | then-self-before w ↦
-          inserted_after c.args.pool.now c.args.self.now c.args.before.number c.args.before.index (c.args.before.index + 1) c.args.number c.args.tag c.tag_of-kept.result c.after-after.result c.place.new.pool c.place-2.new.pool _ c.requires.held c.requires.live
-          c.requires.headed c.requires.apart c.requires.before.number (omega arith) c.after-after.ensures c.tag_of-kept.ensures c.place.ensures.placed c.place-2.ensures.placed (end_there _ _ (omega arith) ∙ ap (λ (s : Inside). Some s.first) w.self-inside-is ∙ first)
+          inserted_after c.args.pool.now c.args.self.now c.args.before.number c.args.before.index (c.args.before.index + 1) c.args.number c.args.tag _ c.after-after.result c.place.new.pool c.relink.new.pool _ c.requires.held c.requires.live
+          c.requires.headed c.requires.apart c.requires.before.number (omega arith) c.after-after.ensures refl c.place.ensures.placed c.relink.ensures.placed (end_there _ _ (omega arith) ∙ ap (λ (s : Inside). Some s.first) w.self-inside-is ∙ first)
           (ap (λ (s : Inside). s.len + 1) w.self-inside-is ∙ ap (λ n. n + 1) len) (λ _. end_there _ _ (omega arith) ∙ ap (λ (s : Inside). Some s.last) w.self-inside-is) (λ h. absurd (omega (arith, h, len, w.if-self-before.true)))
       | else-self-before w ↦
-          inserted_after c.args.pool.now c.args.self.now c.args.before.number c.args.before.index (c.args.before.index + 1) c.args.number c.args.tag c.tag_of-kept.result c.after-after.result c.place.new.pool c.place-2.new.pool _ c.requires.held c.requires.live
-          c.requires.headed c.requires.apart c.requires.before.number (omega arith) c.after-after.ensures c.tag_of-kept.ensures c.place.ensures.placed c.place-2.ensures.placed (end_there _ _ (omega arith) ∙ ap (λ (s : Inside). Some s.first) w.self-inside-is ∙ first)
+          inserted_after c.args.pool.now c.args.self.now c.args.before.number c.args.before.index (c.args.before.index + 1) c.args.number c.args.tag _ c.after-after.result c.place.new.pool c.relink.new.pool _ c.requires.held c.requires.live
+          c.requires.headed c.requires.apart c.requires.before.number (omega arith) c.after-after.ensures refl c.place.ensures.placed c.relink.ensures.placed (end_there _ _ (omega arith) ∙ ap (λ (s : Inside). Some s.first) w.self-inside-is ∙ first)
           (ap (λ (s : Inside). s.len + 1) w.self-inside-is ∙ ap (λ n. n + 1) len) (λ h. absurd (omega (arith, h, len, w.if-self-before.false))) (λ _. end_there _ _ (omega arith) ∙ ap (λ (s : Inside). Some s.last) w.self-inside-is ∙ last)
     ]
 
@@ -59,8 +54,8 @@ pub place-requires-clause-link : goal.place-requires-clause-link
 place-requires-clause-link c =
     subst (λ o. IfSome o (IsLive c.args.pool.now)) (sym c.after-after.ensures) (live_after c.args.pool.now c.args.self.now c.args.before.index c.args.before.number c.requires.held c.requires.before.number)
 
-pub place-requires-2-clause-link : goal.place-requires-2-clause-link
-place-requires-2-clause-link c =
+pub relink-requires-clause-link : goal.relink-requires-clause-link
+relink-requires-clause-link c =
     live_with c.args.pool.now c.place.new.pool c.args.number (placed (chain_of c.args.pool.now c.args.number) c.after-after.result c.args.tag) c.args.number c.place.ensures.placed c.requires.live
 
 pub overflow_add-before : goal.overflow_add-before
