@@ -44,6 +44,7 @@ pub fn cursor_at(pool: &Pool, chain: &Chain, off: u32) -> Cursor
 
 /// Where the byte lies that is `by` bytes, 1 or more, after that of a cursor. It must lie in the chain, at 65,535 at
 /// most. It takes one step for each mbuf that is passed on the way (this project's own).
+#[inline(always)]
 pub fn advance(pool: &Pool, chain: &Chain, from: Cursor, by: u32) -> Cursor
     requires live { IsLive pool.now chain.now }
     requires cursor { IsCursor (chain_of pool.now chain.now) from }
@@ -68,6 +69,7 @@ pub fn advance(pool: &Pool, chain: &Chain, from: Cursor, by: u32) -> Cursor
 }
 
 /// Whether a copy from `off` on has a packet header.
+#[inline(always)]
 fn copy_header(pool: &Pool, chain: &Chain, off: u32) -> bool
     requires { IsLive pool.now chain.now }
     ensures { result ≡ copy_header (chain_of pool.now chain.now).front.header off }
@@ -78,6 +80,8 @@ fn copy_header(pool: &Pool, chain: &Chain, off: u32) -> bool
 /// Copies `len` bytes of a chain, 1 or more, from a cursor on, as `m_copym` does. They must lie in the chain. It takes
 /// one step for each mbuf that it copies, so several ranges in order are copied in one walk. `NoBufs` comes exactly
 /// where fewer mbufs are free than the copy has, and changes nothing (this project's own).
+// Inlined, as `advance`: a datagram that is cut takes both for each of its packets.
+#[inline(always)]
 pub fn copy_at(pool: &mut Pool, chain: &Chain, from: Cursor, len: u32) -> Result<Chain, NoBufs>
     requires live { IsLive pool.old chain.now }
     requires cursor { IsCursor (chain_of pool.old chain.now) from }

@@ -19,6 +19,7 @@ pub(crate) fn room_low(header: bool) -> u32
 
 /// A chain of one mbuf that has a copy of `n` bytes of another mbuf, after the first `skip`: a cluster is
 /// shared.
+#[inline(always)]
 pub(crate) fn new_copy(
     pool: &mut Pool,
     header: bool,

@@ -46,6 +46,7 @@ pub(crate) fn cut_of(n: u32, mtu: u32) -> Cut
 }
 
 /// The header of the packet that carries part `i` of `n` bytes in chunks.
+#[inline(always)]
 fn head_of(head: IpHead, n: u32, chunk: u32, i: u32) -> IpHead
     requires short { n ≤ IP_MAX_DATA }
     requires chunk { chunk ≤ IP_MAX_PACKET }
@@ -62,6 +63,7 @@ fn head_of(head: IpHead, n: u32, chunk: u32, i: u32) -> IpHead
 }
 
 /// A new mbuf with packet header, in which a header lies at the front.
+#[inline(always)]
 fn header_mbuf(pool: &mut Pool, head: IpHead) -> Result<Chain, NoBufs>
     requires offset { head.offset ≤ MAX_OFFSET }
     requires unit { head.offset % FRAGMENT_UNIT ≡ 0 }
@@ -69,15 +71,13 @@ fn header_mbuf(pool: &mut Pool, head: IpHead) -> Result<Chain, NoBufs>
     ensures err { OnErr result (held_mbufs pool.old ≡ pool.old.mbufs) }
     ensures same { OnErr result (pool.new ≡ pool.old) }
 {
-    let front = pool.new_plain(true, PACKET_START)?;
-    let at = pool.first(&front);
     let mut bytes = [0; IP_HEADER as usize];
     write_head(&mut bytes, head);
-    pool.put_back(&front, at, &bytes);
-    Ok(front)
+    pool.new_plain_with(true, PACKET_START, &bytes)
 }
 
 /// A fragment: an mbuf with a header, and after it a copy of `size` bytes of a chain from a cursor on.
+#[inline(always)]
 fn fragment(
     pool: &mut Pool,
     chain: &Chain,

@@ -14,6 +14,7 @@ use crate::waiting::copy_packet;
 use mbuf_chain::{Chain, Pool, Train};
 use params::OUTPUT_QUEUE_PACKETS;
 use std::marker::Model;
+use std::mem;
 
 /// The packets that wait for the link, at most 50, first in first out: `ifqueue` of TCP/IP Illustrated volume 2,
 /// chapter 3. They are linked through their own first mbufs, so the queue takes no buffer. It must be spent, by `end`.
@@ -21,6 +22,24 @@ use std::marker::Model;
 /// The packets stay in the pool that each call is given, which is the one that they came from.
 pub struct Queue {
     train: Train,
+}
+
+/// Takes over the packets of a train, at most 50, by one in which none waits. It's no walk.
+fn take_over(pool: &Pool, train: &mut Train, more: Train)
+    requires none { train.old.len ≡ 0 }
+    requires few { more.len ≤ OUTPUT_QUEUE_PACKETS }
+    requires more { IsHeld pool.now more }
+    ensures packets { packets pool.now train.new
+        ≡ take OUTPUT_QUEUE_PACKETS (packets pool.now train.old ++ packets pool.now more) }
+    ensures lost { false
+        ≡ nat_lt OUTPUT_QUEUE_PACKETS (length (packets pool.now train.old ++ packets pool.now more)) }
+    ensures plain { BeginPlain pool.now more → BeginPlain pool.now train.new }
+    ensures queue { IsQueue pool.now train.new }
+    ensures moves { Moves pool.now (numbers pool.now train.old ++ numbers pool.now more)
+        pool.now (numbers pool.now train.new) }
+{
+    let _ = pool;
+    mem::replace(train, more).end_empty();
 }
 
 /// Puts packets at the end of a train up to the 50th, and frees the others. Answers whether there were others.
@@ -217,6 +236,10 @@ impl Queue {
         ensures moves { Moves pool.old (numbers pool.old self.old ++ numbers pool.old more)
             pool.new (numbers pool.new self.new) }
     {
+        if self.is_empty() && more.len() <= OUTPUT_QUEUE_PACKETS {
+            take_over(pool, &mut self.train, more);
+            return false;
+        }
         move_packets(pool, &mut self.train, more)
     }
 
