@@ -1,5 +1,5 @@
 //! Steps that several operations share.
-ghost use Rattle.std.specs.Prelude.{◌≡◌, ◌≢◌, ℕ, ◌+◌, ◌≤◌, true, false, length, IfOk, OnErr, IsTrue};
+ghost use Rattle.std.specs.Prelude.{◌≡◌, ◌≢◌, ℕ, ◌+◌, ◌≤◌, true, false, None, length, IfOk, OnErr, IsTrue};
 ghost use Rattle.mbuf_chain.specs.Chain.{IsLive, IsPlace, chain_of, entry_in, held_mbufs, with_chain, without, string, Adds};
 ghost use Rattle.mbuf_chain.specs.Steps.{one_mbuf, joined};
 ghost use Rattle.chain_ops.specs.Rooms.{room_low};
@@ -15,6 +15,35 @@ pub(crate) fn room_low(header: bool) -> u32
     ensures { result ≡ room_low header }
 {
     if header { PACKET_START } else { MBUF_HEADER }
+}
+
+/// A chain of one mbuf that has a copy of `n` bytes of another mbuf without cluster, after the first `skip`.
+// Apart: mostly it's a cluster that is copied, and that is shared.
+#[inline(never)]
+fn copy_plain(
+    pool: &mut Pool,
+    header: bool,
+    chain: &Chain,
+    at: Place,
+    skip: u32,
+    n: u32,
+) -> Result<Chain, NoBufs>
+    requires live { IsLive pool.old chain.now }
+    requires place { IsPlace (chain_of pool.old chain.now) at }
+    requires plain { (entry_in pool.old chain.now at).cluster ≡ None }
+    requires within { skip + n ≤ length (entry_in pool.old chain.now at).bytes }
+    requires headed { IsTrue header →
+        IsTrue (chain_of pool.old chain.now).front.header × (at.index ≡ 0) }
+    ensures ok { IfOk result (λ d. Adds pool.old pool.new d
+        (one_mbuf header (copied_entry (room_low header) (entry_in pool.old chain.now at) skip n) d)) }
+    ensures err { OnErr result (held_mbufs pool.old ≡ pool.old.mbufs) }
+    ensures same { OnErr result (pool.new ≡ pool.old) }
+{
+    pool.laws();
+    let copy = pool.new_plain(header, room_low(header))?;
+    let to = pool.first(&copy);
+    pool.append(&copy, to, chain, at, skip, n);
+    Ok(copy)
 }
 
 /// A chain of one mbuf that has a copy of `n` bytes of another mbuf, after the first `skip`: a cluster is
@@ -42,15 +71,12 @@ pub(crate) fn new_copy(
     if segment.cluster.is_some() {
         return pool.new_shared(header, chain, at, skip, n);
     }
-    pool.laws();
-    let copy = pool.new_plain(header, room_low(header))?;
-    let to = pool.first(&copy);
-    pool.append(&copy, to, chain, at, skip, n);
-    Ok(copy)
+    copy_plain(pool, header, chain, at, skip, n)
 }
 
 /// Links a chain of one mbuf, a copy of `n` bytes of an mbuf of another chain after the first `skip`, after
 /// the last mbuf of a chain. Answers its place.
+#[inline(always)]
 pub(crate) fn append_copy(
     pool: &mut Pool,
     copy: &Chain,
