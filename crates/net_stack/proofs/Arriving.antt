@@ -27,13 +27,14 @@ use Rattle.ledger.specs.Accounts.{item_at, weight_of, weight_at, weight_owned, I
 use Rattle.pcb_table.specs.Table.{machine}
 use Rattle.ip_out.specs.Headings.{head_in}
 use Rattle.ip_out.specs.declared.head.IpHead.{IpHead}
-use Rattle.ip_reass.specs.Table.{TableView, AreDistinct, IsReady, held_all, unfinished}
+use Rattle.ip_reass.specs.Table.{TableView, IsReady, held_all, unfinished}
 use Rattle.ip_reass.specs.Arrivals.{CameBy, CameByWire, carried_at, flat_head}
 use Rattle.ip_reass.specs.Arrivals as reass
 use Rattle.sock_calls.specs.Sockets.{SocksView, IsSocks, queued_chains, with_sockets, with_net}
-use Rattle.sock_calls.specs.Delivery.{NetView, seen, state_at, IsInput}
-use Rattle.net_stack.specs.Inside.Arrivals.{HaveApartKeys, is_ours_or_all, IsTaken, IsArrived}
-use Rattle.net_stack.proofs.Aside.{Aside, aside, BesideSocks, beside_socks, one_weighs}
+use Rattle.sock_calls.specs.Delivery.{NetView, state_at, KeepsParts, IsInput}
+use Rattle.sock_calls.proofs.Laws.{keeps_trans}
+use Rattle.net_stack.specs.Inside.Arrivals.{is_ours_or_all, IsTaken, IsArrived}
+use Rattle.net_stack.proofs.Aside.{Aside, aside, aside_keeps, as_held, net_seen, BesideSocks, beside_socks}
 
 -- ---- trims leave weights
 
@@ -75,19 +76,9 @@ freed {p} {q} {ds} {s} c owned table socks e = aside (c ∷ []) [] owned table s
 
 -- ---- a fragment
 
--- in hand of a chain: with nothing beside, and with the list of that one
-pub with_one : {p : PoolView} {t : State} (held : Weight) (c : ℕ) → IsAccounted p t (held ⊕ weight_at p c) → IsAccounted p t (held ⊕ weight_owned p (c ∷ []))
-with_one {p} {t} held c a = subst (λ (w : Weight). IsAccounted p t (held ⊕ w)) (sym (one_weighs p c)) a
-
-pub from_one : {p : PoolView} {t : State} (held : Weight) (c : ℕ) → IsAccounted p t (held ⊕ weight_owned p (c ∷ [])) → IsAccounted p t (held ⊕ weight_at p c)
-from_one {p} {t} held c a = subst (λ (w : Weight). IsAccounted p t (held ⊕ w)) (one_weighs p c) a
-
-pub from_none : {p : PoolView} {t : State} (held : Weight) → IsAccounted p t (held ⊕ weight_owned p []) → IsAccounted p t held
-from_none {p} {t} held a = subst (λ (w : Weight). IsAccounted p t w) (both-nothing held) a
-
 -- what a call on the unfinished datagrams says of a fragment of chain c, where it has `hand` then
 pub record Arrived (p : PoolView) (ds : TableView) (a : Counters) (c : ℕ) (h : IpHead) (q : PoolView) (es : TableView) (b : Counters) (hand : List ℕ) (Then : Weight → State → State → Type 0) : Type 0 where
-  pub step : (rest : State) (held : Weight) (origin : Origin) (new : State) → AreDistinct p ds.datagrams → CameBy origin (chain_of p c) → IsAccounted p (reass.machine p ds.datagrams a rest) (held ⊕ weight_at p c)
+  pub step : (rest : State) (held : Weight) (origin : Origin) (new : State) → CameBy origin (chain_of p c) → IsAccounted p (reass.machine p ds.datagrams a rest) (held ⊕ weight_at p c)
       → Then held (reass.machine q es.datagrams b rest) new → FragmentArrives exact_ledger origin held (flat_head h) (carried_at p c) (reass.machine p ds.datagrams a rest) new
   pub accounts : (rest : State) (held : Weight) → IsAccounted p (reass.machine p ds.datagrams a rest) (held ⊕ weight_at p c) → IsAccounted q (reass.machine q es.datagrams b rest) (held ⊕ weight_owned q hand)
   pub moves : Moves p (c ∷ held_all p ds.datagrams) q (hand ++ held_all q es.datagrams)
@@ -95,15 +86,15 @@ pub record Arrived (p : PoolView) (ds : TableView) (a : Counters) (c : ℕ) (h :
 -- it waits, or ended
 pub waits : {p q : PoolView} {ds es : TableView} {s : SocksView} {a b : Counters} {c : ℕ} {h : IpHead} → IsOwned p (c ∷ (held_all p ds.datagrams ++ queued_chains p s.queues)) → IsSocks p s
     → Arrived p ds a c h q es b [] (λ held now new. new ≡ now)
-    → IsTaken (seen p s (unfinished p ds.datagrams) (held_all p ds.datagrams) a) c h (seen q s (unfinished q es.datagrams) (held_all q es.datagrams) b)
+    → IsTaken (net_seen p s ds a) c h (net_seen q s es b)
 waits {p} {q} {ds} {es} {s} {a} {b} {c} {h} owned socks is =
     let beside : BesideSocks p s (c ∷ held_all p ds.datagrams) q [] (held_all q es.datagrams) = beside_socks (c ∷ held_all p ds.datagrams) [] (held_all q es.datagrams) owned socks is.moves in
     let now : (rest : State) → with_net q s (unfinished q es.datagrams) b rest ≡ reass.machine q es.datagrams b (with_sockets p s rest) =
     λ rest i. machine (record rest { unfinished = unfinished q es.datagrams; counters = b }) (λ fd. beside.socks.shows fd i) s.pcbs in
     record {
-      step = λ rest held origin apart came acc. is.step (with_sockets p s rest) held origin (with_net q s (unfinished q es.datagrams) b rest) apart came acc (now rest);
-      spent = record {
-        accounts = λ rest held acc. subst (λ (t : State). IsAccounted q t held) (sym (now rest)) (from_none held (is.accounts (with_sockets p s rest) held acc));
+      step = λ rest held origin came acc. is.step (with_sockets p s rest) held origin (with_net q s (unfinished q es.datagrams) b rest) came acc (now rest);
+      parts = record {
+        accounts = λ rest held acc. subst (λ (t : State). IsAccounted q t held) (sym (now rest)) (as_held held [] (is.accounts (with_sockets p s rest) held acc));
         ready = beside.socks.ready;
         pcbs = refl;
         moves = beside.moves;
@@ -113,23 +104,23 @@ waits {p} {q} {ds} {es} {s} {a} {b} {c} {h} owned socks is =
 -- its datagram is whole, and went to the sockets
 pub completes : {p q : PoolView} {ds es : TableView} {s : SocksView} {a b : Counters} {c d : ℕ} {h : IpHead} {u : NetView} (g : IpHead) → IsOwned p (c ∷ (held_all p ds.datagrams ++ queued_chains p s.queues)) → IsSocks p s
     → Arrived p ds a c h q es b (d ∷ []) (λ held now new. WholeArrives exact_ledger held g.src g.dst g.proto (item_at q d) now new)
-    → IsInput (seen q s (unfinished q es.datagrams) (held_all q es.datagrams) b) d g.src g.dst g.proto u
-    → IsTaken (seen p s (unfinished p ds.datagrams) (held_all p ds.datagrams) a) c h u
+    → IsInput (net_seen q s es b) d g.src g.dst g.proto u
+    → IsTaken (net_seen p s ds a) c h u
 completes {p} {q} {ds} {es} {s} {a} {b} {c} {d} {h} {u} g owned socks is input =
     let beside : BesideSocks p s (c ∷ held_all p ds.datagrams) q (d ∷ []) (held_all q es.datagrams) = beside_socks (c ∷ held_all p ds.datagrams) (d ∷ []) (held_all q es.datagrams) owned socks is.moves in
     let now : (rest : State) → with_net q s (unfinished q es.datagrams) b rest ≡ reass.machine q es.datagrams b (with_sockets p s rest) =
     λ rest i. machine (record rest { unfinished = unfinished q es.datagrams; counters = b }) (λ fd. beside.socks.shows fd i) s.pcbs in
     let mid : (rest : State) (held : Weight) → IsAccounted p (with_net p s (unfinished p ds.datagrams) a rest) (held ⊕ weight_at p c) → IsAccounted q (with_net q s (unfinished q es.datagrams) b rest) (held ⊕ weight_at q d) =
-    λ rest held acc. from_one held d (subst (λ (t : State). IsAccounted q t (held ⊕ weight_owned q (d ∷ []))) (sym (now rest)) (is.accounts (with_sockets p s rest) held acc)) in
+    λ rest held acc. as_held held (d ∷ []) (subst (λ (t : State). IsAccounted q t (held ⊕ weight_owned q (d ∷ []))) (sym (now rest)) (is.accounts (with_sockets p s rest) held acc)) in
     record {
-      step = λ rest held origin apart came acc.
-          is.step (with_sockets p s rest) held origin (state_at u rest) apart came acc
+      step = λ rest held origin came acc.
+          is.step (with_sockets p s rest) held origin (state_at u rest) came acc
           (subst (λ (t : State). WholeArrives exact_ledger held g.src g.dst g.proto (item_at q d) t (state_at u rest)) (now rest) (input.step rest held (mid rest held acc)));
-      spent = record {
-        accounts = λ rest held acc. input.accounts rest held (mid rest held acc);
-        ready = input.ready;
-        pcbs = input.pcbs;
-        moves = moves_trans beside.moves input.moves;
+      parts = record {
+        accounts = λ rest held acc. input.parts.accounts rest held (mid rest held acc);
+        ready = input.parts.ready;
+        pcbs = input.parts.pcbs;
+        moves = moves_trans beside.moves input.parts.moves;
       };
     }
 
@@ -171,20 +162,15 @@ headed bytes h none says =
 pub ends_here : {p q : PoolView} {ds : TableView} {s : SocksView} {a b e : Counters} {c : ℕ} (why : Why) → IsReady p ds → IsSocks p s → IsOwned p (c ∷ (held_all p ds.datagrams ++ queued_chains p s.queues)) → q ≡ without p c
     → b ≡ counts_more IpTotal 1 a → e ≡ counted why b
     → ((rest : State) (held : Weight) (origin : Origin) → Arrives exact_ledger origin held (item_at p c) (with_net p s (unfinished p ds.datagrams) a rest) (ends why (counts_packet (with_net p s (unfinished p ds.datagrams) a rest))))
-    → IsArrived (seen p s (unfinished p ds.datagrams) (held_all p ds.datagrams) a) c (seen q s (unfinished q ds.datagrams) (held_all q ds.datagrams) e)
+    → IsArrived (net_seen p s ds a) c (net_seen q s ds e)
 ends_here {p} {q} {ds} {s} {a} {b} {e} {c} why table socks owned gone is_b is_e ended =
     let beside : Aside p ds s (c ∷ []) q [] = freed c owned table socks gone in
     let count : e ≡ counted why (counts_more IpTotal 1 a) = is_e ∙ ap (counted why) is_b in
     let now : (rest : State) → with_net q s (unfinished q ds.datagrams) e rest ≡ ends why (counts_packet (with_net p s (unfinished p ds.datagrams) a rest)) =
     λ rest. beside.shows e rest ∙ (λ i. with_net p s (unfinished p ds.datagrams) (count i) rest) in
     record {
-      step = λ rest held origin apart came acc. subst (λ (t : State). Arrives exact_ledger origin held (item_at p c) (with_net p s (unfinished p ds.datagrams) a rest) t) (sym (now rest)) (ended rest held origin);
-      spent = record {
-        accounts = λ rest held acc. from_none held (beside.accounts a e rest held (with_one held c acc));
-        ready = beside.socks.ready;
-        pcbs = refl;
-        moves = beside.moves;
-      };
+      step = λ rest held origin came acc. subst (λ (t : State). Arrives exact_ledger origin held (item_at p c) (with_net p s (unfinished p ds.datagrams) a rest) t) (sym (now rest)) (ended rest held origin);
+      parts = aside_keeps a e beside;
     }
 
 pub refused : (bytes : List ℕ) (origin : Origin) (held : Weight) (w : Weight) (old : State) (why : Why) → head_fault bytes ≡ Some why
@@ -275,10 +261,6 @@ counted_now : {p q : PoolView} {ds : TableView} {s : SocksView} {a b : Counters}
     → with_net q s (unfinished q ds.datagrams) b rest ≡ counts_packet (with_net p s (unfinished p ds.datagrams) a rest)
 counted_now {p} {q} {ds} {s} {a} {b} is rest = is.cut.beside.shows b rest ∙ (λ i. with_net p s (unfinished p ds.datagrams) (is.counts i) rest)
 
-cut_accounts : {p q : PoolView} {ds : TableView} {s : SocksView} {a b : Counters} {c : ℕ} {h : IpHead} → IsForUs p ds s a c h q b → (rest : State) (held : Weight)
-    → IsAccounted p (with_net p s (unfinished p ds.datagrams) a rest) (held ⊕ weight_at p c) → IsAccounted q (with_net q s (unfinished q ds.datagrams) b rest) (held ⊕ weight_at q c)
-cut_accounts {a = a} {b = b} {c = c} is rest held acc = from_one held c (is.cut.beside.accounts a b rest held (with_one held c acc))
-
 -- it passes the tests of its header, and of its destination
 ours_pass : {p q : PoolView} {ds : TableView} {s : SocksView} {a b : Counters} {c : ℕ} {h : IpHead} (is : IsForUs p ds s a c h q b) (rest : State) (held : Weight) (origin : Origin) (new : State)
     → (is_fragment (flat_head h) ≡ true → FragmentArrives exact_ledger origin held (flat_head h) (carried (item_at p c)) (counts_packet (with_net p s (unfinished p ds.datagrams) a rest)) new)
@@ -295,39 +277,29 @@ ours_pass {p} {q} {ds} {s} {a} {b} {c} {h} is rest held origin new part all =
     })
 
 pub fragment_arrives : {p q : PoolView} {ds : TableView} {s : SocksView} {a b : Counters} {c : ℕ} {h : IpHead} {u : NetView} → IsForUs p ds s a c h q b → is_fragment (flat_head h) ≡ true
-    → IsTaken (seen q s (unfinished q ds.datagrams) (held_all q ds.datagrams) b) c h u → IsArrived (seen p s (unfinished p ds.datagrams) (held_all p ds.datagrams) a) c u
+    → IsTaken (net_seen q s ds b) c h u → IsArrived (net_seen p s ds a) c u
 fragment_arrives {p} {q} {ds} {s} {a} {b} {c} {h} {u} is part taken = record {
-  step = λ rest held origin apart came acc. ours_pass is rest held origin (state_at u rest)
+  step = λ rest held origin came acc. ours_pass is rest held origin (state_at u rest)
       (λ e. subst (λ (x : Item). FragmentArrives exact_ledger origin held (flat_head h) x (counts_packet (with_net p s (unfinished p ds.datagrams) a rest)) (state_at u rest)) (carried_cut is)
       (subst (λ (t : State). FragmentArrives exact_ledger origin held (flat_head h) (carried_at q c) t (state_at u rest)) (counted_now is rest)
-      (taken.step rest held origin (subst HaveApartKeys (sym is.cut.beside.reass.shows) apart) (came_cut origin h.total (chain_of p c) (chain_of q c) is.cut.entries came) (cut_accounts is rest held acc))))
+      (taken.step rest held origin (came_cut origin h.total (chain_of p c) (chain_of q c) is.cut.entries came) (is.cut.beside.accounts a b rest held acc))))
       (λ e. absurd (true≢false (sym part ∙ e)));
-  spent = record {
-    accounts = λ rest held acc. taken.spent.accounts rest held (cut_accounts is rest held acc);
-    ready = taken.spent.ready;
-    pcbs = taken.spent.pcbs;
-    moves = moves_trans is.cut.beside.moves taken.spent.moves;
-  };
+  parts = keeps_trans (aside_keeps a b is.cut.beside) taken.parts;
 }
 
 pub whole_arrives : {p q r : PoolView} {ds : TableView} {s : SocksView} {a b : Counters} {c : ℕ} {h : IpHead} {u : NetView} → IsForUs p ds s a c h q b → is_fragment (flat_head h) ≡ false
-    → IsChanged q ds s c r (without_first 20 (chain_of q c).entries) → IsInput (seen r s (unfinished r ds.datagrams) (held_all r ds.datagrams) b) c h.src h.dst h.proto u
-    → IsArrived (seen p s (unfinished p ds.datagrams) (held_all p ds.datagrams) a) c u
+    → IsChanged q ds s c r (without_first 20 (chain_of q c).entries) → IsInput (net_seen r s ds b) c h.src h.dst h.proto u
+    → IsArrived (net_seen p s ds a) c u
 whole_arrives {p} {q} {r} {ds} {s} {a} {b} {c} {h} {u} is all off input =
     let item : item_at r c ≡ carried (item_at p c) =
     (λ i. record { bytes = (ap flat_bytes off.entries ∙ without_first_bytes 20 (chain_of q c).entries) i; weight = (ap weight_of off.entries ∙ without_weighs 20 (chain_of q c).entries) i }) ∙ carried_cut is in
-    let accounts : (rest : State) (held : Weight) → IsAccounted p (with_net p s (unfinished p ds.datagrams) a rest) (held ⊕ weight_at p c) → IsAccounted r (with_net r s (unfinished r ds.datagrams) b rest) (held ⊕ weight_at r c) =
-    λ rest held acc. from_one held c (off.beside.accounts b b rest held (with_one held c (cut_accounts is rest held acc))) in
+    let cut : KeepsParts (net_seen p s ds a) (c ∷ []) (net_seen r s ds b) (c ∷ []) =
+    keeps_trans (aside_keeps a b is.cut.beside) (aside_keeps b b off.beside) in
     record {
-      step = λ rest held origin apart came acc. ours_pass is rest held origin (state_at u rest)
+      step = λ rest held origin came acc. ours_pass is rest held origin (state_at u rest)
           (λ e. absurd (true≢false (sym e ∙ all)))
           (λ e. subst (λ (x : Item). WholeArrives exact_ledger held h.src h.dst h.proto x (counts_packet (with_net p s (unfinished p ds.datagrams) a rest)) (state_at u rest)) item
           (subst (λ (t : State). WholeArrives exact_ledger held h.src h.dst h.proto (item_at r c) t (state_at u rest)) (off.beside.shows b rest ∙ counted_now is rest)
-          (input.step rest held (accounts rest held acc))));
-      spent = record {
-        accounts = λ rest held acc. input.accounts rest held (accounts rest held acc);
-        ready = input.ready;
-        pcbs = input.pcbs;
-        moves = moves_trans is.cut.beside.moves (moves_trans off.beside.moves input.moves);
-      };
+          (input.step rest held (cut.accounts rest held acc))));
+      parts = keeps_trans cut input.parts;
     }

@@ -1,10 +1,10 @@
 -- Sockets and unfinished datagrams beside a step of what is in hand.
-use Rattle.std.proofs.Common.{◌≡◌, ℕ, ◌+◌, List, [], ◌∷◌, ◌++◌, refl, sym, ap, subst, arith}
+use Rattle.std.proofs.Common.{◌≡◌, ℕ, ◌+◌, List, [], ◌∷◌, ◌++◌, refl, sym, ap, ◌∙◌, subst, arith}
 use Rattle.flat_model.specs.Amounts.Weight.{Weight, ◌⊕◌}
 use Rattle.flat_model.specs.Machine.State.{State}
 use Rattle.flat_model.specs.Machine.Ledger.{weight_of_state}
 use Rattle.flat_model.specs.declared.counters.Counters.{Counters}
-use Rattle.flat_model.proofs.Laws.{times-both, both-nothing}
+use Rattle.flat_model.proofs.Laws.{times-both, both-assoc, both-nothing}
 use Rattle.mbuf_chain.specs.Chain.{PoolView}
 use Rattle.mbuf_chain.specs.Owners.{times, IsOwned, Moves}
 use Rattle.mbuf_chain.specs.Frames.{SameAt}
@@ -14,12 +14,27 @@ use Rattle.ledger.proofs.Laws.{accounted_after}
 use Rattle.pcb_table.specs.Table.{machine}
 use Rattle.ip_reass.specs.Table.{TableView, IsReady, held_all, unfinished}
 use Rattle.sock_calls.specs.Sockets.{SocksView, IsSocks, queued_chains, with_net}
+use Rattle.sock_calls.specs.Delivery.{NetView, KeepsParts, held_with, seen}
 use Rattle.sock_calls.proofs.Laws.{Kept, kept}
 use Rattle.net_stack.proofs.Lifted.{ReassKept, reass_kept}
 
--- the weight of one chain
-pub one_weighs : (p : PoolView) (c : ℕ) → weight_owned p (c ∷ []) ≡ weight_at p c
-one_weighs p c = both-nothing (weight_at p c)
+-- what an arrival sees of these parts
+abbrev pub net_seen : PoolView → SocksView → TableView → Counters → NetView
+net_seen p s r c = seen p s (unfinished p r.datagrams) (held_all p r.datagrams) c
+
+-- what is held with chains is that and what they weigh together
+hand_weighs : (p : PoolView) (held : Weight) (xs : List ℕ) → held_with p held xs ≡ held ⊕ weight_owned p xs
+hand_weighs p held [] = sym (both-nothing held)
+hand_weighs p held (c ∷ cs) =
+    hand_weighs p (held ⊕ weight_at p c) cs ∙ both-assoc held (weight_at p c) (weight_owned p cs)
+
+pub as_held : {p : PoolView} {s : State} (held : Weight) (xs : List ℕ) → IsAccounted p s (held ⊕ weight_owned p xs)
+    → IsAccounted p s (held_with p held xs)
+as_held {p} {s} held xs a = subst (λ (w : Weight). IsAccounted p s w) (sym (hand_weighs p held xs)) a
+
+pub as_owned : {p : PoolView} {s : State} (held : Weight) (xs : List ℕ) → IsAccounted p s (held_with p held xs)
+    → IsAccounted p s (held ⊕ weight_owned p xs)
+as_owned {p} {s} held xs a = subst (λ (w : Weight). IsAccounted p s w) (hand_weighs p held xs) a
 
 -- the accounts follow what is in hand
 pub hand_accounts : {p q : PoolView} {xs ys : List ℕ} (s : State) (held : Weight) → IsAccounted p s (held ⊕ weight_owned p xs) → IsOwned p xs → Moves p xs q ys → IsAccounted q s (held ⊕ weight_owned q ys)
@@ -45,8 +60,9 @@ pub record Aside (p : PoolView) (ds : TableView) (s : SocksView) (ins : List ℕ
   pub shows : (c : Counters) (rest : State) → with_net q s (unfinished q ds.datagrams) c rest ≡ with_net p s (unfinished p ds.datagrams) c rest
   pub owned : IsOwned q (outs ++ (held_all q ds.datagrams ++ queued_chains q s.queues))
   pub moves : Moves p (ins ++ (held_all p ds.datagrams ++ queued_chains p s.queues)) q (outs ++ (held_all q ds.datagrams ++ queued_chains q s.queues))
-  pub accounts : (c d : Counters) (rest : State) (held : Weight) → IsAccounted p (with_net p s (unfinished p ds.datagrams) c rest) (held ⊕ weight_owned p ins)
-      → IsAccounted q (with_net q s (unfinished q ds.datagrams) d rest) (held ⊕ weight_owned q outs)
+  pub accounts : (c d : Counters) (rest : State) (held : Weight)
+      → IsAccounted p (with_net p s (unfinished p ds.datagrams) c rest) (held_with p held ins)
+      → IsAccounted q (with_net q s (unfinished q ds.datagrams) d rest) (held_with q held outs)
 
 pub aside : {p q : PoolView} {ds : TableView} {s : SocksView} (ins outs : List ℕ) → IsOwned p (ins ++ (held_all p ds.datagrams ++ queued_chains p s.queues)) → IsReady p ds → IsSocks p s → Moves p ins q outs → Aside p ds s ins q outs
 aside {p} {q} {ds} {s} ins outs owned table socks m =
@@ -77,9 +93,15 @@ aside {p} {q} {ds} {s} ins outs owned table socks m =
       owned = owned_after all owned;
       moves = all;
       accounts = λ c d rest held a.
-          subst (λ (t : State). IsAccounted q t (held ⊕ weight_owned q outs)) (sym (now d rest))
-          (counters_accounts d (hand_accounts (with_net p s (unfinished p ds.datagrams) c rest) held a (λ k. omega (arith, owned k, split k)) m));
+          subst (λ (t : State). IsAccounted q t (held_with q held outs)) (sym (now d rest))
+          (as_held held outs (counters_accounts d (hand_accounts (with_net p s (unfinished p ds.datagrams) c rest) held
+          (as_owned held ins a) (λ k. omega (arith, owned k, split k)) m)));
     }
+
+-- they are as they were, whatever was counted
+pub aside_keeps : {p q : PoolView} {ds : TableView} {s : SocksView} {ins outs : List ℕ} (a b : Counters)
+    → Aside p ds s ins q outs → KeepsParts (net_seen p s ds a) ins (net_seen q s ds b) outs
+aside_keeps a b x = record { accounts = x.accounts a b; ready = x.socks.ready; pcbs = refl; moves = x.moves }
 
 -- ---- the sockets beside a step of the unfinished datagrams and of what is in hand
 pub record BesideSocks (p : PoolView) (s : SocksView) (before : List ℕ) (q : PoolView) (hand after : List ℕ) : Type 0 where

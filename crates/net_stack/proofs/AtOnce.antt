@@ -33,11 +33,11 @@ use Rattle.ip_reass.specs.declared.arrival.Arrival.{Arrival}
 use Rattle.ip_reass.specs.declared.arrival.Arrival.TheVariants.{Whole}
 use Rattle.ip_reass.proofs.Laws.{Fits, cluster_arrives}
 use Rattle.sock_calls.specs.Sockets.{SocksView, IsSocks, queued_chains, with_net, with_sockets}
-use Rattle.sock_calls.specs.Delivery.{NetView, IsInput, seen, state_at}
-use Rattle.sock_calls.proofs.Laws.{free_each}
+use Rattle.sock_calls.specs.Delivery.{NetView, IsInput, KeepsParts, state_at}
+use Rattle.sock_calls.proofs.Laws.{free_each, keeps_trans}
 use Rattle.net_stack.specs.Inside.Arrivals.{HasCome}
-use Rattle.net_stack.proofs.Aside.{BesideSocks, beside_socks}
-use Rattle.net_stack.proofs.Arriving.{IsHeaded, from_one, passes}
+use Rattle.net_stack.proofs.Aside.{BesideSocks, as_held, beside_socks, net_seen}
+use Rattle.net_stack.proofs.Arriving.{IsHeaded, passes}
 
 -- a packet in one cluster
 abbrev bag : ℕ → Weight
@@ -59,8 +59,8 @@ module _ (p : PoolView) (s : SocksView) (r : TableView) (a c : Counters) (packet
   mid_is : (rest : State) → mid rest ≡ counts_packet (old rest)
   mid_is rest = λ i. with_net p s (unfinished p r.datagrams) (counts i) rest
 
-  pub mid_accounts : (rest : State) → IsAccounted p (old rest) nothing → IsAccounted p (mid rest) nothing
-  mid_accounts rest acc = record { mbufs = acc.mbufs; clusters = acc.clusters; total = acc.total; references = acc.references }
+  mid_accounts : (rest : State) (held : Weight) → IsAccounted p (old rest) held → IsAccounted p (mid rest) held
+  mid_accounts rest held acc = record { mbufs = acc.mbufs; clusters = acc.clusters; total = acc.total; references = acc.references }
 
   one_room : wire (length packet) ≡ Cluster (length packet) ∷ []
   one_room = one_cluster 0 (length packet) (omega arith) fits.many (omega (arith, fits.few))
@@ -98,7 +98,7 @@ module _ (p : PoolView) (s : SocksView) (r : TableView) (a c : Counters) (packet
   module _ (result : Arrival) (q : PoolView) (t : TableView) (b : Counters) (is : ArrivesAtOnce p r.datagrams c packet h result q t.datagrams b) where
     pub comes : (rest new : State) → IsAccounted p (old rest) nothing → GoesOn nothing q result (reass.machine q t.datagrams b (with_sockets p s rest)) new → ComesIn exact_ledger packet (old rest) new
     comes rest new acc goes =
-        let chain = is.step (with_sockets p s rest) nothing new (mid_accounts rest acc) goes in
+        let chain = is.step (with_sockets p s rest) nothing new (mid_accounts rest nothing acc) goes in
         let fragment : FragmentArrives exact_ledger (By_wire (length packet)) nothing (flat_head h) (record { bytes = drop 20 packet; weight = bag is.cluster }) (counts_packet (old rest)) new =
         subst (λ (m : State). FragmentArrives exact_ledger (By_wire (length packet)) nothing (flat_head h) (record { bytes = drop 20 packet; weight = bag is.cluster }) m new) (mid_is rest)
         (cluster_arrives nothing h packet is.cluster (mid rest) new fits.many fits.total chain) in
@@ -120,8 +120,11 @@ module _ (p : PoolView) (s : SocksView) (r : TableView) (a c : Counters) (packet
           },
         )
 
-    module _ (socks : IsSocks p s) (owned : IsOwned p (held_all p r.datagrams ++ queued_chains p s.queues)) (moves : Moves p (held_all p r.datagrams) q (in_hand result ++ held_all q t.datagrams)) where
-      pub beside : BesideSocks p s (held_all p r.datagrams) q (in_hand result) (held_all q t.datagrams)
+    module _ (socks : IsSocks p s) (owned : IsOwned p (held_all p r.datagrams ++ queued_chains p s.queues))
+        (moves : Moves p (held_all p r.datagrams) q (in_hand result ++ held_all q t.datagrams))
+        (accounts : (rest : State) (held : Weight) → IsAccounted p (reass.machine p r.datagrams c rest) held
+        → IsAccounted q (reass.machine q t.datagrams b rest) (held ⊕ weight_owned q (in_hand result))) where
+      beside : BesideSocks p s (held_all p r.datagrams) q (in_hand result) (held_all q t.datagrams)
       beside = beside_socks (held_all p r.datagrams) (in_hand result) (held_all q t.datagrams) owned socks moves
 
       abbrev then_net : State → State
@@ -130,33 +133,46 @@ module _ (p : PoolView) (s : SocksView) (r : TableView) (a c : Counters) (packet
       now : (rest : State) → then_net rest ≡ reass.machine q t.datagrams b (with_sockets p s rest)
       now rest = λ i. machine (record rest { unfinished = unfinished q t.datagrams; counters = b }) (λ fd. beside.socks.shows fd i) s.pcbs
 
-      -- it waits, or ended
-      pub came_kept : in_hand result ≡ [] → ((x y : State) → y ≡ x → GoesOn nothing q result x y) → HasCome (seen p s (unfinished p r.datagrams) (held_all p r.datagrams) a) packet (seen q s (unfinished q t.datagrams) (held_all q t.datagrams) b)
-      came_kept none waits = record {
-        step = λ rest keys acc. comes rest (then_net rest) acc (waits _ _ (now rest));
+      -- what the parts keep then
+      pub laid : KeepsParts (net_seen p s r a) [] (net_seen q s t b) (in_hand result)
+      laid = record {
+        accounts = λ rest held acc. as_held held (in_hand result)
+            (subst (λ (m : State). IsAccounted q m (held ⊕ weight_owned q (in_hand result))) (sym (now rest))
+            (accounts (with_sockets p s rest) held (mid_accounts rest held acc)));
         ready = beside.socks.ready;
         pcbs = refl;
-        moves = subst (λ (hand : List ℕ). Moves p (held_all p r.datagrams ++ queued_chains p s.queues) q (hand ++ (held_all q t.datagrams ++ queued_chains q s.queues))) none beside.moves;
+        moves = beside.moves;
+      }
+
+      -- it waits, or ended
+      pub came_kept : in_hand result ≡ [] → ((x y : State) → y ≡ x → GoesOn nothing q result x y)
+          → HasCome (net_seen p s r a) packet (net_seen q s t b)
+      came_kept none waits = record {
+        step = λ rest acc. comes rest (then_net rest) acc (waits _ _ (now rest));
+        parts = subst (λ (hand : List ℕ). KeepsParts (net_seen p s r a) [] (net_seen q s t b) hand) none laid;
       }
 
 -- its datagram is whole, and went to the sockets
-pub came_whole : {p q : PoolView} {s : SocksView} (r t : TableView) {a b c : Counters} {packet : List ℕ} {h : IpHead} {d : ℕ} {u : NetView} (g : IpHead) (head : IsHeaded packet h) (part : is_fragment (flat_head h) ≡ true)
-    → ((rest : State) → is_for_us (with_net p s (unfinished p r.datagrams) a rest).config h.dst ≡ true) → Fits p h packet → c ≡ counts_more IpTotal 1 a
-    → ArrivesAtOnce p r.datagrams c packet h (Whole d g) q t.datagrams b → IsSocks p s → IsOwned p (held_all p r.datagrams ++ queued_chains p s.queues) → Moves p (held_all p r.datagrams) q (d ∷ held_all q t.datagrams)
-    → ((rest : State) (held : Weight) → IsAccounted p (reass.machine p r.datagrams c rest) held → IsAccounted q (reass.machine q t.datagrams b rest) (held ⊕ weight_owned q (d ∷ [])))
-    → IsInput (seen q s (unfinished q t.datagrams) (held_all q t.datagrams) b) d g.src g.dst g.proto u
-    → HasCome (seen p s (unfinished p r.datagrams) (held_all p r.datagrams) a) packet u
-came_whole {p} {q} {s} r t {a} {b} {c} {packet} {h} {d} {u} g head part ours fits counts is socks owned moves accounts input = record {
-  step = λ rest keys acc. comes p s r a c packet h head part ours fits counts (Whole d g) q t b is rest (state_at u rest) acc
-      (subst (λ (m : State). WholeArrives exact_ledger nothing g.src g.dst g.proto (item_at q d) m (state_at u rest)) (same rest) (input.step rest nothing (in_one rest acc)));
-  ready = input.ready;
-  pcbs = input.pcbs;
-  moves = moves_trans (beside p s r a c packet h head part ours fits counts (Whole d g) q t b is socks owned moves).moves input.moves;
-}
-  where
-    same : (rest : State) → with_net q s (unfinished q t.datagrams) b rest ≡ reass.machine q t.datagrams b (with_sockets p s rest)
-    same rest = now p s r a c packet h head part ours fits counts (Whole d g) q t b is socks owned moves rest
-
-    in_one : (rest : State) → IsAccounted p (with_net p s (unfinished p r.datagrams) a rest) nothing → IsAccounted q (with_net q s (unfinished q t.datagrams) b rest) (nothing ⊕ weight_at q d)
-    in_one rest acc =
-        from_one nothing d (subst (λ (m : State). IsAccounted q m (nothing ⊕ weight_owned q (d ∷ []))) (sym (same rest)) (accounts (with_sockets p s rest) nothing (mid_accounts p s r a c packet h head part ours fits counts rest acc)))
+pub came_whole : {p q : PoolView} {s : SocksView} (r t : TableView) {a b c : Counters} {packet : List ℕ} {h : IpHead}
+    {d : ℕ} {u : NetView} (g : IpHead) (head : IsHeaded packet h) (part : is_fragment (flat_head h) ≡ true)
+    → ((rest : State) → is_for_us (with_net p s (unfinished p r.datagrams) a rest).config h.dst ≡ true)
+    → Fits p h packet → c ≡ counts_more IpTotal 1 a
+    → ArrivesAtOnce p r.datagrams c packet h (Whole d g) q t.datagrams b → IsSocks p s
+    → IsOwned p (held_all p r.datagrams ++ queued_chains p s.queues)
+    → Moves p (held_all p r.datagrams) q (d ∷ held_all q t.datagrams)
+    → ((rest : State) (held : Weight) → IsAccounted p (reass.machine p r.datagrams c rest) held
+    → IsAccounted q (reass.machine q t.datagrams b rest) (held ⊕ weight_owned q (d ∷ [])))
+    → IsInput (net_seen q s t b) d g.src g.dst g.proto u → HasCome (net_seen p s r a) packet u
+came_whole {p} {q} {s} r t {a} {b} {c} {packet} {h} {d} {u} g head part ours fits counts is socks owned moves accounts input =
+    let kept : KeepsParts (net_seen p s r a) [] (net_seen q s t b) (d ∷ []) =
+    laid p s r a c packet h head part ours fits counts (Whole d g) q t b is socks owned moves accounts in
+    let same : (rest : State) → with_net q s (unfinished q t.datagrams) b rest
+    ≡ reass.machine q t.datagrams b (with_sockets p s rest) =
+    now p s r a c packet h head part ours fits counts (Whole d g) q t b is socks owned moves accounts in
+    record {
+      step = λ rest acc.
+          comes p s r a c packet h head part ours fits counts (Whole d g) q t b is rest (state_at u rest) acc
+          (subst (λ (m : State). WholeArrives exact_ledger nothing g.src g.dst g.proto (item_at q d) m (state_at u rest))
+          (same rest) (input.step rest nothing (kept.accounts rest nothing acc)));
+      parts = keeps_trans kept input.parts;
+    }

@@ -25,13 +25,11 @@ use Rattle.ledger.specs.Reserve.{Reserves}
 use Rattle.pcb_table.specs.Table.{machine}
 use Rattle.ip_reass.specs.Arrivals.{CameByWire}
 use Rattle.ip_reass.specs.Table.{TableView, IsReady, held_all, unfinished}
-use Rattle.sock_calls.proofs.Laws.{laid_weight, bag_of_times, free_each}
+use Rattle.sock_calls.proofs.Laws.{keeps_trans, laid_weight, bag_of_times, free_each}
 use Rattle.sock_calls.specs.Sockets.{SocksView, IsSocks, queued_chains, with_net}
-use Rattle.sock_calls.specs.Delivery.{NetView, seen, state_at}
-use Rattle.net_stack.specs.Inside.Arrivals.{HaveApartKeys, HasCome, IsArrived, IsLaidOut}
-use Rattle.net_stack.proofs.Keys.{had_buffers}
-use Rattle.net_stack.proofs.Aside.{Aside, aside, BesideSocks, beside_socks}
-use Rattle.net_stack.proofs.Arriving.{from_one}
+use Rattle.sock_calls.specs.Delivery.{NetView, KeepsParts, state_at}
+use Rattle.net_stack.specs.Inside.Arrivals.{HasCome, IsArrived, IsLaidOut}
+use Rattle.net_stack.proofs.Aside.{Aside, aside, aside_keeps, counters_accounts, net_seen, BesideSocks, beside_socks}
 
 -- ---- how many buffers it takes
 
@@ -144,24 +142,41 @@ pub asked_socks : {p q : PoolView} {s : SocksView} {r t : TableView} {a b : Coun
     → BesideSocks p s (held_all p r.datagrams) q [] (held_all q t.datagrams)
 asked_socks {p} {q} {s} {r} {t} socks owned is = beside_socks (held_all p r.datagrams) [] (held_all q t.datagrams) owned socks is.moves
 
+-- what the parts keep then, whatever was counted
+asked_keeps : {p q : PoolView} {s : SocksView} {r t : TableView} {a b : Counters} {need : Need} {answer : Bool}
+    (d : Counters) → IsSocks p s → IsOwned p (held_all p r.datagrams ++ queued_chains p s.queues)
+    → IsAsked p r a need answer q t b → KeepsParts (net_seen p s r a) [] (net_seen q s t d) []
+asked_keeps {p} {q} {s} {r} {t} {a} {b} d socks owned is =
+    let beside = asked_socks socks owned is in
+    let now : (rest : State) → with_net q s (unfinished q t.datagrams) d rest
+    ≡ record (with_net p s (unfinished p r.datagrams) a rest) { unfinished = unfinished q t.datagrams; counters = d } =
+    λ rest i. machine (record rest { unfinished = unfinished q t.datagrams; counters = d })
+    (λ fd. beside.socks.shows fd i) s.pcbs in
+    record {
+      accounts = λ rest held acc. subst (λ (m : State). IsAccounted q m held) (sym (now rest))
+          (counters_accounts d
+          (is.reserves (with_net p s (unfinished p r.datagrams) a rest) held refl refl acc).accounted);
+      ready = beside.socks.ready;
+      pcbs = refl;
+      moves = beside.moves;
+    }
+
 pub lost : {p q : PoolView} {s : SocksView} {r t : TableView} {a b d : Counters} {need : Need} {answer : Bool} (packet : List ℕ) → IsSocks p s → IsOwned p (held_all p r.datagrams ++ queued_chains p s.queues) → IsAsked p r a need answer q t b
     → need ≡ need_of (wire (length packet)) → answer ≡ false → d ≡ counted NoBufs b
-    → HasCome (seen p s (unfinished p r.datagrams) (held_all p r.datagrams) a) packet (seen q s (unfinished q t.datagrams) (held_all q t.datagrams) d)
+    → HasCome (net_seen p s r a) packet (net_seen q s t d)
 lost {p} {q} {s} {r} {t} {a} {b} {d} {need} {answer} packet socks owned is is_need no_answer is_d =
     let beside = asked_socks socks owned is in
     let mid : State → State = λ rest. record (with_net p s (unfinished p r.datagrams) a rest) { unfinished = unfinished q t.datagrams; counters = b } in
     let now : (rest : State) → with_net q s (unfinished q t.datagrams) d rest ≡ ends NoBufs (mid rest) =
     λ rest i. machine (record rest { unfinished = unfinished q t.datagrams; counters = is_d i }) (λ fd. beside.socks.shows fd i) s.pcbs in
     record {
-      step = λ rest keys acc. (
+      step = λ rest acc. (
         answer,
         mid rest,
         subst (λ (n : Need). HasBuffers exact_ledger (with_net p s (unfinished p r.datagrams) a rest) nothing n answer (mid rest)) is_need (is.reserves (with_net p s (unfinished p r.datagrams) a rest) nothing refl refl acc).has_buffers,
         record { yes = λ e. absurd (true≢false (sym e ∙ no_answer)); no = λ e. now rest },
       );
-      ready = beside.socks.ready;
-      pcbs = refl;
-      moves = beside.moves;
+      parts = asked_keeps d socks owned is;
     }
 
 -- what is asked for before it arrives
@@ -180,8 +195,8 @@ laid_ready {c = c} socks owned is ready laid =
 
 pub came : {p q q1 : PoolView} {s : SocksView} {r t : TableView} {a b : Counters} {need : Need} {answer : Bool} {c : ℕ} {u : NetView} (packet : List ℕ) → IsSocks p s → IsOwned p (held_all p r.datagrams ++ queued_chains p s.queues)
     → IsAsked p r a need answer q t b → need ≡ need_of (wire (length packet)) → answer ≡ true → IsReady q t → IsLaidOut q packet q1 c
-    → IsArrived (seen q1 s (unfinished q1 t.datagrams) (held_all q1 t.datagrams) b) c u
-    → HasCome (seen p s (unfinished p r.datagrams) (held_all p r.datagrams) a) packet u
+    → IsArrived (net_seen q1 s t b) c u
+    → HasCome (net_seen p s r a) packet u
 came {p} {q} {q1} {s} {r} {t} {a} {b} {need} {answer} {c} {u} packet socks owned is is_need yes_answer ready laid arrived =
     let beside = asked_socks socks owned is in
     let x : Aside q t s [] q1 (c ∷ []) = (laid_ready socks owned is ready laid).beside in
@@ -190,12 +205,12 @@ came {p} {q} {q1} {s} {r} {t} {a} {b} {need} {answer} {c} {u} packet socks owned
     let now : (rest : State) → with_net q s (unfinished q t.datagrams) b rest ≡ mid rest =
     λ rest i. machine (record rest { unfinished = unfinished q t.datagrams; counters = b }) (λ fd. beside.socks.shows fd i) s.pcbs in
     let asked : (rest : State) → IsAccounted p (old rest) nothing → Reserves (old rest) nothing need answer (mid rest) q = λ rest acc. is.reserves (old rest) nothing refl refl acc in
-    let accounts : (rest : State) → IsAccounted p (old rest) nothing → IsAccounted q1 (with_net q1 s (unfinished q1 t.datagrams) b rest) (nothing ⊕ weight_at q1 c) =
-    λ rest acc. from_one nothing c (x.accounts b b rest nothing (subst (λ (m : State). IsAccounted q m nothing) (sym (now rest)) (asked rest acc).accounted)) in
+    let laid_out : KeepsParts (net_seen p s r a) [] (net_seen q1 s t b) (c ∷ []) =
+    keeps_trans (asked_keeps b socks owned is) (aside_keeps b b x) in
     let item : item_at q1 c ≡ record { bytes = packet; weight = flat.weight_of (laid_on laid.clusters (wire (length packet))) } =
     λ i. record { bytes = laid.bytes_are i; weight = (ap weight_of laid.made.entries ∙ sym (laid_weight _) ∙ ap flat.weight_of laid.layout) i } in
     record {
-      step = λ rest keys acc. (
+      step = λ rest acc. (
         answer,
         mid rest,
         subst (λ (n : Need). HasBuffers exact_ledger (old rest) nothing n answer (mid rest)) is_need (asked rest acc).has_buffers,
@@ -210,14 +225,11 @@ came {p} {q} {q1} {s} {r} {t} {a} {b} {need} {answer} {c} {u} packet socks owned
             subst (λ (i : Item). Arrives exact_ledger (By_wire (length packet)) nothing i (mid rest) (state_at u rest)) item
                 (subst (λ (m : State). Arrives exact_ledger (By_wire (length packet)) nothing (item_at q1 c) m (state_at u rest)) (x.shows b rest ∙ now rest)
                 (arrived.step rest nothing (By_wire (length packet))
-                (subst HaveApartKeys (sym x.reass.shows) (had_buffers (old rest) (mid rest) nothing need answer (asked rest acc).has_buffers keys).keys)
                 (came_by_wire (chain_of q1 c) laid.clusters packet laid.made.entries laid.number laid.bytes_are)
-                (accounts rest acc))),
+                (laid_out.accounts rest nothing acc))),
           );
           no = λ e. absurd (true≢false (sym yes_answer ∙ e));
         },
       );
-      ready = arrived.spent.ready;
-      pcbs = arrived.spent.pcbs;
-      moves = moves_trans beside.moves (moves_trans x.moves arrived.spent.moves);
+      parts = keeps_trans laid_out arrived.parts;
     }

@@ -19,8 +19,8 @@ use Rattle.mbuf_chain.proofs.Laws.Trains.{held_none}
 use Rattle.ip_reass.specs.Table.{TableView, IsReady, held_all, unfinished}
 use Rattle.sock_calls.specs.declared.net.Net.{Net}
 use Rattle.sock_calls.specs.Sockets.{SocksView, queued_chains}
-use Rattle.sock_calls.specs.Delivery.{seen}
 use Rattle.sock_calls.specs.Outgoing.{CanSend, sending}
+use Rattle.net_stack.proofs.Aside.{net_seen}
 use Rattle.net_stack.specs.Stack.{StackView, IsStack, state_of, rest_of, chains_of}
 use Rattle.net_stack.specs.Inside.Arrivals.{HasCome}
 use Rattle.net_stack.specs.Inside.Hosts.{KeepsOutput, arrival_view, send_view}
@@ -44,9 +44,9 @@ pub come_owned : (s : StackView) → IsStack s → IsOwned s.pool (held_all s.po
 come_owned s is = λ k. omega (arith, is.all k, times-append k (held_all s.pool s.reass.datagrams ++ queued_chains s.pool s.socks.queues) (numbers s.pool s.output))
 
 pub rx_step : (s : StackView) (packet : List ℕ) (q : PoolView) (w : SocksView) (es : TableView) (c : Counters) → IsStack s → IsEvent (Comes packet) → IsReady q es
-    → HasCome (seen s.pool s.socks (unfinished s.pool s.reass.datagrams) (held_all s.pool s.reass.datagrams) s.counters) packet (seen q w (unfinished q es.datagrams) (held_all q es.datagrams) c)
+    → HasCome (net_seen s.pool s.socks s.reass s.counters) packet (net_seen q w es c)
     → Stepped s (Comes packet) Done (record s { pool = q; socks = w; reass = es; counters = c })
-rx_step s packet q w es c is can ready came = input_step s q w es c (Comes packet) Done is can came.ready ready came.moves (refl, came.step (rest_of s) is.consistent.keys (accounts s is))
+rx_step s packet q w es c is can ready came = input_step s q w es c (Comes packet) Done is can came.parts.ready ready came.parts.moves (refl, came.step (rest_of s) (accounts s is))
 
 -- ---- a send
 
@@ -82,7 +82,7 @@ pub send_step : (config : Config) (p q : PoolView) (s w : SocksView) (r es : Tab
 send_step config p q s w r es n m fd to bytes result is mtu can sent =
     stepped (shown config p s r n) (shown config q w es m) (Send fd to bytes) (sent_reply result) is can refl sent.socks sent.reass sent.out
     (moves_reordered (chains_of (shown config p s r n)) (chains_of (shown config q w es m)) sent.moves (same_chains config p s r n) (same_chains config q w es m))
-    (sent.step (boot config) (sym mtu) is.consistent.keys (accounts (shown config p s r n) is))
+    (sent.step (boot config) (sym mtu) (accounts (shown config p s r n) is))
 
 -- the fields of a stack after a send
 pub sent_called : (s : Fields) (v : StackView) (h : Host) (fd : ℕ) (to : Option Addr) (bytes : List ℕ)

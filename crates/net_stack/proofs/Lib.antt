@@ -3,7 +3,6 @@ mod Arriving
 mod Called
 mod Coming
 mod Given
-mod Keys
 mod Lifted
 mod Looping
 mod Runs

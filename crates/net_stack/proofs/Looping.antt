@@ -20,11 +20,10 @@ use Rattle.ip_out.specs.Packets.{packets, AreBegunPlain, BeginPlain}
 use Rattle.ip_out.proofs.Laws.{none_wait}
 use Rattle.ip_reass.specs.Table.{TableView, IsReady, held_all, unfinished}
 use Rattle.sock_calls.specs.Sockets.{SocksView, IsSocks, queued_chains, with_net}
-use Rattle.sock_calls.specs.Delivery.{NetView, seen, state_at, chains_at}
-use Rattle.net_stack.specs.Inside.Arrivals.{HaveApartKeys, IsArrived, AreArriving, HaveArrived}
-use Rattle.net_stack.proofs.Keys.{keys_arrive}
+use Rattle.sock_calls.specs.Delivery.{NetView, IsAccountedAt, KeepsParts, held_with, state_at, chains_at}
+use Rattle.net_stack.specs.Inside.Arrivals.{IsArrived, AreArriving, HaveArrived}
 use Rattle.net_stack.proofs.Lifted.{output_weighs}
-use Rattle.net_stack.proofs.Aside.{Aside, aside}
+use Rattle.net_stack.proofs.Aside.{Aside, aside, as_held, as_owned, net_seen}
 
 -- the first packet of a train, once it was taken
 record IsFirst (p : PoolView) (t : TrainView) (q : PoolView) (c : ℕ) (u : TrainView) : Type 0 where
@@ -47,22 +46,21 @@ is_first p q t u c tag held plain some is_queued_packets is_queued_packet = go (
           later = subst AreBegunPlain left begun.1;
         }
 
--- what is in hand first goes after
-swapped : {p : PoolView} {s : State} (a b : Weight) → IsAccounted p s (nothing ⊕ (a ⊕ b)) → IsAccounted p s (b ⊕ a)
-swapped {p} {s} a b acc = accounted_as acc refl (record {
+-- the first of what is in hand goes after the others
+first_last : {p : PoolView} {s : State} (held a b : Weight) → IsAccounted p s (held ⊕ (a ⊕ b))
+    → IsAccounted p s ((held ⊕ b) ⊕ a)
+first_last {p} {s} held a b acc = accounted_as acc refl (record {
   mbufs = omega arith;
   bag = λ k. omega (
     arith,
-    times-both k (weight_of_state s) (nothing ⊕ (a ⊕ b)),
-    times-both k nothing (a ⊕ b),
+    times-both k (weight_of_state s) (held ⊕ (a ⊕ b)),
+    times-both k held (a ⊕ b),
     times-both k a b,
-    times-both k (weight_of_state s) (b ⊕ a),
-    times-both k b a,
+    times-both k (weight_of_state s) ((held ⊕ b) ⊕ a),
+    times-both k (held ⊕ b) a,
+    times-both k held b,
   );
 })
-
-from_nothing : {p : PoolView} {s : State} (a : Weight) → IsAccounted p s a → IsAccounted p s (nothing ⊕ a)
-from_nothing {p} {s} a acc = subst (λ (w : Weight). IsAccounted p s w) (sym (nothing-both a)) acc
 
 -- the train that is left, beside an arrival
 record IsLater (p : PoolView) (c : ℕ) (u : TrainView) (xs : List ℕ) (q : PoolView) (ys : List ℕ) : Type 0 where
@@ -91,7 +89,7 @@ is_later p q c u xs ys owned held plain m =
 -- ---- one packet more
 
 pub record IsOneMore (v : NetView) (t : TrainView) (q : PoolView) (s : SocksView) (ds : TableView) (b : Counters) (u : TrainView) : Type 0 where
-  pub way : AreArriving v t (seen q s (unfinished q ds.datagrams) (held_all q ds.datagrams) b) u
+  pub way : AreArriving v t (net_seen q s ds b) u
   pub held : IsHeld q u
   pub plain : BeginPlain q u
   pub owned : IsOwned q (numbers q u ++ (held_all q ds.datagrams ++ queued_chains q s.queues))
@@ -105,41 +103,48 @@ pub one_owned : {p q : PoolView} {s : SocksView} {ds : TableView} {c : ℕ} (t u
 one_owned {q = q} {s = s} {ds = ds} {c = c} t u a = λ k. omega (arith, a.owned k, times-append k (numbers q u) (held_all q ds.datagrams ++ queued_chains q s.queues))
 
 pub one_more : {v : NetView} {t u u1 : TrainView} {q q1 q2 : PoolView} {s s2 : SocksView} {ds ds2 : TableView} {a b : Counters} {c : ℕ} (tag : ℕ)
-    → AreArriving v t (seen q s (unfinished q ds.datagrams) (held_all q ds.datagrams) a) u → IsHeld q u → BeginPlain q u → IsOwned q (numbers q u ++ (held_all q ds.datagrams ++ queued_chains q s.queues)) → IsReady q ds
+    → AreArriving v t (net_seen q s ds a) u → IsHeld q u → BeginPlain q u → IsOwned q (numbers q u ++ (held_all q ds.datagrams ++ queued_chains q s.queues)) → IsReady q ds
     → 0 < u.len → queued_packets q1 u1 ≡ remove (queued_packets q u) 0 → queued_packet_at q u 0 ≡ record { number = c; entries = (chain_of q1 c).entries; tag = tag } → IsHeld q1 u1 → Moves q (numbers q u) q1 (c ∷ numbers q1 u1)
-    → IsArrived (seen q1 s (unfinished q1 ds.datagrams) (held_all q1 ds.datagrams) a) c (seen q2 s2 (unfinished q2 ds2.datagrams) (held_all q2 ds2.datagrams) b)
+    → IsArrived (net_seen q1 s ds a) c (net_seen q2 s2 ds2 b)
     → IsOneMore v t q2 s2 ds2 b u1
 one_more {v} {t} {u} {u1} {q} {q1} {q2} {s} {s2} {ds} {ds2} {a} {b} {c} tag w held plain owned table some is_queued_packets is_queued_packet held1 m arrived =
-    let x : Aside q ds s (numbers q u) q1 (c ∷ numbers q1 u1) = taken u u1 owned table w.ready m in
+    let x : Aside q ds s (numbers q u) q1 (c ∷ numbers q1 u1) = taken u u1 owned table w.parts.ready m in
     let f : IsFirst q u q1 c u1 = is_first q q1 u u1 c tag held plain some is_queued_packets is_queued_packet in
     let l : IsLater q1 c u1 (held_all q1 ds.datagrams ++ queued_chains q1 s.queues) q2 (held_all q2 ds2.datagrams ++ queued_chains q2 s2.queues) =
-    is_later q1 q2 c u1 (held_all q1 ds.datagrams ++ queued_chains q1 s.queues) (held_all q2 ds2.datagrams ++ queued_chains q2 s2.queues) x.owned held1 f.later arrived.spent.moves in
+    is_later q1 q2 c u1 (held_all q1 ds.datagrams ++ queued_chains q1 s.queues) (held_all q2 ds2.datagrams ++ queued_chains q2 s2.queues) x.owned held1 f.later arrived.parts.moves in
     let wl : Weight = weight_owned q1 (numbers q1 u1) in
     let weighs : all_of (λ (item : Item). item.weight) (packets q1 u1) ≡ wl = output_weighs q1 (numbers q1 u1) in
     let now : (rest : State) → with_net q1 s (unfinished q1 ds.datagrams) a rest ≡ with_net q s (unfinished q ds.datagrams) a rest = λ rest. x.shows a rest in
-    let acc1 : (rest : State) → IsAccounted v.pool (state_at v rest) (weight_owned v.pool (numbers v.pool t)) → IsAccounted q1 (with_net q1 s (unfinished q1 ds.datagrams) a rest) (wl ⊕ weight_at q1 c) =
-    λ rest acc. swapped (weight_at q1 c) wl (x.accounts a a rest nothing (from_nothing (weight_owned q (numbers q u)) (w.accounts rest acc))) in
-    let keys1 : (rest : State) → HaveApartKeys v.unfinished → IsAccounted v.pool (state_at v rest) (weight_owned v.pool (numbers v.pool t)) → HaveApartKeys (unfinished q1 ds.datagrams) =
-    λ rest keys acc. subst HaveApartKeys (sym x.reass.shows) (w.keys rest keys acc) in
-    let step : (rest : State) → HaveApartKeys v.unfinished → IsAccounted v.pool (state_at v rest) (weight_owned v.pool (numbers v.pool t))
-    → Arrives exact_ledger Looped wl (item_at q1 c) (with_net q1 s (unfinished q1 ds.datagrams) a rest) (with_net q2 s2 (unfinished q2 ds2.datagrams) b rest) =
-    λ rest keys acc. arrived.step rest wl Looped (keys1 rest keys acc) f.plain (acc1 rest acc) in
+    let in_hand : (rest : State) (held : Weight) → IsAccountedAt v rest (held_with v.pool held (numbers v.pool t))
+    → IsAccounted q1 (with_net q1 s (unfinished q1 ds.datagrams) a rest) ((held ⊕ wl) ⊕ weight_at q1 c) =
+    λ rest held acc. first_last held (weight_at q1 c) wl (as_owned held (c ∷ numbers q1 u1)
+    (x.accounts a a rest held (w.parts.accounts rest held acc))) in
+    let alone : (rest : State) → IsAccountedAt v rest (weight_owned v.pool (numbers v.pool t))
+    → IsAccounted q1 (with_net q1 s (unfinished q1 ds.datagrams) a rest) (wl ⊕ weight_at q1 c) =
+    λ rest acc. subst (λ (h : Weight). IsAccounted q1 (with_net q1 s (unfinished q1 ds.datagrams) a rest)
+    (h ⊕ weight_at q1 c)) (nothing-both wl)
+    (in_hand rest nothing (as_held nothing (numbers v.pool t)
+    (subst (λ (h : Weight). IsAccountedAt v rest h) (sym (nothing-both (weight_owned v.pool (numbers v.pool t)))) acc))) in
     record {
       way = record {
-        goes = λ rest new keys acc later.
+        goes = λ rest new acc later.
             let mid : State = with_net q2 s2 (unfinished q2 ds2.datagrams) b rest in
+            let step : Arrives exact_ledger Looped wl (item_at q1 c) (with_net q1 s (unfinished q1 ds.datagrams) a rest) mid =
+            arrived.step rest wl Looped f.plain (alone rest acc) in
             let first : Arrives exact_ledger Looped (all_of (λ (item : Item). item.weight) (packets q1 u1)) (item_at q1 c) (with_net q s (unfinished q ds.datagrams) a rest) mid =
             subst (λ (h : Weight). Arrives exact_ledger Looped h (item_at q1 c) (with_net q s (unfinished q ds.datagrams) a rest) mid) (sym weighs)
-            (subst (λ (old : State). Arrives exact_ledger Looped wl (item_at q1 c) old mid) (now rest) (step rest keys acc)) in
+            (subst (λ (old : State). Arrives exact_ledger Looped wl (item_at q1 c) old mid) (now rest) step) in
             let others : AllArrive exact_ledger (packets q1 u1) mid new = subst (λ (items : List Item). AllArrive exact_ledger items mid new) l.items later in
-            w.goes rest new keys acc (subst (λ (items : List Item). AllArrive exact_ledger items (with_net q s (unfinished q ds.datagrams) a rest) new) (sym f.items) (mid, first, others));
-        keys = λ rest keys acc. keys_arrive Looped wl (item_at q1 c) (with_net q1 s (unfinished q1 ds.datagrams) a rest) (with_net q2 s2 (unfinished q2 ds2.datagrams) b rest) (step rest keys acc) (keys1 rest keys acc);
-        accounts = λ rest acc. subst (λ (h : Weight). IsAccounted q2 (with_net q2 s2 (unfinished q2 ds2.datagrams) b rest) h)
-            (sym weighs ∙ ap (all_of (λ (item : Item). item.weight)) (sym l.items) ∙ output_weighs q2 (numbers q2 u1))
-            (arrived.spent.accounts rest wl (acc1 rest acc));
-        ready = arrived.spent.ready;
-        pcbs = arrived.spent.pcbs ∙ w.pcbs;
-        moves = moves_trans w.moves (moves_trans x.moves l.moves);
+            w.goes rest new acc (subst (λ (items : List Item). AllArrive exact_ledger items (with_net q s (unfinished q ds.datagrams) a rest) new) (sym f.items) (mid, first, others));
+        parts = record {
+          accounts = λ rest held acc. as_held held (numbers q2 u1)
+              (subst (λ (h : Weight). IsAccounted q2 (with_net q2 s2 (unfinished q2 ds2.datagrams) b rest) (held ⊕ h))
+              (sym weighs ∙ ap (all_of (λ (item : Item). item.weight)) (sym l.items) ∙ output_weighs q2 (numbers q2 u1))
+              (arrived.parts.accounts rest (held ⊕ wl) (in_hand rest held acc)));
+          ready = arrived.parts.ready;
+          pcbs = arrived.parts.pcbs ∙ w.parts.pcbs;
+          moves = moves_trans w.parts.moves (moves_trans x.moves l.moves);
+        };
       };
       held = l.held;
       plain = l.plain;
@@ -150,8 +155,8 @@ one_more {v} {t} {u} {u1} {q} {q1} {q2} {s} {s2} {ds} {ds2} {a} {b} {c} tag w he
 
 pub all_arrived : (v : NetView) (t : TrainView) (w : NetView) (u : TrainView) → AreArriving v t w u → u.len ≡ 0 → HaveArrived v t w
 all_arrived v t w u way none = record {
-  step = λ rest keys acc. way.goes rest (state_at w rest) keys acc (subst (λ (items : List Item). AllArrive exact_ledger items (state_at w rest) (state_at w rest)) (sym (none_wait w.pool u none)) refl);
-  ready = way.ready;
-  pcbs = way.pcbs;
-  moves = subst (λ (xs : List ℕ). Moves v.pool (numbers v.pool t ++ chains_at v) w.pool (xs ++ chains_at w)) (none_left w.pool u none) way.moves;
+  step = λ rest acc. way.goes rest (state_at w rest) acc
+      (subst (λ (items : List Item). AllArrive exact_ledger items (state_at w rest) (state_at w rest))
+      (sym (none_wait w.pool u none)) refl);
+  parts = subst (λ (left : List ℕ). KeepsParts v (numbers v.pool t) w left) (none_left w.pool u none) way.parts;
 }

@@ -32,7 +32,6 @@ use Rattle.sock_calls.specs.Sockets.{queues_of, queued_chains}
 use Rattle.sock_calls.specs.Sends.{SendsOnce}
 use Rattle.sock_calls.specs.Outgoing.{SendView, CanSend, IsSent, sending, state_in}
 use Rattle.sock_calls.proofs.Laws.{Kept, kept, sends_at_once, sends_again}
-use Rattle.net_stack.specs.Inside.Arrivals.{HaveApartKeys}
 use Rattle.net_stack.specs.Inside.Sending.{is_pool_lack, lacks_pool, all_in, out_chains, AreParts, IsTried}
 use Rattle.net_stack.proofs.Lifted.{ReassKept, reass_kept, OutputKept, output_kept, output_weighs}
 
@@ -42,7 +41,6 @@ pub record IsOnce (fd : ℕ) (to : Option Addr) (bytes : List ℕ) (v : SendView
   pub step : (rest : State) → rest.config.mtu ≡ v.net.mtu → IsAccounted v.pool (all_in v r rest) nothing
       → SendsOnce exact_ledger fd to bytes (all_in v r rest) (sent_reply result) (packets u.pool u.net.looped) (all_in u r rest)
   pub accounts : (rest : State) → IsAccounted v.pool (all_in v r rest) nothing → IsAccounted u.pool (all_in u r rest) (weight_owned u.pool (numbers u.pool u.net.looped))
-  pub keys : HaveApartKeys (unfinished v.pool r.datagrams) → HaveApartKeys (unfinished u.pool r.datagrams)
   pub parts : AreParts v r u r
 
 pub once : {fd : ℕ} {to : Option Addr} {bytes : List ℕ} {v u : SendView} {r : TableView} {result : Result ℕ Errno} → IsSent fd to bytes v result u → IsReady v.pool r → IsOwned v.pool (held_all v.pool r.datagrams ++ out_chains v)
@@ -58,7 +56,6 @@ once {fd} {to} {bytes} {v} {u} {r} {result} is ready owned =
       step = λ rest mtu acc. subst (λ (t : State). SendsOnce exact_ledger fd to bytes (all_in v r rest) (sent_reply result) (packets q u.net.looped) t) (now rest) (is.step (record rest { unfinished = unfinished p r.datagrams }) mtu acc);
       accounts = λ rest acc. subst (λ (t : State). IsAccounted q t (weight_owned q (numbers q u.net.looped))) (now rest)
           (subst (λ (w : Weight). IsAccounted q (state_in u (record rest { unfinished = unfinished p r.datagrams })) w) (output_weighs q (numbers q u.net.looped)) (is.accounts (record rest { unfinished = unfinished p r.datagrams }) acc));
-      keys = λ keys. subst HaveApartKeys (sym rk.shows) keys;
       parts = record {
         socks = is.socks;
         out = is.out;
@@ -127,7 +124,6 @@ pub tried_at_once : {fd : ℕ} {to : Option Addr} {bytes : List ℕ} {v u : Send
 tried_at_once {fd} {to} {bytes} {v} {u} {r} {result} enough is = record {
   goes = λ rest new mtu acc all. sends_at_once fd to bytes (all_in v r rest) (sent_reply result) (packets u.pool u.net.looped) (all_in u r rest) new (no_lack result enough) (is.step rest mtu acc) all;
   accounts = is.accounts;
-  keys = is.keys;
   parts = is.parts;
 }
 
@@ -137,7 +133,6 @@ pub record IsReclaimed (v : SendView) (r : TableView) (q : PoolView) (t : TableV
   pub can : CanSend (sending q v.socks (record (v.net) { counters = c }))
   pub shows : (rest : State) → all_in (sending q v.socks (record (v.net) { counters = c })) t rest ≡ reclaimed (all_in v r rest)
   pub accounts : (rest : State) → IsAccounted v.pool (all_in v r rest) nothing → IsAccounted q (all_in (sending q v.socks (record (v.net) { counters = c })) t rest) nothing
-  pub keys : HaveApartKeys (unfinished q t.datagrams)
   pub owned : IsOwned q (held_all q t.datagrams ++ out_chains (sending q v.socks (record (v.net) { counters = c })))
   pub moves : Moves v.pool (held_all v.pool r.datagrams ++ out_chains v) q (held_all q t.datagrams ++ out_chains (sending q v.socks (record (v.net) { counters = c })))
 
@@ -205,7 +200,6 @@ gives_back {v} {r} {t} {q} {c} k can ready owned none count is_c m =
               times-both j ws nothing,
             );
           }));
-      keys = λ key. omega (arith, ap (λ ds. count_by (is_key key) (unfinished q ds)) empty);
       owned = left;
       moves = all;
     }
@@ -221,7 +215,6 @@ tried_again {fd} {to} {bytes} {v} {u} {w} {r} {t} {first} {result} {q} {c} lack 
       (subst (λ (old : State). SendsOnce exact_ledger fd to bytes old (sent_reply result) (packets w.pool w.net.looped) (all_in w t rest)) (back.shows rest) (two.step rest mtu (back.accounts rest acc)))
       all;
   accounts = λ rest acc. two.accounts rest (back.accounts rest acc);
-  keys = λ keys. two.keys back.keys;
   parts = record {
     socks = two.parts.socks;
     out = two.parts.out;

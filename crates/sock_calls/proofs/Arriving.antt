@@ -124,10 +124,12 @@ delivered_input {p} {q} {r} {t} {u} {bs} {cs} {us} {vs} {ws} {xs} {ys} {zs} {c} 
           let three = subst (λ (l : List Socket). Delivers exact_ledger held from (record { bytes = udp_bytes (string (chain_of p chain)); weight = weight_at p chain }) l (with_net q s vs c rest) new) (named (queues_of q bs)) two in
           subst (λ (old : State). WholeArrives exact_ledger held h.src h.dst h.proto (item_at p chain) old new) (now rest)
           (delivered_arrives exact_ledger held p q chain d h t to from (weight_at p chain) is (record rest { unfinished = vs; counters = c }) new (queues_of q bs) three);
-      accounts = λ rest held a. done.accounts rest held (accounts rest held a);
-      ready = done.ready;
-      pcbs = done.pcbs;
-      moves = moves_trans x.moves (subst (λ (l : List ℕ). Moves q (d ∷ (l ++ queued_chains q bs)) r (zs ++ queued_chains r cs)) same_ys done.moves);
+      parts = record {
+        accounts = λ rest held a. done.parts.accounts rest held (accounts rest held a);
+        ready = done.parts.ready;
+        pcbs = done.parts.pcbs;
+        moves = moves_trans x.moves (subst (λ (l : List ℕ). Moves q (d ∷ (l ++ queued_chains q bs)) r (zs ++ queued_chains r cs)) same_ys done.parts.moves);
+      };
     }
 
 pub dropped_input : {p q : PoolView} {t : Table} {bs : List SockBufView} {us vs : List Unfinished} {xs ys : List ℕ} {c e : Counters} {chain : ℕ} {h : IpHead} (why : Why)
@@ -141,10 +143,12 @@ dropped_input {p} {q} {t} {bs} {us} {vs} {xs} {ys} {c} {e} {chain} {h} why socks
       step = λ rest held a.
           subst (λ (new : State). WholeArrives exact_ledger held h.src h.dst h.proto (item_at p chain) (with_net p s us c rest) new) (sym (now rest))
           (dropped_arrives exact_ledger held p q chain h t why (weight_at p chain) is (record rest { unfinished = us; counters = c }) (queues_of p bs));
-      accounts = λ rest held a. subst (λ (x : State). IsAccounted q x held) (sym (now rest)) (freed_accounts chain why a (λ k. omega (arith, owned k)) is.freed);
-      ready = gone.socks.ready;
-      pcbs = refl;
-      moves = subst (λ (zs : List ℕ). Moves p (chain ∷ (xs ++ queued_chains p bs)) q (zs ++ queued_chains q bs)) (sym (same_ys gone.same)) gone.moves;
+      parts = record {
+        accounts = λ rest held a. subst (λ (x : State). IsAccounted q x held) (sym (now rest)) (freed_accounts chain why a (λ k. omega (arith, owned k)) is.freed);
+        ready = gone.socks.ready;
+        pcbs = refl;
+        moves = subst (λ (zs : List ℕ). Moves p (chain ∷ (xs ++ queued_chains p bs)) q (zs ++ queued_chains q bs)) (sym (same_ys gone.same)) gone.moves;
+      };
     }
 
 -- the table that the look-up leaves is the same

@@ -201,11 +201,13 @@ full_end {p} {q} {t} {bs} {us} {vs} {xs} {ys} {c} {d} {chain} {fd} sender f =
       step = λ rest held b e a.
           full_appends held sender (item_at p chain) (socket_with (queues_of p bs) b) (with_net p s us c rest) (with_net p s us c rest) (with_net q s vs d rest)
           (ap (λ (k : ℕ). fits (queues_of p bs k) (length (string (chain_of p chain)))) (f.named b e) ∙ f.full) (now rest);
-      accounts = λ rest held a. subst (λ (x : State). IsAccounted q x held) (sym (now rest)) (freed_accounts chain UdpFullSocket a (λ k. omega (arith, f.owned k)) f.freed);
       others = λ k ne. gone.socks.shows k;
-      ready = gone.socks.ready;
-      pcbs = refl;
-      moves = subst (λ (zs : List ℕ). Moves p (chain ∷ (xs ++ queued_chains p bs)) q (zs ++ queued_chains q bs)) (sym (f.waiting gone.same)) gone.moves;
+      parts = record {
+        accounts = λ rest held a. subst (λ (x : State). IsAccounted q x held) (sym (now rest)) (freed_accounts chain UdpFullSocket a (λ k. omega (arith, f.owned k)) f.freed);
+        ready = gone.socks.ready;
+        pcbs = refl;
+        moves = subst (λ (zs : List ℕ). Moves p (chain ∷ (xs ++ queued_chains p bs)) q (zs ++ queued_chains q bs)) (sym (f.waiting gone.same)) gone.moves;
+      };
     }
 
 -- what a test of the pool leaves, in the words of the machine
@@ -230,13 +232,15 @@ lacking_end {p} {q} {r} {t} {bs} {us} {vs} {ws} {xs} {ys} {zs} {c} {d} {e} {chai
       step = λ rest held b at a.
           lacking_appends held sender (item_at p chain) (socket_with (queues_of p bs) b) (with_net p s us c rest) (with_net p s vs d rest) (with_net r s ws e rest)
           (ap (λ (k : ℕ). fits (queues_of p bs k) (length (string (chain_of p chain)))) (named b at) ∙ room) (i.reserves rest (held ⊕ weight_at p chain) a).has_buffers (now rest);
-      accounts = λ rest held a.
-          subst (λ (m : State). IsAccounted r m held) (sym (now rest))
-          (freed_accounts chain NoBufs (subst (λ (v : ChainView). IsAccounted q (with_net p s vs d rest) (held ⊕ weight_of v.entries)) (sym x.chain) (i.reserves rest (held ⊕ weight_at p chain) a).accounted) (λ k. omega (arith, x.owned k)) is_r);
       others = λ k ne. gone.socks.shows k ∙ x.socks.shows k;
-      ready = gone.socks.ready;
-      pcbs = refl;
-      moves = moves_trans x.moves (subst (λ (l : List ℕ). Moves q (chain ∷ (ys ++ queued_chains q bs)) r (l ++ queued_chains r bs)) (sym (same_zs gone.same)) gone.moves);
+      parts = record {
+        accounts = λ rest held a.
+            subst (λ (m : State). IsAccounted r m held) (sym (now rest))
+            (freed_accounts chain NoBufs (subst (λ (v : ChainView). IsAccounted q (with_net p s vs d rest) (held ⊕ weight_of v.entries)) (sym x.chain) (i.reserves rest (held ⊕ weight_at p chain) a).accounted) (λ k. omega (arith, x.owned k)) is_r);
+        ready = gone.socks.ready;
+        pcbs = refl;
+        moves = moves_trans x.moves (subst (λ (l : List ℕ). Moves q (chain ∷ (ys ++ queued_chains q bs)) r (l ++ queued_chains r bs)) (sym (same_zs gone.same)) gone.moves);
+      };
     }
 
 -- the datagram is in the queue
@@ -266,14 +270,16 @@ fitting_end {p} {q} {r} {t} {bs} {cs} {us} {vs} {ws} {xs} {ys} {zs} {c} {d} {cha
           fitting_appends held sender (item_at p chain) (socket_with (queues_of p bs) b) (with_net p s us c rest) (with_net p s vs d rest) (with_net r (record { pcbs = t; queues = cs }) ws d rest)
           (ap (λ (k : ℕ). fits (queues_of p bs k) (length (string (chain_of p chain)))) (named b at) ∙ room) (i.reserves rest (held ⊕ weight_at p chain) a).has_buffers
           (pushed rest ∙ ap (λ (k : ℕ). change_socket k (queued (datagram_from sender p chain)) (with_net p s vs d rest)) (sym (named b at)));
-      accounts = λ rest held a.
-          let a1 = (i.reserves rest (held ⊕ weight_at p chain) a).accounted in
-          let a2 = subst (λ (m : State). IsAccounted q m (held ⊕ weight_at p chain)) (sym (shows_same p q t bs d rest x.socks.shows refl)) a1 in
-          let a3 = subst (λ (v : ChainView). IsAccounted q (with_net q s vs d rest) (held ⊕ weight_of v.entries)) (sym x.chain) a2 in
-          subst (λ (us : List Unfinished). IsAccounted r (with_net r (record { pcbs = t; queues = cs }) us d rest) held) (sym (same_ws j.same))
-          (moved_accounts t bs cs (record rest { unfinished = vs; counters = d }) (chain ∷ []) [] x.socks.ready ready st.moves (λ k. omega (arith, x.owned k, times-append k ys (queued_chains q bs))) (one_goes q r chain held) a3);
       others = λ k ne. st.others k ne ∙ x.socks.shows k;
-      ready = ready;
-      pcbs = refl;
-      moves = moves_trans x.moves (subst (λ (l : List ℕ). Moves q (chain ∷ (ys ++ queued_chains q bs)) r (l ++ queued_chains r cs)) (sym (same_zs j.same)) j.moves);
+      parts = record {
+        accounts = λ rest held a.
+            let a1 = (i.reserves rest (held ⊕ weight_at p chain) a).accounted in
+            let a2 = subst (λ (m : State). IsAccounted q m (held ⊕ weight_at p chain)) (sym (shows_same p q t bs d rest x.socks.shows refl)) a1 in
+            let a3 = subst (λ (v : ChainView). IsAccounted q (with_net q s vs d rest) (held ⊕ weight_of v.entries)) (sym x.chain) a2 in
+            subst (λ (us : List Unfinished). IsAccounted r (with_net r (record { pcbs = t; queues = cs }) us d rest) held) (sym (same_ws j.same))
+            (moved_accounts t bs cs (record rest { unfinished = vs; counters = d }) (chain ∷ []) [] x.socks.ready ready st.moves (λ k. omega (arith, x.owned k, times-append k ys (queued_chains q bs))) (one_goes q r chain held) a3);
+        ready = ready;
+        pcbs = refl;
+        moves = moves_trans x.moves (subst (λ (l : List ℕ). Moves q (chain ∷ (ys ++ queued_chains q bs)) r (l ++ queued_chains r cs)) (sym (same_zs j.same)) j.moves);
+      };
     }

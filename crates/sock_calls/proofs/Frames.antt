@@ -1,4 +1,4 @@
--- One receive queue of many takes a step.
+-- One receive queue of many takes a step; what a step of the parts leaves as it was.
 use Rattle.std.proofs.Common.{◌≡◌, ℕ, zero, suc, ◌+◌, ◌<◌, ◌≤◌, List, [], ◌∷◌, ◌++◌, length, map, refl, sym, ap, ◌∙◌, subst, arith, inl, inr}
 use Rattle.std.specs.Prelude.{slice_index_or, slice_set}
 use Rattle.std.proofs.lemmas.Bool.{cases_eq}
@@ -6,12 +6,13 @@ use Rattle.std.proofs.lemmas.List.{length-set, length-map}
 use Rattle.mbuf_chain.specs.Chain.{PoolView}
 use Rattle.mbuf_chain.specs.Owners.{times, IsOwned, Moves}
 use Rattle.mbuf_chain.specs.Frames.{SameAt}
-use Rattle.mbuf_chain.proofs.Laws.Owners.{times-append, live_at_most, same_beside, same_part, moves_beside, owned_same, owned_after}
+use Rattle.mbuf_chain.proofs.Laws.Owners.{times-append, live_at_most, same_beside, same_part, moves_beside, moves_trans, owned_same, owned_after}
 use Rattle.mbuf_chain.specs.Train.{QueuedPacket, queued_packet_of, queued_packets}
 use Rattle.mbuf_chain.proofs.Laws.Trains.{length-queued_packets}
 use Rattle.sockbuf.specs.SockBuf.{SockBufView, IsSockBuf, datagrams, datagram_of, datagrams_of, chains_of, no_datagrams}
 use Rattle.sockbuf.proofs.Laws.{chains_same, datagrams_same, ready_same}
 use Rattle.sock_calls.specs.Sockets.{SocksView, IsSocks, StepsAt, AreEmpty, from_three, queue_at, queues_of, queued_chains}
+use Rattle.sock_calls.specs.Delivery.{NetView, KeepsParts}
 
 -- ---- a list with one element changed
 pub at_set : (qs : List SockBufView) (i : ℕ) (q : SockBufView) → i < length qs → queue_at (slice_set qs i q) i ≡ q
@@ -151,3 +152,24 @@ each_from_three p bs each i = each (suc (suc (suc i)))
 pub all_empty : (q : PoolView) (bs : List SockBufView) → ((k : ℕ) → IsSockBuf q (queue_at bs k)) → ((k : ℕ) → k < length bs → queues_of q bs k ≡ []) → AreEmpty bs
 all_empty q [] each none = tt
 all_empty q (b ∷ bs) each none = (omega (arith, length-queued_packets q b.train (each 0).held, length-map (queued_packets q b.train) (λ (queued_packet : QueuedPacket). datagram_of queued_packet.entries), ap length (none 0 (omega arith))), all_empty q bs (λ k. each (suc k)) (λ k lt. none (suc k) (omega arith)))
+
+-- ---- the frame
+
+-- nothing was done yet
+pub keeps_none : {v : NetView} {xs : List ℕ} → IsSocks v.pool v.socks → KeepsParts v xs v xs
+keeps_none ready = record {
+  accounts = λ rest held acc. acc;
+  ready = ready;
+  pcbs = refl;
+  moves = record { mbufs = refl; clusters = refl; others = λ k l h. refl; owned = λ k. refl };
+}
+
+-- one step after another
+pub keeps_trans : {u v w : NetView} {xs ys zs : List ℕ} → KeepsParts u xs v ys → KeepsParts v ys w zs
+    → KeepsParts u xs w zs
+keeps_trans a b = record {
+  accounts = λ rest held acc. b.accounts rest held (a.accounts rest held acc);
+  ready = b.ready;
+  pcbs = b.pcbs ∙ a.pcbs;
+  moves = moves_trans a.moves b.moves;
+}

@@ -30,7 +30,7 @@ use Rattle.sockbuf.specs.SockBuf.{SockBufView}
 use Rattle.sock_calls.specs.Sockets.{SocksView, IsSocks, queues_of, queued_chains, with_net}
 use Rattle.sock_calls.specs.Delivery.{NetView, seen, state_at, queues_at, Offers, IsAppended, IsOffered, IsDelivered, no_block, socket_named, sockets_named}
 use Rattle.sock_calls.specs.Inside.Delivering.{IsUnderWay}
-use Rattle.sock_calls.proofs.Frames.{Kept, kept}
+use Rattle.sock_calls.proofs.Frames.{Kept, kept, keeps_none, keeps_trans}
 use Rattle.sock_calls.proofs.Going.{bag_of_times}
 use Rattle.sock_calls.proofs.Delivered.{IsTested, tested, ends_here, shows_same, ends_accounted}
 
@@ -121,12 +121,18 @@ lacking_offer {p} {q} {t} {bs} {us} {vs} {xs} {ys} {c} {d} {e} {chain} {n} fd se
     record {
       step = λ rest held b at a.
           lacking_offers held sender (item_at p chain) (socket_with (queues_of p bs) b) (with_net p s us c rest) (with_net p s vs d rest) (with_net q s vs e rest) n is_n (i.reserves rest (held ⊕ weight_at p chain) a).has_buffers (ended rest);
-      accounts = λ rest held a. subst (λ (m : State). IsAccounted q m (held ⊕ weight_at p chain)) (sym (ended rest)) (ends_accounted {s = with_net p s vs d rest} NoBufs (i.reserves rest (held ⊕ weight_at p chain) a).accounted);
       others = λ k ne. x.socks.shows k;
-      ready = x.socks.ready;
-      pcbs = refl;
       chain = x.chain;
-      moves = x.moves;
+      parts = record {
+        accounts = λ rest held a.
+            let ends : IsAccounted q (with_net q s vs e rest) (held ⊕ weight_at p chain) =
+            subst (λ (m : State). IsAccounted q m (held ⊕ weight_at p chain)) (sym (ended rest))
+            (ends_accounted {s = with_net p s vs d rest} NoBufs (i.reserves rest (held ⊕ weight_at p chain) a).accounted) in
+            subst (λ (v : ChainView). IsAccounted q (with_net q s vs e rest) (held ⊕ weight_of v.entries)) (sym x.chain) ends;
+        ready = x.socks.ready;
+        pcbs = refl;
+        moves = x.moves;
+      };
     }
 
 -- what the delivery of the copy asks for
@@ -153,7 +159,7 @@ copy_offer {p} {q} {r} {z} {t} {u} {bs} {cs} {us} {vs} {ws} {ks} {xs} {ys} {ms} 
     let x = tested p q chain xs ys s i.owned i.socks i.moves in
     let k = copy_came q r chain copy ys s x.owned x.socks.ready m in
     let now : (rest : State) → with_net r s ws d rest ≡ with_net p s vs d rest = λ rest. shows_same p r t bs d rest (λ j. k.socks.shows j ∙ x.socks.shows j) same_ws in
-    let gone = copy_gone r z chain copy ms zs bs cs (subst (λ (l : List ℕ). IsOwned r (chain ∷ copy ∷ (l ++ queued_chains r bs))) (sym same_ms) k.owned) done.moves in
+    let gone = copy_gone r z chain copy ms zs bs cs (subst (λ (l : List ℕ). IsOwned r (chain ∷ copy ∷ (l ++ queued_chains r bs))) (sym same_ms) k.owned) done.parts.moves in
     record {
       step = λ rest held b at a.
           let a1 = i.reserves rest (held ⊕ weight_at p chain) a in
@@ -164,15 +170,19 @@ copy_offer {p} {q} {r} {z} {t} {u} {bs} {cs} {us} {vs} {ws} {ks} {xs} {ys} {ms} 
           (λ j. record (socket_with (queues_of p bs) b) { queue = (k.socks.shows b.fd ∙ x.socks.shows b.fd) j })
           (now rest)
           (done.step rest (held ⊕ weight_at p chain) b at a2);
-      accounts = λ rest held a.
-          let a1 = i.reserves rest (held ⊕ weight_at p chain) a in
-          done.accounts rest (held ⊕ weight_at p chain)
-          (subst (λ (m : State). IsAccounted r m ((held ⊕ weight_at p chain) ⊕ weight_at r copy)) (sym (now rest)) (copy_accounts copy a1.accounted m));
       others = λ j ne. done.others j ne ∙ k.socks.shows j ∙ x.socks.shows j;
-      ready = done.ready;
-      pcbs = done.pcbs;
       chain = gone.chain ∙ k.chain ∙ x.chain;
-      moves = moves_trans x.moves (moves_trans k.moves (subst (λ (l : List ℕ). Moves r (chain ∷ copy ∷ (l ++ queued_chains r bs)) z (chain ∷ (zs ++ queued_chains z cs))) same_ms gone.moves));
+      parts = record {
+        accounts = λ rest held a.
+            let a1 = i.reserves rest (held ⊕ weight_at p chain) a in
+            let a2 : IsAccounted z (with_net z (record { pcbs = u; queues = cs }) ks e rest) (held ⊕ weight_at p chain) =
+            done.parts.accounts rest (held ⊕ weight_at p chain)
+            (subst (λ (m : State). IsAccounted r m ((held ⊕ weight_at p chain) ⊕ weight_at r copy)) (sym (now rest)) (copy_accounts copy a1.accounted m)) in
+            subst (λ (v : ChainView). IsAccounted z (with_net z (record { pcbs = u; queues = cs }) ks e rest) (held ⊕ weight_of v.entries)) (sym (gone.chain ∙ k.chain ∙ x.chain)) a2;
+        ready = done.parts.ready;
+        pcbs = done.parts.pcbs;
+        moves = moves_trans x.moves (moves_trans k.moves (subst (λ (l : List ℕ). Moves r (chain ∷ copy ∷ (l ++ queued_chains r bs)) z (chain ∷ (zs ++ queued_chains z cs))) same_ms gone.moves));
+      };
     }
 
 -- ---- the loop
@@ -240,12 +250,9 @@ module _ (v : NetView) (c : ℕ) (fds : List ℕ) (sender : Addr) where
   pub starts : IsSocks v.pool v.socks → IsUnderWay v c fds sender 0 v
   starts ready = record {
     goes = λ rest held new b d. d;
-    accounts = λ rest held b. b;
     untouched = λ k h. refl;
-    ready = ready;
     chain = refl;
-    moves = record { mbufs = refl; clusters = refl; others = λ k l h. refl; owned = λ k. refl };
-    pcbs = refl;
+    parts = keeps_none ready;
   }
 
   -- the queue of the next receiver is that of the beginning
@@ -254,14 +261,10 @@ module _ (v : NetView) (c : ℕ) (fds : List ℕ) (sender : Addr) where
       let named : b.fd ≡ fd = find_named fd u.socks.pcbs.blocks b is in
       let same : queues_at u b.fd ≡ queues_at v b.fd = subst (λ (k : ℕ). queues_at u k ≡ queues_at v k) (sym named) (w.untouched fd (omega (arith, ap (times fd) e, times_same fd (drop (suc i) fds)))) in
       (λ j. record (socket_with (queues_at v) b) { queue = same j })
-      ∙ sym (named_is (queues_at v) v.socks.pcbs fd b (subst (λ (t : Table). block_at fd t ≡ Some b) w.pcbs is))
+      ∙ sym (named_is (queues_at v) v.socks.pcbs fd b (subst (λ (t : Table). block_at fd t ≡ Some b) w.parts.pcbs is))
 
   next_is : (i fd : ℕ) → i < length fds → fd ≡ slice_index_or fds i 0 → drop i fds ≡ fd ∷ drop (suc i) fds
   next_is i fd h is = drop_more fds i 0 h ∙ ap (λ (k : ℕ). k ∷ drop (suc i) fds) (sym is)
-
-  -- the accounts in the words of what is in hand now
-  in_hand : (u : NetView) (s : State) (held : Weight) → chain_of u.pool c ≡ chain_of v.pool c → IsAccounted u.pool s (held ⊕ weight_at v.pool c) → IsAccounted u.pool s (held ⊕ weight_at u.pool c)
-  in_hand u s held e b = subst (λ (ch : ChainView). IsAccounted u.pool s (held ⊕ weight_of ch.entries)) (sym e) b
 
   pub offered_one : (i fd : ℕ) (u x : NetView) → IsUnderWay v c fds sender i u → IsOffered u c fd sender x → suc i < length fds → fd ≡ slice_index_or fds i 0 → ((k : ℕ) → bag_times k fds ≤ 1) → IsSome (block_at fd u.socks.pcbs) → IsUnderWay v c fds sender (suc i) x
   offered_one i fd u x w o more is once is_open =
@@ -270,19 +273,16 @@ module _ (v : NetView) (c : ℕ) (fds : List ℕ) (sender : Addr) where
       let to : socket_with (queues_at u) found.0 ≡ socket_named (queues_at v) v.socks.pcbs fd = next_socket i fd u w d found.0 found.1 in
       record {
         goes = λ rest held new a later.
-            let step = o.step rest held found.0 found.1 (in_hand u (state_at u rest) held w.chain (w.accounts rest held a)) in
+            let step = o.step rest held found.0 found.1 (w.parts.accounts rest held a) in
             let offers : Offers held sender (item_at v.pool c) (socket_named (queues_at v) v.socks.pcbs fd) (state_at u rest) (state_at x rest) =
             subst (λ (a : Socket). Offers held sender (item_at v.pool c) a (state_at u rest) (state_at x rest)) to
             (subst (λ (ch : ChainView). Offers held sender (item_of ch.entries) (socket_with (queues_at u) found.0) (state_at u rest) (state_at x rest)) w.chain step) in
             w.goes rest held new a
             (subst (λ (l : List ℕ). Delivers exact_ledger held sender (item_at v.pool c) (sockets_named (queues_at v) v.socks.pcbs l) (state_at u rest) new) (sym d)
             (more_delivers held sender (item_at v.pool c) (queues_at v) v.socks.pcbs fd (drop (suc i) fds) (state_at u rest) (state_at x rest) new (drop_length fds (suc i) more) offers later));
-        accounts = λ rest held b. subst (λ (ch : ChainView). IsAccounted x.pool (state_at x rest) (held ⊕ weight_of ch.entries)) w.chain (o.accounts rest held (in_hand u (state_at u rest) held w.chain (w.accounts rest held b)));
         untouched = λ k h. o.others k (λ e. apart k d h e) ∙ w.untouched k (omega (arith, h, ap (times k) d));
-        ready = o.ready;
         chain = o.chain ∙ w.chain;
-        moves = moves_trans w.moves o.moves;
-        pcbs = o.pcbs ∙ w.pcbs;
+        parts = keeps_trans w.parts o.parts;
       }
     where
       apart : (k : ℕ) → drop i fds ≡ fd ∷ drop (suc i) fds → 0 < times k (drop (suc i) fds) → k ≡ fd → ⊥
@@ -298,13 +298,10 @@ module _ (v : NetView) (c : ℕ) (fds : List ℕ) (sender : Addr) where
       let to : socket_with (queues_at u) found.0 ≡ socket_named (queues_at v) v.socks.pcbs fd = next_socket i fd u w d found.0 found.1 in
       record {
         step = λ rest held a.
-            let step = o.step rest held found.0 found.1 (in_hand u (state_at u rest) held w.chain (w.accounts rest held a)) in
+            let step = o.step rest held found.0 found.1 (w.parts.accounts rest held a) in
             w.goes rest held (state_at x rest) a
             (subst (λ (l : List ℕ). Delivers exact_ledger held sender (item_at v.pool c) (sockets_named (queues_at v) v.socks.pcbs l) (state_at u rest) (state_at x rest)) (sym one)
             (subst (λ (a : Socket). Appends exact_ledger held sender (item_at v.pool c) a (state_at u rest) (state_at x rest)) to
             (subst (λ (ch : ChainView). Appends exact_ledger held sender (item_of ch.entries) (socket_with (queues_at u) found.0) (state_at u rest) (state_at x rest)) w.chain step)));
-        accounts = λ rest held b. o.accounts rest held (in_hand u (state_at u rest) held w.chain (w.accounts rest held b));
-        ready = o.ready;
-        pcbs = o.pcbs ∙ w.pcbs;
-        moves = moves_trans w.moves o.moves;
+        parts = keeps_trans w.parts o.parts;
       }

@@ -2,6 +2,8 @@
 
 -- Sockets beside a step of somebody else: they are as they were.
 pub use Rattle.sock_calls.proofs.Frames.{Kept, kept}
+-- One step of the parts after another.
+pub use Rattle.sock_calls.proofs.Frames.{keeps_trans}
 -- What the receive queues weigh is what their chains weigh.
 pub use Rattle.sock_calls.proofs.Weights.{queue_weight, socks_weigh}
 -- A chain weighs what its layout does; how often a cluster stands in a list, counted either way; clusters to which

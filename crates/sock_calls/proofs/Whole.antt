@@ -30,6 +30,7 @@ use Rattle.sockbuf.specs.SockBuf.{SockBufView}
 use Rattle.sockbuf.specs.Stored.{IsTaken, bag_of, stored_datagram}
 use Rattle.udp.specs.Checked.{IsChecked, is_to_all}
 use Rattle.sock_calls.specs.Sockets.{IsSocks, StepsAt, queues_of, with_sockets}
+use Rattle.sock_calls.proofs.Delivered.{moved_accounts}
 use Rattle.sock_calls.specs.Whole.{ComesWhole, one_room}
 use Rattle.sock_calls.proofs.Going.{free_each}
 
@@ -213,13 +214,18 @@ pub comes_whole : {p q : PoolView} {t : Table} {bs cs : List SockBufView} {packe
     → ComesWhole p (record { pcbs = t; queues = bs }) packet q (record { pcbs = t; queues = cs })
 comes_whole {p} {q} {t} {bs} {cs} {packet} {from} {to} {fd} {is_large} is = record {
   step = λ rest acc. comes p q t bs cs packet from to fd is_large is rest acc;
-  ready = record {
-    each = is.steps.each;
-    owned = is.steps.owned;
-    places = is.steps.len ∙ is.socks.places;
-    apart = is.socks.apart;
-    closed = λ k none. is.steps.others k (λ e. none-some is.found.0 (sym none ∙ ap (λ (j : ℕ). block_at j t) e ∙ is.found.2)) ∙ is.socks.closed k none;
-  };
+  accounts = λ rest held acc. moved_accounts t bs cs rest [] [] is.socks stored is.steps.moves is.socks.owned
+      (record { mbufs = refl; bag = λ k. refl }) acc;
+  ready = stored;
   pcbs = refl;
   moves = is.steps.moves;
 }
+  where
+    stored : IsSocks q (record { pcbs = t; queues = cs })
+    stored = record {
+      each = is.steps.each;
+      owned = is.steps.owned;
+      places = is.steps.len ∙ is.socks.places;
+      apart = is.socks.apart;
+      closed = λ k none. is.steps.others k (λ e. none-some is.found.0 (sym none ∙ ap (λ (j : ℕ). block_at j t) e ∙ is.found.2)) ∙ is.socks.closed k none;
+    }

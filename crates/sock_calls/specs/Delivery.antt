@@ -1,6 +1,6 @@
 -- Delivery of a datagram to those who hear it, for every rest of the machine (`udp_input` and `sbappendaddr` of volume
 -- 2, chapters 23 and 16; to say it by what a pool shows is this project's own).
-use Rattle.std.specs.Prelude.{◌≡◌, ℕ, List, ◌∷◌, ◌++◌, map, Some, None, unwrap_or, false}
+use Rattle.std.specs.Prelude.{◌≡◌, ℕ, List, [], ◌∷◌, ◌++◌, map, Some, None, unwrap_or, false}
 use Rattle.flat_model.specs.Amounts.Weight.{Weight, Item, ◌⊕◌}
 use Rattle.flat_model.specs.Machine.State.{State, Socket, Unfinished}
 use Rattle.flat_model.specs.Machine.Ledger.{exact_ledger}
@@ -36,35 +36,51 @@ chains_at v = v.waiting ++ queued_chains v.pool v.socks.queues
 abbrev pub queues_at : NetView → Queues
 queues_at v = queues_of v.pool v.socks.queues
 
+-- the pool accounts for the machine and for the weight held beside it
+abbrev pub IsAccountedAt : NetView → State → Weight → Type 0
+IsAccountedAt v rest held = IsAccounted v.pool (state_at v rest) held
+
+-- what is held once these chains are held too
+abbrev pub held_with : PoolView → Weight → List ℕ → Weight
+held_with p held [] = held
+held_with p held (c ∷ cs) = held_with p (held ⊕ weight_at p c) cs
+
+-- From v to u the parts go on to fit together, and the control blocks are the same; the chains in hand were `hand` and
+-- are `left`, of no other chain became another's, and the pool accounts for what it holds.
+pub record KeepsParts (v : NetView) (hand : List ℕ) (u : NetView) (left : List ℕ) : Type 0 where
+  pub accounts : (rest : State) (held : Weight) → IsAccountedAt v rest (held_with v.pool held hand)
+      → IsAccountedAt u rest (held_with u.pool held left)
+  pub ready : IsSocks u.pool u.socks
+  pub pcbs : u.socks.pcbs ≡ v.socks.pcbs
+  pub moves : Moves v.pool (hand ++ chains_at v) u.pool (left ++ chains_at u)
+
 -- ---- one receiver
 
 -- Chain c was put into the queue of socket fd, or ended there.
 pub record IsAppended (v : NetView) (c : ℕ) (fd : ℕ) (sender : Addr) (u : NetView) : Type 0 where
-  pub step : (rest : State) (held : Weight) (b : Block) → block_at fd v.socks.pcbs ≡ Some b → IsAccounted v.pool (state_at v rest) (held ⊕ weight_at v.pool c)
-      → Appends exact_ledger held sender (item_at v.pool c) (socket_with (queues_at v) b) (state_at v rest) (state_at u rest)
-  pub accounts : (rest : State) (held : Weight) → IsAccounted v.pool (state_at v rest) (held ⊕ weight_at v.pool c) → IsAccounted u.pool (state_at u rest) held
+  pub step : (rest : State) (held : Weight) (b : Block) → block_at fd v.socks.pcbs ≡ Some b
+      → IsAccountedAt v rest (held ⊕ weight_at v.pool c)
+      → Appends exact_ledger held sender (item_at v.pool c) (socket_with (queues_at v) b) (state_at v rest)
+      (state_at u rest)
   pub others : (k : ℕ) → (k ≡ fd → ⊥) → queues_at u k ≡ queues_at v k
-  pub ready : IsSocks u.pool u.socks
-  pub pcbs : u.socks.pcbs ≡ v.socks.pcbs
-  pub moves : Moves v.pool (c ∷ chains_at v) u.pool (chains_at u)
+  pub parts : KeepsParts v (c ∷ []) u []
 
 -- ---- one receiver of several
 
 -- a copy of the item is made, and put at the end of the socket's queue: the part of `Delivers` of all but the last
 abbrev pub Offers : Weight → Addr → Item → Socket → State → State → Type 0
 Offers held sender item to old after =
-    Tests exact_ledger old (held ⊕ item.weight) item.weight.mbufs after (λ mid. Appends exact_ledger (held ⊕ item.weight) sender item to mid after)
+    Tests exact_ledger old (held ⊕ item.weight) item.weight.mbufs after
+    (λ mid. Appends exact_ledger (held ⊕ item.weight) sender item to mid after)
 
 -- a copy of chain c was offered to socket fd, and c is as it was
 pub record IsOffered (v : NetView) (c : ℕ) (fd : ℕ) (sender : Addr) (u : NetView) : Type 0 where
-  pub step : (rest : State) (held : Weight) (b : Block) → block_at fd v.socks.pcbs ≡ Some b → IsAccounted v.pool (state_at v rest) (held ⊕ weight_at v.pool c)
+  pub step : (rest : State) (held : Weight) (b : Block) → block_at fd v.socks.pcbs ≡ Some b
+      → IsAccountedAt v rest (held ⊕ weight_at v.pool c)
       → Offers held sender (item_at v.pool c) (socket_with (queues_at v) b) (state_at v rest) (state_at u rest)
-  pub accounts : (rest : State) (held : Weight) → IsAccounted v.pool (state_at v rest) (held ⊕ weight_at v.pool c) → IsAccounted u.pool (state_at u rest) (held ⊕ weight_at v.pool c)
   pub others : (k : ℕ) → (k ≡ fd → ⊥) → queues_at u k ≡ queues_at v k
-  pub ready : IsSocks u.pool u.socks
-  pub pcbs : u.socks.pcbs ≡ v.socks.pcbs
   pub chain : chain_of u.pool c ≡ chain_of v.pool c
-  pub moves : Moves v.pool (c ∷ chains_at v) u.pool (c ∷ chains_at u)
+  pub parts : KeepsParts v (c ∷ []) u (c ∷ [])
 
 -- ---- all receivers
 
@@ -81,20 +97,16 @@ sockets_named f t fds = map (socket_named f t) fds
 
 -- Chain c was delivered to all these sockets: a copy to each but the last, itself to that.
 pub record IsDelivered (v : NetView) (c : ℕ) (fds : List ℕ) (sender : Addr) (u : NetView) : Type 0 where
-  pub step : (rest : State) (held : Weight) → IsAccounted v.pool (state_at v rest) (held ⊕ weight_at v.pool c)
-      → Delivers exact_ledger held sender (item_at v.pool c) (sockets_named (queues_at v) v.socks.pcbs fds) (state_at v rest) (state_at u rest)
-  pub accounts : (rest : State) (held : Weight) → IsAccounted v.pool (state_at v rest) (held ⊕ weight_at v.pool c) → IsAccounted u.pool (state_at u rest) held
-  pub ready : IsSocks u.pool u.socks
-  pub pcbs : u.socks.pcbs ≡ v.socks.pcbs
-  pub moves : Moves v.pool (c ∷ chains_at v) u.pool (chains_at u)
+  pub step : (rest : State) (held : Weight) → IsAccountedAt v rest (held ⊕ weight_at v.pool c)
+      → Delivers exact_ledger held sender (item_at v.pool c) (sockets_named (queues_at v) v.socks.pcbs fds)
+      (state_at v rest) (state_at u rest)
+  pub parts : KeepsParts v (c ∷ []) u []
 
 -- ---- a whole datagram
 
 -- Chain c, a whole datagram without its IP header, arrived from `source` for `destination`, of this protocol.
 pub record IsInput (v : NetView) (c : ℕ) (source destination protocol : ℕ) (u : NetView) : Type 0 where
-  pub step : (rest : State) (held : Weight) → IsAccounted v.pool (state_at v rest) (held ⊕ weight_at v.pool c)
-      → WholeArrives exact_ledger held source destination protocol (item_at v.pool c) (state_at v rest) (state_at u rest)
-  pub accounts : (rest : State) (held : Weight) → IsAccounted v.pool (state_at v rest) (held ⊕ weight_at v.pool c) → IsAccounted u.pool (state_at u rest) held
-  pub ready : IsSocks u.pool u.socks
-  pub pcbs : u.socks.pcbs ≡ v.socks.pcbs
-  pub moves : Moves v.pool (c ∷ chains_at v) u.pool (chains_at u)
+  pub step : (rest : State) (held : Weight) → IsAccountedAt v rest (held ⊕ weight_at v.pool c)
+      → WholeArrives exact_ledger held source destination protocol (item_at v.pool c) (state_at v rest)
+      (state_at u rest)
+  pub parts : KeepsParts v (c ∷ []) u []

@@ -1,8 +1,8 @@
 -- Packets that arrive, for every rest of the machine (`ipintr` of volume 2, chapter 8; to say it by what a pool shows
 -- is this project's own).
-use Rattle.std.specs.Prelude.{◌≡◌, ℕ, ◌≤◌, List, ◌∷◌, ◌++◌, length, count_by, Bool, true, false, ◌==◌, ◌||◌}
+use Rattle.std.specs.Prelude.{◌≡◌, ℕ, List, [], ◌∷◌, length, count_by, Bool, true, false, ◌==◌, ◌||◌}
 use Rattle.flat_model.specs.Amounts.Weight.{Weight, ◌⊕◌, nothing}
-use Rattle.flat_model.specs.Machine.State.{State, Key, Unfinished, limited_broadcast, is_key, loopback}
+use Rattle.flat_model.specs.Machine.State.{State, limited_broadcast, loopback}
 use Rattle.flat_model.specs.Machine.Ledger.{exact_ledger}
 use Rattle.flat_model.specs.Machine.Arrival.{Origin, FragmentArrives, Arrives, AllArrive}
 use Rattle.flat_model.specs.Amounts.Layout.{is_cluster, laid_on, wire}
@@ -11,59 +11,44 @@ use Rattle.mbuf_chain.specs.Chain.{PoolView, alone, chain_of, string}
 use Rattle.chain_ops.specs.Makes.{Makes}
 use Rattle.chain_ops.specs.Stored.{AreFree, stored_first}
 use Rattle.chain_ops.specs.Weights.{laid}
-use Rattle.mbuf_chain.specs.Owners.{Moves}
 use Rattle.mbuf_chain.specs.Train.{TrainView, numbers}
-use Rattle.ledger.specs.Accounts.{item_at, weight_at, weight_owned, IsAccounted}
+use Rattle.ledger.specs.Accounts.{item_at, weight_at, weight_owned}
 use Rattle.ip_out.specs.Packets.{packets}
 use Rattle.ip_out.specs.declared.head.IpHead.{IpHead}
 use Rattle.ip_reass.specs.Arrivals.{CameBy, carried_at, flat_head}
-use Rattle.sock_calls.specs.Sockets.{IsSocks}
-use Rattle.sock_calls.specs.Delivery.{NetView, state_at, chains_at}
+use Rattle.sock_calls.specs.Delivery.{NetView, IsAccountedAt, KeepsParts, state_at}
 
 -- an address that a machine with these two addresses hears
 abbrev pub is_ours_or_all : ℕ → ℕ → ℕ → Bool
 is_ours_or_all addr bcast ip = (((ip == addr) || (ip == bcast)) || (ip == loopback)) || (ip == limited_broadcast)
 
--- no two unfinished datagrams go by one key
-abbrev pub HaveApartKeys : List Unfinished → Type 0
-HaveApartKeys us = (k : Key) → count_by (is_key k) us ≤ 1
-
--- chain c went, and the pool accounts for what is left
-pub record IsSpent (v : NetView) (c : ℕ) (u : NetView) : Type 0 where
-  pub accounts : (rest : State) (held : Weight) → IsAccounted v.pool (state_at v rest) (held ⊕ weight_at v.pool c) → IsAccounted u.pool (state_at u rest) held
-  pub ready : IsSocks u.pool u.socks
-  pub pcbs : u.socks.pcbs ≡ v.socks.pcbs
-  pub moves : Moves v.pool (c ∷ chains_at v) u.pool (chains_at u)
-
 -- chain c, a fragment whose header says `head` and whose bytes are as many as that says, arrived
 pub record IsTaken (v : NetView) (c : ℕ) (head : IpHead) (u : NetView) : Type 0 where
-  pub step : (rest : State) (held : Weight) (origin : Origin) → HaveApartKeys v.unfinished → CameBy origin (chain_of v.pool c) → IsAccounted v.pool (state_at v rest) (held ⊕ weight_at v.pool c)
-      → FragmentArrives exact_ledger origin held (flat_head head) (carried_at v.pool c) (state_at v rest) (state_at u rest)
-  pub spent : IsSpent v c u
+  pub step : (rest : State) (held : Weight) (origin : Origin) → CameBy origin (chain_of v.pool c)
+      → IsAccountedAt v rest (held ⊕ weight_at v.pool c)
+      → FragmentArrives exact_ledger origin held (flat_head head) (carried_at v.pool c) (state_at v rest)
+      (state_at u rest)
+  pub parts : KeepsParts v (c ∷ []) u []
 
 -- chain c, a packet, arrived
 pub record IsArrived (v : NetView) (c : ℕ) (u : NetView) : Type 0 where
-  pub step : (rest : State) (held : Weight) (origin : Origin) → HaveApartKeys v.unfinished → CameBy origin (chain_of v.pool c) → IsAccounted v.pool (state_at v rest) (held ⊕ weight_at v.pool c)
+  pub step : (rest : State) (held : Weight) (origin : Origin) → CameBy origin (chain_of v.pool c)
+      → IsAccountedAt v rest (held ⊕ weight_at v.pool c)
       → Arrives exact_ledger origin held (item_at v.pool c) (state_at v rest) (state_at u rest)
-  pub spent : IsSpent v c u
+  pub parts : KeepsParts v (c ∷ []) u []
 
 -- The packets of a train arrived, one after another.
 pub record HaveArrived (v : NetView) (t : TrainView) (u : NetView) : Type 0 where
-  pub step : (rest : State) → HaveApartKeys v.unfinished → IsAccounted v.pool (state_at v rest) (weight_owned v.pool (numbers v.pool t))
+  pub step : (rest : State) → IsAccountedAt v rest (weight_owned v.pool (numbers v.pool t))
       → AllArrive exact_ledger (packets v.pool t) (state_at v rest) (state_at u rest)
-  pub ready : IsSocks u.pool u.socks
-  pub pcbs : u.socks.pcbs ≡ v.socks.pcbs
-  pub moves : Moves v.pool (numbers v.pool t ++ chains_at v) u.pool (chains_at u)
+  pub parts : KeepsParts v (numbers v.pool t) u []
 
 -- The front of a train arrived: whatever becomes of the packets of what is left makes an arrival of them all.
 pub record AreArriving (v : NetView) (t : TrainView) (u : NetView) (left : TrainView) : Type 0 where
-  pub goes : (rest new : State) → HaveApartKeys v.unfinished → IsAccounted v.pool (state_at v rest) (weight_owned v.pool (numbers v.pool t))
-      → AllArrive exact_ledger (packets u.pool left) (state_at u rest) new → AllArrive exact_ledger (packets v.pool t) (state_at v rest) new
-  pub keys : (rest : State) → HaveApartKeys v.unfinished → IsAccounted v.pool (state_at v rest) (weight_owned v.pool (numbers v.pool t)) → HaveApartKeys u.unfinished
-  pub accounts : (rest : State) → IsAccounted v.pool (state_at v rest) (weight_owned v.pool (numbers v.pool t)) → IsAccounted u.pool (state_at u rest) (weight_owned u.pool (numbers u.pool left))
-  pub ready : IsSocks u.pool u.socks
-  pub pcbs : u.socks.pcbs ≡ v.socks.pcbs
-  pub moves : Moves v.pool (numbers v.pool t ++ chains_at v) u.pool (numbers u.pool left ++ chains_at u)
+  pub goes : (rest new : State) → IsAccountedAt v rest (weight_owned v.pool (numbers v.pool t))
+      → AllArrive exact_ledger (packets u.pool left) (state_at u rest) new
+      → AllArrive exact_ledger (packets v.pool t) (state_at v rest) new
+  pub parts : KeepsParts v (numbers v.pool t) u (numbers u.pool left)
 
 -- ---- from the wire
 
@@ -78,7 +63,6 @@ pub record IsLaidOut (p : PoolView) (bytes : List ℕ) (q : PoolView) (c : ℕ) 
 
 -- these bytes came from the wire, into buffers of their own or, where the pool had too few, into none
 pub record HasCome (v : NetView) (packet : List ℕ) (u : NetView) : Type 0 where
-  pub step : (rest : State) → HaveApartKeys v.unfinished → IsAccounted v.pool (state_at v rest) nothing → ComesIn exact_ledger packet (state_at v rest) (state_at u rest)
-  pub ready : IsSocks u.pool u.socks
-  pub pcbs : u.socks.pcbs ≡ v.socks.pcbs
-  pub moves : Moves v.pool (chains_at v) u.pool (chains_at u)
+  pub step : (rest : State) → IsAccountedAt v rest nothing
+      → ComesIn exact_ledger packet (state_at v rest) (state_at u rest)
+  pub parts : KeepsParts v [] u []

@@ -21,7 +21,6 @@ use Rattle.ip_out.specs.Queues.{IsQueue}
 use Rattle.ip_reass.specs.Table.{TableView, IsReady, held_all, unfinished}
 use Rattle.sock_calls.specs.Sockets.{IsSocks, queued_chains}
 use Rattle.sock_calls.specs.Outgoing.{SendView, state_in}
-use Rattle.net_stack.specs.Inside.Arrivals.{HaveApartKeys}
 
 -- the pool has too few buffers
 abbrev pub is_pool : Lack → Bool
@@ -68,12 +67,11 @@ pub record IsTried (fd : ℕ) (to : Option Addr) (bytes : List ℕ) (v : SendVie
   pub goes : (rest new : State) → rest.config.mtu ≡ v.net.mtu → IsAccounted v.pool (all_in v r rest) nothing → AllArrive exact_ledger (packets u.pool u.net.looped) (all_in u t rest) new
       → Step (all_in v r rest) (Send fd to bytes) (sent_reply result) new
   pub accounts : (rest : State) → IsAccounted v.pool (all_in v r rest) nothing → IsAccounted u.pool (all_in u t rest) (weight_owned u.pool (numbers u.pool u.net.looped))
-  pub keys : HaveApartKeys (unfinished v.pool r.datagrams) → HaveApartKeys (unfinished u.pool t.datagrams)
   pub parts : AreParts v r u t
 
 -- A send was made, and the packets that came back have arrived.
 pub record HasSent (fd : ℕ) (to : Option Addr) (bytes : List ℕ) (v : SendView) (r : TableView) (result : Result ℕ Errno) (u : SendView) (t : TableView) : Type 0 where
-  pub step : (rest : State) → rest.config.mtu ≡ v.net.mtu → HaveApartKeys (unfinished v.pool r.datagrams) → IsAccounted v.pool (all_in v r rest) nothing → Step (all_in v r rest) (Send fd to bytes) (sent_reply result) (all_in u t rest)
+  pub step : (rest : State) → rest.config.mtu ≡ v.net.mtu → IsAccounted v.pool (all_in v r rest) nothing → Step (all_in v r rest) (Send fd to bytes) (sent_reply result) (all_in u t rest)
   pub socks : IsSocks u.pool u.socks
   pub out : IsQueue u.pool u.net.out
   pub none : u.net.looped ≡ no_train

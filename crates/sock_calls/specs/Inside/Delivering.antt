@@ -1,25 +1,23 @@
 -- A delivery on its way through the receivers (this project's own).
-use Rattle.std.specs.Prelude.{◌≡◌, ℕ, ◌<◌, List, ◌∷◌, drop}
+use Rattle.std.specs.Prelude.{◌≡◌, ℕ, ◌<◌, List, [], ◌∷◌, drop}
 use Rattle.flat_model.specs.Amounts.Weight.{Weight, ◌⊕◌}
 use Rattle.flat_model.specs.Machine.State.{State}
 use Rattle.flat_model.specs.Machine.Ledger.{exact_ledger}
 use Rattle.flat_model.specs.Machine.Arrival.{Delivers}
 use Rattle.flat_model.specs.declared.address.Addr.{Addr}
 use Rattle.mbuf_chain.specs.Chain.{chain_of}
-use Rattle.mbuf_chain.specs.Owners.{times, Moves}
-use Rattle.ledger.specs.Accounts.{item_at, weight_at, IsAccounted}
-use Rattle.sock_calls.specs.Sockets.{IsSocks}
-use Rattle.sock_calls.specs.Delivery.{NetView, state_at, chains_at, queues_at, sockets_named}
+use Rattle.mbuf_chain.specs.Owners.{times}
+use Rattle.ledger.specs.Accounts.{item_at, weight_at}
+use Rattle.sock_calls.specs.Delivery.{NetView, IsAccountedAt, KeepsParts, state_at, queues_at, sockets_named}
 
 -- From v on, chain c was offered to the first i of the receivers: whatever becomes of the others makes a delivery to
 -- all.
 pub record IsUnderWay (v : NetView) (c : ℕ) (fds : List ℕ) (sender : Addr) (i : ℕ) (u : NetView) : Type 0 where
-  pub goes : (rest : State) (held : Weight) (new : State) → IsAccounted v.pool (state_at v rest) (held ⊕ weight_at v.pool c)
-      → Delivers exact_ledger held sender (item_at v.pool c) (sockets_named (queues_at v) v.socks.pcbs (drop i fds)) (state_at u rest) new
-      → Delivers exact_ledger held sender (item_at v.pool c) (sockets_named (queues_at v) v.socks.pcbs fds) (state_at v rest) new
-  pub accounts : (rest : State) (held : Weight) → IsAccounted v.pool (state_at v rest) (held ⊕ weight_at v.pool c) → IsAccounted u.pool (state_at u rest) (held ⊕ weight_at v.pool c)
+  pub goes : (rest : State) (held : Weight) (new : State) → IsAccountedAt v rest (held ⊕ weight_at v.pool c)
+      → Delivers exact_ledger held sender (item_at v.pool c) (sockets_named (queues_at v) v.socks.pcbs (drop i fds))
+      (state_at u rest) new
+      → Delivers exact_ledger held sender (item_at v.pool c) (sockets_named (queues_at v) v.socks.pcbs fds)
+      (state_at v rest) new
   pub untouched : (k : ℕ) → 0 < times k (drop i fds) → queues_at u k ≡ queues_at v k
-  pub ready : IsSocks u.pool u.socks
   pub chain : chain_of u.pool c ≡ chain_of v.pool c
-  pub moves : Moves v.pool (c ∷ chains_at v) u.pool (c ∷ chains_at u)
-  pub pcbs : u.socks.pcbs ≡ v.socks.pcbs
+  pub parts : KeepsParts v (c ∷ []) u (c ∷ [])

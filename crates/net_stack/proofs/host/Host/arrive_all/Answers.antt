@@ -8,13 +8,13 @@ some : (n : ℕ) → (n ≡ 0 → ⊥) → 0 < n
 some n ne = omega arith
 
 pub arrive-requires-clause-socks : goal.arrive-requires-clause-socks
-arrive-requires-clause-socks c = (taken c.packets.train c.take-chain.new.self c.packets.invariant.owned c.packets.invariant.reass c.packets.invariant.way.ready c.take-chain.ensures.moves).socks.ready
+arrive-requires-clause-socks c = (taken c.packets.train c.take-chain.new.self c.packets.invariant.owned c.packets.invariant.reass c.packets.invariant.way.parts.ready c.take-chain.ensures.moves).socks.ready
 
 pub arrive-requires-clause-reass : goal.arrive-requires-clause-reass
-arrive-requires-clause-reass c = (taken c.packets.train c.take-chain.new.self c.packets.invariant.owned c.packets.invariant.reass c.packets.invariant.way.ready c.take-chain.ensures.moves).reass.table
+arrive-requires-clause-reass c = (taken c.packets.train c.take-chain.new.self c.packets.invariant.owned c.packets.invariant.reass c.packets.invariant.way.parts.ready c.take-chain.ensures.moves).reass.table
 
 pub arrive-requires-clause-owned : goal.arrive-requires-clause-owned
-arrive-requires-clause-owned c = one_owned c.packets.train c.take-chain.new.self (taken c.packets.train c.take-chain.new.self c.packets.invariant.owned c.packets.invariant.reass c.packets.invariant.way.ready c.take-chain.ensures.moves)
+arrive-requires-clause-owned c = one_owned c.packets.train c.take-chain.new.self (taken c.packets.train c.take-chain.new.self c.packets.invariant.owned c.packets.invariant.reass c.packets.invariant.way.parts.ready c.take-chain.ensures.moves)
 
 pub packets-preserved : goal.packets-preserved
 packets-preserved c =

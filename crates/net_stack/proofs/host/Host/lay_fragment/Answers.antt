@@ -23,9 +23,9 @@ returns-in-Whole-clause-came c =
 pub returns-in-Kept-clause-came : goal.returns-in-Kept-clause-came
 returns-in-Kept-clause-came c =
     came_kept c.args.self.now.pool c.args.self.now.socks c.args.self.now.reass c.args.self.now.net.counters c.count.new.self c.args.packet.now c.args.head (headed c.args.packet.now c.args.head c.requires.faultless c.requires.says) c.requires.fragment (λ rest. c.requires.ours)
-    (fits_is c.args.self.now.pool c.args.head c.args.packet.now c.requires.fits) c.count.ensures _ c.arrive_bytes.new.pool c.arrive_bytes.new.self c.arrive_bytes.new.counters c.in-Kept.ensures.arrives c.requires.socks c.requires.owned c.in-Kept.ensures.moves refl (λ x y e. e)
+    (fits_is c.args.self.now.pool c.args.head c.args.packet.now c.requires.fits) c.count.ensures _ c.arrive_bytes.new.pool c.arrive_bytes.new.self c.arrive_bytes.new.counters c.in-Kept.ensures.arrives c.requires.socks c.requires.owned c.in-Kept.ensures.moves c.in-Kept.ensures.accounts refl (λ x y e. e)
 
 pub returns-in-Dropped-clause-came : goal.returns-in-Dropped-clause-came
 returns-in-Dropped-clause-came c =
     came_kept c.args.self.now.pool c.args.self.now.socks c.args.self.now.reass c.args.self.now.net.counters c.count.new.self c.args.packet.now c.args.head (headed c.args.packet.now c.args.head c.requires.faultless c.requires.says) c.requires.fragment (λ rest. c.requires.ours)
-    (fits_is c.args.self.now.pool c.args.head c.args.packet.now c.requires.fits) c.count.ensures _ c.arrive_bytes.new.pool c.arrive_bytes.new.self c.arrive_bytes.new.counters c.in-Dropped.ensures.arrives c.requires.socks c.requires.owned c.in-Dropped.ensures.moves refl (λ x y e. e)
+    (fits_is c.args.self.now.pool c.args.head c.args.packet.now c.requires.fits) c.count.ensures _ c.arrive_bytes.new.pool c.arrive_bytes.new.self c.arrive_bytes.new.counters c.in-Dropped.ensures.arrives c.requires.socks c.requires.owned c.in-Dropped.ensures.moves c.in-Dropped.ensures.accounts refl (λ x y e. e)

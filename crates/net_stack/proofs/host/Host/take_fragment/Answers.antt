@@ -21,7 +21,7 @@ input-requires-clause-owned c =
 pub returns-in-Whole-clause-taken : goal.returns-in-Whole-clause-taken
 returns-in-Whole-clause-taken c =
     completes {ds = c.args.self.now.reass} {es = c.arrive.new.self} c.in-Whole.head c.requires.owned c.requires.socks (record {
-      step = λ rest held origin new apart came acc goes. fragment_arrives held origin c.args.head c.args.self.now.pool c.args.chain _ new came c.requires.total c.requires.header (c.in-Whole.ensures.step rest held new acc goes);
+      step = λ rest held origin new came acc goes. fragment_arrives held origin c.args.head c.args.self.now.pool c.args.chain _ new came c.requires.total c.requires.header (c.in-Whole.ensures.step rest held new acc goes);
       accounts = c.in-Whole.ensures.accounts;
       moves = c.in-Whole.ensures.moves;
     }) c.input.ensures.input
@@ -29,7 +29,7 @@ returns-in-Whole-clause-taken c =
 pub returns-in-Kept-clause-taken : goal.returns-in-Kept-clause-taken
 returns-in-Kept-clause-taken c =
     waits {ds = c.args.self.now.reass} {es = c.arrive.new.self} c.requires.owned c.requires.socks (record {
-      step = λ rest held origin new apart came acc goes. fragment_arrives held origin c.args.head c.args.self.now.pool c.args.chain _ new came c.requires.total c.requires.header (c.in-Kept.ensures.step rest held new acc goes);
+      step = λ rest held origin new came acc goes. fragment_arrives held origin c.args.head c.args.self.now.pool c.args.chain _ new came c.requires.total c.requires.header (c.in-Kept.ensures.step rest held new acc goes);
       accounts = c.in-Kept.ensures.accounts;
       moves = c.in-Kept.ensures.moves;
     })
@@ -37,7 +37,7 @@ returns-in-Kept-clause-taken c =
 pub returns-in-Dropped-clause-taken : goal.returns-in-Dropped-clause-taken
 returns-in-Dropped-clause-taken c =
     waits {ds = c.args.self.now.reass} {es = c.arrive.new.self} c.requires.owned c.requires.socks (record {
-      step = λ rest held origin new apart came acc goes. fragment_arrives held origin c.args.head c.args.self.now.pool c.args.chain _ new came c.requires.total c.requires.header (c.in-Dropped.ensures.step rest held new acc goes);
+      step = λ rest held origin new came acc goes. fragment_arrives held origin c.args.head c.args.self.now.pool c.args.chain _ new came c.requires.total c.requires.header (c.in-Dropped.ensures.step rest held new acc goes);
       accounts = c.in-Dropped.ensures.accounts;
       moves = c.in-Dropped.ensures.moves;
     })

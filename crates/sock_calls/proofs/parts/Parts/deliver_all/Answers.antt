@@ -18,22 +18,22 @@ receivers-init g c = record {
 
 pub deliver_copy-requires-clause-opened : goal.deliver_copy-requires-clause-opened
 deliver_copy-requires-clause-opened g c =
-    subst (λ (t : Table). IsOpen (slice_index_or c.args.fds.now c.receivers.i 0) t) (sym c.receivers.invariant.way.pcbs)
+    subst (λ (t : Table). IsOpen (slice_index_or c.args.fds.now c.receivers.i 0) t) (sym c.receivers.invariant.way.parts.pcbs)
     (All-get_or (λ (k : ℕ). IsOpen k c.args.self.now.pcbs) c.args.fds.now c.receivers.i 0
     (omega (arith, c.receivers-test.true)) c.requires.opened)
 
 pub deliver_copy-requires-clause-owned : goal.deliver_copy-requires-clause-owned
-deliver_copy-requires-clause-owned g c = owned_after c.receivers.invariant.way.moves c.requires.owned
+deliver_copy-requires-clause-owned g c = owned_after c.receivers.invariant.way.parts.moves c.requires.owned
 
 pub deliver-requires-clause-opened : goal.deliver-requires-clause-opened
 deliver-requires-clause-opened g c =
     let last = length c.args.fds.now - 1 in
-    subst (λ (t : Table). IsOpen (slice_index_or c.args.fds.now last 0) t) (sym c.receivers.invariant.way.pcbs)
+    subst (λ (t : Table). IsOpen (slice_index_or c.args.fds.now last 0) t) (sym c.receivers.invariant.way.parts.pcbs)
     (All-get_or (λ (k : ℕ). IsOpen k c.args.self.now.pcbs) c.args.fds.now last 0
     (omega (arith, c.requires.some)) c.requires.opened)
 
 pub deliver-requires-clause-owned : goal.deliver-requires-clause-owned
-deliver-requires-clause-owned g c = owned_after c.receivers.invariant.way.moves c.requires.owned
+deliver-requires-clause-owned g c = owned_after c.receivers.invariant.way.parts.moves c.requires.owned
 
 pub receivers-preserved : goal.receivers-preserved
 receivers-preserved g c =
@@ -45,7 +45,7 @@ receivers-preserved g c =
     let then = seen r (shown c.deliver_copy.new.self) (g.R.Waiting.unfinished r c.deliver_copy.new.waiting) (g.R.Reclaim.owned r c.deliver_copy.new.waiting) c.deliver_copy.new.counters in
     let fd = slice_index_or c.args.fds.now c.receivers.i 0 in
     let is_open : IsSome (block_at fd c.receivers.self.pcbs) =
-    subst (λ (t : Table). IsOpen fd t) (sym c.receivers.invariant.way.pcbs)
+    subst (λ (t : Table). IsOpen fd t) (sym c.receivers.invariant.way.parts.pcbs)
     (All-get_or (λ (k : ℕ). IsOpen k c.args.self.now.pcbs) c.args.fds.now c.receivers.i 0 (omega (arith, c.receivers-test.true)) c.requires.opened) in
     let e : suc c.receivers.i ≡ c.receivers.i + 1 = omega arith in
     record {
@@ -68,7 +68,7 @@ returns-clause-delivered g c =
     let fd = slice_index_or c.args.fds.now last 0 in
     let e : c.receivers.i ≡ last = omega (arith, c.receivers-test.false, c.receivers.invariant.within) in
     let is_open : IsSome (block_at fd c.receivers.self.pcbs) =
-    subst (λ (t : Table). IsOpen fd t) (sym c.receivers.invariant.way.pcbs)
+    subst (λ (t : Table). IsOpen fd t) (sym c.receivers.invariant.way.parts.pcbs)
     (All-get_or (λ (k : ℕ). IsOpen k c.args.self.now.pcbs) c.args.fds.now last 0 (omega (arith, c.requires.some)) c.requires.opened) in
     delivered_all at c.args.datagram.chain c.args.fds.now c.args.datagram.sender last fd now then
     (subst (λ (j : ℕ). IsUnderWay at c.args.datagram.chain c.args.fds.now c.args.datagram.sender j now) e c.receivers.invariant.way)
