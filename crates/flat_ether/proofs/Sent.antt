@@ -1,6 +1,6 @@
 -- What goes out on the link: where each packet comes from, and to whom it goes.
 use Rattle.std.proofs.Common.{◌≡◌, ◌≢◌, ◌⊎◌, inl, inr, ℕ, Bool, true, false, cond, List, [], ◌∷◌, ◌++◌, length, take, drop, Option, Some, None, refl, sym, ap, ◌∙◌, subst, zero, suc, ◌+◌, ◌-◌, add-one, get_or}
-use Rattle.std.specs.Prelude.{Contains, ◌==◌, ◌&&◌, ◌||◌, not, filter, is_some, map, nat_lt, position, slice_get, slice_set, remove}
+use Rattle.std.specs.Prelude.{Contains, ◌==◌, ◌&&◌, ◌||◌, not, filter, is_some, map, nat_lt, position, slice_get, remove}
 use Rattle.std.specs.List.{AllByRecursion as Each}
 use Rattle.std.proofs.lemmas.List.Elements.{All-contains_itself, All-head, Contains-append_left, Contains-append_right}
 use Rattle.std.proofs.lemmas.List.Quantifiers.{position-Some}
@@ -16,7 +16,7 @@ use Rattle.flat_model.specs.declared.address.Addr.{Addr}
 use Rattle.flat_ether.specs.Frames.{arp_bytes, arp_of, body_of, ether_broadcast, frame, kind_of, no_mac}
 use Rattle.flat_ether.specs.Icmp.{echo_reply, port_unreachable}
 use Rattle.flat_ether.specs.Laws.{IsMade, IsRoute, IsSent, arp_if, last_told, tells, told_in}
-use Rattle.flat_ether.specs.Links.{Gives, Held, LinkState, aged, answers_with, asked_again, asked_at, asks, asks_at, by_route, claim_frame, counts_echo, counts_unreachable, drops_first, finds_bad, finds_conflict, finds_long, finds_no_place, first_ready, gives_answer, gives_claim, gives_held, gives_own, gives_reply, gives_request, has_hope, has_ip, heard, hears_arp, holds, ignores, is_asked, is_conflict, is_due, is_rival, is_sound_arp, learns, limits, mac_at, mac_in, notes, notes_error, takes_at, takes_error, mac_of, or_then, owes, place_of, put, puts_answer, ready_or, refuses, replies_to, sends, sends_answer, sends_at, sends_held, stays, takes_place, tells_unreachable, ticks, to_hop, unknown, route_of, route_to}
+use Rattle.flat_ether.specs.Links.{Gives, Held, LinkState, aged, answers_with, asked_at, asks, asks_at, by_route, claim_frame, counts_echo, counts_unreachable, drops_first, finds_bad, finds_conflict, finds_long, finds_no_place, first_ready, gives_answer, gives_claim, gives_held, gives_own, gives_reply, gives_request, has_hope, has_ip, heard, hears_arp, holds, ignores, is_asked, is_conflict, is_due, is_rival, is_sound_arp, learns, limits, mac_at, mac_in, notes, notes_error, takes_at, takes_error, mac_of, or_then, owes, place_of, put, puts_answer, ready_or, refuses, replies_to, sends, sends_answer, sends_at, sends_held, stays, takes_place, tells_unreachable, ticks, to_hop, unknown, route_of, route_to}
 use Rattle.flat_ether.specs.Routes.{is_near, is_neighbour}
 use Rattle.flat_ether.specs.declared.answer.Answer.{Answer}
 use Rattle.flat_ether.specs.declared.answer.Answer.TheVariants.{Echo, Unreachable, Silence}

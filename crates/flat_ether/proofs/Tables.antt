@@ -1,12 +1,12 @@
 -- The table of neighbours: no two have one address, and what holds of each.
-use Rattle.std.proofs.Common.{◌≡◌, ◌≢◌, ℕ, ◌+◌, ◌≤◌, Bool, true, false, cond, List, [], ◌∷◌, ◌++◌, length, drop, Option, Some, None, refl, sym, ap, ◌∙◌, subst, zero, suc, arith, get_or}
-use Rattle.std.specs.Prelude.{◌==◌, filter, map, nat_lt, position, slice_set, not}
+use Rattle.std.proofs.Common.{◌≡◌, ◌≢◌, ℕ, ◌+◌, ◌≤◌, Bool, true, false, cond, List, [], ◌∷◌, ◌++◌, length, drop, Option, Some, None, refl, sym, ◌∙◌, zero, suc, arith, get_or}
+use Rattle.std.specs.Prelude.{filter, map, nat_lt, slice_set, not}
 use Rattle.std.specs.List.{position_or_len}
 use Rattle.std.specs.List.{AllByRecursion as Each}
 use Rattle.std.proofs.lemmas.Bool.{eqb-false, eqb-true, ltb-false}
 use Rattle.std.proofs.lemmas.Option.{none-some, same_Some}
 use Rattle.flat_model.proofs.Laws.{each-append, each-both, each-filter, each-map, each-weaker}
-use Rattle.flat_ether.specs.Links.{aged, asked_again, has_ip, place_of, put, put_at, stays, unknown, with_room}
+use Rattle.flat_ether.specs.Links.{aged, asked_again, has_ip, place_of, put, put_at, stays, with_room}
 use Rattle.flat_ether.specs.declared.neighbour.Neighbour.{Neighbour}
 
 pub each-drop : {X : Type 0} (P : X → Type 0) (n : ℕ) (xs : List X) → Each P xs → Each P (drop n xs)

@@ -1,5 +1,5 @@
 -- The claim of a host to its address (RFC 5227).
-use Rattle.std.specs.Prelude.{ℕ, ◌-◌, nat_lt, Bool, true, false, ◌==◌, ◌&&◌, ◌||◌, not, if◌then◌else◌, max}
+use Rattle.std.specs.Prelude.{◌-◌, nat_lt, Bool, true, false, ◌==◌, ◌&&◌, ◌||◌, not, if◌then◌else◌, max}
 use Rattle.flat_ether.specs.declared.claim.AddressState.{AddressState}
 use Rattle.flat_ether.specs.declared.claim.AddressState.TheVariants.{Probing, Conflict, InUse}
 use Rattle.flat_ether.specs.declared.claim.Claim.{Claim}
@@ -9,7 +9,14 @@ use Rattle.flat_ether.specs.declared.sizes.TheConstants.{ANNOUNCE_TICKS, ANNOUNC
 
 -- with probes first, or without
 abbrev pub claim_up : Bool → Claim
-claim_up probe = record { probes = if probe then ARP_PROBES else 0; announcements = ANNOUNCEMENTS; wait = 0; defence = 0; lost = false }
+claim_up probe =
+    record {
+      probes = if probe then ARP_PROBES else 0;
+      announcements = ANNOUNCEMENTS;
+      wait = 0;
+      defence = 0;
+      lost = false;
+    }
 
 -- The address is used: no probe is left to send, and the wait after the last one is over (section 2.1.1). Once an
 -- announcement went out, it stays so.
@@ -21,7 +28,10 @@ address_state k = if k.lost then Conflict else if is_claimed k then InUse else P
 
 -- what is to be sent now
 abbrev pub claim_due : Claim → ClaimFrame
-claim_due k = if k.lost || nat_lt 0 k.wait then Nothing else if nat_lt 0 k.probes then Probe else if nat_lt 0 k.announcements then Announcement else Nothing
+claim_due k =
+    if k.lost || nat_lt 0 k.wait
+    then Nothing
+    else if nat_lt 0 k.probes then Probe else if nat_lt 0 k.announcements then Announcement else Nothing
 
 -- what was due went out
 abbrev pub claim_sent : Claim → Claim

@@ -1,6 +1,6 @@
 -- Errors that others tell of this host's datagrams (RFC 792; RFC 1122, section 4.1.3.3; `udp_ctlinput` of volume 2,
 -- chapter 23).
-use Rattle.std.specs.Prelude.{ℕ, ◌%◌, nat_lt, nat_le, Bool, ◌==◌, ◌&&◌, ◌||◌, not, if◌then◌else◌, List, [], ◌∷◌, ◌++◌, length, drop, position, slice_get, slice_index, slice_set, remove, option_map, Option, Some, None, Result, Ok, Err}
+use Rattle.std.specs.Prelude.{ℕ, ◌%◌, nat_lt, nat_le, Bool, ◌==◌, ◌&&◌, ◌||◌, not, if◌then◌else◌, List, [], ◌∷◌, ◌++◌, length, drop, position, slice_index, slice_set, Option, Some, None}
 use Rattle.params.specs.declared.TheConstants.{IP_HEADER, PROTOCOL_UDP}
 use Rattle.flat_model.specs.Packets.Checksum.{folded_sum}
 use Rattle.flat_model.specs.Packets.Header.{head_of, u16_at, u32_at}
@@ -20,7 +20,8 @@ abbrev pub is_error : Config → List ℕ → Bool
 is_error c b =
     nat_le ICMP_ERROR (length b)
     && ((slice_index b 0 == UNREACHABLE) && (not (slice_index b 1 == FRAGMENT_NEEDED) && ((slice_index b 8 == 0x45)
-    && ((u16_at 14 b % 8192 == 0) && ((slice_index b 17 == PROTOCOL_UDP) && ((u32_at 20 b == c.addr) && (folded_sum b == 65535)))))))
+    && ((u16_at 14 b % 8192 == 0) && ((slice_index b 17 == PROTOCOL_UDP)
+    && ((u32_at 20 b == c.addr) && (folded_sum b == 65535)))))))
 
 abbrev pub fault_of : ℕ → NetFault
 fault_of code = if (code == UNREACHABLE_PROTOCOL) || (code == UNREACHABLE_PORT) then Refused else Unreachable
@@ -32,7 +33,9 @@ error_of b = record { port = u16_at 28 b; peer_ip = u32_at 24 b; peer_port = u16
 -- a whole packet of ICMP to this host
 abbrev pub is_icmp : Config → List ℕ → Bool
 is_icmp c came =
-    nat_le IP_HEADER (length came) && (((head_of came).destination == c.addr) && (not (is_fragment (head_of came)) && (slice_index came 9 == PROTOCOL_ICMP)))
+    nat_le IP_HEADER (length came)
+    && (((head_of came).destination == c.addr)
+    && (not (is_fragment (head_of came)) && (slice_index came 9 == PROTOCOL_ICMP)))
 
 -- the error that a packet tells
 abbrev pub error_in : Config → List ℕ → Option SocketError

@@ -50,7 +50,8 @@ abbrev pub is_bad_source : Config → ℕ → Bool
 is_bad_source c ip = nat_lt ip (2 ^ 24) || (nat_le FIRST_MULTICAST ip || (is_loopback ip || (ip == c.bcast)))
 
 abbrev pub is_martian : Config → List ℕ → Bool
-is_martian c packet = nat_le IP_HEADER (length packet) && (is_bad_source c (u32_at 12 packet) || is_loopback (u32_at 16 packet))
+is_martian c packet =
+    nat_le IP_HEADER (length packet) && (is_bad_source c (u32_at 12 packet) || is_loopback (u32_at 16 packet))
 
 -- ---- what a frame is for a host
 
@@ -64,14 +65,18 @@ packet_kind c packet = if is_martian c packet then Martian else Packet
 abbrev pub kind_of : Config → Mac → List ℕ → FrameKind
 kind_of c mac f =
     if is_heard mac f
-    then (if u16_at 12 f == ETHER_TYPE_IP then packet_kind c (body_of f) else if u16_at 12 f == ETHER_TYPE_ARP then Of_arp else Other)
+    then (
+    if u16_at 12 f == ETHER_TYPE_IP
+    then packet_kind c (body_of f)
+    else if u16_at 12 f == ETHER_TYPE_ARP then Of_arp else Other)
     else Other
 
 -- ---- ARP
 
 abbrev pub arp_bytes : ℕ → Mac → ℕ → Mac → ℕ → List ℕ
 arp_bytes op mac ip target_mac target =
-    two_bytes 1 ++ two_bytes ETHER_TYPE_IP ++ two_bytes 0x0604 ++ two_bytes op ++ mac_bytes mac ++ four_bytes ip ++ mac_bytes target_mac ++ four_bytes target
+    two_bytes 1 ++ two_bytes ETHER_TYPE_IP ++ two_bytes 0x0604 ++ two_bytes op ++ mac_bytes mac ++ four_bytes ip
+    ++ mac_bytes target_mac ++ four_bytes target
 
 abbrev pub arp_of : List ℕ → Arp
 arp_of b = record { op = u16_at 6 b; mac = mac_at 8 b; ip = u32_at 14 b; target = u32_at 24 b }
@@ -80,4 +85,5 @@ arp_of b = record { op = u16_at 6 b; mac = mac_at 8 b; ip = u32_at 14 b; target 
 abbrev pub is_arp : List ℕ → Bool
 is_arp b =
     nat_le ARP_BYTES (length b)
-    && ((u16_at 0 b == 1) && ((u16_at 2 b == ETHER_TYPE_IP) && ((u16_at 4 b == 0x0604) && ((u16_at 6 b == 1) || (u16_at 6 b == 2)))))
+    && ((u16_at 0 b == 1) && ((u16_at 2 b == ETHER_TYPE_IP)
+    && ((u16_at 4 b == 0x0604) && ((u16_at 6 b == 1) || (u16_at 6 b == 2)))))

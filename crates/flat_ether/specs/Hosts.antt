@@ -37,7 +37,10 @@ is_to_us s f = same_mac (mac_at 0 f) s.link.mac
 -- error is taken from it
 abbrev pub answers : List ℕ → State → State → LinkState → LinkState
 answers f old new s =
-    if is_to_us s f then notes (counted_more IpNoproto old new) (body_of f) (answers_with (answer_to s.config (body_of f) old new) (body_of f) s) else s
+    if is_to_us s f
+    then notes (counted_more IpNoproto old new) (body_of f)
+    (answers_with (answer_to s.config (body_of f) old new) (body_of f) s)
+    else s
 
 -- a packet comes to the machine as it is in the frame
 pub record TakesPacket (f : List ℕ) (old new : Host) : Type 0 where
@@ -102,7 +105,8 @@ gives h = if is_claimed h.link.claim then gives_claimed h else gives_probe h
 
 abbrev pub error_of_socket : Option Socket → Host → Result (Option NetFault) Errno × Host
 error_of_socket None h = (Err BadDescriptor, h)
-error_of_socket (Some me) h = (Ok (takes_error me.port me.peer h.link).0, record h { link = (takes_error me.port me.peer h.link).1 })
+error_of_socket (Some me) h =
+    (Ok (takes_error me.port me.peer h.link).0, record h { link = (takes_error me.port me.peer h.link).1 })
 
 -- what others told of the datagrams that a connected socket sent to its peer, and the host then: it's told once
 abbrev pub last_error : ℕ → Host → Result (Option NetFault) Errno × Host
@@ -116,8 +120,8 @@ pub record Ticks (old new : Host) : Type 0 where
 
 -- ---- whole runs
 
--- what is done with a host: a frame comes, the link takes the next one, the clock ticks, a call is made on its stack, or an error is
--- asked for
+-- what is done with a host: a frame comes, the link takes the next one, the clock ticks, a call is made on its stack,
+-- or an error is asked for
 pub data Act : Type 0 where
   Comes_in : (frame : List ℕ) → Act
   Goes_out : (frame : Option (List ℕ)) → Act

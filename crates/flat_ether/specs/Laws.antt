@@ -1,5 +1,5 @@
 -- What holds of whole runs of a host (this project's own).
-use Rattle.std.specs.Prelude.{◌≡◌, ◌≢◌, ◌⊎◌, ℕ, ◌<◌, ◌^◌, true, List, [], ◌∷◌, ◌++◌, filter_map, option_to_list, All, Contains, Option, Some, None, Bool, ◌==◌, ◌&&◌, if◌then◌else◌}
+use Rattle.std.specs.Prelude.{◌≡◌, ◌≢◌, ◌⊎◌, ℕ, ◌<◌, ◌+◌, ◌^◌, List, [], ◌∷◌, ◌++◌, filter_map, option_to_list, All, Contains, Option, Some, None, Bool, ◌==◌, ◌&&◌, if◌then◌else◌}
 use Rattle.flat_model.specs.Machine.Ledger.{exact_ledger}
 use Rattle.flat_model.specs.Machine.Count.{value_of}
 use Rattle.flat_model.specs.Packets.Header.{u16_at}
@@ -40,6 +40,25 @@ packets_in c mac (Asks_error fd fault) = []
 abbrev pub packets_to : Config → Mac → List Act → List (List ℕ)
 packets_to c mac [] = []
 packets_to c mac (act ∷ acts) = packets_in c mac act ++ packets_to c mac acts
+
+-- how many packets a frame of this sort brings that can't come from a link (RFC 1122, section 3.2.1.3)
+abbrev pub martian_if : FrameKind → ℕ
+martian_if Packet = 0
+martian_if Martian = 1
+martian_if Arp = 0
+martian_if Other = 0
+
+abbrev pub martian_in : Config → Mac → Act → ℕ
+martian_in c mac (Comes_in f) = martian_if (kind_of c mac f)
+martian_in c mac (Goes_out f) = 0
+martian_in c mac Clock = 0
+martian_in c mac (Calls turn) = 0
+martian_in c mac (Asks_error fd fault) = 0
+
+-- how many such packets came in these acts
+abbrev pub martians_in : Config → Mac → List Act → ℕ
+martians_in c mac [] = 0
+martians_in c mac (act ∷ acts) = martian_in c mac act + martians_in c mac acts
 
 -- ---- what goes
 
@@ -86,12 +105,14 @@ last_told c l ip (f ∷ before) = told_in l ip (arp_if (kind_of c l.mac f) f) (l
 abbrev pub IsMade : Config → List (List ℕ) → List (List ℕ) → List ℕ → Type 0
 IsMade c frames given packet =
     Contains given packet
-    ⊎ ((frame : List ℕ) × Contains frames frame × ((packet ≡ echo_reply c (body_of frame)) ⊎ (packet ≡ port_unreachable c (body_of frame))))
+    ⊎ ((frame : List ℕ) × Contains frames frame
+    × ((packet ≡ echo_reply c (body_of frame)) ⊎ (packet ≡ port_unreachable c (body_of frame))))
 
 -- to all, where that is the packet's route; else to the hardware address that was last told for its next hop
 abbrev pub IsRoute : Config → Link → List (List ℕ) → List ℕ → Mac → Type 0
 IsRoute c l frames packet mac =
-    ((route_to c l packet ≡ To_all) × (mac ≡ ether_broadcast)) ⊎ ((hop : ℕ) × (route_to c l packet ≡ Hop hop) × (last_told c l hop frames ≡ Some mac))
+    ((route_to c l packet ≡ To_all) × (mac ≡ ether_broadcast))
+    ⊎ ((hop : ℕ) × (route_to c l packet ≡ Hop hop) × (last_told c l hop frames ≡ Some mac))
 
 -- the frame has such a packet, whole
 pub record CarriesPacket (c : Config) (l : Link) (frames given : List (List ℕ)) (f : List ℕ) : Type 0 where
@@ -122,7 +143,8 @@ frames_then act before = frame_in act ++ before
 -- that the machine gave.
 abbrev pub AreSent : Config → Link → List (List ℕ) → List (List ℕ) → List Act → Type 0
 AreSent c l given before [] = Unit {0}
-AreSent c l given before (act ∷ acts) = All (IsSent c l before given) (frame_out act) × AreSent c l given (frames_then act before) acts
+AreSent c l given before (act ∷ acts) =
+    All (IsSent c l before given) (frame_out act) × AreSent c l given (frames_then act before) acts
 
 -- These acts are turns of the machine. What came in these are the packets of the frames for the host, in their order;
 -- and each frame that went is an ARP packet of the host, or has a packet that the machine gave or that answers one.
@@ -153,7 +175,8 @@ pub record AreOnEthernet (c d : Config) (l m : Link) (sent came : List Act) (s t
 
 -- Then what `recvfrom` of the second answers with the first's address as the sender's was sent so, by turns that the
 -- first's acts are: `before` are the second's acts until then.
-pub record WasReceivedOnEthernet (c d : Config) (l m : Link) (sent before : List Act) (s : Host) (fd most : ℕ) (sender : Addr) (bytes : List ℕ) : Type 0 where
+pub record WasReceivedOnEthernet (c d : Config) (l m : Link) (sent before : List Act) (s : Host) (fd most : ℕ)
+    (sender : Addr) (bytes : List ℕ) : Type 0 where
   pub makes : MakesTurns c l sent s
   pub then' : Host
   pub makes_then : MakesTurns d m before then'
@@ -161,7 +184,8 @@ pub record WasReceivedOnEthernet (c d : Config) (l m : Link) (sent before : List
 
 -- Then a datagram that waits in a queue of the second with the first's address as its sender was sent so, by turns that
 -- the first's acts are.
-pub record WasSentOnEthernet (c d : Config) (l : Link) (sent : List Act) (s : Host) (socket : Socket) (datagram : Datagram) : Type 0 where
+pub record WasSentOnEthernet (c d : Config) (l : Link) (sent : List Act) (s : Host) (socket : Socket)
+    (datagram : Datagram) : Type 0 where
   pub makes : MakesTurns c l sent s
   pub to : Addr
   pub answered : IsAnswered exact_ledger c makes.turns s.machine datagram.sender.port to datagram.item.bytes

@@ -34,8 +34,9 @@ pub record Held : Type 0 where
   pub packet : List ℕ
 
 -- The machine's configuration and its link; the neighbours, the one that was put last at the end; who is owed an ARP
--- reply; the packets that wait, the oldest first; the ICMP answer that waits; the errors that nobody has asked for yet; the claim to the address; how many
--- senders may still be told before the next tick that a port is unreachable; and what was counted.
+-- reply; the packets that wait, the oldest first; the ICMP answer that waits; the errors that nobody has asked for yet;
+-- the claim to the address; how many senders may still be told before the next tick that a port is unreachable; and
+-- what was counted.
 pub record LinkState : Type 0 where
   pub config : Config
   pub link : Link
@@ -50,11 +51,38 @@ pub record LinkState : Type 0 where
 
 -- nothing was counted
 abbrev pub no_tallies : Tallies
-no_tallies = record { ignored = 0; martians = 0; bad_arp = 0; conflicts = 0; replies_dropped = 0; no_route = 0; held_dropped = 0; unresolved = 0; too_long = 0; echoes = 0; unreachable = 0; limited = 0; icmp_dropped = 0 }
+no_tallies =
+    record {
+      ignored = 0;
+      martians = 0;
+      bad_arp = 0;
+      conflicts = 0;
+      replies_dropped = 0;
+      no_route = 0;
+      held_dropped = 0;
+      unresolved = 0;
+      too_long = 0;
+      echoes = 0;
+      unreachable = 0;
+      limited = 0;
+      icmp_dropped = 0;
+    }
 
 -- a link that has just started
 abbrev pub link_up : Config → Link → LinkState
-link_up c l = record { config = c; link = l; neighbours = []; replies = []; held = []; answer = None; errors = []; claim = claim_up l.probe; unreachables = UNREACHABLES; tallies = no_tallies }
+link_up c l =
+    record {
+      config = c;
+      link = l;
+      neighbours = [];
+      replies = [];
+      held = [];
+      answer = None;
+      errors = [];
+      claim = claim_up l.probe;
+      unreachables = UNREACHABLES;
+      tallies = no_tallies;
+    }
 
 abbrev pub ignores : LinkState → LinkState
 ignores s = record s { tallies = record s.tallies { ignored = more_by 1 s.tallies.ignored } }
@@ -103,7 +131,8 @@ heard a = record { ip = a.ip; mac = Some a.mac; ticks = ARP_KEEP_TICKS; tries = 
 
 -- Its sender is learned where it's known already, or the packet is for this host (RFC 826, "Packet Reception").
 abbrev pub is_learned : LinkState → Arp → Bool
-is_learned s a = is_neighbour s.config s.link a.ip && (is_some (place_of a.ip s.neighbours) || (a.target == s.config.addr))
+is_learned s a =
+    is_neighbour s.config s.link a.ip && (is_some (place_of a.ip s.neighbours) || (a.target == s.config.addr))
 
 abbrev pub learns : Arp → LinkState → LinkState
 learns a s = if is_learned s a then record s { neighbours = put (heard a) s.neighbours } else s
@@ -125,7 +154,8 @@ abbrev pub finds_bad : LinkState → LinkState
 finds_bad s = record s { tallies = record s.tallies { bad_arp = more_by 1 s.tallies.bad_arp } }
 
 abbrev pub finds_conflict : LinkState → LinkState
-finds_conflict s = record s { claim = conflicts s.claim; tallies = record s.tallies { conflicts = more_by 1 s.tallies.conflicts } }
+finds_conflict s =
+    record s { claim = conflicts s.claim; tallies = record s.tallies { conflicts = more_by 1 s.tallies.conflicts } }
 
 -- a probe for this host's address, of a host that wants to use it (RFC 5227, section 2.1.1)
 abbrev pub is_rival : LinkState → Arp → Bool
@@ -142,7 +172,8 @@ is_sound_arp l b = is_arp b && (not (same_mac (arp_of b).mac l.mac) && not (same
 abbrev pub hears_arp : List ℕ → LinkState → LinkState
 hears_arp b s =
     if is_sound_arp s.link b
-    then (if is_conflict s (arp_of b) then owes (arp_of b) (finds_conflict s) else owes (arp_of b) (learns (arp_of b) s))
+    then (if is_conflict s (arp_of b) then owes (arp_of b) (finds_conflict s)
+    else owes (arp_of b) (learns (arp_of b) s))
     else finds_bad s
 
 -- ---- a packet that goes out (`ether_output`, `arpresolve`)
@@ -155,7 +186,8 @@ takes_place hop packet s = record s { held = s.held ++ record { hop = hop; packe
 
 -- the one that has waited longest is dropped
 abbrev pub drops_first : LinkState → LinkState
-drops_first s = record s { held = drop 1 s.held; tallies = record s.tallies { held_dropped = more_by 1 s.tallies.held_dropped } }
+drops_first s =
+    record s { held = drop 1 s.held; tallies = record s.tallies { held_dropped = more_by 1 s.tallies.held_dropped } }
 
 -- a packet waits; where no place is free, it takes that of the one that has waited longest
 abbrev pub holds : ℕ → List ℕ → LinkState → LinkState
@@ -204,7 +236,8 @@ request s to sender target = frame to s.link.mac ETHER_TYPE_ARP (arp_bytes ARP_R
 abbrev pub claim_frame : ClaimFrame → LinkState → Gives
 claim_frame Nothing s = (None, s)
 claim_frame Probe s = (Some (request s ether_broadcast 0 s.config.addr), record s { claim = claim_sent s.claim })
-claim_frame Announcement s = (Some (request s ether_broadcast s.config.addr s.config.addr), record s { claim = claim_sent s.claim })
+claim_frame Announcement s =
+    (Some (request s ether_broadcast s.config.addr s.config.addr), record s { claim = claim_sent s.claim })
 
 abbrev pub gives_claim : LinkState → Gives
 gives_claim s = claim_frame (claim_due s.claim) s
@@ -212,8 +245,10 @@ gives_claim s = claim_frame (claim_due s.claim) s
 -- the ARP reply that is owed longest
 abbrev pub replies_to : List PendingReply → LinkState → Gives
 replies_to [] s = (None, s)
-replies_to (o ∷ later) s =
-    (Some (frame o.mac s.link.mac ETHER_TYPE_ARP (arp_bytes ARP_REPLY s.link.mac s.config.addr o.mac o.ip)), record s { replies = later })
+replies_to (o ∷ later) s = (
+  Some (frame o.mac s.link.mac ETHER_TYPE_ARP (arp_bytes ARP_REPLY s.link.mac s.config.addr o.mac o.ip)),
+  record s { replies = later },
+)
 
 abbrev pub gives_reply : LinkState → Gives
 gives_reply s = replies_to s.replies s
@@ -266,7 +301,8 @@ first_ready ns (h ∷ hs) = ready_or (mac_of h.hop ns) (first_ready ns hs)
 
 abbrev pub sends_held : ℕ → Mac → Option Held → LinkState → Gives
 sends_held at mac None s = (None, s)
-sends_held at mac (Some h) s = (Some (frame mac s.link.mac ETHER_TYPE_IP h.packet), record s { held = remove s.held at })
+sends_held at mac (Some h) s =
+    (Some (frame mac s.link.mac ETHER_TYPE_IP h.packet), record s { held = remove s.held at })
 
 abbrev pub sends_at : Option (ℕ × Mac) → LinkState → Gives
 sends_at None s = (None, s)
@@ -307,11 +343,16 @@ has_hope ns h = is_some (place_of h.hop ns)
 abbrev pub keeps : List Neighbour → LinkState → LinkState
 keeps ns s =
     let held : List Held = filter (has_hope ns) s.held in
-    record s { neighbours = ns; held = held; tallies = record s.tallies { unresolved = more_by (length s.held - length held) s.tallies.unresolved } }
+    record s {
+      neighbours = ns;
+      held = held;
+      tallies = record s.tallies { unresolved = more_by (length s.held - length held) s.tallies.unresolved };
+    }
 
 -- a tick: what isn't known any more is forgotten, and the packets that waited for it are given up
 abbrev pub ticks : LinkState → LinkState
-ticks s = keeps (filter stays (map aged s.neighbours)) (record s { claim = claim_ticks s.claim; unreachables = UNREACHABLES })
+ticks s =
+    keeps (filter stays (map aged s.neighbours)) (record s { claim = claim_ticks s.claim; unreachables = UNREACHABLES })
 
 -- ---- ICMP
 
@@ -335,12 +376,14 @@ limits s = record s { tallies = record s.tallies { limited = more_by 1 s.tallies
 abbrev pub tells_unreachable : List ℕ → LinkState → LinkState
 tells_unreachable came s =
     if nat_lt 0 s.unreachables
-    then counts_unreachable (puts_answer (port_unreachable s.config came) (record s { unreachables = s.unreachables - 1 }))
+    then counts_unreachable (puts_answer (port_unreachable s.config came)
+    (record s { unreachables = s.unreachables - 1 }))
     else limits s
 
 abbrev pub answers_with : Answer → List ℕ → LinkState → LinkState
 answers_with Silence came s = s
-answers_with Echo came s = if is_some s.answer then finds_no_place s else counts_echo (puts_answer (echo_reply s.config came) s)
+answers_with Echo came s =
+    if is_some s.answer then finds_no_place s else counts_echo (puts_answer (echo_reply s.config came) s)
 answers_with Unreachable came s = if is_some s.answer then finds_no_place s else tells_unreachable came s
 
 -- ---- errors that others tell

@@ -24,8 +24,8 @@ pub const ARP_KEEP_TICKS: u16 = 2_400;
 pub const ARP_RETRY_TICKS: u16 = 3;
 /// After so many requests without an answer an address is given up, `arp_maxtries` (volume 2, chapter 21).
 pub const ARP_TRIES: u8 = 5;
-/// So many requests go to a neighbour that is known before it's forgotten, `ARP_RETRY_TICKS` apart: the unicast polls of
-/// RFC 1122, section 2.3.2.1.
+/// So many requests go to a neighbour that is known before it's forgotten, `ARP_RETRY_TICKS` apart: the unicast polls
+/// of RFC 1122, section 2.3.2.1.
 pub const ARP_POLLS: u8 = 2;
 /// How many probes a host sends that asks whether its address is free, `PROBE_NUM` (RFC 5227, section 1.1).
 pub const ARP_PROBES: u8 = 3;

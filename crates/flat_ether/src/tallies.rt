@@ -5,7 +5,8 @@
 pub struct Tallies {
     /// Frames that aren't for the host, or neither IPv4 nor ARP.
     pub ignored: u64,
-    /// IPv4 packets whose source is a broadcast or multicast address or of 0/8 or 127/8, or whose destination is of 127/8.
+    /// IPv4 packets whose source is a broadcast or multicast address or of 0/8 or 127/8, or whose destination is of
+    /// 127/8.
     pub martians: u64,
     /// ARP packets that aren't of Ethernet and IPv4, or that say that they come from this host or from all.
     pub bad_arp: u64,

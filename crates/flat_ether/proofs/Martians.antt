@@ -1,0 +1,257 @@
+-- How often a host that runs dropped a martian: nothing else that's done with it changes that tally.
+use Rattle.std.proofs.Common.{◌≡◌, ℕ, ◌+◌, Bool, true, false, cond, List, [], ◌∷◌, length, Option, Some, None, refl, sym, ap, ◌∙◌, subst, arith}
+use Rattle.std.specs.Prelude.{◌==◌, All, Result, is_some, nat_lt, position, slice_get}
+use Rattle.std.specs.List.{AllByRecursion as Each}
+use Rattle.std.proofs.lemmas.List.Elements.{All-from_recursion}
+use Rattle.flat_model.specs.Amounts.Weight.{Item}
+use Rattle.flat_model.specs.Machine.Count.{more_by}
+use Rattle.flat_model.specs.Packets.Header.{u16_at}
+use Rattle.flat_model.specs.Machine.State.{Socket, socket_at}
+use Rattle.flat_model.specs.declared.address.Addr.{Addr}
+use Rattle.flat_model.specs.declared.config.Config.{Config}
+use Rattle.flat_model.specs.declared.counter.Counter.TheVariants.{IpNoproto}
+use Rattle.flat_model.specs.declared.errno.Errno.{Errno}
+use Rattle.flat_ether.specs.Claims.{claim_due, is_claimed}
+use Rattle.flat_ether.specs.Errors.{error_at, error_in}
+use Rattle.flat_ether.specs.Frames.{arp_of, body_of, is_heard, is_martian, kind_of, packet_kind}
+use Rattle.flat_ether.specs.Hosts.{Act, AreActs, Asks_error, Calls, Clock, Comes_in, Drained, Goes_out, HearsKind, Host, IsAct, drained, error_of_socket, gives, gives_claimed, gives_drained, gives_probe, host_up, is_to_us, or_drains}
+use Rattle.flat_ether.specs.Icmp.{answer_to, counted_more}
+use Rattle.flat_ether.specs.Laws.{martian_if, martian_in, martians_in, packet_if, packets_in}
+use Rattle.flat_ether.specs.Links.{Gives, Held, LinkState, answers_with, asks, asks_at, by_route, claim_frame, drops_first, finds_conflict, first_ready, gives_answer, gives_claim, gives_held, gives_own, gives_reply, gives_request, hears_arp, holds, is_asked, is_conflict, is_due, is_learned, is_sound_arp, learns, mac_of, notes, notes_error, or_then, owes, place_of, replies_to, route_of, sends, sends_answer, sends_at, sends_held, takes_at, takes_error, to_hop}
+use Rattle.flat_ether.specs.declared.answer.Answer.{Answer}
+use Rattle.flat_ether.specs.declared.answer.Answer.TheVariants.{Echo, Unreachable, Silence}
+use Rattle.flat_ether.specs.declared.arp.Arp.{Arp}
+use Rattle.flat_ether.specs.declared.claim.ClaimFrame.{ClaimFrame}
+use Rattle.flat_ether.specs.declared.claim.ClaimFrame.TheVariants.{Probe, Announcement, Nothing}
+use Rattle.flat_ether.specs.declared.error.NetFault.{NetFault}
+use Rattle.flat_ether.specs.declared.error.SocketError.{SocketError}
+use Rattle.flat_ether.specs.declared.link.FrameKind.{FrameKind}
+use Rattle.flat_ether.specs.declared.link.FrameKind.TheVariants.{Packet, Martian, Arp as Of_arp, Other}
+use Rattle.flat_ether.specs.declared.link.Link.{Link}
+use Rattle.flat_ether.specs.declared.link.Route.{Route}
+use Rattle.flat_ether.specs.declared.link.Route.TheVariants.{All as To_all, Hop, NoRoute}
+use Rattle.flat_ether.specs.declared.mac.Mac.{Mac}
+use Rattle.flat_ether.specs.declared.neighbour.PendingReply.{PendingReply}
+use Rattle.flat_ether.specs.declared.sizes.TheConstants.{ETHER_MTU, ETHER_TYPE_ARP, ETHER_TYPE_IP, HELD_PACKETS, PENDING_REPLIES}
+
+-- by what a frame is judged, and how many martians came
+abbrev Tally : Type 0
+Tally = Config × Link × ℕ
+
+abbrev tally : LinkState → Tally
+tally s = (s.config, s.link, s.tallies.martians)
+
+by_cond : (b : Bool) (s t u : LinkState) → tally t ≡ tally s → tally u ≡ tally s → tally (cond b t u) ≡ tally s
+by_cond true s t u e f = e
+by_cond false s t u e f = f
+
+by_gives : (b : Bool) (s : LinkState) (g h : Gives) → tally g.1 ≡ tally s → tally h.1 ≡ tally s → tally (cond b g h).1 ≡ tally s
+by_gives true s g h e f = e
+by_gives false s g h e f = f
+
+by_host : (b : Bool) (s : LinkState) (g h : Option (List ℕ) × Host) → tally g.1.link ≡ tally s → tally h.1.link ≡ tally s → tally (cond b g h).1.link ≡ tally s
+by_host true s g h e f = e
+by_host false s g h e f = f
+
+-- ---- what comes
+
+answers_same : (a : Answer) (came : List ℕ) (s : LinkState) → tally (answers_with a came s) ≡ tally s
+answers_same Silence came s = refl
+answers_same Echo came s = by_cond (is_some s.answer) s _ _ refl refl
+answers_same Unreachable came s = by_cond (is_some s.answer) s _ _ refl (by_cond (nat_lt 0 s.unreachables) s _ _ refl refl)
+
+notes_same : (b : Bool) (came : List ℕ) (s : LinkState) → tally (notes b came s) ≡ tally s
+notes_same b came s = by_cond b s _ _ (go (error_in s.config came)) refl
+  where
+    go : (e : Option SocketError) → tally (notes_error e s) ≡ tally s
+    go None = refl
+    go (Some e) = refl
+
+owes_same : (a : Arp) (s : LinkState) → tally (owes a s) ≡ tally s
+owes_same a s = by_cond (is_asked s a) s _ _ (by_cond (nat_lt (length s.replies) PENDING_REPLIES) s _ _ refl refl) refl
+
+learns_same : (a : Arp) (s : LinkState) → tally (learns a s) ≡ tally s
+learns_same a s = by_cond (is_learned s a) s _ _ refl refl
+
+hears_same : (b : List ℕ) (s : LinkState) → tally (hears_arp b s) ≡ tally s
+hears_same b s =
+    by_cond (is_sound_arp s.link b) s _ _
+    (by_cond (is_conflict s (arp_of b)) s _ _ (owes_same (arp_of b) (finds_conflict s)) (owes_same (arp_of b) (learns (arp_of b) s) ∙ learns_same (arp_of b) s))
+    refl
+
+-- ---- what goes
+
+asks_same : (hop : ℕ) (s : LinkState) → tally (asks hop s) ≡ tally s
+asks_same hop s = by_cond (is_some (place_of hop s.neighbours)) s _ _ refl refl
+
+holds_same : (hop : ℕ) (packet : List ℕ) (s : LinkState) → tally (holds hop packet s) ≡ tally s
+holds_same hop packet s =
+    by_cond (nat_lt ETHER_MTU (length packet)) s _ _ refl (by_cond (nat_lt (length s.held) HELD_PACKETS) s s (drops_first s) refl refl)
+
+sends_same : (packet : List ℕ) (s : LinkState) → tally (sends packet s).1 ≡ tally s
+sends_same packet s = go (route_of s packet)
+  where
+    to : (hop : ℕ) (mac : Option Mac) → tally (to_hop hop packet s mac).1 ≡ tally s
+    to hop None = asks_same hop (holds hop packet s) ∙ holds_same hop packet s
+    to hop (Some mac) = refl
+
+    go : (r : Route) → tally (by_route packet s r).1 ≡ tally s
+    go To_all = refl
+    go (Hop hop) = to hop (mac_of hop s.neighbours)
+    go NoRoute = refl
+
+claim_same : (s : LinkState) → tally (gives_claim s).1 ≡ tally s
+claim_same s = go (claim_due s.claim)
+  where
+    go : (frame : ClaimFrame) → tally (claim_frame frame s).1 ≡ tally s
+    go Nothing = refl
+    go Probe = refl
+    go Announcement = refl
+
+reply_same : (s : LinkState) → tally (gives_reply s).1 ≡ tally s
+reply_same s = go s.replies
+  where
+    go : (owed : List PendingReply) → tally (replies_to owed s).1 ≡ tally s
+    go [] = refl
+    go (o ∷ later) = refl
+
+request_same : (s : LinkState) → tally (gives_request s).1 ≡ tally s
+request_same s = go (position is_due s.neighbours)
+  where
+    go : (at : Option ℕ) → tally (asks_at at s).1 ≡ tally s
+    go None = refl
+    go (Some at) = refl
+
+held_same : (s : LinkState) → tally (gives_held s).1 ≡ tally s
+held_same s = go (first_ready s.neighbours s.held)
+  where
+    one : (at : ℕ) (mac : Mac) (h : Option Held) → tally (sends_held at mac h s).1 ≡ tally s
+    one at mac None = refl
+    one at mac (Some h) = refl
+
+    go : (found : Option (ℕ × Mac)) → tally (sends_at found s).1 ≡ tally s
+    go None = refl
+    go (Some found) = one found.0 found.1 (slice_get s.held found.0)
+
+answer_same : (s : LinkState) → tally (gives_answer s).1 ≡ tally s
+answer_same s = go s.answer
+  where
+    go : (packet : Option (List ℕ)) → tally (sends_answer packet s).1 ≡ tally s
+    go None = refl
+    go (Some packet) = sends_same packet (record s { answer = None })
+
+then_same : (g : Gives) (next : LinkState → Gives) (s : LinkState) → tally g.1 ≡ tally s → ((t : LinkState) → tally (next t).1 ≡ tally t)
+    → tally (or_then g next).1 ≡ tally s
+then_same g next s e same = by_gives (is_some g.0) s g (next g.1) e (same g.1 ∙ e)
+
+own_same : (s : LinkState) → tally (gives_own s).1 ≡ tally s
+own_same s =
+    let replied : Gives = or_then (gives_claim s) gives_reply in
+    let asked : Gives = or_then replied gives_request in
+    let sent : Gives = or_then asked gives_held in
+    then_same sent gives_answer s
+    (then_same asked gives_held s (then_same replied gives_request s (then_same (gives_claim s) gives_reply s (claim_same s) reply_same) request_same) held_same)
+    answer_same
+
+drained_same : (items : List Item) (s : LinkState) → tally (drained items s).link ≡ tally s
+drained_same [] s = refl
+drained_same (item ∷ later) s = go (sends item.bytes s) (sends_same item.bytes s) (λ t. drained_same later t)
+  where
+    go : (g : Gives) → tally g.1 ≡ tally s → ((t : LinkState) → tally (drained later t).link ≡ tally t) → tally (or_drains g later (drained later g.1)).link ≡ tally s
+    go (None, t) e rest = rest t ∙ e
+    go (Some f, t) e rest = e
+
+gives_drained_same : (h : Host) (s : LinkState) → tally (gives_drained h s).1.link ≡ tally s
+gives_drained_same h s =
+    let d : Drained = drained h.machine.output s in
+    by_host (is_some d.frame) s _ _ (drained_same h.machine.output s) (own_same d.link ∙ drained_same h.machine.output s)
+
+gives_same : (h : Host) → tally (gives h).1.link ≡ tally h.link
+gives_same h =
+    by_host (is_claimed h.link.claim) h.link (gives_claimed h) (gives_probe h)
+    (by_host (is_some (gives_own h.link).0) h.link _ _ (own_same h.link) (gives_drained_same h (gives_own h.link).1 ∙ own_same h.link))
+    (claim_same h.link)
+
+-- ---- a question for an error
+
+takes_same : (port : Option ℕ) (peer : Option Addr) (s : LinkState) → tally (takes_error port peer s).1 ≡ tally s
+takes_same None peer s = refl
+takes_same (Some port) None s = refl
+takes_same (Some port) (Some peer) s = go (error_at port peer s.errors)
+  where
+    go : (at : Option ℕ) → tally (takes_at at s).1 ≡ tally s
+    go None = refl
+    go (Some at) = refl
+
+asked_same : (me : Option Socket) (h : Host) → tally (error_of_socket me h).1.link ≡ tally h.link
+asked_same None h = refl
+asked_same (Some me) h = takes_same me.port me.peer h.link
+
+-- ---- each act, and all of them
+
+-- one more, or as many as before
+one_more : (k n : ℕ) → more_by n (more_by k 0) ≡ more_by (k + n) 0
+one_more k n = omega (arith)
+
+module _ (c : Config) (l : Link) where
+  -- so many martians came
+  abbrev Counts : ℕ → Host → Type 0
+  Counts k h = tally h.link ≡ (c, l, more_by k 0)
+
+  same_counts : (k : ℕ) (old new : Host) → Counts k old → tally new.link ≡ tally old.link → Counts (k + 0) new
+  same_counts k old new is e = e ∙ is ∙ ap (λ (n : ℕ). (c, l, more_by n 0)) (omega (arith))
+
+  heard_counts : (k : ℕ) (f : List ℕ) (old new : Host) (kind : FrameKind) → Counts k old → HearsKind kind f old new → Counts (k + martian_if kind) new
+  heard_counts k f old new Packet is h =
+      same_counts k old new is (ap tally h.link ∙ by_cond (is_to_us old.link f) old.link _ _
+      (notes_same (counted_more IpNoproto old.machine new.machine) (body_of f) _ ∙ answers_same (answer_to old.link.config (body_of f) old.machine new.machine) (body_of f) old.link)
+      refl)
+  heard_counts k f old new Martian is h =
+      ap (λ (x : Host). tally x.link) h ∙ ap (λ (x : Tally). (x.0, x.1, more_by 1 x.2)) is ∙ ap (λ (n : ℕ). (c, l, n)) (one_more k 1)
+  heard_counts k f old new Of_arp is h = same_counts k old new is (ap (λ (x : Host). tally x.link) h ∙ hears_same (body_of f) old.link)
+  heard_counts k f old new Other is h = same_counts k old new is (ap (λ (x : Host). tally x.link) h)
+
+  act_counts : (k : ℕ) (old new : Host) (act : Act) → Counts k old → IsAct old act new → Counts (k + martian_in c l.mac act) new
+  act_counts k old new (Comes_in f) is h =
+      heard_counts k f old new (kind_of c l.mac f) is (subst (λ (x : Tally). HearsKind (kind_of x.0 x.1.mac f) f old new) is h.2)
+  act_counts k old new (Goes_out f) is h =
+      same_counts k old new is (subst (λ (x : Option (List ℕ) × Host). tally x.1.link ≡ tally old.link) (sym h) (gives_same old))
+  act_counts k old new Clock is h = same_counts k old new is (ap tally h.link)
+  act_counts k old new (Calls turn) is h = same_counts k old new is (ap tally h.link)
+  act_counts k old new (Asks_error fd fault) is h =
+      same_counts k old new is (subst (λ (x : Result (Option NetFault) Errno × Host). tally x.1.link ≡ tally old.link) (sym h) (asked_same (socket_at fd old.machine) old))
+
+  acts_count : (k : ℕ) (old new : Host) (acts : List Act) → Counts k old → AreActs old acts new → Counts (k + martians_in c l.mac acts) new
+  acts_count k old new [] is done = same_counts k old new is (ap (λ (h : Host). tally h.link) done)
+  acts_count k old new (act ∷ acts) is (mid, first, later) =
+      acts_count (k + martian_in c l.mac act) mid new acts (act_counts k old mid act is first) later
+      ∙ ap (λ (n : ℕ). (c, l, more_by n 0)) (omega (arith))
+
+  pub martians_are_counted : (acts : List Act) (new : Host) → AreActs (host_up c l) acts new → new.link.tallies.martians ≡ more_by (martians_in c l.mac acts) 0
+  martians_are_counted acts new done =
+      ap (λ (x : Tally). x.2) (acts_count 0 (host_up c l) new acts refl done) ∙ ap (λ (n : ℕ). more_by n 0) (omega (arith))
+
+-- ---- none of them comes to the machine
+
+pub no_martian : (c : Config) (mac : Mac) (f : List ℕ) → All (λ packet. is_martian c packet ≡ false) (packets_in c mac (Comes_in f))
+no_martian c mac f = All-from_recursion _ (packet_if (kind_of c mac f) f) (heard (is_heard mac f))
+  where
+    Free : FrameKind → Type 0
+    Free kind = Each (λ packet. is_martian c packet ≡ false) (packet_if kind f)
+
+    of_packet : (b : Bool) → is_martian c (body_of f) ≡ b → Free (cond b Martian Packet)
+    of_packet true e = tt
+    of_packet false e = (e, tt)
+
+    of_other : (b : Bool) → Free (cond b Of_arp Other)
+    of_other true = tt
+    of_other false = tt
+
+    typed : (b : Bool) → Free (cond b (packet_kind c (body_of f)) (cond (u16_at 12 f == ETHER_TYPE_ARP) Of_arp Other))
+    typed true = of_packet (is_martian c (body_of f)) refl
+    typed false = of_other (u16_at 12 f == ETHER_TYPE_ARP)
+
+    heard : (b : Bool)
+        → Free (cond b (cond (u16_at 12 f == ETHER_TYPE_IP) (packet_kind c (body_of f)) (cond (u16_at 12 f == ETHER_TYPE_ARP) Of_arp Other)) Other)
+    heard true = typed (u16_at 12 f == ETHER_TYPE_IP)
+    heard false = tt
