@@ -118,7 +118,8 @@ fn note(errors: &mut ArrayVec<SocketError, SOCKET_ERRORS>, error: SocketError)
 impl LinkLayer {
     ghost use Rattle.ether_host.specs.Inside.{seen};
 
-    /// A packet came that the stack ended, as one of a protocol that it doesn't know or otherwise: it may tell an error.
+    /// A packet came that the stack ended, as one of a protocol that it doesn't know or otherwise: it may tell an
+    /// error.
     pub(crate) fn note(&mut self, no_protocol: bool, came: &[u8])
         ensures { seen self.new ≡ notes no_protocol came.now (seen self.old) }
     {

@@ -2,7 +2,7 @@
 ghost use Rattle.std.specs.Prelude.{◌≡◌, ◌+◌, ◌≤◌, length, IfSome};
 ghost use Rattle.params.specs.declared.TheConstants.{IP_MAX_PACKET};
 ghost use Rattle.flat_ether.specs.Claims.{address_state};
-ghost use Rattle.flat_ether.specs.Hosts.{Hears, gives};
+ghost use Rattle.flat_ether.specs.Hosts.{Hears, gives, last_error};
 ghost use Rattle.flat_ether.specs.declared.sizes.TheConstants.{ETHER_HEADER, ETHER_MTU};
 ghost use Rattle.ether_host.specs.Fronts.{front};
 ghost use Rattle.ether_host.specs.View.{halves};
@@ -10,7 +10,8 @@ ghost use Rattle.ether_host.specs.View.{halves};
 use crate::frames::{body_of, kind_of};
 use crate::layer::LinkLayer;
 use crate::packets::{drain, take_packet};
-use flat_ether::{AddressState, FrameKind, Neighbour, Tallies};
+use flat_ether::{AddressState, FrameKind, Neighbour, NetFault, Tallies};
+use flat_model::Errno;
 use net_stack::Stack;
 
 impl LinkLayer {
@@ -48,6 +49,16 @@ impl LinkLayer {
             return Some(len);
         }
         self.give_own(room)
+    }
+
+    /// What others told of the datagrams that a connected socket sent to its peer, as `EtherHost::last_error` has it.
+    pub fn last_error(&mut self, stack: &Stack, fd: u32) -> Result<Option<NetFault>, Errno>
+        ensures { (result, halves stack.now (seen self.new)) ≡ last_error fd (halves stack.now (seen self.old)) }
+    {
+        match stack.socket_name(fd) {
+            Ok(name) => Ok(self.take_error(name.port, name.peer)),
+            Err(errno) => Err(errno),
+        }
     }
 
     /// How far the host is with its address.

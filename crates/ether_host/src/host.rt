@@ -9,10 +9,8 @@ ghost use Rattle.net_stack.specs.Boots.{free_pool};
 ghost use Rattle.ether_host.specs.Fronts.{front};
 ghost use Rattle.ether_host.specs.View.{IsUnbooted, LendsStack, host_of, view};
 
-use crate::frames::{body_of, kind_of};
 use crate::layer::LinkLayer;
-use crate::packets::{drain, take_packet};
-use flat_ether::{AddressState, FrameKind, Link, Neighbour, NetFault, Tallies};
+use flat_ether::{AddressState, Link, Neighbour, NetFault, Tallies};
 use flat_model::{Config, Errno};
 use mbuf_chain::Pool;
 use net_stack::{BootFault, Stack};
@@ -37,8 +35,8 @@ pub struct EtherHost {
 }
 
 impl EtherHost {
-    /// A host that has just started, and knows no neighbour. It announces its address, after it has probed for it if the
-    /// link says so (RFC 5227). All memory that it will ever need is taken here.
+    /// A host that has just started, and knows no neighbour. It announces its address, after it has probed for it if
+    /// the link says so (RFC 5227). All memory that it will ever need is taken here.
     ///
     /// # Errors
     ///
@@ -71,41 +69,27 @@ impl EtherHost {
         &mut self.stack
     }
 
-    /// A frame comes, without its check sequence. An IPv4 packet goes to the stack as it is, and may be answered; an ARP
-    /// packet is heard; all else is ignored. A packet from a broadcast or multicast address, from 0/8 or 127/8, or to
-    /// 127/8 is dropped here and counted (RFC 1122, section 3.2.1.3).
+    /// A frame comes, without its check sequence. An IPv4 packet goes to the stack as it is, and may be answered; an
+    /// ARP packet is heard; all else is ignored. A packet from a broadcast or multicast address, from 0/8 or 127/8, or
+    /// to 127/8 is dropped here and counted (RFC 1122, section 3.2.1.3).
     pub fn receive(&mut self, frame: &[u8])
         requires { length frame.now ≤ ETHER_HEADER + IP_MAX_PACKET }
         ensures { Hears frame.now (host_of (view self.old)) (host_of (view self.new)) }
     {
-        match kind_of(&self.layer.config, self.layer.link.mac, frame) {
-            FrameKind::Packet => take_packet(&mut self.stack, &mut self.layer, frame),
-            FrameKind::Martian => self.layer.refuse(),
-            FrameKind::Arp => self.layer.hear_arp(body_of(frame)),
-            FrameKind::Other => self.layer.ignore(),
-        }
+        self.layer.receive(&mut self.stack, frame);
     }
 
-    /// The next frame for the link, until `None`: call it after each other call. Before the host uses its address nothing
-    /// goes out but probes. The frame's bytes stand in front of the room, and the answer is how many they are. The room
-    /// has 1,514 bytes or more. What stands behind the frame in the room may be anything, and all of it if there is
-    /// none. The network card appends what a short frame lacks, and the check sequence.
+    /// The next frame for the link, until `None`: call it after each other call. Before the host uses its address
+    /// nothing goes out but probes. The frame's bytes stand in front of the room, and the answer is how many they are.
+    /// The room has 1,514 bytes or more. What stands behind the frame in the room may be anything, and all of it if
+    /// there is none. The network card appends what a short frame lacks, and the check sequence.
     pub fn transmit(&mut self, room: &mut [u8]) -> Option<usize>
         requires mtu { (view self.old).stack.config.mtu ≤ ETHER_MTU }
         requires room { ETHER_HEADER + ETHER_MTU ≤ length room.old }
         ensures step { (front result room.new, host_of (view self.new)) ≡ gives (host_of (view self.old)) }
         ensures fits { IfSome result (λ n. n ≤ length room.new) }
     {
-        if !self.layer.claim.is_claimed() {
-            return self.layer.give_claim(room);
-        }
-        if let Some(len) = self.layer.give_own(room) {
-            return Some(len);
-        }
-        if let Some(len) = drain(&mut self.stack, &mut self.layer, room) {
-            return Some(len);
-        }
-        self.layer.give_own(room)
+        self.layer.transmit(&mut self.stack, room)
     }
 
     /// The clock ticks, each half second.
@@ -121,33 +105,30 @@ impl EtherHost {
     pub fn address(&self) -> AddressState
         ensures { result ≡ address_state (view self.now).link.claim }
     {
-        self.layer.claim.state()
+        self.layer.address()
     }
 
-    /// What others told of the datagrams that a connected socket sent to its peer, if they told anything: it's told once
-    /// (`so_error` of volume 2, chapter 23). The last eight such errors are kept, by port and peer: one that came before
-    /// a socket took the port over is told to that one. Refused: `BadDescriptor`.
+    /// What others told of the datagrams that a connected socket sent to its peer, if they told anything: it's told
+    /// once (`so_error` of volume 2, chapter 23). The last eight such errors are kept, by port and peer: one that came
+    /// before a socket took the port over is told to that one. Refused: `BadDescriptor`.
     pub fn last_error(&mut self, fd: u32) -> Result<Option<NetFault>, Errno>
         ensures { (result, host_of (view self.new)) ≡ last_error fd (host_of (view self.old)) }
     {
-        match self.stack.socket_name(fd) {
-            Ok(name) => Ok(self.layer.take_error(name.port, name.peer)),
-            Err(errno) => Err(errno),
-        }
+        self.layer.last_error(&self.stack, fd)
     }
 
     /// What was counted of the link.
     pub fn tallies(&self) -> Tallies
         ensures { result ≡ (view self.now).link.tallies }
     {
-        self.layer.tallies
+        self.layer.tallies()
     }
 
     /// The neighbours that are known or asked for, the one that was put last at the end.
     pub fn neighbours(&self) -> &[Neighbour]
         ensures { result.now ≡ (view self.now).link.neighbours }
     {
-        self.layer.neighbours.as_slice()
+        self.layer.neighbours()
     }
 
     /// Frees all that the host holds, and gives back the pool of its stack, of which everything is free then.

@@ -20,8 +20,8 @@ use crate::layer::LinkLayer;
 use flat_model::Counter;
 use net_stack::Stack;
 
-/// The stack takes a packet. Whether it ended as a datagram that no socket takes, and as one of a protocol that it doesn't
-/// know.
+/// The stack takes a packet. Whether it ended as a datagram that no socket takes, and as one of a protocol that it
+/// doesn't know.
 fn arrive(stack: &mut Stack, packet: &[u8]) -> (bool, bool)
     requires { length packet.now ≤ IP_MAX_PACKET }
     ensures step { Step (state_of stack.old) (Comes packet.now) Done (state_of stack.new) }
