@@ -109,7 +109,7 @@ int main(void)
 {
     struct kit_stack it = {0};
     it.name = "lwIP " LWIP_VERSION_STRING;
-    it.has = "out send mtu sockets connect";
+    it.has = "out ping send mtu sockets connect";
     it.boot = boot, it.rx = rx, it.wait = wait_ms, it.socket = socket_on, it.connect = connect_to, it.send = send_to;
     return kit_serve(&it);
 }

@@ -107,7 +107,7 @@ int main()
 {
     struct kit_stack it = {};
     it.name = "ns-3 " NS3_VERSION;
-    it.has = "out send mtu connect";
+    it.has = "out ping send mtu connect";
     it.boot = Boot;
     it.rx = Receive;
     it.wait = Run;

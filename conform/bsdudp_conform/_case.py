@@ -91,6 +91,7 @@ ABILITIES: Dict[str, str] = {
     "mtu": "`mtu`: the longest packet that the link takes",
     "sockets": "`socket`: further sockets, also two on a port",
     "connect": "`connect`: connected sockets",
+    "ping": "it answers echo requests",
     "gateway": "it translates addresses, and is no host of its own",
     "echo": "what users get is known by an echo alone",
 }
@@ -118,6 +119,8 @@ class Case:
         found = {kinds[type(step)] for step in self.steps if type(step) in kinds}
         if self.mtu != 1500:
             found.add("mtu")
+        if self.rule == "icmp.echo":
+            found |= {"ping", "out"}
         return frozenset(found | ({"out"} if "send" in found else set()))
 
     @cached_property

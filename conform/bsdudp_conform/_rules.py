@@ -54,6 +54,13 @@ RULES: Dict[str, Rule] = {
     "icmp.quote": Rule("an error quotes the header and 8 bytes unchanged, and goes to the sender", "RFC 1122 3.2.2"),
     "icmp.reass": Rule("Time Exceeded where reassembly ends with the first fragment there", "RFC 1122 3.3.2"),
     "icmp.reass.none": Rule("none where the first fragment isn't there", "RFC 792"),
+    "icmp.echo": Rule(
+        "an Echo Request is answered once, with its identifier, number and data", "RFC 1122 3.2.2.6, RFC 792"
+    ),
+    "icmp.silent": Rule(
+        "ICMP of unknown type, errors, replies, and requests that no host may have sent aren't answered",
+        "RFC 1122 3.2.2, 3.2.1.3",
+    ),
     "udp.short": Rule("fewer than 8 bytes are no UDP datagram", "RFC 768"),
     "udp.len.below": Rule("a length below 8 is discarded", "RFC 768, Length"),
     "udp.len.beyond": Rule("a length above what IP carries is discarded", "RFC 768, Length"),

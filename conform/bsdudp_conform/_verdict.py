@@ -8,6 +8,7 @@ from typing import FrozenSet, Iterable, List, Mapping, Tuple
 
 from ._addresses import BROADCAST, HOST, ZERO_BROADCAST, is_host, text_of
 from ._case import Answer, Case, Got, Receive
+from ._echoes import pings
 from ._freedom import Path, Value, runs
 from ._laws import STRANGER, Seen
 from ._machine import Delivered, Due, Machine, answer_of, delivered, play
@@ -80,7 +81,9 @@ def verdict(case: Case, answer: Answer, abilities: FrozenSet[str]) -> List[Breac
     if not found:
         found = by_machines(case, answer)
     if "out" in abilities:
-        found += leaving(seen, answer, 'echo' in abilities)
+        found += leaving(seen, answer, "echo" in abilities)
+        if "gateway" not in abilities:
+            found += pings(seen, answer, abilities)
         if not abilities & {"gateway", "echo"}:
             found += missing_errors(case, answer)
     return list(dict.fromkeys(found))

@@ -8,7 +8,9 @@ from ._case import Answer, Out, Send
 from ._laws import Arrival, Seen, in_sequence
 from ._read import ICMP, UDP, Header, fold, read, read_udp
 
-ERRORS = (3, 4, 11, 12)
+ERRORS = (3, 4, 5, 11, 12)
+# RFC 792, 950 and 1256
+KNOWN_TYPES = (*ERRORS, 0, 8, 9, 10, *range(13, 19))
 MUST, SHOULD = "MUST", "SHOULD"
 # A send of more packets may find a queue full, and lose some before the wire.
 MOST_PACKETS = 50
@@ -37,7 +39,7 @@ def leaving(seen: Seen, answer: Answer, shared: bool) -> List[Breach]:
             )
             continue
         found += headers_that_leave(it, header)
-        if header.protocol == ICMP and header.data[:1] and header.data[0] in ERRORS:
+        if is_error(header):
             about_this = about(seen, it.step, header.data[8:])
             if about_this is not None or not shared:
                 found += errors(about_this, it, header)
@@ -95,6 +97,8 @@ def errors(packet: Optional[Arrival], it: Out, header: Header) -> Iterator[Breac
         (not is_host(cause.source), f"for the source {text_of(cause.source)}"),
         (cause.offset > 0, "for a fragment that isn't the first"),
         (cause.whole and cause.protocol == UDP and sum_is_wrong(cause), "for a datagram whose checksum is wrong"),
+        (is_error(cause), "for an ICMP error"),
+        (is_unknown(cause), "for ICMP of unknown type"),
     ):
         if wrong:
             yield Breach(MUST, "icmp.never", f"an error {words}", it.step, silent)
@@ -104,6 +108,17 @@ def errors(packet: Optional[Arrival], it: Out, header: Header) -> Iterator[Breac
         )
     if cause.whole:
         yield from quoted(it, packet, cause, quote)
+
+
+def is_error(header: Header) -> bool:
+    """Whether a packet is an ICMP error."""
+    return header.protocol == ICMP and header.offset == 0 and header.data[:1] != b"" and header.data[0] in ERRORS
+
+
+def is_unknown(header: Header) -> bool:
+    """Whether a packet is an ICMP message of a type that no host knows."""
+    begins = header.protocol == ICMP and header.offset == 0 and header.data[:1] != b""
+    return begins and header.data[0] not in KNOWN_TYPES
 
 
 def sum_is_wrong(header: Header) -> bool:

@@ -40,7 +40,7 @@ class Linux(Adapter):
     """The kernel's own UDP."""
 
     name = f"Linux {platform.release()}"
-    has = ("out", "send", "mtu", "sockets", "connect")
+    has = ("out", "ping", "send", "mtu", "sockets", "connect")
     settings: List[str] = []
     probe = b""
 

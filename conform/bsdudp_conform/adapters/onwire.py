@@ -101,7 +101,7 @@ class Device(Adapter):
     """A device by its echoes."""
 
     name = "a device"
-    has = ("out", "echo")
+    has = ("out", "ping", "echo")
     forks = False
     wire: Wire
 

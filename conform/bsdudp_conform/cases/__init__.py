@@ -12,6 +12,7 @@ from ._headers import add_headers
 from ._limits import add_limits
 from ._mixes import add_mixes, add_runs
 from ._overlaps import add_overlaps
+from ._pings import add_pings
 from ._users import add_users
 
 MIXES, RUNS = 400, 300
@@ -23,6 +24,7 @@ def make(seed: int = 1, mixes: int = MIXES) -> List[Case]:
     for add in (add_headers, add_addresses, add_datagrams, add_fragments, add_overlaps, add_limits, add_users):
         add(to)
     add_runs(to, RUNS)
+    add_pings(to)
     add_mixes(to, mixes)
     return to.cases
 

@@ -17,7 +17,7 @@
 
 struct kit_stack {
     const char *name;                                     /* "lwIP 2.1.3" */
-    const char *has;                                      /* of: out send mtu sockets connect gateway; or "" */
+    const char *has;                                      /* of: out ping send mtu sockets connect gateway; or "" */
     void (*boot)(int mtu);                                /* 10.0.0.1/24; socket 0 on port 7 of any address */
     void (*rx)(const uint8_t *packet, int length);        /* a packet comes from the wire, from its IPv4 header on */
     void (*wait)(int ms);                                 /* time passes */

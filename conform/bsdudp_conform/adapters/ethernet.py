@@ -1,0 +1,132 @@
+"""bsdudp as a host on an Ethernet: `python3 -m bsdudp_conform.adapters.ethernet`, over the Python package and the C
+library, which BSDUDP_LIBRARY names.
+
+A case's packets go in as frames of a neighbour, and what the host sends comes out of its frames. This side answers ARP
+for each address but the host's own; the host has a gateway, so that other networks can be answered too. A wait is told
+in ticks of half a second; what is left of it goes to the next wait."""
+from __future__ import annotations
+
+import argparse
+import socket as names
+import struct
+import sys
+from typing import TYPE_CHECKING, List, Set
+
+from ..kit import Adapter, serve
+
+if TYPE_CHECKING:
+    from bsdudp import Socket
+
+OWN_MAC, PEER_MAC, ALL = b"\2\0\0\0\0\1", b"\2\0\0\0\0\2", b"\xff" * 6
+ARP, IPV4 = b"\x08\x06", b"\x08\0"
+HOST, GATEWAY, PEERS = "10.0.0.1", "10.0.0.254", ("10.0.0.2", "10.0.0.3")
+BROADCASTS = (bytes([10, 0, 0, 255]), ALL[:4])
+TICK_MS, ANNOUNCED_TICKS = 500, 6
+ARP_FORM, REQUEST, REPLY = ">HHBBH6s4s6s4s", 1, 2
+
+
+def is_group(address: bytes) -> bool:
+    """Whether packets to an address go to all of a link, or to a group."""
+    return address in BROADCASTS or 0xE0 <= address[0] < 0xF0
+
+
+def raw(address: str) -> bytes:
+    return bytes(map(int, address.split(".")))
+
+
+def arp(operation: int, sender: bytes, target_mac: bytes, target: bytes) -> bytes:
+    """A frame of this side's, which has all addresses but the host's."""
+    body = struct.pack(ARP_FORM, 1, 0x0800, 6, 4, operation, PEER_MAC, sender, target_mac, target)
+    return (ALL if operation == REQUEST else OWN_MAC) + PEER_MAC + ARP + body
+
+
+class Ethernet(Adapter):
+    """The host, by its frames."""
+
+    name = "bsdudp on an Ethernet"
+    has = ("out", "ping", "send", "mtu", "sockets", "connect")
+    forks = False
+
+    def boot(self, mtu: int) -> None:
+        import bsdudp  # it needs the C library, and `--help` doesn't
+
+        self.host = bsdudp.Host(HOST, OWN_MAC, gateway=GATEWAY, mtu=mtu)
+        self.sockets: "List[Socket]" = []
+        self.connected: Set[int] = set()
+        self.owed = 0
+        self.open(0, 7)
+        self.host.tick(ANNOUNCED_TICKS)
+        for peer in (GATEWAY, *PEERS):  # who asks for the host is known to it
+            self.host.receive(arp(REQUEST, raw(peer), bytes(6), raw(HOST)))
+        self.packets()
+
+    def packets(self) -> List[bytes]:
+        """The packets that leave. ARP requests are answered, so that what waits for an answer leaves too."""
+        found: List[bytes] = []
+        for frame in map(bytes, self.host.frames()):
+            if frame[12:14] == IPV4:
+                found.append(frame[14:])
+                continue
+            _, _, _, _, operation, _, sender, _, target = struct.unpack(ARP_FORM, frame[14:42])
+            if operation == REQUEST and target != raw(HOST):
+                self.host.receive(arp(REPLY, target, OWN_MAC, sender))
+        return found
+
+    def drain(self) -> None:
+        """What sockets got, and what left."""
+        for number in reversed(range(len(self.sockets))):
+            while self.sockets[number].waiting is not None:
+                data, (address, port) = self.sockets[number].recvfrom()
+                self.got(address, port, data, number)
+        for packet in self.packets():
+            self.out(packet)
+
+    def rx(self, packet: bytes) -> None:
+        self.host.receive((ALL if is_group(packet[16:20].ljust(4, b"\0")) else OWN_MAC) + PEER_MAC + IPV4 + packet)
+        self.drain()
+
+    def wait(self, ms: int) -> None:
+        ticks, self.owed = divmod(self.owed + ms, TICK_MS)
+        for _ in range(ticks):
+            self.host.tick()
+            self.drain()
+
+    def open(self, socket: int, port: int) -> None:
+        it = self.host.socket()
+        it.setsockopt(names.SOL_SOCKET, names.SO_REUSEPORT, 1)
+        it.bind(("", port))
+        self.sockets.append(it)
+
+    def connect(self, socket: int, address: str, port: int) -> None:
+        self.connected.add(socket)
+        self.sockets[socket].connect((address, port))
+
+    def send(self, socket: int, address: str, port: int, data: bytes) -> bool:
+        it = self.sockets[socket]
+        try:
+            if socket in self.connected:
+                it.send(data)
+            else:
+                it.sendto(data, (address, port))
+        except OSError as fault:
+            print(f"note the send is refused: {fault}")
+            return False
+        finally:
+            self.drain()
+        return True
+
+    def end(self) -> None:
+        self.host.end()
+
+
+def main() -> None:
+    argparse.ArgumentParser(prog="python3 -m bsdudp_conform.adapters.ethernet", description=__doc__).parse_args()
+    try:
+        import bsdudp  # noqa: F401
+    except ImportError as fault:
+        sys.exit(str(fault))
+    serve(Ethernet)
+
+
+if __name__ == "__main__":
+    main()
