@@ -161,6 +161,7 @@ enum {
     BSDUDP_EADDRNOTAVAIL = 49,  /* no address of this machine; a destination with port 0 */
     BSDUDP_ENOBUFS = 55,        /* the pool has too few buffers; nothing was sent or spent */
     BSDUDP_EISCONN = 56,        /* a send with an address on a connected socket */
+    BSDUDP_ECONNREFUSED = 61,   /* of bsdudp_ether_last_error alone: no socket has the port there */
     BSDUDP_EHOSTUNREACH = 65,   /* nothing leads there */
     BSDUDP_EQUEUE = 155         /* 4.4BSD's ENOBUFS of a full output queue: see bsdudp_sendto */
 };
@@ -249,6 +250,13 @@ int bsdudp_ether_receive(struct bsdudp *, const void *frame, size_t len);
    packets that waited for a hardware address, then ICMP's answers, and then what the stack has for its link.
    ENXIO. EOPNOTSUPP: it's a bare stack. EMSGSIZE: `len` is below 1514. */
 int bsdudp_ether_transmit(struct bsdudp *, void *room, size_t len);
+
+/* What others reported by ICMP of the datagrams that a connected socket sent to its peer, once. The answer is 0 if
+   nothing was reported; BSDUDP_ECONNREFUSED, as a number above 0: no socket has that port; BSDUDP_EHOSTUNREACH,
+   likewise: no way leads there. `bsdudp_strerror(-answer)` names both. The eight last reports are kept, by port and
+   peer: one that came before a socket took its port over is answered to that socket. ENXIO. EOPNOTSUPP: it's a bare
+   stack. EBADF. */
+int bsdudp_ether_last_error(struct bsdudp *, uint32_t fd);
 
 /* How far a host is with its address. The answer is 1 if it uses it, and 0 while it asks for it. ENXIO. EOPNOTSUPP:
    it's a bare stack. EADDRINUSE: another host has the address, and this one stays silent: end it, and boot with

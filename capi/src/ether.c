@@ -26,6 +26,7 @@ int bsdudp_core_ether_end(struct bsdudp_core *link);
 int bsdudp_core_ether_tick(struct bsdudp_core *link);
 int bsdudp_core_ether_receive(struct bsdudp_core *, struct bsdudp_core *link, const uint8_t *, uint64_t);
 int bsdudp_core_ether_transmit(struct bsdudp_core *, struct bsdudp_core *link, uint8_t *, uint64_t);
+int bsdudp_core_ether_last_error(struct bsdudp_core *, struct bsdudp_core *link, uint32_t);
 int bsdudp_core_ether_address(struct bsdudp_core *link);
 int bsdudp_core_ether_tallies(struct bsdudp_core *link, struct bsdudp_tallies *);
 int bsdudp_core_ether_neighbour(struct bsdudp_core *link, uint32_t, struct core_neighbour *);
@@ -68,6 +69,11 @@ int bsdudp_ether_receive(struct bsdudp *s, const void *frame, size_t len)
 int bsdudp_ether_transmit(struct bsdudp *s, void *room, size_t len)
 {
     return bsdudp_core_ether_transmit(&s->core, &s->link, room, len);
+}
+
+int bsdudp_ether_last_error(struct bsdudp *s, uint32_t fd)
+{
+    return bsdudp_core_ether_last_error(&s->core, &s->link, fd);
 }
 
 /* The answer of a question for the link; a handle without a stack is told first. */

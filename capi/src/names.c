@@ -71,6 +71,8 @@ const char *bsdudp_strerror(int answer)
         return "no buffers";
     case -BSDUDP_EISCONN:
         return "is connected";
+    case -BSDUDP_ECONNREFUSED:
+        return "connection refused";
     case -BSDUDP_EHOSTUNREACH:
         return "host unreachable";
     case -BSDUDP_EQUEUE:

@@ -103,6 +103,28 @@ static int sent_to_nobody(void)
     return came(17, sizeof datagram);
 }
 
+/* The peer reports that a datagram from a port to one of its own didn't arrive (RFC 792): the code of "destination
+   unreachable", and both ports. */
+static int reported(int code, unsigned from, unsigned to)
+{
+    static const uint8_t message[36] = {3, 0, 0, 0, 0, 0, 0, 0, 0x45, 0, 0, 28, 0, 1, 0, 0, 64, 17,
+                                        0, 0, 10, 0, 0, 1, 10, 0, 0, 2, 0, 0, 0, 0, 0, 8, 0, 0};
+    uint32_t sum = 0;
+    size_t k;
+    memcpy(bytes, message, sizeof message);
+    bytes[1] = (uint8_t)code;
+    bytes[28] = (uint8_t)(from >> 8);
+    bytes[29] = (uint8_t)from;
+    bytes[30] = (uint8_t)(to >> 8);
+    bytes[31] = (uint8_t)to;
+    for (k = 0; k < sizeof message; k += 2)
+        sum += (uint32_t)bytes[k] << 8 | bytes[k + 1];
+    sum = (sum & 0xffff) + (sum >> 16);
+    bytes[2] = (uint8_t)(~sum >> 8);
+    bytes[3] = (uint8_t)~sum;
+    return came(1, sizeof message);
+}
+
 /* Takes all frames that wait; how many they were. */
 static int drained(void)
 {
@@ -120,6 +142,7 @@ static int answers(struct bsdudp *s, int answer)
     tallies.ignored = 99;
     neighbour.ip = 99;
     WANT(bsdudp_ether_address(s), answer);
+    WANT(bsdudp_ether_last_error(s, BSDUDP_FIRST_FD), answer);
     WANT(bsdudp_ether_receive(s, frame, 14), answer);
     WANT(bsdudp_ether_transmit(s, room, sizeof room), answer);
     WANT(bsdudp_ether_tallies(s, &tallies), answer);
@@ -304,6 +327,43 @@ static int tallied(void)
     return 0;
 }
 
+/* What others report of a connected socket's datagrams is answered once, to the socket that sent them. */
+static int reports(void)
+{
+    const struct bsdudp_addr peer = {PEER, 9}, local = {0, 2000};
+    int k;
+    WANT(bsdudp_ether_last_error(&host, 3), 0); /* it's bound, and not connected */
+    WANT(bsdudp_ether_last_error(&host, 4), -BSDUDP_EBADF);
+    WANT(bsdudp_ether_last_error(&host, 0xffffffff), -BSDUDP_EBADF);
+    WANT(bsdudp_socket(&host), 4);
+    WANT(bsdudp_bind(&host, 4, &local), 0);
+    WANT(bsdudp_connect(&host, 4, &peer), 0);
+    WANT(bsdudp_ether_last_error(&host, 4), 0);
+    WANT(reported(3, 2000, 9), 0);
+    WANT(bsdudp_ether_last_error(&host, 3), 0);
+    WANT(bsdudp_ether_last_error(&host, 4), BSDUDP_ECONNREFUSED);
+    WANT(bsdudp_ether_last_error(&host, 4), 0);
+    WANT(reported(1, 2000, 9), 0);
+    WANT(bsdudp_ether_last_error(&host, 4), BSDUDP_EHOSTUNREACH);
+    WANT(reported(3, 2000, 9) == 0 && reported(0, 2000, 9) == 0, 1); /* the newer counts */
+    WANT(bsdudp_ether_last_error(&host, 4), BSDUDP_EHOSTUNREACH);
+    WANT(bsdudp_ether_last_error(&host, 4), 0);
+    WANT(reported(3, 2001, 9) == 0 && reported(3, 2000, 10) == 0 && reported(4, 2000, 9) == 0, 1);
+    WANT(bsdudp_ether_last_error(&host, 4), 0);
+    WANT(reported(3, 2000, 9), 0);
+    for (k = 0; k < 7; k++)
+        WANT(reported(3, 3000, 100 + k), 0);
+    WANT(bsdudp_ether_last_error(&host, 4), BSDUDP_ECONNREFUSED);
+    WANT(reported(3, 2000, 9), 0);
+    for (k = 0; k < 8; k++)
+        WANT(reported(3, 4000, 100 + k), 0); /* eight are kept */
+    WANT(bsdudp_ether_last_error(&host, 4), 0);
+    WANT(strcmp(bsdudp_strerror(-BSDUDP_ECONNREFUSED), "connection refused"), 0);
+    WANT(bsdudp_close(&host, 4), 0);
+    WANT(bsdudp_ether_last_error(&host, 4), -BSDUDP_EBADF);
+    return 0;
+}
+
 /* A host that asks first: it uses its address after some seconds, or another host has it. */
 static int probes(void)
 {
@@ -355,5 +415,5 @@ static int ends(void)
 int main(void)
 {
     return answers(&host, -BSDUDP_ENXIO) || refusals() || grows() || one_or_the_other() || frames() || tallied() ||
-           probes() || ends();
+           reports() || probes() || ends();
 }

@@ -253,6 +253,36 @@ def unreachable():
     check(answered == UNREACHABLE_A_TICK and it.tallies.limited == 2, f"{answered} were told in one tick")
 
 
+def reported():
+    """ICMP errors about a datagram that a connected socket sent: what each code means is volume 2's, chapter 11
+    (`icmp_input`, `inetctlerrmap`)."""
+    it, _ = host()
+    knows(it, 2)
+    socket = it.socket()
+    socket.connect((ip_of(2), CLOSED))
+    socket.send(b"x")
+    (sent,) = given(it)
+    quoted = bytes(Ether(sent)[IP])[:28]
+    refused = {2: errno.ECONNREFUSED, 3: errno.ECONNREFUSED, 4: None}
+    for code in range(13):
+        it.receive(from_near(2, ICMP(type=3, code=code) / quoted))
+        error, wanted = it.last_error(socket), refused.get(code, errno.EHOSTUNREACH)
+        check((error.errno if error else None) == wanted, f"code {code} is reported as {error!r}")
+        check(it.last_error(socket) is None, f"code {code} is reported twice")
+    whole = from_near(2, ICMP(type=3, code=3) / quoted)
+    wrong = [from_near(2, ICMP(type=3, code=3) / quoted[:cut]) for cut in range(len(quoted))]
+    wrong += [bytes(whole)[:cut] for cut in range(len(whole))]
+    wrong += [from_near(2, ICMP(type=3, code=3, chksum=1) / quoted), Ether(dst=ALL, src=mac_of(2)) / whole[IP]]
+    wrong += [from_near(2, ICMP(type=kind, code=3) / quoted) for kind in (0, 4, 5, 11, 12)]
+    for at in (0, 9, *range(12, 16), *range(16, 20), *range(20, 24)):  # the header's length, UDP, addresses and ports
+        wrong.append(from_near(2, ICMP(type=3, code=3) / (quoted[:at] + bytes([quoted[at] ^ 1]) + quoted[at + 1 :])))
+    for frame in wrong:
+        it.receive(frame)
+        check(it.last_error(socket) is None, f"{bytes(frame).hex()} is reported")
+    it.receive(whole)
+    check(isinstance(it.last_error(socket), ConnectionRefusedError), "nothing is reported after wrong messages")
+
+
 def truncations():
     """Every truncation of ARP packets and of ICMP messages, and every byte of an ARP packet's head changed."""
     it, _ = host()
@@ -372,7 +402,7 @@ def lossy():
 
 
 def main(capture):
-    for tried in (arp, claims, martians, held, ways, ping, unreachable, truncations, hundred, flood, lossy):
+    for tried in (arp, claims, martians, held, ways, ping, unreachable, reported, truncations, hundred, flood, lossy):
         try:
             tried()
         except AssertionError as fault:

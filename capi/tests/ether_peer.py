@@ -1,9 +1,10 @@
-"""Linux as the peer of capi/examples/tap_host.c, in a network namespace of its own
+"""Linux as the peer of capi/examples/tap_host.c, and of a host of the Python package, in a network namespace of its own
 (unshare -n). Frames pass through this program, which can lose them, from the TAP device of Linux to that of the host,
 and are written to CAPTURE. At last two hosts stand on one bridge with Linux. It says the first thing that is wrong
 and exits with 1; what lacks a tool is left out, and said in one line."""
 import argparse
 import contextlib
+import errno
 import fcntl
 import os
 import pathlib
@@ -17,6 +18,8 @@ import subprocess
 import sys
 import threading
 import time
+
+import bsdudp
 
 HOST, HOST_MAC, LINUX_MAC = "10.0.0.1", "02:00:00:00:00:01", "02:00:00:00:00:02"
 TUNSETIFF, IFF_TAP, IFF_NO_PI = 0x400454CA, 2, 0x1000
@@ -278,6 +281,45 @@ def asked(relay):
     check(kinds == [ARP] + 7 * [IPV4], f"the host gave {[kind.hex() for kind in kinds]}")
 
 
+def until_reported(device, host, sock, capture):
+    """What others reported of a socket's datagrams, which it sends until they do."""
+    for _ in range(WAIT):
+        sock.send(b"x")
+        until = time.monotonic() + 1.1  # Linux sends an error for one peer once in a second
+        while (left := until - time.monotonic()) > 0:
+            for frame in host.frames():
+                capture.add(bytes(frame))
+                os.write(device, bytes(frame))
+            ready, _, _ = select.select([device], [], [], min(left, 0.1))
+            if ready:
+                frame = os.read(device, 2048)
+                capture.add(frame)
+                host.receive(frame)
+            error = host.last_error(sock)
+            if error:
+                return error
+        host.tick(2)
+    return None
+
+
+def reported(capture):
+    """Linux reports that no socket has a port, and that no way leads to an address: the host's caller sees both."""
+    device = os.open("/dev/net/tun", os.O_RDWR)
+    fcntl.ioctl(device, TUNSETIFF, struct.pack("16sH", b"rep0", IFF_TAP | IFF_NO_PI))
+    device_up("rep0")
+    must("ip addr add 10.0.1.2/24 dev rep0")
+    must("ip route add unreachable 10.0.2.0/24")
+    pathlib.Path("/proc/sys/net/ipv4/conf/rep0/forwarding").write_text("1")
+    wanted = {("10.0.1.2", CLOSED): errno.ECONNREFUSED, ("10.0.2.2", ECHO): errno.EHOSTUNREACH}
+    with bsdudp.Host("10.0.1.1", mac="02:00:00:00:00:21", gateway="10.0.1.2") as host:
+        for peer, number in wanted.items():
+            sock = host.socket()
+            sock.connect(peer)
+            error = until_reported(device, host, sock, capture)
+            check(error and error.errno == number, f"of datagrams to {peer} Linux reports {error!r} to the host")
+    os.close(device)
+
+
 def bridged(program):
     """Two hosts on one bridge with Linux."""
     if "Error" in run("ip", "link", "add", "br0", "type", "bridge"):
@@ -321,6 +363,7 @@ def main(program, path):
         with tap_host(program, "h0", HOST, HOST_MAC):
             relay.plug("h0")
             asked(relay)
+        reported(capture)
         bridged(program)
     except Fault as fault:
         sys.exit(f"ether_peer.py: {fault}")

@@ -219,6 +219,14 @@ int bsdudp_ether_transmit(struct bsdudp *stack, void *room, size_t len)
     return answer_of(core_ether_transmit(&it, MEMORY, LINK, give(&it, room, len), heard(len)));
 }
 
+int bsdudp_ether_last_error(struct bsdudp *stack, uint32_t fd)
+{
+    BEGIN(ether_last_error, stack);
+    if (without_link(stack) < 0)
+        return without_link(stack);
+    return answer_of(core_ether_last_error(&it, MEMORY, LINK, fd));
+}
+
 int bsdudp_ether_address(struct bsdudp *stack)
 {
     BEGIN(ether_address, stack);

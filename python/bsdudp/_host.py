@@ -7,8 +7,9 @@ from typing import Iterator, List, NamedTuple, NoReturn, Optional, SupportsIndex
 from . import _addresses
 from ._addresses import in_range, number_of, text_of
 from ._frame import AnyFrame, Frame, frame_bytes, mac_bytes, mac_text
-from ._library import ETHER_ROOM, LIBRARY, NEIGHBOURS, Link, NeighbourOfC, TalliesOfC
+from ._library import ETHER_ROOM, LIBRARY, NEIGHBOURS, Link, NeighbourOfC, TalliesOfC, refused
 from ._packet import AnyPacket
+from ._socket import Socket
 from ._stack import Stack
 
 
@@ -140,6 +141,17 @@ class Host(Stack):
         """Takes frame after frame, until none waits."""
         while (frame := self.transmit()) is not None:
             yield frame
+
+    def last_error(self, socket: Socket) -> Optional[OSError]:
+        """What others reported by ICMP of the datagrams that a connected socket sent to its peer, or None: a
+        ConnectionRefusedError if no socket has that port, and an OSError EHOSTUNREACH if no way leads there. It's
+        returned once, and not raised. The eight last reports are kept, by port and peer: one that came before a socket
+        took its port over is returned for that socket. OSError EBADF: the socket isn't open. ValueError: it's a socket
+        of another stack."""
+        if socket._stack is not self:
+            raise ValueError("the socket is one of another stack")
+        answer = socket._ask("ether_last_error")
+        return refused(-answer) if answer else None
 
     @property
     def tallies(self) -> Tallies:

@@ -172,6 +172,7 @@ REFUSALS = {
     49: Refusal("EADDRNOTAVAIL", "no address of this machine, or port 0 as a destination"),
     55: Refusal("ENOBUFS", "the pool has too few buffers; nothing was sent"),
     56: Refusal("EISCONN", "the socket is connected, and an address is given"),
+    61: Refusal("ECONNREFUSED", "no socket has that port"),
     65: Refusal("EHOSTUNREACH", "nothing leads there"),
     155: Refusal("ENOBUFS", "the output queue is full; a part of the datagram, or nothing of it, was queued"),
 }
@@ -235,6 +236,7 @@ CALLS: Dict[str, List[Any]] = {
     "ether_boot_in": [ctypes.POINTER(Config), ctypes.POINTER(Link), ctypes.c_void_p, _size],
     "ether_receive": [_bytes, _size],
     "ether_transmit": [ctypes.c_void_p, _size],
+    "ether_last_error": [_u32],
     "ether_address": [],
     "ether_tallies": [ctypes.POINTER(TalliesOfC)],
     "ether_neighbour": [_u32, ctypes.POINTER(NeighbourOfC)],

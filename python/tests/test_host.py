@@ -64,6 +64,40 @@ def test_a_host_asks_first_for_its_address():
     assert refused.value.errno == errno.EADDRINUSE
 
 
+def unreachable(code, port, peer_port):
+    """An ICMP message "destination unreachable" of 10.0.0.2, about a datagram from 10.0.0.1 to it, in its frame."""
+    sent = bytes.fromhex(f"4500001c 00010000 40110000 0a000001 0a000002 {port:04x}{peer_port:04x} 00080000")
+    packet = with_sum(bytes.fromhex("45000038 00090000 40010000 0a000002 0a000001"), 10)
+    return bytes.fromhex("020000000001 020000000002 0800") + packet + with_sum(bytes([3, code, *bytes(6)]) + sent, 2)
+
+
+def with_sum(data, at):
+    """Bytes with their checksum at a place (RFC 1071)."""
+    total = sum(int.from_bytes(data[k : k + 2], "big") for k in range(0, len(data), 2))
+    return data[:at] + (~(total + (total >> 16)) & 0xFFFF).to_bytes(2, "big") + data[at + 2 :]
+
+
+def test_what_others_report_is_returned_once():
+    with bsdudp.Host("10.0.0.1") as host:
+        sock = host.socket()
+        assert host.last_error(sock) is None
+        sock.bind(("", 2000))
+        sock.connect(("10.0.0.2", 9))
+        host.receive(unreachable(3, 2000, 9))
+        assert isinstance(host.last_error(sock), ConnectionRefusedError)
+        assert host.last_error(sock) is None
+        host.receive(unreachable(1, 2000, 9))
+        assert host.last_error(sock).errno == errno.EHOSTUNREACH
+        host.receive(unreachable(3, 2000, 10))
+        assert host.last_error(sock) is None
+        sock.close()
+        with pytest.raises(OSError) as refused:
+            host.last_error(sock)
+        assert refused.value.errno == errno.EBADF
+        with pytest.raises(ValueError, match="another stack"):
+            host.last_error(bsdudp.Stack().socket())
+
+
 def test_packets_dont_pass_the_link_by():
     host = bsdudp.Host()
     for call in (lambda: host.rx(bytes(20)), host.tx, lambda: list(host.packets())):

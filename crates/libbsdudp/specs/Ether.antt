@@ -1,15 +1,18 @@
 -- What a call on a host does to its two halves, the stack and the link, and how its answer tells the reply (this
 -- project's own).
-use Rattle.std.specs.Prelude.{◌≡◌, ℕ, ℤ, pos, negsuc, ◌+◌, ◌<◌, ◌≤◌, ◌==◌, if◌then◌else◌, true, false, List, length, Option, Some, None, option_map, IfSome, slice_get}
+use Rattle.std.specs.Prelude.{◌≡◌, ℕ, ℤ, pos, negsuc, ◌+◌, ◌<◌, ◌≤◌, ◌==◌, if◌then◌else◌, true, false, List, length, Option, Some, None, option_map, IfSome, Result, Ok, Err, slice_get}
 use Rattle.params.specs.declared.TheConstants.{IP_MAX_PACKET}
 use Rattle.flat_ether.specs.Claims.{address_state}
-use Rattle.flat_ether.specs.Hosts.{Hears, gives}
+use Rattle.flat_ether.specs.Hosts.{Hears, gives, last_error}
 use Rattle.flat_ether.specs.Links.{LinkState, link_up, ticks}
 use Rattle.flat_ether.specs.Routes.{is_link}
 use Rattle.flat_ether.specs.declared.claim.AddressState.{AddressState}
 use Rattle.flat_ether.specs.declared.claim.AddressState.TheVariants.{Probing, Conflict, InUse}
+use Rattle.flat_ether.specs.declared.error.NetFault.{NetFault}
+use Rattle.flat_ether.specs.declared.error.NetFault.TheVariants.{Refused, Unreachable}
 use Rattle.flat_ether.specs.declared.neighbour.Neighbour.{Neighbour}
 use Rattle.flat_ether.specs.declared.sizes.TheConstants.{ETHER_HEADER, ETHER_MTU}
+use Rattle.flat_model.specs.declared.errno.Errno.{Errno}
 use Rattle.net_stack.specs.Stack.{StackView}
 use Rattle.ether_host.specs.Fronts.{front}
 use Rattle.ether_host.specs.Inside.{seen}
@@ -19,7 +22,7 @@ use Rattle.libbsdudp.specs.declared.link_plain.CLink.{CLink}
 use Rattle.libbsdudp.specs.declared.link_plain.CNeighbour.{CNeighbour}
 use Rattle.libbsdudp.specs.declared.link_plain.CTallies.{CTallies}
 use Rattle.libbsdudp.specs.declared.plain.CConfig.{CConfig}
-use Rattle.libbsdudp.specs.Answers.{no_stack, bad_length, invalid, given_code}
+use Rattle.libbsdudp.specs.Answers.{no_stack, bad_length, invalid, given_code, refusal_code}
 use Rattle.libbsdudp.specs.LinkPlain.{link_of, neighbour_told, tallies_told}
 use Rattle.libbsdudp.specs.Plain.{config_of}
 
@@ -37,9 +40,11 @@ both s l = record { stack = s; link = l }
 
 -- A call on both halves. Without a stack the answer is -ENXIO, and without a link -EOPNOTSUPP; then both stay as they
 -- were, and `idle` says that all else is. If there are both, `call` says what becomes of them.
-abbrev pub AnswersHost : Option StackView → Option LinkState → ℤ → Option StackView → Option LinkState → Type 0 → (HostView → HostView → Type 0) → Type 0
+abbrev pub AnswersHost : Option StackView → Option LinkState → ℤ → Option StackView → Option LinkState → Type 0
+    → (HostView → HostView → Type 0) → Type 0
 AnswersHost None l answer s_after l_after idle call = (answer ≡ no_stack) × (s_after ≡ None) × (l_after ≡ l) × idle
-AnswersHost (Some s) None answer s_after l_after idle call = (answer ≡ no_link) × (s_after ≡ Some s) × (l_after ≡ None) × idle
+AnswersHost (Some s) None answer s_after l_after idle call =
+    (answer ≡ no_link) × (s_after ≡ Some s) × (l_after ≡ None) × idle
 AnswersHost (Some s) (Some l) answer s_after l_after idle call =
     (n : HostView) × (s_after ≡ Some n.stack) × (l_after ≡ Some n.link) × call (both s l) n
 
@@ -69,6 +74,21 @@ pub record IsFramed (before room : List ℕ) (answer : ℤ) (h n : HostView) : T
   pub short : length before < ETHER_HEADER + ETHER_MTU → (answer ≡ bad_length) × (n ≡ h) × (room ≡ before)
   pub wide : ETHER_MTU < h.stack.config.mtu → (answer ≡ bad_length) × (n ≡ h) × (room ≡ before)
   pub gives : ETHER_HEADER + ETHER_MTU ≤ length before → h.stack.config.mtu ≤ ETHER_MTU → GivesFrame room answer h n
+
+-- 0 if nothing was reported, ECONNREFUSED (61) or EHOSTUNREACH (65) as 4.4BSD's `so_error` has them, or why the call is
+-- refused
+abbrev pub fault_code : Result (Option NetFault) Errno → ℤ
+fault_code (Ok None) = pos 0
+fault_code (Ok (Some Refused)) = pos 61
+fault_code (Ok (Some Unreachable)) = pos 65
+fault_code (Err errno) = refusal_code errno
+
+-- `last_error`: what others reported of a socket's datagrams, which the link then forgets; the stack is as it was
+pub record TellsError (fd : ℕ) (answer : ℤ) (h n : HostView) : Type 0 where
+  pub told : Result (Option NetFault) Errno
+  pub is : answer ≡ fault_code told
+  pub same : n.stack ≡ h.stack
+  pub step : (told, host_of n) ≡ last_error fd (host_of h)
 
 -- `tick`: the answer is 0
 pub record HasAged (answer : ℤ) (l n : LinkState) : Type 0 where

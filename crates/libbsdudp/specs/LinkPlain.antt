@@ -1,5 +1,5 @@
 -- What C's structs say of a link (this project's own).
-use Rattle.std.specs.Prelude.{ℕ, Bool, ◌==◌, not, if◌then◌else◌, Option, Some, None, is_some, unwrap_or}
+use Rattle.std.specs.Prelude.{ℕ, ◌==◌, not, if◌then◌else◌, Option, Some, None, is_some, unwrap_or}
 use Rattle.flat_ether.specs.declared.link.Link.{Link}
 use Rattle.flat_ether.specs.declared.mac.Mac.{Mac}
 use Rattle.flat_ether.specs.declared.mac.TheConstants.{NO_MAC}
@@ -15,13 +15,26 @@ abbrev pub gateway_of : ℕ → Option ℕ
 gateway_of n = if n == 0 then None else Some n
 
 abbrev pub link_of : CLink → Link
-link_of l = record { mac = record { high = l.mac_high; low = l.mac_low }; mask = l.mask; gateway = gateway_of l.gateway; probe = not (l.probe == 0) }
+link_of l =
+    record {
+      mac = record { high = l.mac_high; low = l.mac_low };
+      mask = l.mask;
+      gateway = gateway_of l.gateway;
+      probe = not (l.probe == 0);
+    }
 
 -- 0 for a hardware address that isn't known
 abbrev pub neighbour_told : Neighbour → CNeighbour
 neighbour_told n =
     let mac : Mac = unwrap_or n.mac NO_MAC in
-    record { ip = n.ip; mac_low = mac.low; mac_high = mac.high; ticks = n.ticks; tries = n.tries; known = flag (is_some n.mac) }
+    record {
+      ip = n.ip;
+      mac_low = mac.low;
+      mac_high = mac.high;
+      ticks = n.ticks;
+      tries = n.tries;
+      known = flag (is_some n.mac);
+    }
 
 abbrev pub tallies_told : Tallies → CTallies
 tallies_told t = record {

@@ -16,7 +16,15 @@ use Rattle.libbsdudp.specs.declared.plain.CRange.{CRange}
 use Rattle.libbsdudp.specs.declared.plain.CUnfinished.{CUnfinished}
 
 abbrev pub config_of : CConfig → Config
-config_of c = record { addr = c.addr; bcast = c.bcast; mtu = c.mtu; mbufs = c.mbufs; clusters = c.clusters; first_id = c.first_id }
+config_of c =
+    record {
+      addr = c.addr;
+      bcast = c.bcast;
+      mtu = c.mtu;
+      mbufs = c.mbufs;
+      clusters = c.clusters;
+      first_id = c.first_id;
+    }
 
 abbrev pub addr_of : CAddr → Addr
 addr_of a = record { ip = a.ip; port = a.port }
@@ -25,7 +33,15 @@ abbrev pub whom : Addr → CAddr
 whom a = record { ip = a.ip; port = a.port }
 
 abbrev pub usage_told : Mbstat → CMbstat
-usage_told m = record { free_mbufs = m.free_mbufs; mbufs = m.mbufs; free_clusters = m.free_clusters; clusters = m.clusters; refs = m.refs; most = m.most }
+usage_told m =
+    record {
+      free_mbufs = m.free_mbufs;
+      mbufs = m.mbufs;
+      free_clusters = m.free_clusters;
+      clusters = m.clusters;
+      refs = m.refs;
+      most = m.most;
+    }
 
 -- 1 for yes
 abbrev pub flag : Bool → ℕ
@@ -48,7 +64,16 @@ abbrev pub next_told : NextDatagram → CNext
 next_told n = record { ip = n.sender.ip; port = n.sender.port; len = n.len; waiting = n.waiting }
 
 abbrev pub unfinished_told : UnfinishedDatagram → CUnfinished
-unfinished_told d = record { source = d.key.source; destination = d.key.destination; bytes = d.bytes; ranges = d.ranges; id = d.key.id; protocol = d.key.protocol; ticks = d.ticks }
+unfinished_told d =
+    record {
+      source = d.key.source;
+      destination = d.key.destination;
+      bytes = d.bytes;
+      ranges = d.ranges;
+      id = d.key.id;
+      protocol = d.key.protocol;
+      ticks = d.ticks;
+    }
 
 abbrev pub range_told : HeldRange → CRange
 range_told r = record { offset = r.offset; len = r.len; more = flag r.more }

@@ -22,6 +22,12 @@ pub(crate) const NO_LINK: i32 = -45;
 /// EADDRINUSE: another host has the address.
 pub(crate) const IN_USE: i32 = -48;
 
+/// ECONNREFUSED, as an error that others reported: no socket takes a datagram there.
+pub(crate) const CONNECTION_REFUSED: i32 = 61;
+
+/// EHOSTUNREACH, likewise: no way leads there.
+pub(crate) const HOST_UNREACHABLE: i32 = 65;
+
 /// EMSGSIZE: a packet longer than any is, or a room shorter than the longest.
 pub(crate) const BAD_LENGTH: i32 = -40;
 

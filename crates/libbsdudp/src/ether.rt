@@ -2,7 +2,7 @@
 //! host: a call on a stack changes nothing of its link, and it's booted and ended apart.
 ghost use Rattle.std.specs.Prelude.{◌≡◌, ⊤};
 ghost use Rattle.libbsdudp.specs.Calls.{stack_in};
-ghost use Rattle.libbsdudp.specs.Ether.{AnswersHost, AnswersLink, HasAged, HasHeard, IsFramed, IsLinkAsked, IsLinkBooted, IsLinkEnded, TellsAddress, TellsNeighbour, TellsTallies, link_in};
+ghost use Rattle.libbsdudp.specs.Ether.{AnswersHost, AnswersLink, HasAged, HasHeard, IsFramed, IsLinkAsked, IsLinkBooted, IsLinkEnded, TellsAddress, TellsError, TellsNeighbour, TellsTallies, link_in};
 
 use crate::errors::{INVALID, NO_LINK, NO_MEMORY, NO_STACK};
 use crate::ether_calls;
@@ -118,6 +118,34 @@ pub extern "C" fn bsdudp_core_ether_transmit(
         return NO_LINK;
     };
     let answer = ether_calls::transmit(&mut stack.stack, &mut layer.layer, room);
+    handle.put(stack);
+    link.put(layer);
+    answer
+}
+
+/// What others reported of the datagrams that a connected socket sent to its peer, which the link then forgets: 0 for
+/// nothing, 61 for ECONNREFUSED, 65 for EHOSTUNREACH, or why the call is refused.
+///
+///     int bsdudp_core_ether_last_error(struct bsdudp_core *, struct bsdudp_core *link, uint32_t fd)
+#[tactic(auto, using(crate::proofs::EtherAnswered::host_answered))]
+#[unsafe(no_mangle)]
+pub extern "C" fn bsdudp_core_ether_last_error(
+    alloc: Global,
+    handle: &mut Handle,
+    link: &mut LinkHandle,
+    fd: u32,
+) -> i32
+    ensures { AnswersHost (stack_in handle.old) (link_in link.old) result (stack_in handle.new) (link_in link.new) ⊤
+        (TellsError fd result) }
+{
+    let Some(stack) = handle.take(alloc) else {
+        return NO_STACK;
+    };
+    let Some(mut layer) = link.take(alloc) else {
+        handle.put(stack);
+        return NO_LINK;
+    };
+    let answer = ether_calls::last_error(&stack.stack, &mut layer.layer, fd);
     handle.put(stack);
     link.put(layer);
     answer

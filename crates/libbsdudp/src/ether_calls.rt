@@ -5,12 +5,14 @@ ghost use Rattle.flat_ether.specs.Hosts.{Hears, gives};
 ghost use Rattle.flat_ether.specs.declared.sizes.TheConstants.{ETHER_HEADER, ETHER_MTU};
 ghost use Rattle.ether_host.specs.Inside.{seen};
 ghost use Rattle.ether_host.specs.View.{host_of};
-ghost use Rattle.libbsdudp.specs.Ether.{GivesFrame, HasAged, HasHeard, IsFramed, TellsAddress, TellsNeighbour, TellsTallies, both};
+ghost use Rattle.libbsdudp.specs.Ether.{GivesFrame, HasAged, HasHeard, IsFramed, TellsAddress, TellsError, TellsNeighbour, TellsTallies, both};
 
-use crate::errors::{BAD_LENGTH, IN_USE, INVALID, count};
+use crate::errors::{
+    BAD_LENGTH, CONNECTION_REFUSED, HOST_UNREACHABLE, IN_USE, INVALID, count, refused,
+};
 use crate::link_plain::{CNeighbour, CTallies};
 use ether_host::LinkLayer;
-use flat_ether::{AddressState, ETHER_HEADER, ETHER_MTU};
+use flat_ether::{AddressState, ETHER_HEADER, ETHER_MTU, NetFault};
 use net_stack::Stack;
 use params::IP_MAX_PACKET;
 
@@ -51,6 +53,19 @@ pub(crate) fn transmit(stack: &mut Stack, layer: &mut LinkLayer, room: &mut [u8]
         return BAD_LENGTH;
     }
     give(stack, layer, room)
+}
+
+/// What others reported of a socket's datagrams: 0 for nothing, ECONNREFUSED or EHOSTUNREACH, or why the call is
+/// refused.
+pub(crate) fn last_error(stack: &Stack, layer: &mut LinkLayer, fd: u32) -> i32
+    ensures { TellsError fd result (both stack.now (seen layer.old)) (both stack.now (seen layer.new)) }
+{
+    match layer.last_error(stack, fd) {
+        Ok(None) => 0,
+        Ok(Some(NetFault::Refused)) => CONNECTION_REFUSED,
+        Ok(Some(NetFault::Unreachable)) => HOST_UNREACHABLE,
+        Err(errno) => refused(errno),
+    }
 }
 
 /// Half a second passed.
