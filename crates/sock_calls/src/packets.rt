@@ -1,5 +1,5 @@
 //! The packets of a send that has its buffers.
-ghost use Rattle.std.specs.Prelude.{◌≡◌, ◌+◌, ◌≤◌, ◌++◌, drop, length};
+ghost use Rattle.std.specs.Prelude.{◌≡◌, ℕ, ◌+◌, ◌≤◌, ◌++◌, drop, length};
 ghost use Rattle.flat_model.specs.Amounts.Layout.{sent};
 ghost use Rattle.mbuf_chain.specs.Chain.{chain_of, string};
 ghost use Rattle.flat_model.specs.Machine.Send.{need_to};
@@ -67,17 +67,19 @@ pub(crate) fn way_to(pcbs: &Pcbs, mtu: u16, ip: u32) -> (Way, u16)
     }
 }
 
-/// How many free buffers a send of `len` bytes takes: those of its packets, and of a copy of a broadcast.
-pub(crate) fn need_to(pcbs: &Pcbs, mtu: u16, ip: u32, len: u32) -> Need
+/// How many free buffers a send of `len` bytes takes: those of its packets, of which the longest has `longest` bytes,
+/// and of a copy of a broadcast.
+pub(crate) fn need_to(pcbs: &Pcbs, longest: u16, ip: u32, len: u32) -> Need
     requires most { len ≤ UDP_SEND_SPACE }
-    requires mtu { MIN_MTU ≤ mtu }
-    ensures { result ≡ need_to (config_of pcbs.now mtu) ip len }
+    requires longest { MIN_MTU ≤ longest }
+    ensures { (mtu : ℕ) → longest ≡ mtu_to (config_of pcbs.now mtu) ip
+        → result ≡ need_to (config_of pcbs.now mtu) ip len }
 {
     if ip == pcbs.bcast() {
-        return need_bcast(len);
+        need_bcast(len)
+    } else {
+        need(len, longest)
     }
-    let (_, mtu) = way_to(pcbs, mtu, ip);
-    need(len, mtu)
 }
 
 /// A chain of the bytes after the 28 bytes of the headers.

@@ -180,7 +180,7 @@ impl Parts {
             way,
             longest,
         };
-        let need = need_to(&self.pcbs, net.mtu, target.ip, bytes.len() as u32);
+        let need = need_to(&self.pcbs, longest, target.ip, bytes.len() as u32);
         if !are_free(pool, need.mbufs, need.clusters) {
             return Err(Errno::NoBufs(Lack::Pool));
         }

@@ -38,7 +38,7 @@ returns-then-not-are_free c =
     let checked = subst (λ (k : ℕ). ChecksSend c.args.self.now.pcbs c.args.net.now.mtu k c.args.to (length c.args.bytes.now) (Ok c.in-Ok.target)) named c.in-Ok.ensures.target in
     unchanged (sending c.args.pool.now (shown c.args.self.now) c.args.net.now) c.requires (λ rest e a.
     lacks_buffers c.args.to c.args.bytes.now c.args.self.now.pcbs (queues_of c.args.pool.now (from_three c.args.self.now.queues)) (with_output c.args.pool.now c.args.net.now rest) b at e a checked
-    (ap (λ (x : Need). are_free c.args.pool.now x.mbufs x.clusters) (sym c.need_to-need.ensures) ∙ sym c.are_free.ensures ∙ c.if-not-are_free.true))
+    (ap (λ (x : Need). are_free c.args.pool.now x.mbufs x.clusters) (sym (c.need_to-need.ensures c.args.net.now.mtu c.way_to-way.ensures.mtu)) ∙ sym c.are_free.ensures ∙ c.if-not-are_free.true))
 
 pub returns-then-is_lost : goal.returns-then-is_lost
 returns-then-is_lost c =
@@ -51,7 +51,7 @@ returns-then-is_lost c =
     (Err (NoBufs Queue)) (sending c.put-is_lost.new.pool (record { pcbs = c.put-is_lost.new.self.pcbs; queues = from_three qs }) c.put-is_lost.new.net))
     (sym c.put-is_lost.ensures.queues)
     (sent_is b (Err (NoBufs Queue)) c.requires put c.laws.ensures.apart at checked
-    (ap (λ (x : Need). are_free c.args.pool.now x.mbufs x.clusters) (sym c.need_to-need.ensures) ∙ sym c.are_free.ensures ∙ c.if-not-are_free.false)
+    (ap (λ (x : Need). are_free c.args.pool.now x.mbufs x.clusters) (sym (c.need_to-need.ensures c.args.net.now.mtu c.way_to-way.ensures.mtu)) ∙ sym c.are_free.ensures ∙ c.if-not-are_free.false)
     (ap (λ (l : Bool). sent_or l (length c.args.bytes.now)) c.if-is_lost.true) (inl refl))
 
 pub returns : goal.returns
@@ -65,5 +65,5 @@ returns c =
     (Ok (length c.args.bytes.now)) (sending c.put-is_lost.new.pool (record { pcbs = c.put-is_lost.new.self.pcbs; queues = from_three qs }) c.put-is_lost.new.net))
     (sym c.put-is_lost.ensures.queues)
     (sent_is b (Ok (length c.args.bytes.now)) c.requires put c.laws.ensures.apart at checked
-    (ap (λ (x : Need). are_free c.args.pool.now x.mbufs x.clusters) (sym c.need_to-need.ensures) ∙ sym c.are_free.ensures ∙ c.if-not-are_free.false)
+    (ap (λ (x : Need). are_free c.args.pool.now x.mbufs x.clusters) (sym (c.need_to-need.ensures c.args.net.now.mtu c.way_to-way.ensures.mtu)) ∙ sym c.are_free.ensures ∙ c.if-not-are_free.false)
     (ap (λ (l : Bool). sent_or l (length c.args.bytes.now)) c.if-is_lost.false) tt)
