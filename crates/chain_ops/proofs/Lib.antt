@@ -3,6 +3,7 @@ mod Joins
 mod Splits
 mod Stored
 mod Filling
+mod Needed
 mod Sent
 mod Trims
 mod Writes

@@ -2,13 +2,14 @@
 ghost use Rattle.std.specs.Prelude.{◌≡◌, ℕ, ◌+◌, ◌-◌, ◌<◌, ◌≤◌, ◌⊎◌, List, Bool, true, false, Option, Some, None, min, nat_le, length, count_by, IfOk, OnOk, OnErr, if◌then◌else◌};
 ghost use Rattle.mbuf_chain.specs.Chain.{alone, held_mbufs, references, free_clusters, string, chain_of, Adds};
 ghost use Rattle.mbuf_chain.specs.Steps.{one_mbuf};
-ghost use Rattle.flat_model.specs.Amounts.Layout.{user, wire, is_cluster, next_room, size_of};
+ghost use Rattle.flat_model.specs.Amounts.Layout.{user, wire, is_cluster, need_of, next_room, size_of};
 ghost use Rattle.chain_ops.specs.Makes.{Makes};
 ghost use Rattle.chain_ops.specs.Rooms.{room_low};
 ghost use Rattle.chain_ops.specs.Stored.{AreFree, IsTaken, Lacks, Has, rooms_for, stored_first, first_start};
 
 use crate::prepend::at_end;
 use crate::step::room_low;
+use flat_model::Need;
 use mbuf_chain::{Chain, Pool};
 use mbuf_pool::NoBufs;
 use params::{
@@ -29,15 +30,18 @@ fn new_cluster(pool: &mut Pool, header: bool, start: u32, bytes: &[u8]) -> Resul
     pool.new_cluster_with(header, start, bytes)
 }
 
-/// How many bytes go into the next mbuf, of those left: `large` at most into a cluster, `small` at most into
-/// a plain one.
-fn room_len(large: usize, small: usize, left: usize) -> usize
-    ensures { result ≡ size_of (next_room large small left) }
+/// How many of the bytes that are left go into the next mbuf, and whether it refers to a cluster, which is so from 208
+/// bytes on: `large` at most into a cluster, `small` at most into a plain one (TCP/IP Illustrated, volume 2, chapter
+/// 2).
+#[inline(always)]
+pub fn next_room(large: u32, small: u32, left: u32) -> (u32, bool)
+    ensures len { result.0 ≡ size_of (next_room large small left) }
+    ensures cluster { result.1 ≡ nat_le MINCLSIZE left }
 {
-    if left >= MINCLSIZE as usize {
-        left.min(large)
+    if left >= MINCLSIZE {
+        (left.min(large), true)
     } else {
-        left.min(small)
+        (left.min(small), false)
     }
 }
 
@@ -99,33 +103,19 @@ fn store_rooms(pool: &mut Pool, bytes: &[u8], large: u32, ends: bool) -> Result<
     ensures err { OnErr result (Lacks pool.old (rooms_for large (length bytes.now))) }
     ensures same { OnErr result (pool.new ≡ pool.old) }
 {
-    let len = room_len((MCLBYTES - large) as usize, MHLEN as usize, bytes.len());
-    let (piece, mut rest) = bytes.split_at(len);
-    let start = first_start(ends, len);
-    let chain = new_stored(
-        pool,
-        true,
-        bytes.len() >= MINCLSIZE as usize,
-        large,
-        start,
-        piece,
-    )?;
+    let (len, is_large) = next_room(MCLBYTES - large, MHLEN, bytes.len() as u32);
+    let (piece, mut rest) = bytes.split_at(len as usize);
+    let start = first_start(ends, len as usize);
+    let chain = new_stored(pool, true, is_large, large, start, piece)?;
     let mut last = pool.first(&chain);
     'rooms: while !rest.is_empty() {
-        let next = room_len(MCLBYTES as usize, MLEN as usize, rest.len());
-        let (piece, after) = rest.split_at(next);
-        let Ok(back) = new_stored(
-            pool,
-            false,
-            rest.len() >= MINCLSIZE as usize,
-            0,
-            MBUF_HEADER,
-            piece,
-        ) else {
+        let (next, is_large) = next_room(MCLBYTES, MLEN, rest.len() as u32);
+        let (piece, after) = rest.split_at(next as usize);
+        let Ok(back) = new_stored(pool, false, is_large, 0, MBUF_HEADER, piece) else {
             pool.free_chain(chain);
             return Err(NoBufs);
         };
-        last = pool.link_counted(&chain, last, back, next as u32);
+        last = pool.link_counted(&chain, last, back, next);
         rest = after;
     }
     pool.laws();
@@ -212,4 +202,30 @@ pub fn from_wire(pool: &mut Pool, bytes: &[u8]) -> Result<Chain, NoBufs>
     ensures same { OnErr result (pool.new ≡ pool.old) }
 {
     store(pool, bytes, 0, false)
+}
+
+/// How many free mbufs and clusters `from_wire` takes for `n` bytes, at most 65,535. It takes one step for each mbuf.
+pub fn wire_need(n: u32) -> Need
+    requires { n ≤ IP_MAX_PACKET }
+    ensures { result ≡ need_of (wire n) }
+{
+    // A short packet takes one mbuf, and so does an empty one.
+    if n <= MHLEN {
+        return Need {
+            mbufs: 1,
+            clusters: 0,
+        };
+    }
+    let mut mbufs = 0;
+    let mut clusters = 0;
+    let mut small = MHLEN;
+    let mut left = n;
+    'rooms: while left > 0 {
+        let (size, is_large) = next_room(MCLBYTES, small, left);
+        mbufs += 1;
+        clusters += u32::from(is_large);
+        small = MLEN;
+        left -= size;
+    }
+    Need { mbufs, clusters }
 }

@@ -1,4 +1,5 @@
 -- How many mbufs the later fragments of a send take: each mbuf of the datagram by itself.
+use mir.Val.{bool_byte}
 use Rattle.std.proofs.Common.{◌≡◌, ℕ, zero, suc, ◌+◌, ◌-◌, ◌*◌, ◌/◌, ◌<◌, ◌≤◌, min, max, Bool, true, false, cond, List, [], ◌∷◌, length, map, drop, refl, sym, ap, ◌∙◌, arith, inl, inr}
 use Rattle.std.specs.Prelude.{◌⊎◌, nat_lt, nat_le, sum_by, count_by}
 use Rattle.std.specs.List.{range_with_len}
@@ -144,6 +145,18 @@ need_is n mtu m rooms e is = ap (λ (rs : List Room). length rs + sum_by (need_o
 -- the next mbuf of a layout
 abbrev pub Kind : ℕ → ℕ → ℕ → ℕ → ℕ → Type 0
 Kind left large small size one = ((208 ≤ left) × (size ≡ min left large) × (one ≡ 1)) ⊎ ((left < 208) × (size ≡ min left small) × (one ≡ 0))
+
+-- by what `next_room` answers
+pub kind_is : (left large small size one : ℕ) (b : Bool) → size ≡ size_of (next_room large small left)
+    → b ≡ nat_le 208 left → one ≡ bool_byte b → Kind left large small size one
+kind_is left large small size one b is_size is_large is_one = elim (cases_lt left 208) [
+  | inl l ↦
+      (let e : next_room large small left ≡ Plain (min left small) = cond-false {A = Room} (nat_le 208 left) _ _ (lt-leb 208 left l) in
+      inr (l, is_size ∙ ap size_of e, is_one ∙ ap bool_byte (is_large ∙ lt-leb 208 left l)))
+  | inr g ↦
+      (let e : next_room large small left ≡ Cluster (min left large) = cond-true {A = Room} (nat_le 208 left) _ _ (le-leb 208 left g) in
+      inl (g, is_size ∙ ap size_of e, is_one ∙ ap bool_byte (is_large ∙ le-leb 208 left g)))
+]
 
 pub record Next (n mtu left large small size one met : ℕ) : Type 0 where
   pub some : 0 < size

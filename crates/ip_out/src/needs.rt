@@ -4,10 +4,11 @@ ghost use Rattle.flat_model.specs.Amounts.Layout.{need, need_bcast};
 ghost use Rattle.ip_out.specs.Inside.{Counts};
 
 use crate::fragments::cut_of;
+use chain_ops::next_room;
 use flat_model::Need;
 use params::{
-    CLUSTER_LEADING_SPACE, IP_HEADER, IP_UDP_HEADERS, MCLBYTES, MHLEN, MIN_MTU, MINCLSIZE, MLEN,
-    UDP_HEADER, UDP_MAX_DATA,
+    CLUSTER_LEADING_SPACE, IP_HEADER, IP_UDP_HEADERS, MCLBYTES, MHLEN, MIN_MTU, MLEN, UDP_HEADER,
+    UDP_MAX_DATA,
 };
 
 /// The longest datagram that shares its mbuf with its headers.
@@ -68,13 +69,9 @@ fn count(n: u32, mtu: u32) -> Need
     let mut small = MHLEN;
     'rooms: while left > 0 {
         let at = IP_UDP_HEADERS + (n - left);
-        let size = if left >= MINCLSIZE {
-            clusters += 1;
-            left.min(large)
-        } else {
-            left.min(small)
-        };
+        let (size, is_large) = next_room(large, small, left);
         mbufs += 1 + later_met(chunk, at, at + size);
+        clusters += u32::from(is_large);
         left -= size;
         large = MCLBYTES;
         small = MLEN;

@@ -17,7 +17,7 @@ use Rattle.flat_model.specs.declared.counter.Counter.TheVariants.{IpTotal}
 use Rattle.flat_model.specs.declared.counters.Counters.{Counters}
 use Rattle.flat_model.specs.declared.counters.Why.{Why}
 use Rattle.flat_model.specs.declared.counters.Why.TheVariants.{TooSmall, BadVersion, BadHeaderLength, Options, BadSum, BadLength, TooShort, CantForward}
-use Rattle.flat_model.proofs.Laws.{both-nothing, none_passed}
+use Rattle.flat_model.proofs.Laws.{none_passed}
 use Rattle.mbuf_chain.specs.Chain.{ChainView, Entry, PoolView, IsLive, chain_of, entry_of, flat_bytes, no_entry, string, with_chain, without}
 use Rattle.mbuf_chain.specs.Owners.{IsOwned, Moves}
 use Rattle.mbuf_chain.proofs.Laws.Owners.{live_first, moves_with, moves_without, moves_trans, shown_with}
@@ -28,7 +28,7 @@ use Rattle.pcb_table.specs.Table.{machine}
 use Rattle.ip_out.specs.Headings.{head_in}
 use Rattle.ip_out.specs.declared.head.IpHead.{IpHead}
 use Rattle.ip_reass.specs.Table.{TableView, IsReady, held_all, unfinished}
-use Rattle.ip_reass.specs.Arrivals.{CameBy, CameByWire, carried_at, flat_head}
+use Rattle.ip_reass.specs.Arrivals.{CameBy, carried_at, flat_head}
 use Rattle.ip_reass.specs.Arrivals as reass
 use Rattle.sock_calls.specs.Sockets.{SocksView, IsSocks, queued_chains, with_sockets, with_net}
 use Rattle.sock_calls.specs.Delivery.{NetView, state_at, KeepsParts, IsInput}

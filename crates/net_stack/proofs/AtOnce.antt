@@ -19,9 +19,8 @@ use Rattle.flat_model.specs.declared.counters.Counters.{Counters}
 use Rattle.flat_model.proofs.Laws.{count_cons}
 use Rattle.mbuf_chain.specs.Chain.{PoolView, free_clusters, held_mbufs}
 use Rattle.mbuf_chain.specs.Owners.{IsOwned, Moves}
-use Rattle.mbuf_chain.proofs.Laws.Owners.{moves_trans}
 use Rattle.chain_ops.proofs.Laws.Rooms.{one_cluster}
-use Rattle.ledger.specs.Accounts.{IsAccounted, item_at, weight_at, weight_owned}
+use Rattle.ledger.specs.Accounts.{IsAccounted, item_at, weight_owned}
 use Rattle.ledger.proofs.Laws.{test_is}
 use Rattle.pcb_table.specs.Table.{machine}
 use Rattle.ip_out.specs.declared.head.IpHead.{IpHead}

@@ -16,7 +16,7 @@ use Rattle.mbuf_chain.specs.Owners.{times, IsOwned}
 use Rattle.mbuf_chain.specs.Train.{TrainView, numbers}
 use Rattle.mbuf_chain.proofs.Laws.Owners.{times-append, moves_reordered}
 use Rattle.mbuf_chain.proofs.Laws.Trains.{held_none}
-use Rattle.ip_reass.specs.Table.{TableView, IsReady, held_all, unfinished}
+use Rattle.ip_reass.specs.Table.{TableView, IsReady, held_all}
 use Rattle.sock_calls.specs.declared.net.Net.{Net}
 use Rattle.sock_calls.specs.Sockets.{SocksView, queued_chains}
 use Rattle.sock_calls.specs.Outgoing.{CanSend, sending}

@@ -20,7 +20,7 @@ use Rattle.ip_out.specs.Packets.{packets, AreBegunPlain, BeginPlain}
 use Rattle.ip_out.proofs.Laws.{none_wait}
 use Rattle.ip_reass.specs.Table.{TableView, IsReady, held_all, unfinished}
 use Rattle.sock_calls.specs.Sockets.{SocksView, IsSocks, queued_chains, with_net}
-use Rattle.sock_calls.specs.Delivery.{NetView, IsAccountedAt, KeepsParts, held_with, state_at, chains_at}
+use Rattle.sock_calls.specs.Delivery.{NetView, IsAccountedAt, KeepsParts, held_with, state_at}
 use Rattle.net_stack.specs.Inside.Arrivals.{IsArrived, AreArriving, HaveArrived}
 use Rattle.net_stack.proofs.Lifted.{output_weighs}
 use Rattle.net_stack.proofs.Aside.{Aside, aside, as_held, as_owned, net_seen}

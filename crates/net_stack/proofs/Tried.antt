@@ -1,11 +1,11 @@
 -- A send, tested once or twice.
 use Rattle.std.proofs.Common.{◌≡◌, ℕ, ◌+◌, Bool, true, false, List, [], ◌∷◌, ◌++◌, length, Option, refl, sym, ap, ◌∙◌, subst, arith, inl, inr}
-use Rattle.std.specs.Prelude.{◌⊎◌, count_by, Result, Ok, Err}
+use Rattle.std.specs.Prelude.{◌⊎◌, Result, Ok, Err}
 use Rattle.std.proofs.lemmas.Bool.{true≢false}
 use Rattle.flat_model.specs.Amounts.Weight.{Weight, Item, SameWeight, nothing, all_of, mbuf, ◌⊕◌}
 use Rattle.flat_model.specs.Fragments.Whole.{weight_of_pieces}
 use Rattle.flat_model.specs.Machine.Count.{counts_more}
-use Rattle.flat_model.specs.Machine.State.{State, Socket, Unfinished, is_key}
+use Rattle.flat_model.specs.Machine.State.{State, Socket, Unfinished}
 use Rattle.flat_model.specs.Machine.Ledger.{exact_ledger, reclaimed}
 use Rattle.flat_model.specs.Machine.Event.{Reply, Refused, Done, Opened, Sent, Received, Given, Counted, Shown}
 use Rattle.flat_model.specs.Machine.Replies.{sent_reply}

@@ -2,7 +2,6 @@
 use Rattle.std.proofs.Common.{◌≡◌, ℕ, List, ◌++◌, sym, ap, subst, arith}
 use Rattle.flat_model.specs.Machine.Count.{counts_more}
 use Rattle.flat_model.specs.Machine.Ledger.{exact_ledger}
-use Rattle.flat_model.specs.Amounts.Weight.{Weight}
 use Rattle.flat_model.specs.Machine.State.{State, Unfinished}
 use Rattle.flat_model.specs.Machine.Step.{ComesIn}
 use Rattle.flat_model.specs.declared.counter.Counter.TheVariants.{IpTotal}

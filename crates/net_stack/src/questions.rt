@@ -46,8 +46,8 @@ impl Stack {
         self.host.socks.readable()
     }
 
-    /// What one counter has counted since boot, 0 to 2 to the 64th less 1, where it stays. It's that field of `counters`,
-    /// without a copy of all.
+    /// What one counter has counted since boot, 0 to 2 to the 64th less 1, where it stays. It's that field of
+    /// `counters`, without a copy of all.
     pub fn counter(&self, counter: Counter) -> u64
         ensures { result ≡ value_of counter (state_of self.now).counters }
     {

@@ -1,6 +1,6 @@
 //! A packet from the wire.
-ghost use Rattle.std.specs.Prelude.{◌≡◌, ◌≤◌, None, true, false, length, if◌then◌else◌};
-ghost use Rattle.flat_model.specs.Amounts.Layout.{is_cluster, need_of, next_room, size_of, wire};
+ghost use Rattle.std.specs.Prelude.{◌≡◌, ◌≤◌, None, true, false, length};
+ghost use Rattle.flat_model.specs.Amounts.Layout.{wire};
 ghost use Rattle.flat_model.specs.Machine.Arrival as flat;
 ghost use Rattle.flat_model.specs.Packets.Header.{head_fault};
 ghost use Rattle.mbuf_chain.specs.Owners.{IsOwned};
@@ -16,54 +16,15 @@ ghost use Rattle.net_stack.specs.Inside.Hosts.{KeepsOutput, arrival_view};
 
 use crate::arrive::{is_for_us, is_fragment};
 use crate::host::Host;
-use chain_ops::from_wire;
 use chain_ops::theorems::stored_layout;
-use flat_model::{Counter, Need, Why};
+use chain_ops::{from_wire, wire_need};
+use flat_model::{Counter, Why};
 use ip_out::{IpHead, parse_head};
 use ip_reass::{Arrival, fits_at_once};
 use ledger::reserve;
 use mbuf_chain::{Chain, Pool};
-use params::{IP_MAX_PACKET, MCLBYTES, MHLEN, MINCLSIZE, MLEN};
+use params::IP_MAX_PACKET;
 use udp::read;
-
-/// How many bytes go into the next mbuf, of those left, and how many clusters it takes: `small` at most into a plain
-/// one.
-fn next_mbuf(small: u32, left: u32) -> (u32, u32)
-    ensures size { result.0 ≡ size_of (next_room MCLBYTES small left) }
-    ensures cluster { result.1 ≡ (if is_cluster (next_room MCLBYTES small left) then 1 else 0) }
-{
-    if left >= MINCLSIZE {
-        (left.min(MCLBYTES), 1)
-    } else {
-        (left.min(small), 0)
-    }
-}
-
-/// How many free mbufs and clusters a packet of `n` bytes from the wire takes. It takes one step for each mbuf.
-fn wire_need(n: u32) -> Need
-    requires { n ≤ IP_MAX_PACKET }
-    ensures { result ≡ need_of (wire n) }
-{
-    // A short one takes one mbuf, and so does an empty one.
-    if n <= MHLEN {
-        return Need {
-            mbufs: 1,
-            clusters: 0,
-        };
-    }
-    let mut mbufs = 0;
-    let mut clusters = 0;
-    let mut small = MHLEN;
-    let mut left = n;
-    'rooms: while left > 0 {
-        let (size, cluster) = next_mbuf(small, left);
-        mbufs += 1;
-        clusters += cluster;
-        small = MLEN;
-        left -= size;
-    }
-    Need { mbufs, clusters }
-}
 
 /// Puts a packet into a chain of its own. Its buffers have to be free.
 fn put_packet(pool: &mut Pool, packet: &[u8]) -> Chain

@@ -1,5 +1,5 @@
 use Rattle.std.proofs.Common.{◌≡◌, ◌==◌, ℕ, ◌+◌, ◌-◌, ◌<◌, ◌++◌, cond, Bool, true, false, Option, Result, Ok, Err, OnErr, List, [], ◌∷◌, length, count_by, inl, inr, arith, ap, sym, refl, ◌∙◌, append-nil}
-use Rattle.std.specs.Prelude.{nat_le, option_to_list}
+use Rattle.std.specs.Prelude.{option_to_list}
 use Rattle.std.proofs.lemmas.List.{length-append}
 use Rattle.std.proofs.lemmas.Bool.{eqb-true, false≢true}
 use Rattle.mbuf_chain.specs.Steps.{one_mbuf, joined}
@@ -33,18 +33,19 @@ rooms-init c =
     let a = c.in_ok-chain.ensures.ok.2 in
     let m = makes_new a in
     let size = length c.args.bytes.now in
-    let e : Entry = record { bytes = c.split_at.result.0.now; start = cond (nat_le 208 size) c.args.large c.first_start-start.result; cluster = o } in
-    let splits = begin_splits p c.args.large size c.room_len-len.result c.split_at.result.1.now _ o c.requires.large refl taken c.room_len-len.ensures (omega (arith, c.split_at.ensures.back_len)) in
+    let e : Entry = record { bytes = c.split_at.result.0.now; start = cond c.next_room-len.result.1 c.args.large c.first_start-start.result; cluster = o } in
+    let splits = begin_splits p c.args.large size c.next_room-len.result.0 c.split_at.result.1.now _ o c.requires.large (sym c.next_room-len.ensures.cluster) taken c.next_room-len.ensures.len (omega (arith, c.split_at.ensures.back_len)) in
     record {
       clusters = option_to_list o;
       made = record { adds = m.adds; front = m.front; entries = refl };
-      all = begin_all p c.args.large c.args.ends o size c.args.bytes.now _ c.room_len-len.result c.first_start-start.result c.split_at.result.0.now c.split_at.result.1.now _ c.requires.large refl taken
-          c.room_len-len.ensures c.first_start-start.ensures.value c.split_at.ensures.front c.split_at.ensures.back (omega (arith, c.split_at.ensures.back_len)) m.entries;
+      all = begin_all p c.args.large c.args.ends o size c.args.bytes.now _ c.next_room-len.result.0 c.first_start-start.result c.split_at.result.0.now c.split_at.result.1.now _ c.requires.large (sym c.next_room-len.ensures.cluster) taken
+          c.next_room-len.ensures.len c.first_start-start.ensures.value c.split_at.ensures.front c.split_at.ensures.back (omega (arith, c.split_at.ensures.back_len)) m.entries;
       count = sym splits.count;
       number = omega (arith, splits.number, ap (λ (es : List Entry). length es) m.entries);
       refs = λ k. sym (ap (references_of k) (shown_adds a) ∙ refs_one k d true e);
-      frees = ledger_step p q (nat_le 208 size) o (ap (λ (s : PoolView). s.clusters) a.pool) (λ k. references-adds k a ∙ ap (λ (n : ℕ). references p k + n) (refs_one k d true e)) taken;
-      taken = free_more p [] true o (none_free p) (λ k e. let t = taken_is p (nat_le 208 size) o taken k e in (t.0, t.1, refl));
+      frees = ledger_step p q c.next_room-len.result.1 o (ap (λ (s : PoolView). s.clusters) a.pool) (λ k. references-adds k a ∙ ap (λ (n : ℕ). references p k + n) (refs_one k d true e)) taken;
+      taken = free_more p [] true o (none_free p) (λ k e. let t = taken_is p c.next_room-len.result.1 o taken k e in (t.0, t.1, refl));
+      few = omega (arith, c.split_at.ensures.back_len);
       last = c.first-last.ensures.place;
       end = omega (arith, c.first-last.ensures.index, ap (λ (es : List Entry). length es) m.entries);
     }
@@ -86,26 +87,27 @@ rooms-preserved c =
     let size : ℕ = length c.rooms.rest.now in
     let some : 0 < size = filled_some c.rooms.rest.now _ c.is_empty.ensures c.rooms-test.true in
     let later : List ℕ = c.split_at-in-rooms.result.1.now in
-    let e : Entry = record { bytes = c.split_at-in-rooms.result.0.now; start = cond (nat_le 208 size) 0 20; cluster = o } in
+    let e : Entry = record { bytes = c.split_at-in-rooms.result.0.now; start = cond c.next_room-next.result.1 0 20; cluster = o } in
     let v : ChainView = chain_of p d in
     let w : ChainView = one_mbuf false e c.in-Ok.back in
-    let left : length later ≡ size - c.room_len-next.result = omega (arith, c.split_at-in-rooms.ensures.back_len) in
-    let splits = more_splits p size c.room_len-next.result later (nat_le 208 size) o some refl taken c.room_len-next.ensures left in
+    let left : length later ≡ size - c.next_room-next.result.0 = omega (arith, c.split_at-in-rooms.ensures.back_len) in
+    let splits = more_splits p size c.next_room-next.result.0 later c.next_room-next.result.1 o some (sym c.next_room-next.ensures.cluster) taken c.next_room-next.ensures.len left in
     let one : (k : ℕ) → references_of k w ≡ times k (option_to_list o) = λ k. refs_one k c.in-Ok.back false e in
-    let frees = ledger_step p r (nat_le 208 size) o (ap (λ (s : PoolView). s.clusters) is) (λ k. refs_linked p r d k w live is ∙ ap (λ (n : ℕ). references p k + n) (one k)) taken in
+    let frees = ledger_step p r c.next_room-next.result.1 o (ap (λ (s : PoolView). s.clusters) is) (λ k. refs_linked p r d k w live is ∙ ap (λ (n : ℕ). references p k + n) (one k)) taken in
     record {
       clusters = cs ++ option_to_list o;
       made = record { adds = m.adds; front = m.front ∙ was.front; entries = refl };
-      all = more_all p (λ es. stored_first c.args.large c.args.ends es (rooms_for c.args.large (length c.args.bytes.now)) c.args.bytes.now) o cs size c.rooms.rest.now later (nat_le 208 size) c.room_len-next.result c.split_at-in-rooms.result.0.now
-          v.entries _ some refl taken c.room_len-next.ensures c.split_at-in-rooms.ensures.front c.split_at-in-rooms.ensures.back left m.entries inv.all;
+      all = more_all p (λ es. stored_first c.args.large c.args.ends es (rooms_for c.args.large (length c.args.bytes.now)) c.args.bytes.now) o cs size c.rooms.rest.now later c.next_room-next.result.1 c.next_room-next.result.0 c.split_at-in-rooms.result.0.now
+          v.entries _ some (sym c.next_room-next.ensures.cluster) taken c.next_room-next.ensures.len c.split_at-in-rooms.ensures.front c.split_at-in-rooms.ensures.back left m.entries inv.all;
       count = omega (arith, inv.count, splits.count, length-append cs (option_to_list o));
       number = omega (arith, inv.number, splits.number, ap (λ (es : List Entry). length es) m.entries, length-append v.entries (e ∷ []));
       refs = λ k. omega (arith, times-append k cs (option_to_list o), inv.refs k, ap (references_of k) (shown_with p r d (joined v w) is), refs_joined k v w, one k);
       frees = omega (arith, frees, inv.frees, length-append cs (option_to_list o));
       taken = free_more c.args.pool.now cs true o inv.taken
-          (λ k is'. let t = taken_is p (nat_le 208 size) o taken k is' in
+          (λ k is'. let t = taken_is p c.next_room-next.result.1 o taken k is' in
           let n = references-adds k was.adds in
           (omega (arith, t.0, ap (λ (s : PoolView). s.clusters) was.adds.pool), omega (arith, t.1, n), omega (arith, t.1, n, inv.refs k)));
+      few = omega (arith, inv.few, left);
       last = c.link_counted-last.ensures.place;
       end = omega (arith, c.link_counted-last.ensures.index, inv.end, ap (λ (es : List Entry). length es) m.entries, length-append v.entries (e ∷ []));
     }
@@ -117,7 +119,7 @@ returns-in_default-clause-err c =
     let more = lacks_more (length c.rooms.rest.now) some in
     elim c.in_default.ensures.err [
       | inl e ↦ inl (omega (arith, e, makes_held inv.made, makes_mbufs inv.made, inv.number, more.0))
-      | inr t ↦ inr (omega (arith, t.1, more.1 t.0, inv.count, inv.frees))
+      | inr t ↦ inr (omega (arith, t.1, more.1 (sym c.next_room-next.ensures.cluster ∙ t.0), inv.count, inv.frees))
     ]
 
 on_err : {T E P : Type 0} (r : Result T E) → P → OnErr r P
@@ -129,7 +131,7 @@ returns-in_err-chain-clause-err c =
     let first = lacks_first c.args.large (length c.args.bytes.now) c.requires.large in
     let lacks : Lacks c.args.pool.now (rooms_for c.args.large (length c.args.bytes.now)) = elim c.in_err-chain.ensures.err [
       | inl e ↦ inl (omega (arith, e, first.0))
-      | inr t ↦ inr (omega (arith, t.1, first.1 t.0))
+      | inr t ↦ inr (omega (arith, t.1, first.1 (sym c.next_room-len.ensures.cluster ∙ t.0)))
     ] in
     on_err c.from_residual.result lacks
 

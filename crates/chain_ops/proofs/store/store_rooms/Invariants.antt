@@ -1,4 +1,4 @@
-use Rattle.std.proofs.Common.{◌≡◌, ℕ, ◌+◌, ◌++◌, true, List, length, count_by}
+use Rattle.std.proofs.Common.{◌≡◌, ◌≤◌, ℕ, ◌+◌, ◌++◌, true, List, length, count_by}
 use Rattle.mbuf_chain.specs.Chain.{IsPlace, chain_of, alone, references_of, free_clusters}
 use Rattle.mbuf_chain.specs.Owners.{times}
 use Rattle.flat_model.specs.Amounts.Layout.{is_cluster}
@@ -18,6 +18,7 @@ invariant-rooms l = record {
   frees : free_clusters l.pool + length clusters ≡ free_clusters l.fn.pool;
   taken : AreFree l.fn.pool clusters;
   last : IsPlace (chain_of l.pool l.chain) l.last;
+  few : length l.rest ≤ length l.bytes;
   end : l.last.index + 1 ≡ length (chain_of l.pool l.chain).entries;
 }
 

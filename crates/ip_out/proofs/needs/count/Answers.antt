@@ -1,11 +1,10 @@
-use Rattle.std.proofs.Common.{◌≡◌, ℕ, ◌+◌, ◌-◌, length, arith, ap, sym, ◌∙◌, inl, inr}
+use Rattle.std.proofs.Common.{◌≡◌, ℕ, ◌+◌, ◌-◌, length, arith, ap, sym, ◌∙◌}
 use Rattle.flat_model.specs.Amounts.Layout as Layout
 use Rattle.flat_model.specs.Amounts.Layout.{Room, filled, is_cluster}
 use Rattle.std.specs.Prelude.{count_by, List, []}
 use Rattle.ip_out.specs.Inside.{later_parts}
-use Rattle.ip_out.proofs.Counting.{over, over_none, Kind, next_is, filled_none, short_is, long_is, short_clusters, long_clusters}
+use Rattle.ip_out.proofs.Counting.{over, over_none, Kind, kind_is, next_is, filled_none, short_is, long_is, short_clusters, long_clusters}
 use Rattle.ip_out.proofs.needs.count.Goals as goal
-use Rattle.ip_out.proofs.needs.count.Goals.{then-left-ge-MINCLSIZE, else-left-ge-MINCLSIZE}
 
 pub returns-then-n-le-MAX_SHARED-clause-need : goal.returns-then-n-le-MAX_SHARED-clause-need
 returns-then-n-le-MAX_SHARED-clause-need c =
@@ -27,20 +26,21 @@ rooms-init c = record {
 pub rooms-preserved : goal.rooms-preserved
 rooms-preserved c =
     let inv = c.rooms.invariant in
-    let one : ℕ = c.if-left-ge-MINCLSIZE.clusters - c.rooms.clusters in
-    let kind : Kind c.rooms.left c.rooms.large c.rooms.small c.if-left-ge-MINCLSIZE.size one × (c.if-left-ge-MINCLSIZE.clusters ≡ c.rooms.clusters + one) = elim c.if-left-ge-MINCLSIZE.branch [
-      | then-left-ge-MINCLSIZE w ↦ (inl (omega arith, omega arith, omega arith), omega arith)
-      | else-left-ge-MINCLSIZE w ↦ (inr (omega arith, omega arith, omega arith), omega arith)
-    ] in
-    let next = next_is c.args.n c.args.mtu _ _ c.rooms.left c.rooms.large c.rooms.small c.if-left-ge-MINCLSIZE.size one _ inv.large inv.small (omega arith) inv.left kind.0 c.later_of-chunk.ensures.counts c.later_met-in-rooms.ensures.value in
+    let size : ℕ = c.next_room-size.result.0 in
+    let one : ℕ = c.from-clusters.result in
+    let kind : Kind c.rooms.left c.rooms.large c.rooms.small size one =
+    kind_is c.rooms.left c.rooms.large c.rooms.small size one c.next_room-size.result.1 c.next_room-size.ensures.len
+    c.next_room-size.ensures.cluster c.from-clusters.ensures in
+    let next = next_is c.args.n c.args.mtu _ _ c.rooms.left c.rooms.large c.rooms.small size one _ inv.large inv.small
+    (omega arith) inv.left kind c.later_of-chunk.ensures.counts c.later_met-in-rooms.ensures.value in
     record {
       left = omega (arith, inv.left);
       large = omega arith;
       small = omega arith;
       mbufs = omega (arith, inv.mbufs, next.mbufs);
-      clusters = omega (arith, inv.clusters, next.clusters, kind.1);
+      clusters = omega (arith, inv.clusters, next.clusters);
       few = omega (arith, inv.few, next.some, next.most, c.later_met-in-rooms.ensures.most, inv.left);
-      some = omega (arith, inv.some, next.some, next.most, kind.1, kind.0, inv.left);
+      some = omega (arith, inv.some, next.some, next.most, kind, inv.left);
     }
 
 pub returns-clause-need : goal.returns-clause-need

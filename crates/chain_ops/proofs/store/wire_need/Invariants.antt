@@ -1,7 +1,7 @@
 use Rattle.std.proofs.Common.{◌≡◌, ◌+◌, ◌<◌, ◌≤◌, length}
 use Rattle.std.specs.Prelude.{count_by}
 use Rattle.flat_model.specs.Amounts.Layout.{filled, is_cluster}
-use Rattle.net_stack.proofs.receive.wire_need.Given as goal
+use Rattle.chain_ops.proofs.store.wire_need.Given as goal
 
 abbrev pub invariant-rooms : goal.invariant-rooms
 invariant-rooms l = record {

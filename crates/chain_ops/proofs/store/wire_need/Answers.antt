@@ -1,8 +1,8 @@
 use Rattle.std.proofs.Common.{◌≡◌, ℕ, max, List, [], length, sym, ap, ◌∙◌, arith}
 use Rattle.std.specs.Prelude.{count_by}
 use Rattle.flat_model.specs.Amounts.Layout.{Room, filled, is_cluster}
-use Rattle.net_stack.proofs.Coming.{none_left, need_is, next_is, small_need, some_mbuf}
-use Rattle.net_stack.proofs.receive.wire_need.Goals as goal
+use Rattle.chain_ops.proofs.Needed.{cluster_is, none_left, need_is, next_is, small_need, some_mbuf}
+use Rattle.chain_ops.proofs.store.wire_need.Goals as goal
 
 pub returns-then-n-le-MHLEN : goal.returns-then-n-le-MHLEN
 returns-then-n-le-MHLEN c = sym (small_need c.args.n (omega arith))
@@ -10,7 +10,7 @@ returns-then-n-le-MHLEN c = sym (small_need c.args.n (omega arith))
 pub rooms-preserved : goal.rooms-preserved
 rooms-preserved c =
     let inv = c.rooms.invariant in
-    let next = next_is c.rooms.small c.rooms.left c.next_mbuf-size.result.0 c.next_mbuf-size.result.1 inv.small (omega arith) c.next_mbuf-size.ensures.size c.next_mbuf-size.ensures.cluster in
+    let next = next_is c.rooms.small c.rooms.left c.next_room-size.result.0 c.from-clusters.result inv.small (omega arith) c.next_room-size.ensures.len (c.from-clusters.ensures ∙ cluster_is c.rooms.small c.rooms.left c.next_room-size.result.1 c.next_room-size.ensures.cluster) in
     record {
       small = omega arith;
       mbufs = omega (arith, inv.mbufs, next.mbufs);
