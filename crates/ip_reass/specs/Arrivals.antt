@@ -27,7 +27,14 @@ machine p ds c rest = record rest { unfinished = unfinished p ds; counters = c }
 
 -- what the flat machine reads of a header, and the key that its fragment goes by
 abbrev pub flat_head : IpHead → Head
-flat_head h = record { id = h.id; more = h.more; offset = h.offset; protocol = h.proto; source = h.src; destination = h.dst }
+flat_head h = record {
+  id = h.id;
+  more = h.more;
+  offset = h.offset;
+  protocol = h.proto;
+  source = h.src;
+  destination = h.dst;
+}
 
 abbrev pub key_in : IpHead → Key
 key_in h = record { source = h.src; destination = h.dst; id = h.id; protocol = h.proto }
@@ -71,13 +78,18 @@ GoesOn held q (Dropped why) now new = new ≡ now
 
 -- A fragment's datagram begins, where an mbuf is to be had for its key: from p, ds and counters c on to q, es and d,
 -- chain n arrived as the fragment f, whose key isn't held yet.
-pub record BeginsAt (p : PoolView) (ds : List Datagram) (c : Counters) (k : Key) (f : Fragment) (w : Weight) (result : Arrival) (q : PoolView) (es : List Datagram) (d : Counters) (rest : State) (held : Weight) (new : State) : Type 0 where
-  pub tests : Tests exact_ledger (machine p ds c rest) (held ⊕ w) 1 new (λ mid. Lays exact_ledger held k f (begun k) (begin_unfinished k mid) new)
+pub record BeginsAt (p : PoolView) (ds : List Datagram) (c : Counters) (k : Key) (f : Fragment) (w : Weight)
+    (result : Arrival) (q : PoolView) (es : List Datagram) (d : Counters) (rest : State) (held : Weight) (new : State)
+    : Type 0 where
+  pub tests : Tests exact_ledger (machine p ds c rest) (held ⊕ w) 1 new
+      (λ mid. Lays exact_ledger held k f (begun k) (begin_unfinished k mid) new)
 
 -- The header of chain v was pulled up: from p, ds and counters c on to q, es and d.
-pub record IsPulled (p : PoolView) (ds : List Datagram) (c : Counters) (w : Weight) (answer : Bool) (q : PoolView) (es : List Datagram) (d : Counters) (rest : State) (held : Weight) : Type 0 where
+pub record IsPulled (p : PoolView) (ds : List Datagram) (c : Counters) (w : Weight) (answer : Bool) (q : PoolView)
+    (es : List Datagram) (d : Counters) (rest : State) (held : Weight) : Type 0 where
   pub mid : Counters
-  pub has_buffers : HasBuffers exact_ledger (machine p ds c rest) (held ⊕ w) (need_mbufs 1) answer (machine q es mid rest)
+  pub has_buffers : HasBuffers exact_ledger (machine p ds c rest) (held ⊕ w) (need_mbufs 1) answer
+      (machine q es mid rest)
   pub counts : d ≡ (if answer then mid else counted NoBufs mid)
 
 -- ---- layouts

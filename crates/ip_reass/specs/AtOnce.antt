@@ -18,7 +18,11 @@ use Rattle.ip_reass.specs.declared.datagram.Datagram.{Datagram}
 
 -- a packet of 208 to 2048 bytes as it is stored from the wire: in cluster k, from its first byte on
 abbrev pub in_cluster : List ℕ → ℕ → ChainView
-in_cluster packet k = record { front = alone true; entries = record { bytes = packet; start = 0; cluster = Some k } ∷ []; cells = [] }
+in_cluster packet k = record {
+  front = alone true;
+  entries = record { bytes = packet; start = 0; cluster = Some k } ∷ [];
+  cells = [];
+}
 
 -- whether a packet whose header says h is laid at once: it takes one cluster, is as long as its header says, is no
 -- fragment that none can be, and its cluster and both mbufs are free
@@ -30,11 +34,13 @@ fits_at_once p h packet =
 -- From p, ds and c to q, es and d a packet arrived as a fragment whose header says h: by the step, the layout and the
 -- cause that its chain would have had in a cluster that was free in p. Whatever becomes of what is in hand is part of
 -- the step, and so is any weight that is held beside.
-pub record ArrivesAtOnce (p : PoolView) (ds : List Datagram) (c : Counters) (packet : List ℕ) (h : IpHead) (result : Arrival) (q : PoolView) (es : List Datagram) (d : Counters) : Type 0 where
+pub record ArrivesAtOnce (p : PoolView) (ds : List Datagram) (c : Counters) (packet : List ℕ) (h : IpHead)
+    (result : Arrival) (q : PoolView) (es : List Datagram) (d : Counters) : Type 0 where
   pub cluster : ℕ
   pub exists : cluster < p.clusters
   pub free : references p cluster ≡ 0
-  pub step : (rest : State) (held : Weight) (new : State) → IsAccounted p (machine p ds c rest) held → GoesOn held q result (machine q es d rest) new
+  pub step : (rest : State) (held : Weight) (new : State) → IsAccounted p (machine p ds c rest) held
+      → GoesOn held q result (machine q es d rest) new
       → ChainArrives held h (in_cluster packet cluster) (machine p ds c rest) new
   pub layout : HasLayout p ds (key_in h) (fragment_carried (in_cluster packet cluster) h) result q es
   pub cause : HasCause (cause_of (in_cluster packet cluster) h (under (key_in h) (queues q es))) result

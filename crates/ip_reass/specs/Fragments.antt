@@ -23,7 +23,11 @@ fragment_of q = record { offset = q.offset; bytes = flat_bytes q.entries; more =
 
 -- a chain in a train of fragments: its tag is the offset times 2, plus 1 where more come after it
 abbrev pub queued_of : QueuedPacket → QueuedFragment
-queued_of queued_packet = record { offset = queued_packet.tag / 2; more = queued_packet.tag % 2 == 1; entries = queued_packet.entries }
+queued_of queued_packet = record {
+  offset = queued_packet.tag / 2;
+  more = queued_packet.tag % 2 == 1;
+  entries = queued_packet.entries;
+}
 
 -- the fragments of a train, in order
 abbrev pub queued : PoolView → TrainView → List QueuedFragment
@@ -40,7 +44,8 @@ cut n q = record { offset = q.offset + n; more = q.more; entries = without_first
 -- what is left of a queue from offset e on
 abbrev pub cut_to : ℕ → List QueuedFragment → List QueuedFragment
 cut_to e [] = []
-cut_to e (q ∷ qs) = if nat_le e q.offset then q ∷ qs else if nat_le (queued_end q) e then cut_to e qs else cut (e - q.offset) q ∷ qs
+cut_to e (q ∷ qs) = if nat_le e q.offset then q ∷ qs else if nat_le (queued_end q) e then cut_to e qs
+    else cut (e - q.offset) q ∷ qs
 
 -- A fragment laid in a queue, of which the fragments already passed end at `end`. Those that begin no later than it
 -- keep all they have, and it loses what they hold; those that begin later lose what it holds.

@@ -34,7 +34,8 @@ queues p ds = map (queue_of p) ds
 
 -- the queue goes by this key
 abbrev pub goes_by : Key → KeyedQueue → Bool
-goes_by k q = (q.key.source == k.source) && (q.key.destination == k.destination) && (q.key.id == k.id) && (q.key.protocol == k.protocol)
+goes_by k q = (q.key.source == k.source) && (q.key.destination == k.destination) && (q.key.id == k.id)
+    && (q.key.protocol == k.protocol)
 
 -- a fragment laid in a queue
 abbrev pub with_laid : QueuedFragment → KeyedQueue → KeyedQueue
@@ -71,7 +72,8 @@ WaitOrNone before now = (now ≡ before) ⊎ (now ≡ [])
 
 -- From p and ds to q and es the fragment f arrived under the key k: it was laid among what waited before, or among
 -- nothing, where all was dropped for want of an mbuf.
-pub record HasLayout (p : PoolView) (ds : List Datagram) (k : Key) (f : QueuedFragment) (result : Arrival) (q : PoolView) (es : List Datagram) : Type 0 where
+pub record HasLayout (p : PoolView) (ds : List Datagram) (k : Key) (f : QueuedFragment) (result : Arrival)
+    (q : PoolView) (es : List Datagram) : Type 0 where
   pub waited : List KeyedQueue
   pub before : WaitOrNone (queues p ds) waited
   pub leaves : Leaves k f waited q result (queues q es)
@@ -121,5 +123,7 @@ queue_at qs i = slice_index_or qs i no_queue
 -- what a fragment leaves that is laid in the queue at a place
 abbrev pub LeavesAt : ℕ → QueuedFragment → List KeyedQueue → PoolView → Arrival → List KeyedQueue → Type 0
 LeavesAt i f qs q Kept now = now ≡ slice_set qs i (with_laid f (queue_at qs i))
-LeavesAt i f qs q (Whole c h) now = ((chain_of q c).entries ≡ joined (laid f (queue_at qs i).fragments)) × (now ≡ remove qs i)
-LeavesAt i f qs q (Dropped why) now = (now ≡ qs) × (is_covered (map_of (map fragment_of (queue_at qs i).fragments)) (fragment_of f) ≡ true)
+LeavesAt i f qs q (Whole c h) now = ((chain_of q c).entries ≡ joined (laid f (queue_at qs i).fragments))
+    × (now ≡ remove qs i)
+LeavesAt i f qs q (Dropped why) now = (now ≡ qs)
+    × (is_covered (map_of (map fragment_of (queue_at qs i).fragments)) (fragment_of f) ≡ true)

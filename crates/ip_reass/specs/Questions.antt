@@ -20,7 +20,11 @@ owned_below most bytes first = count_by (λ offset. is_of first (bytes offset)) 
 
 -- what a piece still has: as many bytes as it owns offsets
 abbrev pub range_of : Map → Piece → HeldRange
-range_of bytes piece = record { offset = piece.first; len = owned_below IP_MAX_DATA bytes piece.first; more = piece.more }
+range_of bytes piece = record {
+  offset = piece.first;
+  len = owned_below IP_MAX_DATA bytes piece.first;
+  more = piece.more;
+}
 
 -- what all pieces have, in order of offset
 abbrev pub ranges : Map → List HeldRange

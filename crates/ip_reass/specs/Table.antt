@@ -46,11 +46,18 @@ AllUnfinished p ds = AllByRecursion (IsUnfinished p) ds
 
 -- the datagram goes by this key
 abbrev pub has_key : Key → Datagram → Bool
-has_key k d = (d.key.source == k.source) && (d.key.destination == k.destination) && (d.key.id == k.id) && (d.key.protocol == k.protocol)
+has_key k d = (d.key.source == k.source) && (d.key.destination == k.destination) && (d.key.id == k.id)
+    && (d.key.protocol == k.protocol)
 
 -- one that has just begun, with the mbuf of its key
 abbrev pub new_datagram : Key → ℕ → Datagram
-new_datagram k c = record { key = k; holder = c; ticks = FRAGMENT_TICKS; fragments = record { first = None; last = None; len = 0 }; bytes = 0 }
+new_datagram k c = record {
+  key = k;
+  holder = c;
+  ticks = FRAGMENT_TICKS;
+  fragments = record { first = None; last = None; len = 0 };
+  bytes = 0;
+}
 
 -- the chains are the pool's, once each, and the fragments are in order
 pub record IsTable (p : PoolView) (ds : List Datagram) : Type 0 where

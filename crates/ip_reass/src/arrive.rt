@@ -106,8 +106,8 @@ impl Reass {
     }
 
     /// Lets a fragment join the others of its datagram, or begin it.
-    // Inlined with all that a fragment in order takes, so that no field of its header goes through memory: by calls seven
-    // fragments took 1,000 instructions more.
+    // Inlined with all that a fragment in order takes, so that no field of its header goes through memory: by calls
+    // seven fragments took 1,000 instructions more.
     #[inline(always)]
     pub(crate) fn lay_or_begin(
         &mut self,

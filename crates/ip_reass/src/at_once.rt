@@ -18,9 +18,9 @@ use ip_out::IpHead;
 use mbuf_chain::{Chain, Pool};
 use params::{IP_HEADER, IP_MAX_PACKET, MAX_PROTOCOL_HEADER, MCLBYTES, MINCLSIZE, PACKET_START};
 
-/// Whether a packet, whose header says `head`, can be laid at once, by `Reass::arrive_bytes`: it's as long as its header
-/// says, is stored in one cluster, is no fragment that none can be, and two mbufs and a cluster are free. The header's
-/// offset is at most 65,535.
+/// Whether a packet, whose header says `head`, can be laid at once, by `Reass::arrive_bytes`: it's as long as its
+/// header says, is stored in one cluster, is no fragment that none can be, and two mbufs and a cluster are free. The
+/// header's offset is at most 65,535.
 #[inline(always)]
 pub fn fits_at_once(pool: &Pool, head: &IpHead, packet: &[u8]) -> bool
     requires { head.now.offset ≤ IP_MAX_PACKET }

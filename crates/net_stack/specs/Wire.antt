@@ -24,4 +24,5 @@ pub record AreOnOneWire (first second : Config) (sent came : List Turn) (s t : S
   pub not_addr : first.addr ≢ second.addr
   pub not_bcast : first.addr ≢ second.bcast
   pub few : value_of IpLocalout s.counters < 2 ^ 16
-  pub wire : All (λ packet. ComesFrom first.addr packet → Contains (filter_map packet_out sent) packet) (filter_map packet_in came)
+  pub wire : All (λ packet. ComesFrom first.addr packet → Contains (filter_map packet_out sent) packet)
+      (filter_map packet_in came)

@@ -45,8 +45,8 @@ abbrev pub held_with : PoolView → Weight → List ℕ → Weight
 held_with p held [] = held
 held_with p held (c ∷ cs) = held_with p (held ⊕ weight_at p c) cs
 
--- From v to u the parts go on to fit together, and the control blocks are the same; the chains in hand were `hand` and
--- are `left`, of no other chain became another's, and the pool accounts for what it holds.
+-- From v to u: the chains in hand were `hand` and are `left`. The pool goes on to account for what is held, the sockets
+-- fit it as before, their control blocks are the same, and every chain that belongs to nobody here is as it was.
 pub record KeepsParts (v : NetView) (hand : List ℕ) (u : NetView) (left : List ℕ) : Type 0 where
   pub accounts : (rest : State) (held : Weight) → IsAccountedAt v rest (held_with v.pool held hand)
       → IsAccountedAt u rest (held_with u.pool held left)

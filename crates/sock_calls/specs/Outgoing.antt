@@ -55,10 +55,13 @@ pub record CanSend (v : SendView) : Type 0 where
 
 -- A send of these bytes through a descriptor. `looped` has the packets that are to come back, which the step still
 -- holds beside the state. A refusal leaves all as it was, but for that of the output queue.
-pub record IsSent (fd : ℕ) (to : Option Addr) (bytes : List ℕ) (v : SendView) (result : Result ℕ Errno) (u : SendView) : Type 0 where
+pub record IsSent (fd : ℕ) (to : Option Addr) (bytes : List ℕ) (v : SendView) (result : Result ℕ Errno) (u : SendView)
+    : Type 0 where
   pub step : (rest : State) → rest.config.mtu ≡ v.net.mtu → IsAccounted v.pool (state_in v rest) nothing
-      → SendsOnce exact_ledger fd to bytes (state_in v rest) (sent_reply result) (packets u.pool u.net.looped) (state_in u rest)
-  pub accounts : (rest : State) → IsAccounted v.pool (state_in v rest) nothing → IsAccounted u.pool (state_in u rest) (weight_of_all (packets u.pool u.net.looped))
+      → SendsOnce exact_ledger fd to bytes (state_in v rest) (sent_reply result) (packets u.pool u.net.looped)
+      (state_in u rest)
+  pub accounts : (rest : State) → IsAccounted v.pool (state_in v rest) nothing
+      → IsAccounted u.pool (state_in u rest) (weight_of_all (packets u.pool u.net.looped))
   pub refused : IfErr result (λ errno. (errno ≡ NoBufs Queue) ⊎ (u ≡ v))
   pub socks : IsSocks u.pool u.socks
   pub out : IsQueue u.pool u.net.out

@@ -32,4 +32,5 @@ module _ (L : Ledger) where
 
   -- the same of a descriptor, which may not be open
   abbrev pub SendsOnce : ℕ → Option Addr → List ℕ → State → Reply → List Item → State → Type 0
-  SendsOnce fd to bytes old reply looped new = Case (socket_at fd old) (RefusesAll BadDescriptor old reply looped new) (λ me. SendsBy fd to bytes me old reply looped new)
+  SendsOnce fd to bytes old reply looped new = Case (socket_at fd old) (RefusesAll BadDescriptor old reply looped new)
+      (λ me. SendsBy fd to bytes me old reply looped new)

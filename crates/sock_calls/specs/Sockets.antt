@@ -61,7 +61,8 @@ pub record IsCalled (p : PoolView) (v : SocksView) (event : Event) (reply : Repl
 -- ---- one queue of many
 
 -- Queue fd took a step by which chains `ins` came to it and chains `outs` left it; all other queues are as they were.
-pub record StepsAt (p : PoolView) (ins : List ℕ) (bs : List SockBufView) (fd : ℕ) (q : PoolView) (outs : List ℕ) (cs : List SockBufView) : Type 0 where
+pub record StepsAt (p : PoolView) (ins : List ℕ) (bs : List SockBufView) (fd : ℕ) (q : PoolView) (outs : List ℕ)
+    (cs : List SockBufView) : Type 0 where
   pub len : length cs ≡ length bs
   pub others : (k : ℕ) → (k ≡ fd → ⊥) → queues_of q cs k ≡ queues_of p bs k
   pub each : (k : ℕ) → IsSockBuf q (queue_at cs k)

@@ -30,7 +30,8 @@ buckets_in rows n = map (λ (r : Row). r.bucket) (take n rows)
 -- each bucket tells its last row, and each row the one before it in its bucket
 pub record AreLinked (ends : List ℕ) (rows : List Row) (n : ℕ) : Type 0 where
   pub within : n ≤ length rows
-  pub befores : (k : ℕ) (d : Row) → k < n → (get_or rows k d).before ≡ upto_last (get_or rows k d).bucket (buckets_in rows n) k
+  pub befores : (k : ℕ) (d : Row) → k < n → (get_or rows k d).before
+      ≡ upto_last (get_or rows k d).bucket (buckets_in rows n) k
   pub inside : (k : ℕ) (d : Row) → k < n → (get_or rows k d).bucket < length ends
   pub lasts : (b : ℕ) → b < length ends → get_or ends b 0 ≡ upto_last b (buckets_in rows n) n
 

@@ -7,7 +7,8 @@ use Rattle.ip_reass.specs.Fragments.{end_of, own, map_of, Apart, AllEnd}
 use Rattle.ip_reass.specs.Inside.Walks.{reach, AllAbove, trimmed, left_from}
 
 -- ---- one fragment
-pub known_here : (p : Fragment) (ps : List Fragment) (k : ℕ) → p.offset ≤ k → k < end_of p → map_of (p ∷ ps) k ≡ Some (own p k)
+pub known_here : (p : Fragment) (ps : List Fragment) (k : ℕ) → p.offset ≤ k → k < end_of p
+    → map_of (p ∷ ps) k ≡ Some (own p k)
 known_here p ps k a b = cond-true _ _ _ (and_from _ _ (le-leb p.offset k a) (lt-ltb k (end_of p) b))
 
 pub known_below : (p : Fragment) (ps : List Fragment) (k : ℕ) → k < p.offset → map_of (p ∷ ps) k ≡ map_of ps k
@@ -45,7 +46,8 @@ reach_grows low (p ∷ ps) a = omega (arith, reach_grows (end_of p) ps a.2)
 -- nothing is known from where the last one ends
 pub nothing_past : (low : ℕ) (ps : List Fragment) (k : ℕ) → Apart low ps → reach low ps ≤ k → map_of ps k ≡ None
 nothing_past low [] k a l = refl
-nothing_past low (p ∷ ps) k a l = known_past p ps k (omega (arith, reach_grows (end_of p) ps a.2)) ∙ nothing_past (end_of p) ps k a.2 l
+nothing_past low (p ∷ ps) k a l = known_past p ps k (omega (arith, reach_grows (end_of p) ps a.2))
+    ∙ nothing_past (end_of p) ps k a.2 l
 
 -- nor up to a, where all begin above it
 pub nothing_upto : (a : ℕ) (ps : List Fragment) (k : ℕ) → AllAbove a ps → k ≤ a → map_of ps k ≡ None
@@ -103,7 +105,8 @@ left e p ps = elim (cases_lt p.offset e) [
 pub end_trimmed : (n : ℕ) (p : Fragment) → n ≤ length p.bytes → end_of (trimmed n p) ≡ end_of p
 end_trimmed n p l = omega (arith, length-drop n p.bytes)
 
-pub byte_trimmed : (n : ℕ) (p : Fragment) (k : ℕ) → p.offset + n ≤ k → get_or (drop n p.bytes) (k - (p.offset + n)) 0 ≡ get_or p.bytes (k - p.offset) 0
+pub byte_trimmed : (n : ℕ) (p : Fragment) (k : ℕ) → p.offset + n ≤ k
+    → get_or (drop n p.bytes) (k - (p.offset + n)) 0 ≡ get_or p.bytes (k - p.offset) 0
 byte_trimmed n p k l =
     let same : n + (k - (p.offset + n)) ≡ k - p.offset = omega arith in
     get_or-drop n p.bytes (k - (p.offset + n)) 0 ∙ ap (λ (j : ℕ). get_or p.bytes j 0) same
@@ -113,7 +116,8 @@ left_from_none low e [] k a l = refl
 left_from_none low e (p ∷ ps) k a l = elim (left e p ps) [
   | left_whole h is ↦ ap (λ (qs : List Fragment). map_of qs k) is ∙ nothing_below e (p ∷ ps) k (h, a.1, a.2) l
   | left_none h is ↦ ap (λ (qs : List Fragment). map_of qs k) is ∙ left_from_none (end_of p) e ps k a.2 l
-  | left_cut h m is ↦ ap (λ (qs : List Fragment). map_of qs k) is ∙ (known_below (trimmed (e - p.offset) p) ps k (omega arith) ∙ nothing_below (end_of p) ps k a.2 (omega arith))
+  | left_cut h m is ↦ ap (λ (qs : List Fragment). map_of qs k) is
+      ∙ (known_below (trimmed (e - p.offset) p) ps k (omega arith) ∙ nothing_below (end_of p) ps k a.2 (omega arith))
 ]
 
 pub left_from_apart : (low e : ℕ) (ps : List Fragment) → Apart low ps → Apart e (left_from e ps)
@@ -121,7 +125,12 @@ left_from_apart low e [] a = tt
 left_from_apart low e (p ∷ ps) a = elim (left e p ps) [
   | left_whole h is ↦ subst (Apart e) (sym is) (h, a.1, a.2)
   | left_none h is ↦ subst (Apart e) (sym is) (left_from_apart (end_of p) e ps a.2)
-  | left_cut h m is ↦ subst (Apart e) (sym is) (omega arith, omega (arith, length-drop (e - p.offset) p.bytes), apart_lower (end_of p) (end_of (trimmed (e - p.offset) p)) ps (omega (arith, end_trimmed (e - p.offset) p (omega arith))) a.2)
+  | left_cut h m is ↦ subst (Apart e) (sym is) (
+    omega arith,
+    omega (arith, length-drop (e - p.offset) p.bytes),
+    apart_lower (end_of p) (end_of (trimmed (e - p.offset) p)) ps
+        (omega (arith, end_trimmed (e - p.offset) p (omega arith))) a.2,
+  )
 ]
 
 -- ---- ends

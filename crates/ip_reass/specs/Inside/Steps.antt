@@ -11,7 +11,13 @@ use Rattle.ip_reass.specs.Table.{IsTable, held_all, unfinished, unfinished_of}
 use Rattle.ip_reass.specs.declared.datagram.Datagram.{Datagram}
 
 abbrev pub no_datagram : Datagram
-no_datagram = record { key = record { source = 0; destination = 0; id = 0; protocol = 0 }; holder = 0; ticks = 0; fragments = record { first = None; last = None; len = 0 }; bytes = 0 }
+no_datagram = record {
+  key = record { source = 0; destination = 0; id = 0; protocol = 0 };
+  holder = 0;
+  ticks = 0;
+  fragments = record { first = None; last = None; len = 0 };
+  bytes = 0;
+}
 
 -- the datagram at a place
 abbrev pub datagram_at : List Datagram → ℕ → Datagram
@@ -19,10 +25,12 @@ datagram_at ds i = slice_index_or ds i no_datagram
 
 -- from p and d to q and e, chain c, which is the fragment f, was laid among the fragments of a datagram, where
 -- something of it was left
-pub record IsLaid (p : PoolView) (d : Datagram) (c : ℕ) (f : QueuedFragment) (answer : Bool) (q : PoolView) (e : Datagram) : Type 0 where
+pub record IsLaid (p : PoolView) (d : Datagram) (c : ℕ) (f : QueuedFragment) (answer : Bool) (q : PoolView)
+    (e : Datagram) : Type 0 where
   pub same : e ≡ record d { fragments = e.fragments; bytes = e.bytes }
   pub covered : is_covered (map_of (fragments p d.fragments)) (fragment_of f) ≡ not answer
-  pub map : OnTrue answer (map_of (fragments q e.fragments) ≡ overlay (map_of (fragments p d.fragments)) (fragment_of f))
+  pub map : OnTrue answer (map_of (fragments q e.fragments)
+      ≡ overlay (map_of (fragments p d.fragments)) (fragment_of f))
   pub laid : OnTrue answer (queued q e.fragments ≡ laid f (queued p d.fragments))
   pub none : OnFalse answer (queued q e.fragments ≡ queued p d.fragments)
   pub queue : IsQueue q e.fragments
@@ -30,14 +38,17 @@ pub record IsLaid (p : PoolView) (d : Datagram) (c : ℕ) (f : QueuedFragment) (
   pub moves : Moves p (c ∷ numbers p d.fragments) q (numbers q e.fragments)
 
 -- from p and ds to q and es, chain c, which is the fragment f, was laid among the fragments of datagram i
-pub record LaysIn (p : PoolView) (ds : List Datagram) (i c : ℕ) (f : QueuedFragment) (answer : Bool) (q : PoolView) (es : List Datagram) : Type 0 where
+pub record LaysIn (p : PoolView) (ds : List Datagram) (i c : ℕ) (f : QueuedFragment) (answer : Bool) (q : PoolView)
+    (es : List Datagram) : Type 0 where
   pub train : TrainView
   pub bytes : ℕ
   pub change : es ≡ slice_set ds i (record (datagram_at ds i) { fragments = train; bytes = bytes })
   pub covered : is_covered (map_of (fragments p (datagram_at ds i).fragments)) (fragment_of f) ≡ not answer
   pub shows : OnTrue answer (unfinished q es
-      ≡ slice_set (unfinished p ds) i (record (unfinished_of p (datagram_at ds i)) { bytes = overlay (map_of (fragments p (datagram_at ds i).fragments)) (fragment_of f) }))
-  pub map : OnTrue answer (map_of (fragments q train) ≡ overlay (map_of (fragments p (datagram_at ds i).fragments)) (fragment_of f))
+      ≡ slice_set (unfinished p ds) i (record (unfinished_of p (datagram_at ds i))
+      { bytes = overlay (map_of (fragments p (datagram_at ds i).fragments)) (fragment_of f) }))
+  pub map : OnTrue answer (map_of (fragments q train)
+      ≡ overlay (map_of (fragments p (datagram_at ds i).fragments)) (fragment_of f))
   pub queue : OnTrue answer (queued q train ≡ laid f (queued p (datagram_at ds i).fragments))
   pub same : OnFalse answer (unfinished q es ≡ unfinished p ds)
   pub rows : OnTrue answer (queues q es ≡ slice_set (queues p ds) i (with_laid f (queue_of p (datagram_at ds i))))

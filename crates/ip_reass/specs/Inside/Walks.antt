@@ -47,7 +47,8 @@ trimmed n f = record { offset = f.offset + n; bytes = drop n f.bytes; more = f.m
 -- what is left of the fragments from offset e on
 abbrev pub left_from : ℕ → List Fragment → List Fragment
 left_from e [] = []
-left_from e (f ∷ fs) = if nat_le e f.offset then f ∷ fs else if nat_le (end_of f) e then left_from e fs else trimmed (e - f.offset) f ∷ fs
+left_from e (f ∷ fs) = if nat_le e f.offset then f ∷ fs else if nat_le (end_of f) e then left_from e fs
+    else trimmed (e - f.offset) f ∷ fs
 
 abbrev pub no_fragment : Fragment
 no_fragment = record { offset = 0; bytes = []; more = true; weight = nothing }

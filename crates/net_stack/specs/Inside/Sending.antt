@@ -59,22 +59,29 @@ pub record AreParts (v : SendView) (r : TableView) (u : SendView) (t : TableView
   pub plain : BeginPlain u.pool u.net.looped
   pub reass : IsReady u.pool t
   pub mtu : u.net.mtu ≡ v.net.mtu
-  pub moves : Moves v.pool (held_all v.pool r.datagrams ++ out_chains v) u.pool (numbers u.pool u.net.looped ++ (held_all u.pool t.datagrams ++ out_chains u))
+  pub moves : Moves v.pool (held_all v.pool r.datagrams ++ out_chains v) u.pool
+      (numbers u.pool u.net.looped ++ (held_all u.pool t.datagrams ++ out_chains u))
 
 -- A send was tried, and once more without the unfinished datagrams where the pool had too few buffers: whatever becomes
 -- of the packets that come back, it's one step of the machine.
-pub record IsTried (fd : ℕ) (to : Option Addr) (bytes : List ℕ) (v : SendView) (r : TableView) (result : Result ℕ Errno) (u : SendView) (t : TableView) : Type 0 where
-  pub goes : (rest new : State) → rest.config.mtu ≡ v.net.mtu → IsAccounted v.pool (all_in v r rest) nothing → AllArrive exact_ledger (packets u.pool u.net.looped) (all_in u t rest) new
+pub record IsTried (fd : ℕ) (to : Option Addr) (bytes : List ℕ) (v : SendView) (r : TableView) (result : Result ℕ Errno)
+    (u : SendView) (t : TableView) : Type 0 where
+  pub goes : (rest new : State) → rest.config.mtu ≡ v.net.mtu → IsAccounted v.pool (all_in v r rest) nothing
+      → AllArrive exact_ledger (packets u.pool u.net.looped) (all_in u t rest) new
       → Step (all_in v r rest) (Send fd to bytes) (sent_reply result) new
-  pub accounts : (rest : State) → IsAccounted v.pool (all_in v r rest) nothing → IsAccounted u.pool (all_in u t rest) (weight_owned u.pool (numbers u.pool u.net.looped))
+  pub accounts : (rest : State) → IsAccounted v.pool (all_in v r rest) nothing
+      → IsAccounted u.pool (all_in u t rest) (weight_owned u.pool (numbers u.pool u.net.looped))
   pub parts : AreParts v r u t
 
 -- A send was made, and the packets that came back have arrived.
-pub record HasSent (fd : ℕ) (to : Option Addr) (bytes : List ℕ) (v : SendView) (r : TableView) (result : Result ℕ Errno) (u : SendView) (t : TableView) : Type 0 where
-  pub step : (rest : State) → rest.config.mtu ≡ v.net.mtu → IsAccounted v.pool (all_in v r rest) nothing → Step (all_in v r rest) (Send fd to bytes) (sent_reply result) (all_in u t rest)
+pub record HasSent (fd : ℕ) (to : Option Addr) (bytes : List ℕ) (v : SendView) (r : TableView) (result : Result ℕ Errno)
+    (u : SendView) (t : TableView) : Type 0 where
+  pub step : (rest : State) → rest.config.mtu ≡ v.net.mtu → IsAccounted v.pool (all_in v r rest) nothing
+      → Step (all_in v r rest) (Send fd to bytes) (sent_reply result) (all_in u t rest)
   pub socks : IsSocks u.pool u.socks
   pub out : IsQueue u.pool u.net.out
   pub none : u.net.looped ≡ no_train
   pub reass : IsReady u.pool t
   pub mtu : u.net.mtu ≡ v.net.mtu
-  pub moves : Moves v.pool (held_all v.pool r.datagrams ++ out_chains v) u.pool (held_all u.pool t.datagrams ++ out_chains u)
+  pub moves : Moves v.pool (held_all v.pool r.datagrams ++ out_chains v) u.pool
+      (held_all u.pool t.datagrams ++ out_chains u)

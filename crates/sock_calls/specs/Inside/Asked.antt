@@ -11,7 +11,13 @@ use Rattle.sock_calls.specs.Sockets.{queues_of}
 -- the name that a control block tells
 abbrev pub name_in : Option Block → Result SocketName Errno
 name_in None = Err BadDescriptor
-name_in (Some b) = Ok (record { local = b.local; port = b.port; peer = b.peer; broadcast = b.broadcast; reuse_port = b.reuse_port })
+name_in (Some b) = Ok (record {
+  local = b.local;
+  port = b.port;
+  peer = b.peer;
+  broadcast = b.broadcast;
+  reuse_port = b.reuse_port;
+})
 
 -- a datagram waits in the queue at the place
 abbrev pub waits_at : PoolView → List SockBufView → ℕ → Bool

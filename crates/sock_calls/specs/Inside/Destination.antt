@@ -17,14 +17,16 @@ early_faults to peer n = (is_none to && is_none peer, DestinationRequired) ∷ (
 
 -- what is asked of a send to the broadcast address
 abbrev pub broadcast_faults : Bool → Bool → ℕ → ℕ → List (Bool × Errno)
-broadcast_faults to_all allowed mtu n = (to_all && not allowed, Access) ∷ (to_all && nat_lt mtu (n + IP_UDP_HEADERS), MessageSize) ∷ []
+broadcast_faults to_all allowed mtu n = (to_all && not allowed, Access)
+    ∷ (to_all && nat_lt mtu (n + IP_UDP_HEADERS), MessageSize) ∷ []
 
 -- the address of a send is refused for the first of its faults, or else it's the address as it's read, or the peer's
 abbrev pub FindsTarget : Table → ℕ → Option Addr → Result Addr Errno → Type 0
 FindsTarget t fd to result =
     (rest : State) (queues : Queues) (b : Block) → block_at fd t ≡ Some b →
     MatchResult result
-    (λ a. (first_fault (address_faults (machine rest queues t) (socket_with queues b) to) ≡ None) × (a ≡ target (machine rest queues t) (socket_with queues b) to))
+    (λ a. (first_fault (address_faults (machine rest queues t) (socket_with queues b) to) ≡ None)
+    × (a ≡ target (machine rest queues t) (socket_with queues b) to))
     (λ errno. first_fault (address_faults (machine rest queues t) (socket_with queues b) to) ≡ Some errno)
 
 -- a send of n bytes is refused for the first of its faults, or else goes to this address
@@ -32,5 +34,6 @@ abbrev pub ChecksSend : Table → ℕ → ℕ → Option Addr → ℕ → Result
 ChecksSend t mtu fd to n result =
     (rest : State) (queues : Queues) (b : Block) → block_at fd t ≡ Some b → rest.config.mtu ≡ mtu →
     MatchResult result
-    (λ a. (first_fault (send_faults (machine rest queues t) (socket_with queues b) to n) ≡ None) × (a ≡ target (machine rest queues t) (socket_with queues b) to))
+    (λ a. (first_fault (send_faults (machine rest queues t) (socket_with queues b) to n) ≡ None)
+    × (a ≡ target (machine rest queues t) (socket_with queues b) to))
     (λ errno. first_fault (send_faults (machine rest queues t) (socket_with queues b) to n) ≡ Some errno)

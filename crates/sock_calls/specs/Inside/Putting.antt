@@ -50,7 +50,18 @@ sent_as h bytes = record { id = h.id; source = h.source; to = h.to; port = h.por
 
 -- the IP header of all its packets, but for their lengths and offsets
 abbrev pub head_as : Heading → IpHead
-head_as h = record { tos = 0; total = 0; id = h.id; dont = false; more = false; offset = 0; ttl = IP_DEFAULT_TTL; proto = PROTOCOL_UDP; src = h.source; dst = h.to.ip }
+head_as h = record {
+  tos = 0;
+  total = 0;
+  id = h.id;
+  dont = false;
+  more = false;
+  offset = 0;
+  ttl = IP_DEFAULT_TTL;
+  proto = PROTOCOL_UDP;
+  src = h.source;
+  dst = h.to.ip;
+}
 
 -- From p to q chain c came, of n bytes and 28 in front of them, laid out as a send of n bytes on clusters that were
 -- free.
@@ -76,14 +87,16 @@ pub record IsBuilt (p : PoolView) (x : flat.Sending) (q : PoolView) (c : ℕ) : 
   pub datagram : drop IP_HEADER (string (chain_of q c)) ≡ flat.datagram x
 
 -- From p and o to q and u the packets of a send came: what the output queue took, and what comes back.
-pub record AreMade (p : PoolView) (c : Config) (x : flat.Sending) (o : TrainView) (q : PoolView) (made : Sent) (u : TrainView) : Type 0 where
+pub record AreMade (p : PoolView) (c : Config) (x : flat.Sending) (o : TrainView) (q : PoolView) (made : Sent)
+    (u : TrainView) : Type 0 where
   pub clusters : List ℕ
   pub number : length clusters ≡ (need_to c x.to.ip (length x.bytes)).clusters
   pub free : AreFree p clusters
   pub out : packets q u ≡ take OUTPUT_QUEUE_PACKETS (packets p o ++ to_link c x.to.ip (flat.packets c clusters x))
   pub back : packets q made.looped ≡ to_self c x.to.ip (flat.packets c clusters x)
   pub is_cut : made.is_cut ≡ nat_lt 1 (length (flat.parts_of c x))
-  pub is_lost : made.is_lost ≡ nat_lt OUTPUT_QUEUE_PACKETS (length (packets p o ++ to_link c x.to.ip (flat.packets c clusters x)))
+  pub is_lost : made.is_lost ≡ nat_lt OUTPUT_QUEUE_PACKETS
+      (length (packets p o ++ to_link c x.to.ip (flat.packets c clusters x)))
   pub queue : IsQueue q u
   pub held : IsHeld q made.looped
   pub plain : BeginPlain q made.looped
@@ -97,7 +110,8 @@ counts_sent cut lost c =
     if lost then counts_more OutDropped 1 cut_too else cut_too
 
 -- A send that has its buffers, from p, t and n to q, u and m.
-pub record IsPut (fd : ℕ) (to : Addr) (bytes : List ℕ) (p : PoolView) (t : Table) (n : Net) (lost : Bool) (q : PoolView) (u : Table) (m : Net) : Type 0 where
+pub record IsPut (fd : ℕ) (to : Addr) (bytes : List ℕ) (p : PoolView) (t : Table) (n : Net) (lost : Bool) (q : PoolView)
+    (u : Table) (m : Net) : Type 0 where
   pub heading : Heading
   pub id : heading.id ≡ n.next_id
   pub to_is : heading.to ≡ to
@@ -107,11 +121,17 @@ pub record IsPut (fd : ℕ) (to : Addr) (bytes : List ℕ) (p : PoolView) (t : T
   pub clusters : List ℕ
   pub number : length clusters ≡ (need_to (config_of t n.mtu) to.ip (length bytes)).clusters
   pub free : AreFree p clusters
-  pub back : packets q m.looped ≡ to_self (config_of t n.mtu) to.ip (flat.packets (config_of t n.mtu) clusters (sent_as heading bytes))
-  pub out : packets q m.out ≡ take OUTPUT_QUEUE_PACKETS (packets p n.out ++ to_link (config_of t n.mtu) to.ip (flat.packets (config_of t n.mtu) clusters (sent_as heading bytes)))
-  pub is_lost : lost ≡ nat_lt OUTPUT_QUEUE_PACKETS (length (packets p n.out ++ to_link (config_of t n.mtu) to.ip (flat.packets (config_of t n.mtu) clusters (sent_as heading bytes))))
+  pub back : packets q m.looped ≡ to_self (config_of t n.mtu) to.ip
+      (flat.packets (config_of t n.mtu) clusters (sent_as heading bytes))
+  pub out : packets q m.out ≡ take OUTPUT_QUEUE_PACKETS
+      (packets p n.out ++ to_link (config_of t n.mtu) to.ip
+      (flat.packets (config_of t n.mtu) clusters (sent_as heading bytes)))
+  pub is_lost : lost ≡ nat_lt OUTPUT_QUEUE_PACKETS
+      (length (packets p n.out ++ to_link (config_of t n.mtu) to.ip
+      (flat.packets (config_of t n.mtu) clusters (sent_as heading bytes))))
   pub next_id : m.next_id ≡ (n.next_id + 1) % 65536
-  pub counters : m.counters ≡ counts_sent (nat_lt 1 (length (flat.parts_of (config_of t n.mtu) (sent_as heading bytes)))) lost n.counters
+  pub counters : m.counters ≡ counts_sent (nat_lt 1
+      (length (flat.parts_of (config_of t n.mtu) (sent_as heading bytes)))) lost n.counters
   pub mtu : m.mtu ≡ n.mtu
   pub queue : IsQueue q m.out
   pub held : IsHeld q m.looped
