@@ -1,8 +1,8 @@
 -- What is known of a packet by its origin: what it weighs once its header is pulled up, and that its arrival is the
 -- flat machine's.
-use Rattle.std.proofs.Common.{◌≡◌, ◌⊎◌, ℕ, suc, ◌+◌, ◌-◌, ◌<◌, ◌≤◌, min, true, false, not, List, [], ◌∷◌, length, drop, take, Option, None, Some, is_some, get_or, refl, sym, ap, ◌∙◌, subst, arith, inl, inr, length-drop, length-append}
-use Rattle.std.proofs.lemmas.List.{append-nil}
-use Rattle.std.specs.Prelude.{filter_map}
+use Rattle.std.proofs.Common.{◌≡◌, ◌⊎◌, ℕ, suc, ◌+◌, ◌-◌, ◌<◌, ◌≤◌, ◌++◌, min, cond, Bool, true, false, not, List, [], ◌∷◌, length, drop, take, Option, None, Some, is_some, get_or, refl, sym, ap, ◌∙◌, subst, arith, inl, inr, length-drop, length-append}
+use Rattle.std.proofs.lemmas.List.{append-nil, length-take, take-append-drop}
+use Rattle.std.specs.Prelude.{filter_map, nat_le}
 use Rattle.std.specs.List.{cons_option}
 use Rattle.std.proofs.lemmas.Bool.{false≢true, cases_lt, le-leb, lt-leb, lt-ltb, le-ltb, eq-eqb, ne_eqb, and_left, cond-true, cond-false}
 use Rattle.flat_model.specs.Amounts.Weight.{Weight, ◌⊕◌}
@@ -136,10 +136,25 @@ pub fragment_arrives : (held : Weight) (origin : Origin) (h : IpHead) (p : PoolV
     → ChainArrives held h (chain_of p n) old new → FragmentArrives exact_ledger origin held (flat_head h) (carried_at p n) old new
 fragment_arrives held origin h p n old new came total least step = view_arrives held origin h (chain_of p n) old new came total least step
 
--- **and one that is laid at once, as the flat machine says of a packet in that cluster**
-pub cluster_arrives : (held : Weight) (h : IpHead) (packet : List ℕ) (k : ℕ) (old new : State) → 208 ≤ length packet → h.total ≡ length packet
-    → ChainArrives held h (at_once.in_cluster packet k) old new → FragmentArrives exact_ledger (By_wire (length packet)) held (flat_head h) (record { bytes = drop 20 packet; weight = record { mbufs = 1; bag = k ∷ [] } }) old new
-cluster_arrives held h packet k old new many total step =
-    subst (λ (xs : List ℕ). FragmentArrives exact_ledger (By_wire (length packet)) held (flat_head h) (record { bytes = drop 20 xs; weight = record { mbufs = 1; bag = k ∷ [] } }) old new) (append-nil packet)
-    (view_arrives held (By_wire (length packet)) h (at_once.in_cluster packet k) old new (record { cluster = sym (le-leb 208 (length packet) many); holds = inl (omega (arith, length-append packet [])) })
-    (omega (arith, length-append packet [])) (omega arith) step)
+-- **and one that is laid at once, as the flat machine says of a packet in that cluster, or in two mbufs**
+abbrev pub stored_weight : Bool → ℕ → Weight
+stored_weight is_large k = cond is_large (record { mbufs = 1; bag = k ∷ [] }) (record { mbufs = 2; bag = [] })
+
+pub stored_arrives : (held : Weight) (h : IpHead) (packet : List ℕ) (k : ℕ) (old new : State) → 100 < length packet → h.total ≡ length packet
+    → ChainArrives held h (at_once.as_stored packet k) old new
+    → FragmentArrives exact_ledger (By_wire (length packet)) held (flat_head h) (record { bytes = drop 20 packet; weight = stored_weight (nat_le 208 (length packet)) k }) old new
+stored_arrives held h packet k old new many total step = go (nat_le 208 (length packet)) refl step
+  where
+    two : string (at_once.in_mbufs packet) ≡ packet
+    two = ap (λ (xs : List ℕ). take 100 packet ++ xs) (append-nil (drop 100 packet)) ∙ take-append-drop 100 packet
+
+    go : (b : Bool) → nat_le 208 (length packet) ≡ b → ChainArrives held h (at_once.stored_by b packet k) old new
+        → FragmentArrives exact_ledger (By_wire (length packet)) held (flat_head h) (record { bytes = drop 20 packet; weight = stored_weight b k }) old new
+    go true large comes =
+        subst (λ (xs : List ℕ). FragmentArrives exact_ledger (By_wire (length packet)) held (flat_head h) (record { bytes = drop 20 xs; weight = record { mbufs = 1; bag = k ∷ [] } }) old new) (append-nil packet)
+        (view_arrives held (By_wire (length packet)) h (at_once.in_cluster packet k) old new (record { cluster = sym large; holds = inl (omega (arith, length-append packet [])) })
+        (omega (arith, length-append packet [])) (omega arith) comes)
+    go false small comes =
+        subst (λ (xs : List ℕ). FragmentArrives exact_ledger (By_wire (length packet)) held (flat_head h) (record { bytes = drop 20 xs; weight = record { mbufs = 2; bag = [] } }) old new) two
+        (view_arrives held (By_wire (length packet)) h (at_once.in_mbufs packet) old new (record { cluster = sym small; holds = inr (omega (arith, length-take 100 packet)) })
+        (omega (arith, ap (λ (xs : List ℕ). length xs) two, total)) (omega arith) comes)

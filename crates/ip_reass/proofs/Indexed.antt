@@ -1,5 +1,5 @@
 -- The rows of a table by the buckets of their keys.
-use Rattle.std.proofs.Common.{◌≡◌, ℕ, zero, suc, ◌+◌, ◌-◌, ◌<◌, ◌≤◌, Bool, true, false, ◌&&◌, ◌==◌, cond, List, [], ◌∷◌, take, length, get_or, Some, None, refl, sym, ap, ◌∙◌, arith, inl, inr}
+use Rattle.std.proofs.Common.{◌≡◌, ℕ, zero, suc, ◌+◌, ◌-◌, ◌<◌, ◌≤◌, Bool, true, false, ◌&&◌, ◌==◌, eqb, cond, List, [], ◌∷◌, take, length, get_or, Some, None, refl, sym, ap, ◌∙◌, arith, inl, inr}
 use Rattle.std.specs.Prelude.{find, slice_get, count_by}
 use Rattle.std.proofs.lemmas.Bool.{cases_Bool, cases_eq, cases_lt, and_parts, eqb-true, eq-eqb, true≢false, false_from_ne_true}
 use Rattle.std.proofs.lemmas.List.{length-map}
@@ -29,6 +29,15 @@ only_found p (x ∷ ds) (suc i) d lt met once = elim (cases_Bool (p x)) [
       let rest = only_found p ds i d (omega arith) met (omega (arith, count_cons p x ds)) in
       (ap (λ t. cond t (Some x) (find p ds)) is ∙ rest.0, ap (λ t. cond t (Some x) (find p (take i ds))) is ∙ rest.1)
 ]
+
+-- the derived comparison of keys
+regroup : (a b c d : Bool) → a && (b && (c && d)) ≡ ((a && b) && c) && d
+regroup true true c d = refl
+regroup true false c d = refl
+regroup false b c d = refl
+
+pub compared : (k : Key) (d : Datagram) → eqb d.key.source k.source && (eqb d.key.destination k.destination && (eqb d.key.id k.id && eqb d.key.protocol k.protocol)) ≡ has_key k d
+compared k d = regroup (eqb d.key.source k.source) (eqb d.key.destination k.destination) (eqb d.key.id k.id) (eqb d.key.protocol k.protocol)
 
 none_found : (p : Datagram → Bool) (ds : List Datagram) → ((k : ℕ) (d : Datagram) → k < length ds → p (get_or ds k d) ≡ false) → find p ds ≡ None
 none_found p [] none = refl

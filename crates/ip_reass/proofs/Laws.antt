@@ -5,5 +5,5 @@ pub use Rattle.ip_reass.proofs.Distinct.{none_distinct}
 -- ---- an arrival is the flat machine's, where the chain shows how its packet came
 pub use Rattle.ip_reass.proofs.Came.{fragment_arrives}
 -- ---- so is that of bytes that are laid at once, and what was asked of them
-pub use Rattle.ip_reass.proofs.Came.{cluster_arrives}
+pub use Rattle.ip_reass.proofs.Came.{stored_arrives, stored_weight}
 pub use Rattle.ip_reass.proofs.AtOnce.{Fits, fits_is}

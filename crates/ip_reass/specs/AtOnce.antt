@@ -1,8 +1,8 @@
 -- A fragment from the wire that is laid at once, from the bytes of its packet: it's held as if the packet had been
 -- stored in a cluster, and its header pulled up and cut off (`m_devget`, `m_pullup` and `m_adj` of TCP/IP Illustrated,
 -- volume 2, chapter 2; `ip_reass` of chapter 10).
-use Rattle.std.specs.Prelude.{◌≡◌, ℕ, ◌-◌, ◌<◌, Bool, true, not, nat_le, ◌==◌, ◌&&◌, List, [], ◌∷◌, length, Some}
-use Rattle.params.specs.declared.TheConstants.{IP_HEADER, MCLBYTES, MINCLSIZE}
+use Rattle.std.specs.Prelude.{◌≡◌, ℕ, ◌-◌, ◌<◌, ◌≤◌, Bool, true, not, nat_le, nat_lt, ◌==◌, ◌&&◌, List, [], ◌∷◌, length, take, drop, None, Some, if◌then◌else◌}
+use Rattle.params.specs.declared.TheConstants.{IP_HEADER, MBUF_HEADER, MCLBYTES, MHLEN, MINCLSIZE, PACKET_START}
 use Rattle.flat_model.specs.Amounts.Weight.{Weight}
 use Rattle.flat_model.specs.Machine.State.{State}
 use Rattle.flat_model.specs.Machine.Arrival.{is_bad_fragment}
@@ -24,23 +24,45 @@ in_cluster packet k = record {
   cells = [];
 }
 
--- whether a packet whose header says h is laid at once: it takes one cluster, is as long as its header says, is no
--- fragment that none can be, and its cluster and both mbufs are free
+-- a packet of 101 to 207 bytes as it is stored from the wire: in two mbufs, each filled from its front on
+abbrev pub in_mbufs : List ℕ → ChainView
+in_mbufs packet = record {
+  front = alone true;
+  entries =
+      record { bytes = take MHLEN packet; start = PACKET_START; cluster = None }
+        ∷ record { bytes = drop MHLEN packet; start = MBUF_HEADER; cluster = None } ∷ [];
+  cells = [];
+}
+
+-- the one or the other
+abbrev pub stored_by : Bool → List ℕ → ℕ → ChainView
+stored_by is_large packet k = if is_large then in_cluster packet k else in_mbufs packet
+
+-- a packet of 101 to 2048 bytes as it is stored from the wire: if it has 208 or more, in cluster k
+abbrev pub as_stored : List ℕ → ℕ → ChainView
+as_stored packet k = stored_by (nat_le MINCLSIZE (length packet)) packet k
+
+-- the cluster is free in p, if the packet takes one
+abbrev pub TakesFree : PoolView → List ℕ → ℕ → Type 0
+TakesFree p packet k = MINCLSIZE ≤ length packet → (k < p.clusters) × (references p k ≡ 0)
+
+-- whether a packet whose header says h is laid at once: it takes one cluster or two mbufs, is as long as its header
+-- says, is no fragment that none can be, and a cluster and two mbufs are free
 abbrev pub fits_at_once : PoolView → IpHead → List ℕ → Bool
 fits_at_once p h packet =
-    (nat_le MINCLSIZE (length packet) && nat_le (length packet) MCLBYTES) && (h.total == length packet)
+    (nat_lt MHLEN (length packet) && nat_le (length packet) MCLBYTES) && (h.total == length packet)
     && not (is_bad_fragment (flat_head h) (length packet - IP_HEADER)) && are_free p 2 1
 
 -- From p, ds and c to q, es and d a packet arrived as a fragment whose header says h: by the step, the layout and the
--- cause that its chain would have had in a cluster that was free in p. Whatever becomes of what is in hand is part of
+-- cause that its chain would have had, in a cluster that was free in p if it takes one. Whatever becomes of what is in
+-- hand is part of
 -- the step, and so is any weight that is held beside.
 pub record ArrivesAtOnce (p : PoolView) (ds : List Datagram) (c : Counters) (packet : List ℕ) (h : IpHead)
     (result : Arrival) (q : PoolView) (es : List Datagram) (d : Counters) : Type 0 where
   pub cluster : ℕ
-  pub exists : cluster < p.clusters
-  pub free : references p cluster ≡ 0
+  pub free : TakesFree p packet cluster
   pub step : (rest : State) (held : Weight) (new : State) → IsAccounted p (machine p ds c rest) held
       → GoesOn held q result (machine q es d rest) new
-      → ChainArrives held h (in_cluster packet cluster) (machine p ds c rest) new
-  pub layout : HasLayout p ds (key_in h) (fragment_carried (in_cluster packet cluster) h) result q es
-  pub cause : HasCause (cause_of (in_cluster packet cluster) h (under (key_in h) (queues q es))) result
+      → ChainArrives held h (as_stored packet cluster) (machine p ds c rest) new
+  pub layout : HasLayout p ds (key_in h) (fragment_carried (as_stored packet cluster) h) result q es
+  pub cause : HasCause (cause_of (as_stored packet cluster) h (under (key_in h) (queues q es))) result

@@ -48,8 +48,8 @@ pub(crate) fn is_bad(head: &IpHead, len: u32) -> bool
 
 impl Reass {
     /// Begins the datagram of a fragment, whose key isn't held yet, and lays the fragment.
-    // Apart: it's the first fragment of a datagram alone.
-    #[inline(never)]
+    // Inlined: by a call, which takes the header through memory, each fragment took 18 instructions more.
+    #[inline(always)]
     fn begin_with(
         &mut self,
         pool: &mut Pool,

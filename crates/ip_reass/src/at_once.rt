@@ -7,7 +7,7 @@ ghost use Rattle.mbuf_chain.specs.Owners.{Moves};
 ghost use Rattle.chain_ops.specs.Makes.{HasMbufs, Makes};
 ghost use Rattle.ledger.specs.Accounts.{IsAccounted, weight_owned};
 ghost use Rattle.ip_reass.specs.Arrivals.{HasWhole, carried_entries, in_hand, machine};
-ghost use Rattle.ip_reass.specs.AtOnce.{ArrivesAtOnce, fits_at_once, in_cluster};
+ghost use Rattle.ip_reass.specs.AtOnce.{ArrivesAtOnce, TakesFree, as_stored, fits_at_once, in_cluster, in_mbufs};
 ghost use Rattle.ip_reass.specs.Table.{IsReady, held_all};
 
 use crate::arrival::Arrival;
@@ -16,17 +16,20 @@ use crate::table::Reass;
 use flat_model::{Counter, Counters};
 use ip_out::IpHead;
 use mbuf_chain::{Chain, Pool};
-use params::{IP_HEADER, IP_MAX_PACKET, MAX_PROTOCOL_HEADER, MCLBYTES, MINCLSIZE, PACKET_START};
+use params::{
+    IP_HEADER, IP_MAX_PACKET, MAX_PROTOCOL_HEADER, MBUF_HEADER, MCLBYTES, MHLEN, MINCLSIZE,
+    PACKET_START,
+};
 
 /// Whether a packet, whose header says `head`, can be laid at once, by `Reass::arrive_bytes`: it's as long as its
-/// header says, is stored in one cluster, is no fragment that none can be, and two mbufs and a cluster are free. The
-/// header's offset is at most 65,535.
+/// header says, is stored in one cluster or in two mbufs (101 to 2048 bytes), is no fragment that none can be, and two
+/// mbufs and a cluster are free. The header's offset is at most 65,535.
 #[inline(always)]
 pub fn fits_at_once(pool: &Pool, head: &IpHead, packet: &[u8]) -> bool
     requires { head.now.offset ≤ IP_MAX_PACKET }
     ensures { result ≡ fits_at_once pool.now head.now packet.now }
 {
-    if packet.len() < MINCLSIZE as usize || packet.len() > MCLBYTES as usize {
+    if packet.len() <= MHLEN as usize || packet.len() > MCLBYTES as usize {
         return false;
     }
     let len = packet.len() as u32;
@@ -39,7 +42,7 @@ pub fn fits_at_once(pool: &Pool, head: &IpHead, packet: &[u8]) -> bool
 /// Stores what a packet carries after its IP header, laid as when the packet is stored in a cluster and its header is
 /// pulled up and cut off: 20 bytes in a plain mbuf, and the others in the cluster. These must be free.
 #[inline(always)]
-fn store_carried(pool: &mut Pool, packet: &[u8]) -> Chain
+fn store_cluster(pool: &mut Pool, packet: &[u8]) -> Chain
     requires many { MINCLSIZE ≤ length packet.now }
     requires few { length packet.now ≤ MCLBYTES }
     requires mbufs { HasMbufs pool.old 2 }
@@ -58,6 +61,46 @@ fn store_carried(pool: &mut Pool, packet: &[u8]) -> Chain
     let last = pool.first(&chain);
     pool.link_counted(&chain, last, back, rest.len() as u32);
     chain
+}
+
+/// Stores what a packet carries after its IP header, laid as when the packet is stored in two mbufs and its header is
+/// cut off. These must be free.
+// Apart: it's the last fragment of a datagram alone.
+#[inline(never)]
+fn store_mbufs(pool: &mut Pool, packet: &[u8]) -> Chain
+    requires many { MHLEN < length packet.now }
+    requires few { length packet.now < MINCLSIZE }
+    requires mbufs { HasMbufs pool.old 2 }
+    ensures { Makes pool.old pool.new result (alone true) (carried_entries (in_mbufs packet.now)) }
+{
+    let rest = &packet[MHLEN as usize..];
+    let Ok(back) = pool.new_plain_with(false, MBUF_HEADER, rest) else {
+        unreachable!()
+    };
+    let begin = &packet[IP_HEADER as usize..MHLEN as usize];
+    let Ok(chain) = pool.new_plain_with(true, PACKET_START + IP_HEADER, begin) else {
+        unreachable!()
+    };
+    let last = pool.first(&chain);
+    pool.link_counted(&chain, last, back, rest.len() as u32);
+    chain
+}
+
+/// Stores what a packet carries after its IP header, laid as when the packet is stored and its header is pulled up,
+/// where it lies in a cluster, and cut off. Two mbufs and a cluster must be free.
+#[inline(always)]
+fn store_carried(pool: &mut Pool, packet: &[u8]) -> Chain
+    requires many { MHLEN < length packet.now }
+    requires few { length packet.now ≤ MCLBYTES }
+    requires mbufs { HasMbufs pool.old 2 }
+    requires cluster { 0 < free_clusters pool.old }
+    ensures { (k : ℕ) × TakesFree pool.old packet.now k
+        × Makes pool.old pool.new result (alone true) (carried_entries (as_stored packet.now k)) }
+{
+    if packet.len() < MINCLSIZE as usize {
+        return store_mbufs(pool, packet);
+    }
+    store_cluster(pool, packet)
 }
 
 impl Reass {

@@ -156,7 +156,9 @@ fn age(table: &mut [Datagram]) -> usize
 }
 
 /// The place of the datagram with a key, if there is one, by the rows of the key's bucket, the last first.
-pub(crate) fn find(table: &[Datagram], index: &Index, key: FragmentKey) -> Option<usize>
+// Apart: mostly it's the newest datagram that is looked for.
+#[inline(never)]
+fn find_by_bucket(table: &[Datagram], index: &Index, key: FragmentKey) -> Option<usize>
     requires some { 0 < index.now.count }
     requires indexed { index.now.buckets ≡ buckets_of index.now.count table.now }
     requires once { count_by (has_key key) table.now ≤ 1 }
@@ -174,6 +176,24 @@ pub(crate) fn find(table: &[Datagram], index: &Index, key: FragmentKey) -> Optio
         rows = index.before(place);
     }
     None
+}
+
+/// The place of the datagram with a key, if there is one. The newest is looked at first: fragments of a datagram mostly
+/// follow one another.
+#[inline(always)]
+pub(crate) fn find(table: &[Datagram], index: &Index, key: FragmentKey) -> Option<usize>
+    requires some { 0 < index.now.count }
+    requires indexed { index.now.buckets ≡ buckets_of index.now.count table.now }
+    requires once { count_by (has_key key) table.now ≤ 1 }
+    ensures { MatchOption result (find (has_key key) table.now ≡ None)
+        (λ i. (i < length table.now) × (find (has_key key) table.now ≡ slice_get table.now i)
+        × (find (has_key key) (take i table.now) ≡ None)) }
+{
+    let len = table.len();
+    if len > 0 && table[len - 1].key == key {
+        return Some(len - 1);
+    }
+    find_by_bucket(table, index, key)
 }
 
 /// A new datagram after the others, whose key has that mbuf.

@@ -6,7 +6,7 @@ use Rattle.mbuf_chain.proofs.Laws.Steps.{apart, count_new, live_beside}
 use Rattle.chain_ops.proofs.Laws.Makes.{makes_as}
 use Rattle.chain_ops.proofs.Laws.Steps.{kept_adds, string_one}
 use Rattle.ip_reass.proofs.AtOnce.{carried_are, put_before}
-use Rattle.ip_reass.proofs.at_once.store_carried.Goals as goal
+use Rattle.ip_reass.proofs.at_once.store_cluster.Goals as goal
 
 pub unreachable-requires-in_default-new_plain_with : goal.unreachable-requires-in_default-new_plain_with
 unreachable-requires-in_default-new_plain_with c = omega (arith, c.in_default-new_plain_with.ensures.err, held-adds c.in-Ok.ensures.ok.3, ap (λ (q : PoolView). q.mbufs) c.in-Ok.ensures.ok.3.pool, c.requires.mbufs)
