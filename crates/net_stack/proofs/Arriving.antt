@@ -47,23 +47,27 @@ only_weighs n (e ∷ es) =
 pub without_weighs : (n : ℕ) (es : List Entry) → weight_of (without_first n es) ≡ weight_of es
 without_weighs n [] = refl
 without_weighs n (e ∷ es) =
-    let later : weight_of (without_first (n - length e.bytes) es) ≡ weight_of es = without_weighs (n - length e.bytes) es in
+    let later : weight_of (without_first (n - length e.bytes) es) ≡ weight_of es =
+    without_weighs (n - length e.bytes) es in
     λ i. record { mbufs = suc (later i).mbufs; bag = cons_option e.cluster (later i).bag }
 
 -- ---- a chain with other entries
 
-pub record IsChanged (p : PoolView) (ds : TableView) (s : SocksView) (c : ℕ) (q : PoolView) (es : List Entry) : Type 0 where
+pub record IsChanged (p : PoolView) (ds : TableView) (s : SocksView) (c : ℕ) (q : PoolView) (es : List Entry)
+    : Type 0 where
   pub entries : (chain_of q c).entries ≡ es
   pub header : (chain_of q c).front.header ≡ (chain_of p c).front.header
   pub live : IsLive q c
   pub beside : Aside p ds s (c ∷ []) q (c ∷ [])
 
-pub changed : {p q : PoolView} {ds : TableView} {s : SocksView} (c : ℕ) (es : List Entry) → IsOwned p (c ∷ (held_all p ds.datagrams ++ queued_chains p s.queues)) → IsReady p ds → IsSocks p s
+pub changed : {p q : PoolView} {ds : TableView} {s : SocksView} (c : ℕ) (es : List Entry)
+    → IsOwned p (c ∷ (held_all p ds.datagrams ++ queued_chains p s.queues)) → IsReady p ds → IsSocks p s
     → q ≡ with_chain p c (record (chain_of p c) { entries = es }) → IsChanged p ds s c q es
 changed {p} {q} {ds} {s} c es owned table socks e =
     let v : ChainView = record (chain_of p c) { entries = es } in
     let shown : chain_of q c ≡ v = shown_with p q c v e in
-    let beside = aside (c ∷ []) (c ∷ []) owned table socks (moves_with p q c v (live_first p c (held_all p ds.datagrams ++ queued_chains p s.queues) owned) e) in
+    let beside = aside (c ∷ []) (c ∷ []) owned table socks
+    (moves_with p q c v (live_first p c (held_all p ds.datagrams ++ queued_chains p s.queues) owned) e) in
     record {
       entries = ap (λ (w : ChainView). w.entries) shown;
       header = ap (λ (w : ChainView). w.front.header) shown;
@@ -71,30 +75,44 @@ changed {p} {q} {ds} {s} c es owned table socks e =
       beside = beside;
     }
 
-pub freed : {p q : PoolView} {ds : TableView} {s : SocksView} (c : ℕ) → IsOwned p (c ∷ (held_all p ds.datagrams ++ queued_chains p s.queues)) → IsReady p ds → IsSocks p s → q ≡ without p c → Aside p ds s (c ∷ []) q []
-freed {p} {q} {ds} {s} c owned table socks e = aside (c ∷ []) [] owned table socks (moves_without p q c (live_first p c (held_all p ds.datagrams ++ queued_chains p s.queues) owned) e)
+pub freed : {p q : PoolView} {ds : TableView} {s : SocksView} (c : ℕ)
+    → IsOwned p (c ∷ (held_all p ds.datagrams ++ queued_chains p s.queues)) → IsReady p ds → IsSocks p s
+    → q ≡ without p c → Aside p ds s (c ∷ []) q []
+freed {p} {q} {ds} {s} c owned table socks e = aside (c ∷ []) [] owned table socks
+    (moves_without p q c (live_first p c (held_all p ds.datagrams ++ queued_chains p s.queues) owned) e)
 
 -- ---- a fragment
 
 -- what a call on the unfinished datagrams says of a fragment of chain c, where it has `hand` then
-pub record Arrived (p : PoolView) (ds : TableView) (a : Counters) (c : ℕ) (h : IpHead) (q : PoolView) (es : TableView) (b : Counters) (hand : List ℕ) (Then : Weight → State → State → Type 0) : Type 0 where
-  pub step : (rest : State) (held : Weight) (origin : Origin) (new : State) → CameBy origin (chain_of p c) → IsAccounted p (reass.machine p ds.datagrams a rest) (held ⊕ weight_at p c)
-      → Then held (reass.machine q es.datagrams b rest) new → FragmentArrives exact_ledger origin held (flat_head h) (carried_at p c) (reass.machine p ds.datagrams a rest) new
-  pub accounts : (rest : State) (held : Weight) → IsAccounted p (reass.machine p ds.datagrams a rest) (held ⊕ weight_at p c) → IsAccounted q (reass.machine q es.datagrams b rest) (held ⊕ weight_owned q hand)
+pub record Arrived (p : PoolView) (ds : TableView) (a : Counters) (c : ℕ) (h : IpHead) (q : PoolView) (es : TableView)
+    (b : Counters) (hand : List ℕ) (Then : Weight → State → State → Type 0) : Type 0 where
+  pub step : (rest : State) (held : Weight) (origin : Origin) (new : State) → CameBy origin (chain_of p c)
+      → IsAccounted p (reass.machine p ds.datagrams a rest) (held ⊕ weight_at p c)
+      → Then held (reass.machine q es.datagrams b rest) new
+      → FragmentArrives exact_ledger origin held (flat_head h) (carried_at p c)
+      (reass.machine p ds.datagrams a rest) new
+  pub accounts : (rest : State) (held : Weight) → IsAccounted p (reass.machine p ds.datagrams a rest)
+      (held ⊕ weight_at p c) → IsAccounted q (reass.machine q es.datagrams b rest) (held ⊕ weight_owned q hand)
   pub moves : Moves p (c ∷ held_all p ds.datagrams) q (hand ++ held_all q es.datagrams)
 
 -- it waits, or ended
-pub waits : {p q : PoolView} {ds es : TableView} {s : SocksView} {a b : Counters} {c : ℕ} {h : IpHead} → IsOwned p (c ∷ (held_all p ds.datagrams ++ queued_chains p s.queues)) → IsSocks p s
+pub waits : {p q : PoolView} {ds es : TableView} {s : SocksView} {a b : Counters} {c : ℕ} {h : IpHead}
+    → IsOwned p (c ∷ (held_all p ds.datagrams ++ queued_chains p s.queues)) → IsSocks p s
     → Arrived p ds a c h q es b [] (λ held now new. new ≡ now)
     → IsTaken (net_seen p s ds a) c h (net_seen q s es b)
 waits {p} {q} {ds} {es} {s} {a} {b} {c} {h} owned socks is =
-    let beside : BesideSocks p s (c ∷ held_all p ds.datagrams) q [] (held_all q es.datagrams) = beside_socks (c ∷ held_all p ds.datagrams) [] (held_all q es.datagrams) owned socks is.moves in
-    let now : (rest : State) → with_net q s (unfinished q es.datagrams) b rest ≡ reass.machine q es.datagrams b (with_sockets p s rest) =
-    λ rest i. machine (record rest { unfinished = unfinished q es.datagrams; counters = b }) (λ fd. beside.socks.shows fd i) s.pcbs in
+    let beside : BesideSocks p s (c ∷ held_all p ds.datagrams) q [] (held_all q es.datagrams) =
+    beside_socks (c ∷ held_all p ds.datagrams) [] (held_all q es.datagrams) owned socks is.moves in
+    let now : (rest : State) → with_net q s (unfinished q es.datagrams) b rest
+    ≡ reass.machine q es.datagrams b (with_sockets p s rest) =
+    λ rest i. machine (record rest { unfinished = unfinished q es.datagrams; counters = b })
+    (λ fd. beside.socks.shows fd i) s.pcbs in
     record {
-      step = λ rest held origin came acc. is.step (with_sockets p s rest) held origin (with_net q s (unfinished q es.datagrams) b rest) came acc (now rest);
+      step = λ rest held origin came acc. is.step (with_sockets p s rest) held origin
+          (with_net q s (unfinished q es.datagrams) b rest) came acc (now rest);
       parts = record {
-        accounts = λ rest held acc. subst (λ (t : State). IsAccounted q t held) (sym (now rest)) (as_held held [] (is.accounts (with_sockets p s rest) held acc));
+        accounts = λ rest held acc. subst (λ (t : State). IsAccounted q t held) (sym (now rest))
+            (as_held held [] (is.accounts (with_sockets p s rest) held acc));
         ready = beside.socks.ready;
         pcbs = refl;
         moves = beside.moves;
@@ -102,20 +120,29 @@ waits {p} {q} {ds} {es} {s} {a} {b} {c} {h} owned socks is =
     }
 
 -- its datagram is whole, and went to the sockets
-pub completes : {p q : PoolView} {ds es : TableView} {s : SocksView} {a b : Counters} {c d : ℕ} {h : IpHead} {u : NetView} (g : IpHead) → IsOwned p (c ∷ (held_all p ds.datagrams ++ queued_chains p s.queues)) → IsSocks p s
-    → Arrived p ds a c h q es b (d ∷ []) (λ held now new. WholeArrives exact_ledger held g.src g.dst g.proto (item_at q d) now new)
+pub completes : {p q : PoolView} {ds es : TableView} {s : SocksView} {a b : Counters} {c d : ℕ} {h : IpHead}
+    {u : NetView} (g : IpHead) → IsOwned p (c ∷ (held_all p ds.datagrams ++ queued_chains p s.queues)) → IsSocks p s
+    → Arrived p ds a c h q es b (d ∷ []) (λ held now new. WholeArrives exact_ledger held g.src g.dst g.proto
+    (item_at q d) now new)
     → IsInput (net_seen q s es b) d g.src g.dst g.proto u
     → IsTaken (net_seen p s ds a) c h u
 completes {p} {q} {ds} {es} {s} {a} {b} {c} {d} {h} {u} g owned socks is input =
-    let beside : BesideSocks p s (c ∷ held_all p ds.datagrams) q (d ∷ []) (held_all q es.datagrams) = beside_socks (c ∷ held_all p ds.datagrams) (d ∷ []) (held_all q es.datagrams) owned socks is.moves in
-    let now : (rest : State) → with_net q s (unfinished q es.datagrams) b rest ≡ reass.machine q es.datagrams b (with_sockets p s rest) =
-    λ rest i. machine (record rest { unfinished = unfinished q es.datagrams; counters = b }) (λ fd. beside.socks.shows fd i) s.pcbs in
-    let mid : (rest : State) (held : Weight) → IsAccounted p (with_net p s (unfinished p ds.datagrams) a rest) (held ⊕ weight_at p c) → IsAccounted q (with_net q s (unfinished q es.datagrams) b rest) (held ⊕ weight_at q d) =
-    λ rest held acc. as_held held (d ∷ []) (subst (λ (t : State). IsAccounted q t (held ⊕ weight_owned q (d ∷ []))) (sym (now rest)) (is.accounts (with_sockets p s rest) held acc)) in
+    let beside : BesideSocks p s (c ∷ held_all p ds.datagrams) q (d ∷ []) (held_all q es.datagrams) =
+    beside_socks (c ∷ held_all p ds.datagrams) (d ∷ []) (held_all q es.datagrams) owned socks is.moves in
+    let now : (rest : State) → with_net q s (unfinished q es.datagrams) b rest
+    ≡ reass.machine q es.datagrams b (with_sockets p s rest) =
+    λ rest i. machine (record rest { unfinished = unfinished q es.datagrams; counters = b })
+    (λ fd. beside.socks.shows fd i) s.pcbs in
+    let mid : (rest : State) (held : Weight) → IsAccounted p (with_net p s (unfinished p ds.datagrams) a rest)
+    (held ⊕ weight_at p c) → IsAccounted q (with_net q s (unfinished q es.datagrams) b rest)
+    (held ⊕ weight_at q d) =
+    λ rest held acc. as_held held (d ∷ []) (subst (λ (t : State). IsAccounted q t (held ⊕ weight_owned q (d ∷ [])))
+    (sym (now rest)) (is.accounts (with_sockets p s rest) held acc)) in
     record {
       step = λ rest held origin came acc.
           is.step (with_sockets p s rest) held origin (state_at u rest) came acc
-          (subst (λ (t : State). WholeArrives exact_ledger held g.src g.dst g.proto (item_at q d) t (state_at u rest)) (now rest) (input.step rest held (mid rest held acc)));
+          (subst (λ (t : State). WholeArrives exact_ledger held g.src g.dst g.proto (item_at q d) t (state_at u rest))
+          (now rest) (input.step rest held (mid rest held acc)));
       parts = record {
         accounts = λ rest held acc. input.parts.accounts rest held (mid rest held acc);
         ready = input.parts.ready;
@@ -159,50 +186,67 @@ headed bytes h none says =
 -- ---- a packet
 
 -- it ends: for a fault of its header, or since it's for another machine
-pub ends_here : {p q : PoolView} {ds : TableView} {s : SocksView} {a b e : Counters} {c : ℕ} (why : Why) → IsReady p ds → IsSocks p s → IsOwned p (c ∷ (held_all p ds.datagrams ++ queued_chains p s.queues)) → q ≡ without p c
+pub ends_here : {p q : PoolView} {ds : TableView} {s : SocksView} {a b e : Counters} {c : ℕ} (why : Why) → IsReady p ds
+    → IsSocks p s → IsOwned p (c ∷ (held_all p ds.datagrams ++ queued_chains p s.queues)) → q ≡ without p c
     → b ≡ counts_more IpTotal 1 a → e ≡ counted why b
-    → ((rest : State) (held : Weight) (origin : Origin) → Arrives exact_ledger origin held (item_at p c) (with_net p s (unfinished p ds.datagrams) a rest) (ends why (counts_packet (with_net p s (unfinished p ds.datagrams) a rest))))
+    → ((rest : State) (held : Weight) (origin : Origin)
+    → Arrives exact_ledger origin held (item_at p c) (with_net p s (unfinished p ds.datagrams) a rest)
+    (ends why (counts_packet (with_net p s (unfinished p ds.datagrams) a rest))))
     → IsArrived (net_seen p s ds a) c (net_seen q s ds e)
 ends_here {p} {q} {ds} {s} {a} {b} {e} {c} why table socks owned gone is_b is_e ended =
     let beside : Aside p ds s (c ∷ []) q [] = freed c owned table socks gone in
     let count : e ≡ counted why (counts_more IpTotal 1 a) = is_e ∙ ap (counted why) is_b in
-    let now : (rest : State) → with_net q s (unfinished q ds.datagrams) e rest ≡ ends why (counts_packet (with_net p s (unfinished p ds.datagrams) a rest)) =
+    let now : (rest : State) → with_net q s (unfinished q ds.datagrams) e rest
+    ≡ ends why (counts_packet (with_net p s (unfinished p ds.datagrams) a rest)) =
     λ rest. beside.shows e rest ∙ (λ i. with_net p s (unfinished p ds.datagrams) (count i) rest) in
     record {
-      step = λ rest held origin came acc. subst (λ (t : State). Arrives exact_ledger origin held (item_at p c) (with_net p s (unfinished p ds.datagrams) a rest) t) (sym (now rest)) (ended rest held origin);
+      step = λ rest held origin came acc. subst (λ (t : State). Arrives exact_ledger origin held (item_at p c)
+          (with_net p s (unfinished p ds.datagrams) a rest) t) (sym (now rest)) (ended rest held origin);
       parts = aside_keeps a e beside;
     }
 
-pub refused : (bytes : List ℕ) (origin : Origin) (held : Weight) (w : Weight) (old : State) (why : Why) → head_fault bytes ≡ Some why
+pub refused : (bytes : List ℕ) (origin : Origin) (held : Weight) (w : Weight) (old : State) (why : Why)
+    → head_fault bytes ≡ Some why
     → Arrives exact_ledger origin held (record { bytes = bytes; weight = w }) old (ends why (counts_packet old))
 refused bytes origin held w old why is = record {
   none = λ e. absurd (none-some why (sym e ∙ is));
   some = λ y e. ap (λ (x : Why). ends x (counts_packet old)) (same_Some why y (sym is ∙ e));
 }
 
-pub passes : (bytes : List ℕ) (origin : Origin) (held : Weight) (w : Weight) (old new : State) → head_fault bytes ≡ None → Passes exact_ledger origin held (record { bytes = bytes; weight = w }) (counts_packet old) new
+pub passes : (bytes : List ℕ) (origin : Origin) (held : Weight) (w : Weight) (old new : State) → head_fault bytes ≡ None
+    → Passes exact_ledger origin held (record { bytes = bytes; weight = w }) (counts_packet old) new
     → Arrives exact_ledger origin held (record { bytes = bytes; weight = w }) old new
-passes bytes origin held w old new none p = record { none = λ e. p; some = λ why e. absurd (none-some why (sym none ∙ e)) }
+passes bytes origin held w old new none p = record {
+  none = λ e. p;
+  some = λ why e. absurd (none-some why (sym none ∙ e));
+}
 
-pub forwarded : (bytes : List ℕ) (origin : Origin) (held : Weight) (w : Weight) (old : State) → head_fault bytes ≡ None → is_for_us old.config (head_of bytes).destination ≡ false
+pub forwarded : (bytes : List ℕ) (origin : Origin) (held : Weight) (w : Weight) (old : State) → head_fault bytes ≡ None
+    → is_for_us old.config (head_of bytes).destination ≡ false
     → Arrives exact_ledger origin held (record { bytes = bytes; weight = w }) old (ends CantForward (counts_packet old))
 forwarded bytes origin held w old none other =
-    passes bytes origin held w old (ends CantForward (counts_packet old)) none (record { yes = λ e. absurd (true≢false (sym e ∙ other)); no = λ e. refl })
+    passes bytes origin held w old (ends CantForward (counts_packet old)) none
+    (record { yes = λ e. absurd (true≢false (sym e ∙ other)); no = λ e. refl })
 
 -- ---- how it came is still seen once it's cut after
 
-first_cluster : (n : ℕ) (es : List Entry) → (slice_index_or (only_first n es) 0 no_entry).cluster ≡ (slice_index_or es 0 no_entry).cluster
+first_cluster : (n : ℕ) (es : List Entry) → (slice_index_or (only_first n es) 0 no_entry).cluster
+    ≡ (slice_index_or es 0 no_entry).cluster
 first_cluster n [] = refl
 first_cluster n (e ∷ es) = refl
 
-first_length : (n : ℕ) (es : List Entry) → length (slice_index_or (only_first n es) 0 no_entry).bytes ≡ min n (length (slice_index_or es 0 no_entry).bytes)
+first_length : (n : ℕ) (es : List Entry) → length (slice_index_or (only_first n es) 0 no_entry).bytes
+    ≡ min n (length (slice_index_or es 0 no_entry).bytes)
 first_length n [] = omega arith
 first_length n (e ∷ es) = omega (arith, length-take (min n (length e.bytes)) e.bytes)
 
-came_cut : (origin : Origin) (n : ℕ) (v w : ChainView) → w.entries ≡ only_first n v.entries → CameBy origin v → CameBy origin w
-came_cut Looped n v w e came = ap (λ (es : List Entry). (slice_index_or es 0 no_entry).cluster) e ∙ first_cluster n v.entries ∙ came
+came_cut : (origin : Origin) (n : ℕ) (v w : ChainView) → w.entries ≡ only_first n v.entries → CameBy origin v
+    → CameBy origin w
+came_cut Looped n v w e came = ap (λ (es : List Entry). (slice_index_or es 0 no_entry).cluster) e
+    ∙ first_cluster n v.entries ∙ came
 came_cut (By_wire received) n v w e came = record {
-  cluster = ap (λ (es : List Entry). is_some (slice_index_or es 0 no_entry).cluster) e ∙ ap is_some (first_cluster n v.entries) ∙ came.cluster;
+  cluster = ap (λ (es : List Entry). is_some (slice_index_or es 0 no_entry).cluster) e
+      ∙ ap is_some (first_cluster n v.entries) ∙ came.cluster;
   holds = go came.holds (cases_lt n (length (entry_of v 0).bytes));
 }
   where
@@ -210,9 +254,15 @@ came_cut (By_wire received) n v w e came = record {
     first = ap (λ (es : List Entry). length (slice_index_or es 0 no_entry).bytes) e ∙ first_length n v.entries
 
     all : length (string w) ≡ min n (length (string v))
-    all = omega (arith, ap (λ (es : List Entry). length (flat_bytes es)) e, ap (λ (xs : List ℕ). length xs) (only_first_bytes n v.entries), length-take n (string v))
+    all = omega (
+      arith,
+      ap (λ (es : List Entry). length (flat_bytes es)) e,
+      ap (λ (xs : List ℕ). length xs) (only_first_bytes n v.entries),
+      length-take n (string v),
+    )
 
-    go : (length (string v) ≤ length (entry_of v 0).bytes) ⊎ (40 < length (entry_of v 0).bytes) → (n < length (entry_of v 0).bytes) ⊎ (length (entry_of v 0).bytes ≤ n)
+    go : (length (string v) ≤ length (entry_of v 0).bytes) ⊎ (40 < length (entry_of v 0).bytes)
+        → (n < length (entry_of v 0).bytes) ⊎ (length (entry_of v 0).bytes ≤ n)
         → (length (string w) ≤ length (entry_of w 0).bytes) ⊎ (40 < length (entry_of w 0).bytes)
     go (inl h) b = inl (omega (arith, first, all, h))
     go (inr h) (inl l) = inl (omega (arith, first, all, l))
@@ -220,15 +270,19 @@ came_cut (By_wire received) n v w e came = record {
 
 -- ---- a packet for this machine
 
-pub record IsForUs (p : PoolView) (ds : TableView) (s : SocksView) (a : Counters) (c : ℕ) (h : IpHead) (q : PoolView) (b : Counters) : Type 0 where
+pub record IsForUs (p : PoolView) (ds : TableView) (s : SocksView) (a : Counters) (c : ℕ) (h : IpHead) (q : PoolView)
+    (b : Counters) : Type 0 where
   pub head : IsHeaded (string (chain_of p c)) h
   pub ours : (rest : State) → is_for_us (with_net p s (unfinished p ds.datagrams) a rest).config h.dst ≡ true
   pub counts : b ≡ counts_more IpTotal 1 a
   pub cut : IsChanged p ds s c q (only_first h.total (chain_of p c).entries)
 
-pub for_us : {p q : PoolView} {ds : TableView} {s : SocksView} {a b : Counters} {c : ℕ} {h : IpHead} (ours : Bool) → IsReady p ds → IsSocks p s → IsOwned p (c ∷ (held_all p ds.datagrams ++ queued_chains p s.queues))
-    → head_fault (string (chain_of p c)) ≡ None → h ≡ head_in (string (chain_of p c)) → ours ≡ is_ours_or_all s.pcbs.addr s.pcbs.bcast h.dst → ours ≡ true → b ≡ counts_more IpTotal 1 a
-    → q ≡ with_chain p c (record (chain_of p c) { entries = only_first h.total (chain_of p c).entries }) → IsForUs p ds s a c h q b
+pub for_us : {p q : PoolView} {ds : TableView} {s : SocksView} {a b : Counters} {c : ℕ} {h : IpHead} (ours : Bool)
+    → IsReady p ds → IsSocks p s → IsOwned p (c ∷ (held_all p ds.datagrams ++ queued_chains p s.queues))
+    → head_fault (string (chain_of p c)) ≡ None → h ≡ head_in (string (chain_of p c))
+    → ours ≡ is_ours_or_all s.pcbs.addr s.pcbs.bcast h.dst → ours ≡ true → b ≡ counts_more IpTotal 1 a
+    → q ≡ with_chain p c (record (chain_of p c) { entries = only_first h.total (chain_of p c).entries })
+    → IsForUs p ds s a c h q b
 for_us {p} {q} {ds} {s} {a} {b} {c} {h} ours table socks owned none says is heard count cut = record {
   head = headed (string (chain_of p c)) h none says;
   ours = λ rest. sym is ∙ heard;
@@ -237,7 +291,8 @@ for_us {p} {q} {ds} {s} {a} {b} {c} {h} ours table socks owned none says is hear
 }
 
 -- what it carries has the length that its header tells
-pub cut_length : {p q : PoolView} {ds : TableView} {s : SocksView} {a b : Counters} {c : ℕ} {h : IpHead} → IsForUs p ds s a c h q b → length (string (chain_of q c)) ≡ h.total
+pub cut_length : {p q : PoolView} {ds : TableView} {s : SocksView} {a b : Counters} {c : ℕ} {h : IpHead}
+    → IsForUs p ds s a c h q b → length (string (chain_of q c)) ≡ h.total
 cut_length {p} {q} {c = c} {h = h} is =
     omega (
       arith,
@@ -247,24 +302,33 @@ cut_length {p} {q} {c = c} {h = h} is =
       is.head.most,
     )
 
-cut_bytes : {p q : PoolView} {ds : TableView} {s : SocksView} {a b : Counters} {c : ℕ} {h : IpHead} → IsForUs p ds s a c h q b → string (chain_of q c) ≡ take (total_of (string (chain_of p c))) (string (chain_of p c))
+cut_bytes : {p q : PoolView} {ds : TableView} {s : SocksView} {a b : Counters} {c : ℕ} {h : IpHead}
+    → IsForUs p ds s a c h q b → string (chain_of q c) ≡ take (total_of (string (chain_of p c))) (string (chain_of p c))
 cut_bytes {p} {q} {c = c} {h = h} is =
-    ap flat_bytes is.cut.entries ∙ only_first_bytes h.total (chain_of p c).entries ∙ ap (λ (x : IpHead). take x.total (string (chain_of p c))) is.head.says
+    ap flat_bytes is.cut.entries ∙ only_first_bytes h.total (chain_of p c).entries
+    ∙ ap (λ (x : IpHead). take x.total (string (chain_of p c))) is.head.says
 
-cut_weighs : {p q : PoolView} {ds : TableView} {s : SocksView} {a b : Counters} {c : ℕ} {h : IpHead} → IsForUs p ds s a c h q b → weight_at q c ≡ weight_at p c
+cut_weighs : {p q : PoolView} {ds : TableView} {s : SocksView} {a b : Counters} {c : ℕ} {h : IpHead}
+    → IsForUs p ds s a c h q b → weight_at q c ≡ weight_at p c
 cut_weighs {p} {q} {c = c} {h = h} is = ap weight_of is.cut.entries ∙ only_weighs h.total (chain_of p c).entries
 
-carried_cut : {p q : PoolView} {ds : TableView} {s : SocksView} {a b : Counters} {c : ℕ} {h : IpHead} → IsForUs p ds s a c h q b → carried_at q c ≡ carried (item_at p c)
+carried_cut : {p q : PoolView} {ds : TableView} {s : SocksView} {a b : Counters} {c : ℕ} {h : IpHead}
+    → IsForUs p ds s a c h q b → carried_at q c ≡ carried (item_at p c)
 carried_cut is = λ i. record { bytes = drop 20 (cut_bytes is i); weight = cut_weighs is i }
 
-counted_now : {p q : PoolView} {ds : TableView} {s : SocksView} {a b : Counters} {c : ℕ} {h : IpHead} (is : IsForUs p ds s a c h q b) (rest : State)
+counted_now : {p q : PoolView} {ds : TableView} {s : SocksView} {a b : Counters} {c : ℕ} {h : IpHead}
+    (is : IsForUs p ds s a c h q b) (rest : State)
     → with_net q s (unfinished q ds.datagrams) b rest ≡ counts_packet (with_net p s (unfinished p ds.datagrams) a rest)
-counted_now {p} {q} {ds} {s} {a} {b} is rest = is.cut.beside.shows b rest ∙ (λ i. with_net p s (unfinished p ds.datagrams) (is.counts i) rest)
+counted_now {p} {q} {ds} {s} {a} {b} is rest = is.cut.beside.shows b rest
+    ∙ (λ i. with_net p s (unfinished p ds.datagrams) (is.counts i) rest)
 
 -- it passes the tests of its header, and of its destination
-ours_pass : {p q : PoolView} {ds : TableView} {s : SocksView} {a b : Counters} {c : ℕ} {h : IpHead} (is : IsForUs p ds s a c h q b) (rest : State) (held : Weight) (origin : Origin) (new : State)
-    → (is_fragment (flat_head h) ≡ true → FragmentArrives exact_ledger origin held (flat_head h) (carried (item_at p c)) (counts_packet (with_net p s (unfinished p ds.datagrams) a rest)) new)
-    → (is_fragment (flat_head h) ≡ false → WholeArrives exact_ledger held h.src h.dst h.proto (carried (item_at p c)) (counts_packet (with_net p s (unfinished p ds.datagrams) a rest)) new)
+ours_pass : {p q : PoolView} {ds : TableView} {s : SocksView} {a b : Counters} {c : ℕ} {h : IpHead}
+    (is : IsForUs p ds s a c h q b) (rest : State) (held : Weight) (origin : Origin) (new : State)
+    → (is_fragment (flat_head h) ≡ true → FragmentArrives exact_ledger origin held (flat_head h) (carried (item_at p c))
+    (counts_packet (with_net p s (unfinished p ds.datagrams) a rest)) new)
+    → (is_fragment (flat_head h) ≡ false → WholeArrives exact_ledger held h.src h.dst h.proto (carried (item_at p c))
+    (counts_packet (with_net p s (unfinished p ds.datagrams) a rest)) new)
     → Arrives exact_ledger origin held (item_at p c) (with_net p s (unfinished p ds.datagrams) a rest) new
 ours_pass {p} {q} {ds} {s} {a} {b} {c} {h} is rest held origin new part all =
     let old : State = with_net p s (unfinished p ds.datagrams) a rest in
@@ -272,34 +336,47 @@ ours_pass {p} {q} {ds} {s} {a} {b} {c} {h} is rest held origin new part all =
     passes bytes origin held (weight_at p c) old new is.head.none (record {
       yes = λ e. subst (λ (x : IpHead). Choice (is_fragment (flat_head x))
           (FragmentArrives exact_ledger origin held (flat_head x) (carried (item_at p c)) (counts_packet old) new)
-          (WholeArrives exact_ledger held x.src x.dst x.proto (carried (item_at p c)) (counts_packet old) new)) is.head.says (record { yes = part; no = all });
-      no = λ e. absurd (true≢false (sym (is.ours rest) ∙ ap (λ (x : IpHead). is_for_us old.config x.dst) is.head.says ∙ e));
+          (WholeArrives exact_ledger held x.src x.dst x.proto (carried (item_at p c)) (counts_packet old) new))
+          is.head.says (record { yes = part; no = all });
+      no = λ e. absurd (true≢false (sym (is.ours rest) ∙ ap (λ (x : IpHead). is_for_us old.config x.dst) is.head.says
+          ∙ e));
     })
 
-pub fragment_arrives : {p q : PoolView} {ds : TableView} {s : SocksView} {a b : Counters} {c : ℕ} {h : IpHead} {u : NetView} → IsForUs p ds s a c h q b → is_fragment (flat_head h) ≡ true
+pub fragment_arrives : {p q : PoolView} {ds : TableView} {s : SocksView} {a b : Counters} {c : ℕ} {h : IpHead}
+    {u : NetView} → IsForUs p ds s a c h q b → is_fragment (flat_head h) ≡ true
     → IsTaken (net_seen q s ds b) c h u → IsArrived (net_seen p s ds a) c u
 fragment_arrives {p} {q} {ds} {s} {a} {b} {c} {h} {u} is part taken = record {
   step = λ rest held origin came acc. ours_pass is rest held origin (state_at u rest)
-      (λ e. subst (λ (x : Item). FragmentArrives exact_ledger origin held (flat_head h) x (counts_packet (with_net p s (unfinished p ds.datagrams) a rest)) (state_at u rest)) (carried_cut is)
-      (subst (λ (t : State). FragmentArrives exact_ledger origin held (flat_head h) (carried_at q c) t (state_at u rest)) (counted_now is rest)
-      (taken.step rest held origin (came_cut origin h.total (chain_of p c) (chain_of q c) is.cut.entries came) (is.cut.beside.accounts a b rest held acc))))
+      (λ e. subst (λ (x : Item). FragmentArrives exact_ledger origin held (flat_head h) x
+      (counts_packet (with_net p s (unfinished p ds.datagrams) a rest)) (state_at u rest)) (carried_cut is)
+      (subst (λ (t : State). FragmentArrives exact_ledger origin held (flat_head h) (carried_at q c) t
+      (state_at u rest)) (counted_now is rest)
+      (taken.step rest held origin (came_cut origin h.total (chain_of p c) (chain_of q c) is.cut.entries came)
+      (is.cut.beside.accounts a b rest held acc))))
       (λ e. absurd (true≢false (sym part ∙ e)));
   parts = keeps_trans (aside_keeps a b is.cut.beside) taken.parts;
 }
 
-pub whole_arrives : {p q r : PoolView} {ds : TableView} {s : SocksView} {a b : Counters} {c : ℕ} {h : IpHead} {u : NetView} → IsForUs p ds s a c h q b → is_fragment (flat_head h) ≡ false
-    → IsChanged q ds s c r (without_first 20 (chain_of q c).entries) → IsInput (net_seen r s ds b) c h.src h.dst h.proto u
+pub whole_arrives : {p q r : PoolView} {ds : TableView} {s : SocksView} {a b : Counters} {c : ℕ} {h : IpHead}
+    {u : NetView} → IsForUs p ds s a c h q b → is_fragment (flat_head h) ≡ false
+    → IsChanged q ds s c r (without_first 20 (chain_of q c).entries)
+    → IsInput (net_seen r s ds b) c h.src h.dst h.proto u
     → IsArrived (net_seen p s ds a) c u
 whole_arrives {p} {q} {r} {ds} {s} {a} {b} {c} {h} {u} is all off input =
     let item : item_at r c ≡ carried (item_at p c) =
-    (λ i. record { bytes = (ap flat_bytes off.entries ∙ without_first_bytes 20 (chain_of q c).entries) i; weight = (ap weight_of off.entries ∙ without_weighs 20 (chain_of q c).entries) i }) ∙ carried_cut is in
+    (λ i. record {
+      bytes = (ap flat_bytes off.entries ∙ without_first_bytes 20 (chain_of q c).entries) i;
+      weight = (ap weight_of off.entries ∙ without_weighs 20 (chain_of q c).entries) i;
+    }) ∙ carried_cut is in
     let cut : KeepsParts (net_seen p s ds a) (c ∷ []) (net_seen r s ds b) (c ∷ []) =
     keeps_trans (aside_keeps a b is.cut.beside) (aside_keeps b b off.beside) in
     record {
       step = λ rest held origin came acc. ours_pass is rest held origin (state_at u rest)
           (λ e. absurd (true≢false (sym e ∙ all)))
-          (λ e. subst (λ (x : Item). WholeArrives exact_ledger held h.src h.dst h.proto x (counts_packet (with_net p s (unfinished p ds.datagrams) a rest)) (state_at u rest)) item
-          (subst (λ (t : State). WholeArrives exact_ledger held h.src h.dst h.proto (item_at r c) t (state_at u rest)) (off.beside.shows b rest ∙ counted_now is rest)
+          (λ e. subst (λ (x : Item). WholeArrives exact_ledger held h.src h.dst h.proto x
+          (counts_packet (with_net p s (unfinished p ds.datagrams) a rest)) (state_at u rest)) item
+          (subst (λ (t : State). WholeArrives exact_ledger held h.src h.dst h.proto (item_at r c) t (state_at u rest))
+          (off.beside.shows b rest ∙ counted_now is rest)
           (input.step rest held (cut.accounts rest held acc))));
       parts = keeps_trans cut input.parts;
     }

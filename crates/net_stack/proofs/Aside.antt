@@ -37,7 +37,9 @@ pub as_owned : {p : PoolView} {s : State} (held : Weight) (xs : List ℕ) → Is
 as_owned {p} {s} held xs a = subst (λ (w : Weight). IsAccounted p s w) (hand_weighs p held xs) a
 
 -- the accounts follow what is in hand
-pub hand_accounts : {p q : PoolView} {xs ys : List ℕ} (s : State) (held : Weight) → IsAccounted p s (held ⊕ weight_owned p xs) → IsOwned p xs → Moves p xs q ys → IsAccounted q s (held ⊕ weight_owned q ys)
+pub hand_accounts : {p q : PoolView} {xs ys : List ℕ} (s : State) (held : Weight)
+    → IsAccounted p s (held ⊕ weight_owned p xs) → IsOwned p xs → Moves p xs q ys
+    → IsAccounted q s (held ⊕ weight_owned q ys)
 hand_accounts {p} {q} {xs} {ys} s held a owned m =
     accounted_after a m owned refl (record {
       mbufs = omega arith;
@@ -51,29 +53,40 @@ hand_accounts {p} {q} {xs} {ys} s held a owned m =
     })
 
 -- the counters say nothing of what is held
-pub counters_accounts : {p : PoolView} {s : State} {held : Weight} (c : Counters) → IsAccounted p s held → IsAccounted p (record s { counters = c }) held
+pub counters_accounts : {p : PoolView} {s : State} {held : Weight} (c : Counters) → IsAccounted p s held
+    → IsAccounted p (record s { counters = c }) held
 counters_accounts c a = record { mbufs = a.mbufs; clusters = a.clusters; total = a.total; references = a.references }
 
-pub record Aside (p : PoolView) (ds : TableView) (s : SocksView) (ins : List ℕ) (q : PoolView) (outs : List ℕ) : Type 0 where
+pub record Aside (p : PoolView) (ds : TableView) (s : SocksView) (ins : List ℕ) (q : PoolView) (outs : List ℕ)
+    : Type 0 where
   pub reass : ReassKept p q ds
   pub socks : Kept p q s
-  pub shows : (c : Counters) (rest : State) → with_net q s (unfinished q ds.datagrams) c rest ≡ with_net p s (unfinished p ds.datagrams) c rest
+  pub shows : (c : Counters) (rest : State) → with_net q s (unfinished q ds.datagrams) c rest
+      ≡ with_net p s (unfinished p ds.datagrams) c rest
   pub owned : IsOwned q (outs ++ (held_all q ds.datagrams ++ queued_chains q s.queues))
-  pub moves : Moves p (ins ++ (held_all p ds.datagrams ++ queued_chains p s.queues)) q (outs ++ (held_all q ds.datagrams ++ queued_chains q s.queues))
+  pub moves : Moves p (ins ++ (held_all p ds.datagrams ++ queued_chains p s.queues)) q
+      (outs ++ (held_all q ds.datagrams ++ queued_chains q s.queues))
   pub accounts : (c d : Counters) (rest : State) (held : Weight)
       → IsAccounted p (with_net p s (unfinished p ds.datagrams) c rest) (held_with p held ins)
       → IsAccounted q (with_net q s (unfinished q ds.datagrams) d rest) (held_with q held outs)
 
-pub aside : {p q : PoolView} {ds : TableView} {s : SocksView} (ins outs : List ℕ) → IsOwned p (ins ++ (held_all p ds.datagrams ++ queued_chains p s.queues)) → IsReady p ds → IsSocks p s → Moves p ins q outs → Aside p ds s ins q outs
+pub aside : {p q : PoolView} {ds : TableView} {s : SocksView} (ins outs : List ℕ)
+    → IsOwned p (ins ++ (held_all p ds.datagrams ++ queued_chains p s.queues)) → IsReady p ds → IsSocks p s
+    → Moves p ins q outs → Aside p ds s ins q outs
 aside {p} {q} {ds} {s} ins outs owned table socks m =
     let xs : List ℕ = held_all p ds.datagrams in
     let ys : List ℕ = queued_chains p s.queues in
-    let split : (k : ℕ) → times k (ins ++ (xs ++ ys)) ≡ times k ins + (times k xs + times k ys) = λ k. omega (arith, times-append k ins (xs ++ ys), times-append k xs ys) in
+    let split : (k : ℕ) → times k (ins ++ (xs ++ ys)) ≡ times k ins + (times k xs + times k ys) =
+    λ k. omega (arith, times-append k ins (xs ++ ys), times-append k xs ys) in
     let same : SameAt p q (xs ++ ys) =
-    same_beside (xs ++ ys) m (λ k. omega (arith, owned k, split k, times-append k xs ys)) (λ k h. omega (arith, h, owned k, split k, times-append k xs ys, live_at_most p k)) in
-    let r : ReassKept p q ds = reass_kept p q ds (same_part p q (xs ++ ys) xs same (λ k. omega (arith, times-append k xs ys))) table in
-    let v : Kept p q s = kept p q s (same_part p q (xs ++ ys) ys same (λ k. omega (arith, times-append k xs ys))) socks in
-    let now : (c : Counters) (rest : State) → with_net q s (unfinished q ds.datagrams) c rest ≡ with_net p s (unfinished p ds.datagrams) c rest =
+    same_beside (xs ++ ys) m (λ k. omega (arith, owned k, split k, times-append k xs ys))
+    (λ k h. omega (arith, h, owned k, split k, times-append k xs ys, live_at_most p k)) in
+    let r : ReassKept p q ds = reass_kept p q ds
+    (same_part p q (xs ++ ys) xs same (λ k. omega (arith, times-append k xs ys))) table in
+    let v : Kept p q s = kept p q s (same_part p q (xs ++ ys) ys same (λ k. omega (arith, times-append k xs ys)))
+    socks in
+    let now : (c : Counters) (rest : State) → with_net q s (unfinished q ds.datagrams) c rest
+    ≡ with_net p s (unfinished p ds.datagrams) c rest =
     λ c rest i. machine (record rest { unfinished = r.shows i; counters = c }) (λ fd. v.shows fd i) s.pcbs in
     let all : Moves p (ins ++ (xs ++ ys)) q (outs ++ (held_all q ds.datagrams ++ queued_chains q s.queues)) =
     moves_beside (ins ++ (xs ++ ys)) (outs ++ (held_all q ds.datagrams ++ queued_chains q s.queues)) (xs ++ ys) m
@@ -104,14 +117,18 @@ pub aside_keeps : {p q : PoolView} {ds : TableView} {s : SocksView} {ins outs : 
 aside_keeps a b x = record { accounts = x.accounts a b; ready = x.socks.ready; pcbs = refl; moves = x.moves }
 
 -- ---- the sockets beside a step of the unfinished datagrams and of what is in hand
-pub record BesideSocks (p : PoolView) (s : SocksView) (before : List ℕ) (q : PoolView) (hand after : List ℕ) : Type 0 where
+pub record BesideSocks (p : PoolView) (s : SocksView) (before : List ℕ) (q : PoolView) (hand after : List ℕ)
+    : Type 0 where
   pub socks : Kept p q s
   pub moves : Moves p (before ++ queued_chains p s.queues) q (hand ++ (after ++ queued_chains q s.queues))
 
-pub beside_socks : {p q : PoolView} {s : SocksView} (before hand after : List ℕ) → IsOwned p (before ++ queued_chains p s.queues) → IsSocks p s → Moves p before q (hand ++ after) → BesideSocks p s before q hand after
+pub beside_socks : {p q : PoolView} {s : SocksView} (before hand after : List ℕ)
+    → IsOwned p (before ++ queued_chains p s.queues) → IsSocks p s → Moves p before q (hand ++ after)
+    → BesideSocks p s before q hand after
 beside_socks {p} {q} {s} before hand after owned socks m =
     let ys : List ℕ = queued_chains p s.queues in
-    let same : SameAt p q ys = same_beside ys m (λ k. omega (arith, owned k, times-append k before ys)) (λ k h. omega (arith, h, owned k, times-append k before ys, live_at_most p k)) in
+    let same : SameAt p q ys = same_beside ys m (λ k. omega (arith, owned k, times-append k before ys))
+    (λ k h. omega (arith, h, owned k, times-append k before ys, live_at_most p k)) in
     let v : Kept p q s = kept p q s same socks in
     record {
       socks = v;

@@ -52,16 +52,22 @@ pub record Called (v : StackView) (event : Event) (reply : Reply) (n : Fields) :
   pub step : Step (state_of v) event reply (state_of (seen n))
   pub inside : IsInside n
 
-pub called : (s n : Fields) (v : StackView) (event : Event) (reply : Reply) → IsInside s → seen s ≡ v → n.host.net.mtu ≡ s.host.net.mtu → n.config ≡ s.config → n.host.net.looped ≡ s.host.net.looped
+pub called : (s n : Fields) (v : StackView) (event : Event) (reply : Reply) → IsInside s → seen s ≡ v
+    → n.host.net.mtu ≡ s.host.net.mtu → n.config ≡ s.config → n.host.net.looped ≡ s.host.net.looped
     → Stepped (seen s) event reply (seen n) → Called v event reply n
 called s n v event reply is e mtu config looped t = record {
   step = subst (λ (w : StackView). Step (state_of w) event reply (state_of (seen n))) e t.step;
-  inside = record { stack = t.stack; mtu = mtu ∙ is.mtu ∙ ap (λ (c : Config). c.mtu) (sym config); looped = looped ∙ is.looped };
+  inside = record {
+    stack = t.stack;
+    mtu = mtu ∙ is.mtu ∙ ap (λ (c : Config). c.mtu) (sym config);
+    looped = looped ∙ is.looped;
+  };
 }
 
 -- ---- the sockets
 
-pub socks_called : (s : Fields) (v : StackView) (q : PoolView) (w : SocksView) (event : Event) (reply : Reply) → IsInside s → seen s ≡ v → IsEvent event
+pub socks_called : (s : Fields) (v : StackView) (q : PoolView) (w : SocksView) (event : Event) (reply : Reply)
+    → IsInside s → seen s ≡ v → IsEvent event
     → ((rest : State) → Step (with_sockets s.host.pool s.host.socks rest) event reply (with_sockets q w rest))
     → IsSocks q w → Moves s.host.pool (queued_chains s.host.pool s.host.socks.queues) q (queued_chains q w.queues)
     → Called v event reply (with_socks s q w)
@@ -70,16 +76,20 @@ socks_called s v q w event reply is e can step ready m =
     (socks_step (seen s) q w event reply is.stack can step ready m)
 
 -- the same of a call on the control blocks alone
-pub blocks_called : (s : Fields) (v : StackView) (w : SocksView) (event : Event) (reply : Reply) → IsInside s → seen s ≡ v → IsEvent event → ((p : PoolView) → IsSocks p s.host.socks → IsCalled p s.host.socks event reply w)
+pub blocks_called : (s : Fields) (v : StackView) (w : SocksView) (event : Event) (reply : Reply) → IsInside s
+    → seen s ≡ v → IsEvent event → ((p : PoolView) → IsSocks p s.host.socks → IsCalled p s.host.socks event reply w)
     → Called v event reply (with_socks s s.host.pool w)
 blocks_called s v w event reply is e can call =
     let c : IsCalled s.host.pool s.host.socks event reply w = call s.host.pool is.stack.socks in
     socks_called s v s.host.pool w event reply is e can c.step c.ready
-    (subst (λ (bs : List _). Moves s.host.pool (queued_chains s.host.pool s.host.socks.queues) s.host.pool (queued_chains s.host.pool bs)) (sym c.queues) (moves_none s.host.pool (queued_chains s.host.pool s.host.socks.queues)))
+    (subst (λ (bs : List _). Moves s.host.pool (queued_chains s.host.pool s.host.socks.queues) s.host.pool
+    (queued_chains s.host.pool bs)) (sym c.queues)
+    (moves_none s.host.pool (queued_chains s.host.pool s.host.socks.queues)))
 
 -- ---- the output queue
 
-within : (config : Config) (most : ℕ) (items : List Item) → config.mtu ≤ most → AllByRecursion (IsOutput config) items → AllByRecursion (λ (item : Item). length item.bytes ≤ most) items
+within : (config : Config) (most : ℕ) (items : List Item) → config.mtu ≤ most → AllByRecursion (IsOutput config) items
+    → AllByRecursion (λ (item : Item). length item.bytes ≤ most) items
 within config most [] le each = tt
 within config most (item ∷ items) le each = (omega (arith, each.0.fits), within config most items le each.1)
 
@@ -88,7 +98,8 @@ pub are_within : (s : Fields) (most : ℕ) → IsInside s → s.config.mtu ≤ m
 are_within s most is le =
     within (state_of (seen s)).config most (packets s.host.pool s.host.net.out) le is.stack.consistent.output
 
-pub output_called : (s : Fields) (v : StackView) (q : PoolView) (u : TrainView) (reply : Reply) → IsInside s → seen s ≡ v → IsGiven s.host.pool s.host.net.out reply q u
+pub output_called : (s : Fields) (v : StackView) (q : PoolView) (u : TrainView) (reply : Reply) → IsInside s
+    → seen s ≡ v → IsGiven s.host.pool s.host.net.out reply q u
     → Called v Transmit reply (with_out s q u)
 output_called s v q u reply is e g =
     called s (with_out s q u) v Transmit reply is e refl refl refl
@@ -96,11 +107,17 @@ output_called s v q u reply is e g =
 
 -- ---- the unfinished datagrams
 
-pub reass_called : (s : Fields) (v : StackView) (q : PoolView) (r : TableView) (n : ℕ) (d : Counters) → IsInside s → seen s ≡ v
-    → ((rest : State) (c : Counters) → ticked (machine s.host.pool s.host.reass.datagrams c rest) ≡ machine q r.datagrams (counts_more IpFragtimeout n c) rest)
-    → IsReady q r → Moves s.host.pool (held_all s.host.pool s.host.reass.datagrams) q (held_all q r.datagrams) → d ≡ counts_more IpFragtimeout n s.host.net.counters
+pub reass_called : (s : Fields) (v : StackView) (q : PoolView) (r : TableView) (n : ℕ) (d : Counters) → IsInside s
+    → seen s ≡ v
+    → ((rest : State) (c : Counters) → ticked (machine s.host.pool s.host.reass.datagrams c rest)
+    ≡ machine q r.datagrams (counts_more IpFragtimeout n c) rest)
+    → IsReady q r → Moves s.host.pool (held_all s.host.pool s.host.reass.datagrams) q (held_all q r.datagrams)
+    → d ≡ counts_more IpFragtimeout n s.host.net.counters
     → Called v Tick Done (with_reass s q r d)
 reass_called s v q r n d is e step ready m counts =
     called s (with_reass s q r d) v Tick Done is e refl refl refl
-    (reass_step (seen s) q r d Tick Done is.stack tt ready m
-    (refl, ap (λ (c : Counters). machine q r.datagrams c (state_of (seen s))) counts ∙ sym (step (state_of (seen s)) s.host.net.counters)))
+    (reass_step (seen s) q r d Tick Done is.stack tt ready m (
+      refl,
+      ap (λ (c : Counters). machine q r.datagrams c (state_of (seen s))) counts
+          ∙ sym (step (state_of (seen s)) s.host.net.counters),
+    ))

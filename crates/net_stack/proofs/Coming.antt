@@ -41,25 +41,34 @@ record IsFirst (n : ℕ) (e : Entry) : Type 0 where
   cluster : is_some e.cluster ≡ nat_le 208 n
   size : length e.bytes ≡ cond (nat_le 208 n) (min n 2048) (min n 100)
 
-first_is : (n : ℕ) (cs : List ℕ) (rooms : List Room) (xs : List ℕ) → length xs ≡ n → length cs ≡ count_by is_cluster (next_room 2048 100 n ∷ rooms) → IsFirst n (slice_index_or (stored_first 0 false cs (next_room 2048 100 n ∷ rooms) xs) 0 no_entry)
+first_is : (n : ℕ) (cs : List ℕ) (rooms : List Room) (xs : List ℕ) → length xs ≡ n
+    → length cs ≡ count_by is_cluster (next_room 2048 100 n ∷ rooms)
+    → IsFirst n (slice_index_or (stored_first 0 false cs (next_room 2048 100 n ∷ rooms) xs) 0 no_entry)
 first_is n cs rooms xs len number = let r = go (nat_le 208 n) cs number in record { cluster = r.0; size = r.1 }
   where
-    go : (b : Bool) (cs : List ℕ) → length cs ≡ count_by is_cluster (cond b (Cluster (min n 2048)) (Plain (min n 100)) ∷ rooms)
-        → (is_some (slice_index_or (stored_first 0 false cs (cond b (Cluster (min n 2048)) (Plain (min n 100)) ∷ rooms) xs) 0 no_entry).cluster ≡ b)
-        × (length (slice_index_or (stored_first 0 false cs (cond b (Cluster (min n 2048)) (Plain (min n 100)) ∷ rooms) xs) 0 no_entry).bytes ≡ cond b (min n 2048) (min n 100))
+    go : (b : Bool) (cs : List ℕ) → length cs ≡ count_by is_cluster
+        (cond b (Cluster (min n 2048)) (Plain (min n 100)) ∷ rooms)
+        → (is_some (slice_index_or (stored_first 0 false cs (cond b (Cluster (min n 2048)) (Plain (min n 100)) ∷ rooms)
+        xs) 0 no_entry).cluster ≡ b)
+        × (length (slice_index_or (stored_first 0 false cs (cond b (Cluster (min n 2048)) (Plain (min n 100)) ∷ rooms)
+        xs) 0 no_entry).bytes ≡ cond b (min n 2048) (min n 100))
     go true [] h = absurd (omega (arith, h, count_cons is_cluster (Cluster (min n 2048)) rooms))
     go true (c ∷ cs) h = (refl, omega (arith, len, length-take (min n 2048) xs))
     go false cs h = (refl, omega (arith, len, length-take (min n 100) xs))
 
-pub came_by_wire : (v : ChainView) (cs xs : List ℕ) → v.entries ≡ stored_first 0 false cs (wire (length xs)) xs → length cs ≡ count_by is_cluster (wire (length xs)) → string v ≡ xs → CameByWire (length xs) v
+pub came_by_wire : (v : ChainView) (cs xs : List ℕ) → v.entries ≡ stored_first 0 false cs (wire (length xs)) xs
+    → length cs ≡ count_by is_cluster (wire (length xs)) → string v ≡ xs → CameByWire (length xs) v
 came_by_wire v cs xs entries number bytes =
     let n : ℕ = length xs in
     let r = first_room n in
-    let f : IsFirst n (entry_of v 0) = subst (λ (es : List Entry). IsFirst n (slice_index_or es 0 no_entry)) (sym (entries ∙ ap (λ (rooms : List Room). stored_first 0 false cs rooms xs) r.1))
+    let f : IsFirst n (entry_of v 0) = subst (λ (es : List Entry). IsFirst n (slice_index_or es 0 no_entry))
+    (sym (entries ∙ ap (λ (rooms : List Room). stored_first 0 false cs rooms xs) r.1))
     (first_is n cs r.0 xs refl (number ∙ ap (count_by is_cluster) r.1)) in
     record { cluster = f.cluster; holds = go (nat_le 208 n) refl f.size (cases_lt 2048 n) (cases_lt 100 n) }
   where
-    go : (b : Bool) → nat_le 208 (length xs) ≡ b → length (entry_of v 0).bytes ≡ cond b (min (length xs) 2048) (min (length xs) 100) → (2048 < length xs) ⊎ (length xs ≤ 2048) → (100 < length xs) ⊎ (length xs ≤ 100)
+    go : (b : Bool) → nat_le 208 (length xs) ≡ b
+        → length (entry_of v 0).bytes ≡ cond b (min (length xs) 2048) (min (length xs) 100) → (2048 < length xs)
+        ⊎ (length xs ≤ 2048) → (100 < length xs) ⊎ (length xs ≤ 100)
         → (length (string v) ≤ length (entry_of v 0).bytes) ⊎ (40 < length (entry_of v 0).bytes)
     go true e size (inl l) m = inr (omega (arith, size, l))
     go true e size (inr l) m = inl (omega (arith, size, l, ap (λ (ys : List ℕ). length ys) bytes))
@@ -69,15 +78,19 @@ came_by_wire v cs xs entries number bytes =
 -- ---- the event
 
 -- the pool was asked for the packet's buffers
-pub record IsAsked (p : PoolView) (r : TableView) (a : Counters) (need : Need) (answer : Bool) (q : PoolView) (t : TableView) (b : Counters) : Type 0 where
-  pub reserves : (s : State) (held : Weight) → s.unfinished ≡ unfinished p r.datagrams → s.counters ≡ a → IsAccounted p s held
+pub record IsAsked (p : PoolView) (r : TableView) (a : Counters) (need : Need) (answer : Bool) (q : PoolView)
+    (t : TableView) (b : Counters) : Type 0 where
+  pub reserves : (s : State) (held : Weight) → s.unfinished ≡ unfinished p r.datagrams → s.counters ≡ a
+      → IsAccounted p s held
       → Reserves s held need answer (record s { unfinished = unfinished q t.datagrams; counters = b }) q
   pub moves : Moves p (held_all p r.datagrams) q (held_all q t.datagrams)
 
 -- the sockets then
-pub asked_socks : {p q : PoolView} {s : SocksView} {r t : TableView} {a b : Counters} {need : Need} {answer : Bool} → IsSocks p s → IsOwned p (held_all p r.datagrams ++ queued_chains p s.queues) → IsAsked p r a need answer q t b
+pub asked_socks : {p q : PoolView} {s : SocksView} {r t : TableView} {a b : Counters} {need : Need} {answer : Bool}
+    → IsSocks p s → IsOwned p (held_all p r.datagrams ++ queued_chains p s.queues) → IsAsked p r a need answer q t b
     → BesideSocks p s (held_all p r.datagrams) q [] (held_all q t.datagrams)
-asked_socks {p} {q} {s} {r} {t} socks owned is = beside_socks (held_all p r.datagrams) [] (held_all q t.datagrams) owned socks is.moves
+asked_socks {p} {q} {s} {r} {t} socks owned is =
+    beside_socks (held_all p r.datagrams) [] (held_all q t.datagrams) owned socks is.moves
 
 -- what the parts keep then, whatever was counted
 asked_keeps : {p q : PoolView} {s : SocksView} {r t : TableView} {a b : Counters} {need : Need} {answer : Bool}
@@ -98,19 +111,25 @@ asked_keeps {p} {q} {s} {r} {t} {a} {b} d socks owned is =
       moves = beside.moves;
     }
 
-pub lost : {p q : PoolView} {s : SocksView} {r t : TableView} {a b d : Counters} {need : Need} {answer : Bool} (packet : List ℕ) → IsSocks p s → IsOwned p (held_all p r.datagrams ++ queued_chains p s.queues) → IsAsked p r a need answer q t b
+pub lost : {p q : PoolView} {s : SocksView} {r t : TableView} {a b d : Counters} {need : Need} {answer : Bool}
+    (packet : List ℕ) → IsSocks p s → IsOwned p (held_all p r.datagrams ++ queued_chains p s.queues)
+    → IsAsked p r a need answer q t b
     → need ≡ need_of (wire (length packet)) → answer ≡ false → d ≡ counted NoBufs b
     → HasCome (net_seen p s r a) packet (net_seen q s t d)
 lost {p} {q} {s} {r} {t} {a} {b} {d} {need} {answer} packet socks owned is is_need no_answer is_d =
     let beside = asked_socks socks owned is in
-    let mid : State → State = λ rest. record (with_net p s (unfinished p r.datagrams) a rest) { unfinished = unfinished q t.datagrams; counters = b } in
+    let mid : State → State = λ rest. record (with_net p s (unfinished p r.datagrams) a rest)
+    { unfinished = unfinished q t.datagrams; counters = b } in
     let now : (rest : State) → with_net q s (unfinished q t.datagrams) d rest ≡ ends NoBufs (mid rest) =
-    λ rest i. machine (record rest { unfinished = unfinished q t.datagrams; counters = is_d i }) (λ fd. beside.socks.shows fd i) s.pcbs in
+    λ rest i. machine (record rest { unfinished = unfinished q t.datagrams; counters = is_d i })
+    (λ fd. beside.socks.shows fd i) s.pcbs in
     record {
       step = λ rest acc. (
         answer,
         mid rest,
-        subst (λ (n : Need). HasBuffers exact_ledger (with_net p s (unfinished p r.datagrams) a rest) nothing n answer (mid rest)) is_need (is.reserves (with_net p s (unfinished p r.datagrams) a rest) nothing refl refl acc).has_buffers,
+        subst (λ (n : Need). HasBuffers exact_ledger (with_net p s (unfinished p r.datagrams) a rest) nothing n answer
+            (mid rest)) is_need (is.reserves (with_net p s (unfinished p r.datagrams) a rest) nothing refl refl
+            acc).has_buffers,
         record { yes = λ e. absurd (true≢false (sym e ∙ no_answer)); no = λ e. now rest },
       );
       parts = asked_keeps d socks owned is;
@@ -121,7 +140,8 @@ pub record IsReadyToArrive (q : PoolView) (s : SocksView) (t : TableView) (q1 : 
   pub beside : Aside q t s [] q1 (c ∷ [])
   pub header : (chain_of q1 c).front.header ≡ true
 
-pub laid_ready : {p q q1 : PoolView} {s : SocksView} {r t : TableView} {a b : Counters} {need : Need} {answer : Bool} {packet : List ℕ} {c : ℕ} → IsSocks p s → IsOwned p (held_all p r.datagrams ++ queued_chains p s.queues)
+pub laid_ready : {p q q1 : PoolView} {s : SocksView} {r t : TableView} {a b : Counters} {need : Need} {answer : Bool}
+    {packet : List ℕ} {c : ℕ} → IsSocks p s → IsOwned p (held_all p r.datagrams ++ queued_chains p s.queues)
     → IsAsked p r a need answer q t b → IsReady q t → IsLaidOut q packet q1 c → IsReadyToArrive q s t q1 c
 laid_ready {c = c} socks owned is ready laid =
     let beside = asked_socks socks owned is in
@@ -130,37 +150,54 @@ laid_ready {c = c} socks owned is ready laid =
       header = ap (λ f. f.header) laid.made.front;
     }
 
-pub came : {p q q1 : PoolView} {s : SocksView} {r t : TableView} {a b : Counters} {need : Need} {answer : Bool} {c : ℕ} {u : NetView} (packet : List ℕ) → IsSocks p s → IsOwned p (held_all p r.datagrams ++ queued_chains p s.queues)
-    → IsAsked p r a need answer q t b → need ≡ need_of (wire (length packet)) → answer ≡ true → IsReady q t → IsLaidOut q packet q1 c
+pub came : {p q q1 : PoolView} {s : SocksView} {r t : TableView} {a b : Counters} {need : Need} {answer : Bool} {c : ℕ}
+    {u : NetView} (packet : List ℕ) → IsSocks p s → IsOwned p (held_all p r.datagrams ++ queued_chains p s.queues)
+    → IsAsked p r a need answer q t b → need ≡ need_of (wire (length packet)) → answer ≡ true → IsReady q t
+    → IsLaidOut q packet q1 c
     → IsArrived (net_seen q1 s t b) c u
     → HasCome (net_seen p s r a) packet u
-came {p} {q} {q1} {s} {r} {t} {a} {b} {need} {answer} {c} {u} packet socks owned is is_need yes_answer ready laid arrived =
+came {p} {q} {q1} {s} {r} {t} {a} {b} {need} {answer} {c} {u} packet socks owned is is_need yes_answer ready laid
+    arrived =
     let beside = asked_socks socks owned is in
     let x : Aside q t s [] q1 (c ∷ []) = (laid_ready socks owned is ready laid).beside in
     let old : State → State = λ rest. with_net p s (unfinished p r.datagrams) a rest in
     let mid : State → State = λ rest. record (old rest) { unfinished = unfinished q t.datagrams; counters = b } in
     let now : (rest : State) → with_net q s (unfinished q t.datagrams) b rest ≡ mid rest =
-    λ rest i. machine (record rest { unfinished = unfinished q t.datagrams; counters = b }) (λ fd. beside.socks.shows fd i) s.pcbs in
-    let asked : (rest : State) → IsAccounted p (old rest) nothing → Reserves (old rest) nothing need answer (mid rest) q = λ rest acc. is.reserves (old rest) nothing refl refl acc in
+    λ rest i. machine (record rest { unfinished = unfinished q t.datagrams; counters = b })
+    (λ fd. beside.socks.shows fd i) s.pcbs in
+    let asked : (rest : State) → IsAccounted p (old rest) nothing
+    → Reserves (old rest) nothing need answer (mid rest) q =
+    λ rest acc. is.reserves (old rest) nothing refl refl acc in
     let laid_out : KeepsParts (net_seen p s r a) [] (net_seen q1 s t b) (c ∷ []) =
     keeps_trans (asked_keeps b socks owned is) (aside_keeps b b x) in
-    let item : item_at q1 c ≡ record { bytes = packet; weight = flat.weight_of (laid_on laid.clusters (wire (length packet))) } =
-    λ i. record { bytes = laid.bytes_are i; weight = (ap weight_of laid.made.entries ∙ sym (laid_weight _) ∙ ap flat.weight_of laid.layout) i } in
+    let item : item_at q1 c ≡ record {
+      bytes = packet;
+      weight = flat.weight_of (laid_on laid.clusters (wire (length packet)));
+    } =
+    λ i. record {
+      bytes = laid.bytes_are i;
+      weight = (ap weight_of laid.made.entries ∙ sym (laid_weight _)
+          ∙ ap flat.weight_of laid.layout) i;
+    } in
     record {
       step = λ rest acc. (
         answer,
         mid rest,
-        subst (λ (n : Need). HasBuffers exact_ledger (old rest) nothing n answer (mid rest)) is_need (asked rest acc).has_buffers,
+        subst (λ (n : Need). HasBuffers exact_ledger (old rest) nothing n answer (mid rest)) is_need
+            (asked rest acc).has_buffers,
         record {
           yes = λ e. (
             laid.clusters,
             record {
               number = laid.number;
               distinct = λ k. omega (arith, bag_of_times k laid.clusters, laid.free.once k);
-              free = All-from_recursion (IsFree (mid rest) nothing) laid.clusters (free_each q (mid rest) laid.clusters (asked rest acc).accounted laid.free.exist laid.free.free);
+              free = All-from_recursion (IsFree (mid rest) nothing) laid.clusters
+                  (free_each q (mid rest) laid.clusters (asked rest acc).accounted laid.free.exist laid.free.free);
             },
-            subst (λ (i : Item). Arrives exact_ledger (By_wire (length packet)) nothing i (mid rest) (state_at u rest)) item
-                (subst (λ (m : State). Arrives exact_ledger (By_wire (length packet)) nothing (item_at q1 c) m (state_at u rest)) (x.shows b rest ∙ now rest)
+            subst (λ (i : Item). Arrives exact_ledger (By_wire (length packet)) nothing i (mid rest) (state_at u rest))
+                item
+                (subst (λ (m : State). Arrives exact_ledger (By_wire (length packet)) nothing (item_at q1 c) m
+                (state_at u rest)) (x.shows b rest ∙ now rest)
                 (arrived.step rest nothing (By_wire (length packet))
                 (came_by_wire (chain_of q1 c) laid.clusters packet laid.made.entries laid.number laid.bytes_are)
                 (laid_out.accounts rest nothing acc))),

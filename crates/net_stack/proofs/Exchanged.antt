@@ -40,21 +40,38 @@ are_bytes xs fits = All-from_recursion (λ byte. byte < 256) xs (go xs fits)
 
 -- ---- a packet from the wire
 
-pub come_owned : (s : StackView) → IsStack s → IsOwned s.pool (held_all s.pool s.reass.datagrams ++ queued_chains s.pool s.socks.queues)
-come_owned s is = λ k. omega (arith, is.all k, times-append k (held_all s.pool s.reass.datagrams ++ queued_chains s.pool s.socks.queues) (numbers s.pool s.output))
+pub come_owned : (s : StackView) → IsStack s → IsOwned s.pool
+    (held_all s.pool s.reass.datagrams ++ queued_chains s.pool s.socks.queues)
+come_owned s is = λ k. omega (
+  arith,
+  is.all k,
+  times-append k
+      (held_all s.pool s.reass.datagrams ++ queued_chains s.pool s.socks.queues) (numbers s.pool s.output),
+)
 
-pub rx_step : (s : StackView) (packet : List ℕ) (q : PoolView) (w : SocksView) (es : TableView) (c : Counters) → IsStack s → IsEvent (Comes packet) → IsReady q es
+pub rx_step : (s : StackView) (packet : List ℕ) (q : PoolView) (w : SocksView) (es : TableView) (c : Counters)
+    → IsStack s → IsEvent (Comes packet) → IsReady q es
     → HasCome (net_seen s.pool s.socks s.reass s.counters) packet (net_seen q w es c)
     → Stepped s (Comes packet) Done (record s { pool = q; socks = w; reass = es; counters = c })
-rx_step s packet q w es c is can ready came = input_step s q w es c (Comes packet) Done is can came.parts.ready ready came.parts.moves (refl, came.step (rest_of s) (accounts s is))
+rx_step s packet q w es c is can ready came = input_step s q w es c (Comes packet) Done is can came.parts.ready ready
+    came.parts.moves (refl, came.step (rest_of s) (accounts s is))
 
 -- ---- a send
 
 -- what a stack with this net shows
 abbrev pub shown : Config → PoolView → SocksView → TableView → Net → StackView
-shown config p s r n = record { config = config; pool = p; socks = s; reass = r; output = n.out; next_id = n.next_id; counters = n.counters }
+shown config p s r n = record {
+  config = config;
+  pool = p;
+  socks = s;
+  reass = r;
+  output = n.out;
+  next_id = n.next_id;
+  counters = n.counters;
+}
 
-same_chains : (config : Config) (p : PoolView) (s : SocksView) (r : TableView) (n : Net) (k : ℕ) → times k (chains_of (shown config p s r n)) ≡ times k (held_all p r.datagrams ++ out_chains (sending p s n))
+same_chains : (config : Config) (p : PoolView) (s : SocksView) (r : TableView) (n : Net) (k : ℕ)
+    → times k (chains_of (shown config p s r n)) ≡ times k (held_all p r.datagrams ++ out_chains (sending p s n))
 same_chains config p s r n k = omega (
   arith,
   split (shown config p s r n) k,
@@ -62,14 +79,20 @@ same_chains config p s r n k = omega (
   times-append k (numbers p n.out) (queued_chains p s.queues),
 )
 
-pub send_owned : (config : Config) (p : PoolView) (s : SocksView) (r : TableView) (n : Net) → IsStack (shown config p s r n) → IsOwned p (held_all p r.datagrams ++ out_chains (sending p s n))
+pub send_owned : (config : Config) (p : PoolView) (s : SocksView) (r : TableView) (n : Net)
+    → IsStack (shown config p s r n) → IsOwned p (held_all p r.datagrams ++ out_chains (sending p s n))
 send_owned config p s r n is = λ k. omega (arith, is.all k, same_chains config p s r n k)
 
-pub can_send : (config : Config) (p : PoolView) (s : SocksView) (r : TableView) (n : Net) → IsStack (shown config p s r n) → n.mtu ≡ config.mtu → n.looped ≡ no_train → CanSend (sending p s n)
+pub can_send : (config : Config) (p : PoolView) (s : SocksView) (r : TableView) (n : Net)
+    → IsStack (shown config p s r n) → n.mtu ≡ config.mtu → n.looped ≡ no_train → CanSend (sending p s n)
 can_send config p s r n is mtu none = record {
   socks = is.socks;
   out = is.output;
-  owned = λ k. omega (arith, send_owned config p s r n is k, times-append k (held_all p r.datagrams) (out_chains (sending p s n)));
+  owned = λ k. omega (
+    arith,
+    send_owned config p s r n is k,
+    times-append k (held_all p r.datagrams) (out_chains (sending p s n)),
+  );
   looped = held_none p n.looped none;
   none = ap (λ (t : TrainView). t.len) none;
   mtu = omega (arith, mtu, is.consistent.config.least_mtu);
@@ -77,11 +100,15 @@ can_send config p s r n is mtu none = record {
   outside = λ e. is.consistent.config.bcast.no_loopback (ap (λ (a : ℕ). a / 2 ^ 24) e);
 }
 
-pub send_step : (config : Config) (p q : PoolView) (s w : SocksView) (r es : TableView) (n m : Net) (fd : ℕ) (to : Option Addr) (bytes : List ℕ) (result : Result ℕ Errno) → IsStack (shown config p s r n) → n.mtu ≡ config.mtu
-    → IsEvent (Send fd to bytes) → HasSent fd to bytes (sending p s n) r result (sending q w m) es → Stepped (shown config p s r n) (Send fd to bytes) (sent_reply result) (shown config q w es m)
+pub send_step : (config : Config) (p q : PoolView) (s w : SocksView) (r es : TableView) (n m : Net) (fd : ℕ)
+    (to : Option Addr) (bytes : List ℕ) (result : Result ℕ Errno) → IsStack (shown config p s r n) → n.mtu ≡ config.mtu
+    → IsEvent (Send fd to bytes) → HasSent fd to bytes (sending p s n) r result (sending q w m) es
+    → Stepped (shown config p s r n) (Send fd to bytes) (sent_reply result) (shown config q w es m)
 send_step config p q s w r es n m fd to bytes result is mtu can sent =
-    stepped (shown config p s r n) (shown config q w es m) (Send fd to bytes) (sent_reply result) is can refl sent.socks sent.reass sent.out
-    (moves_reordered (chains_of (shown config p s r n)) (chains_of (shown config q w es m)) sent.moves (same_chains config p s r n) (same_chains config q w es m))
+    stepped (shown config p s r n) (shown config q w es m) (Send fd to bytes) (sent_reply result) is can refl sent.socks
+    sent.reass sent.out
+    (moves_reordered (chains_of (shown config p s r n)) (chains_of (shown config q w es m)) sent.moves
+    (same_chains config p s r n) (same_chains config q w es m))
     (sent.step (boot config) (sym mtu) (accounts (shown config p s r n) is))
 
 -- the fields of a stack after a send
@@ -93,9 +120,11 @@ sent_called s v h fd to bytes result is e can sent =
     let g : Host = s.host in
     let new : StackView = shown s.config h.pool h.socks h.reass h.net in
     let t : Stepped (seen_in s) (Send fd to bytes) (sent_reply result) new =
-    send_step s.config g.pool h.pool g.socks h.socks g.reass h.reass g.net h.net fd to bytes result is.stack is.mtu can sent in
+    send_step s.config g.pool h.pool g.socks h.socks g.reass h.reass g.net h.net fd to bytes result is.stack is.mtu can
+    sent in
     record {
-      step = subst (λ (x : StackView). Step (state_of x) (Send fd to bytes) (sent_reply result) (state_of new)) e t.step;
+      step = subst (λ (x : StackView). Step (state_of x) (Send fd to bytes) (sent_reply result) (state_of new)) e
+          t.step;
       inside = record { stack = t.stack; mtu = sent.mtu ∙ is.mtu; looped = sent.none };
     }
 

@@ -26,25 +26,31 @@ pub all_copied : (n k : ℕ) (s to : List ℕ) → to ≡ take k (drop 0 s) → 
 all_copied n k s to is is_k is_n = is ∙ ap (λ (j : ℕ). take j s) (is_k ∙ is_n) ∙ take-length s
 
 -- the first packet fits where each does
-pub first_within : (p q : PoolView) (t u : TrainView) (c most : ℕ) → AreWithin p t most → packets p t ≡ item_at q c ∷ packets q u → length (string (chain_of q c)) ≤ most
-first_within p q t u c most each e = (subst (λ (items : List Item). AllByRecursion (λ (item : Item). length item.bytes ≤ most) items) e each).0
+pub first_within : (p q : PoolView) (t u : TrainView) (c most : ℕ) → AreWithin p t most
+    → packets p t ≡ item_at q c ∷ packets q u → length (string (chain_of q c)) ≤ most
+first_within p q t u c most each e =
+    (subst (λ (items : List Item). AllByRecursion (λ (item : Item). length item.bytes ≤ most) items) e each).0
 
 -- so does the one at a place, if there is one
-pub nth_within : (i most : ℕ) (items : List Item) → AllByRecursion (λ (item : Item). length item.bytes ≤ most) items → IfSome (nth_packet i items) (λ bytes. length bytes ≤ most)
+pub nth_within : (i most : ℕ) (items : List Item) → AllByRecursion (λ (item : Item). length item.bytes ≤ most) items
+    → IfSome (nth_packet i items) (λ bytes. length bytes ≤ most)
 nth_within zero most [] each = tt
 nth_within (suc i) most [] each = tt
 nth_within zero most (item ∷ items) each = each.0
 nth_within (suc i) most (item ∷ items) each = nth_within i most items each.1
 
-pub packet_given : (p q r : PoolView) (t u : TrainView) (c : ℕ) (bytes : List ℕ) → IsQueue p t → packets p t ≡ item_at q c ∷ packets q u → times c (numbers q u) ≡ 0 → IsQueue q u
+pub packet_given : (p q r : PoolView) (t u : TrainView) (c : ℕ) (bytes : List ℕ) → IsQueue p t
+    → packets p t ≡ item_at q c ∷ packets q u → times c (numbers q u) ≡ 0 → IsQueue q u
     → Moves p (numbers p t) q (c ∷ numbers q u) → r ≡ without q c → bytes ≡ string (chain_of q c)
     → IsGiven p t (Given (Some bytes)) r u
 packet_given p q r t u c bytes was front apart now m gone e =
     let same : SameAt q r (numbers q u) = same_without q r c (numbers q u) apart gone in
     let o : OutputKept q r u = output_kept q r u same now in
-    let all : packets p t ≡ item_at q c ∷ packets r u = front ∙ ap (λ (items : List Item). item_at q c ∷ items) (sym o.shows) in
+    let all : packets p t ≡ item_at q c ∷ packets r u = front
+    ∙ ap (λ (items : List Item). item_at q c ∷ items) (sym o.shows) in
     record {
-      step = λ rest. subst (λ (items : List Item). Transmits items (record rest { output = items }) (Given (Some bytes)) (with_packets r u rest)) (sym all) (ap (λ (bs : List ℕ). Given (Some bs)) e, refl);
+      step = λ rest. subst (λ (items : List Item). Transmits items (record rest { output = items }) (Given (Some bytes))
+          (with_packets r u rest)) (sym all) (ap (λ (bs : List ℕ). Given (Some bs)) e, refl);
       queue = o.queue;
       moves = subst (Moves p (numbers p t) r) (sym o.chains) (then_without r c (numbers q u) m was.held.owned gone);
     }

@@ -27,12 +27,16 @@ use Rattle.net_stack.specs.Stack.{StackView, IsStack, rest_of, state_of, chains_
 
 -- ---- what the parts weigh
 
-pub output_weighs : (p : PoolView) (xs : List ℕ) → all_of (λ (item : Item). item.weight) (map (λ (queued_packet : QueuedPacket). item_of queued_packet.entries) (map (queued_packet_of p) xs)) ≡ weight_owned p xs
+pub output_weighs : (p : PoolView) (xs : List ℕ)
+    → all_of (λ (item : Item). item.weight) (map (λ (queued_packet : QueuedPacket). item_of queued_packet.entries)
+    (map (queued_packet_of p) xs)) ≡ weight_owned p xs
 output_weighs p [] = refl
 output_weighs p (x ∷ xs) = ap (λ (w : Weight). weight_at p x ⊕ w) (output_weighs p xs)
 
 -- the pool accounts for the state of a stack
-pub accounts_of : (s : StackView) → s.config.mbufs ≡ s.pool.mbufs → s.config.clusters ≡ s.pool.clusters → IsSocks s.pool s.socks → IsTable s.pool s.reass.datagrams → IsAll s.pool (chains_of s) → IsAccounted s.pool (state_of s) nothing
+pub accounts_of : (s : StackView) → s.config.mbufs ≡ s.pool.mbufs → s.config.clusters ≡ s.pool.clusters
+    → IsSocks s.pool s.socks → IsTable s.pool s.reass.datagrams → IsAll s.pool (chains_of s)
+    → IsAccounted s.pool (state_of s) nothing
 accounts_of s m c socks table all =
     let p = s.pool in
     let xs : List ℕ = held_all p s.reass.datagrams in
@@ -41,15 +45,23 @@ accounts_of s m c socks table all =
     let x : Weight = weight_owned p xs in
     let y : Weight = weight_owned p ys in
     let z : Weight = weight_owned p zs in
-    let ws : Weight = all_of (λ (socket : Socket). queue_weight socket.queue) (sockets_with (queues_of p s.socks.queues) s.socks.pcbs) in
+    let ws : Weight = all_of (λ (socket : Socket). queue_weight socket.queue)
+    (sockets_with (queues_of p s.socks.queues) s.socks.pcbs) in
     let wu : Weight = all_of (λ (u : Unfinished). mbuf ⊕ weight_of_pieces u.bytes) (unfinished p s.reass.datagrams) in
     let wo : Weight = all_of (λ (item : Item). item.weight) (packets p s.output) in
     let of_socks : SameWeight ws y = socks_weigh p s.socks socks in
     let of_table : SameWeight x wu = table_weighs p s.reass.datagrams table.each in
     let of_output : wo ≡ z = output_weighs p zs in
-    let whole : weight_owned p (chains_of s) ≡ (x ⊕ y) ⊕ z = all_of-append (weight_at p) (xs ++ ys) zs ∙ ap (λ (w : Weight). w ⊕ z) (all_of-append (weight_at p) xs ys) in
+    let whole : weight_owned p (chains_of s) ≡ (x ⊕ y) ⊕ z = all_of-append (weight_at p) (xs ++ ys) zs
+    ∙ ap (λ (w : Weight). w ⊕ z) (all_of-append (weight_at p) xs ys) in
     accounted_all p (state_of s) nothing (chains_of s) all m c (record {
-      mbufs = omega (arith, ap (λ (w : Weight). w.mbufs) whole, of_socks.mbufs, of_table.mbufs, ap (λ (w : Weight). w.mbufs) of_output);
+      mbufs = omega (
+        arith,
+        ap (λ (w : Weight). w.mbufs) whole,
+        of_socks.mbufs,
+        of_table.mbufs,
+        ap (λ (w : Weight). w.mbufs) of_output,
+      );
       bag = λ k. omega (
         arith,
         ap (λ (w : Weight). bag_times k w.bag) whole,
@@ -74,8 +86,10 @@ pub record Stepped (s : StackView) (event : Event) (reply : Reply) (n : StackVie
   pub stack : IsStack n
 
 -- a step of the machine whose parts fit together again, under the same configuration
-pub stepped : (s n : StackView) (event : Event) (reply : Reply) → IsStack s → IsEvent event → n.config ≡ s.config → IsSocks n.pool n.socks → IsReady n.pool n.reass → IsQueue n.pool n.output
-    → Moves s.pool (chains_of s) n.pool (chains_of n) → Step (state_of s) event reply (state_of n) → Stepped s event reply n
+pub stepped : (s n : StackView) (event : Event) (reply : Reply) → IsStack s → IsEvent event → n.config ≡ s.config
+    → IsSocks n.pool n.socks → IsReady n.pool n.reass → IsQueue n.pool n.output
+    → Moves s.pool (chains_of s) n.pool (chains_of n) → Step (state_of s) event reply (state_of n)
+    → Stepped s event reply n
 stepped s n event reply is can same socks table output m step = record {
   step = step;
   stack = record {
@@ -97,7 +111,11 @@ pub record ReassKept (p q : PoolView) (r : TableView) : Type 0 where
   pub chains : held_all q r.datagrams ≡ held_all p r.datagrams
 
 pub reass_kept : (p q : PoolView) (r : TableView) → SameAt p q (held_all p r.datagrams) → IsReady p r → ReassKept p q r
-reass_kept p q r same is = record { table = ready_same p q r same is; shows = unfinished_same p q r.datagrams same; chains = held_all_same p q r.datagrams same }
+reass_kept p q r same is = record {
+  table = ready_same p q r same is;
+  shows = unfinished_same p q r.datagrams same;
+  chains = held_all_same p q r.datagrams same;
+}
 
 pub record OutputKept (p q : PoolView) (t : TrainView) : Type 0 where
   pub queue : IsQueue q t
@@ -112,7 +130,9 @@ output_kept p q t same is = record {
 }
 
 -- the chains of all three parts
-pub split : (s : StackView) (k : ℕ) → times k (chains_of s) ≡ times k (held_all s.pool s.reass.datagrams) + times k (queued_chains s.pool s.socks.queues) + times k (numbers s.pool s.output)
+pub split : (s : StackView) (k : ℕ) → times k (chains_of s)
+    ≡ times k (held_all s.pool s.reass.datagrams) + times k (queued_chains s.pool s.socks.queues) + times k
+    (numbers s.pool s.output)
 split s k = omega (
   arith,
   times-append k (held_all s.pool s.reass.datagrams ++ queued_chains s.pool s.socks.queues) (numbers s.pool s.output),
@@ -121,7 +141,8 @@ split s k = omega (
 
 -- ---- a step of the sockets alone
 
-pub socks_step : (s : StackView) (q : PoolView) (w : SocksView) (event : Event) (reply : Reply) → IsStack s → IsEvent event
+pub socks_step : (s : StackView) (q : PoolView) (w : SocksView) (event : Event) (reply : Reply) → IsStack s
+    → IsEvent event
     → ((rest : State) → Step (with_sockets s.pool s.socks rest) event reply (with_sockets q w rest))
     → IsSocks q w → Moves s.pool (queued_chains s.pool s.socks.queues) q (queued_chains q w.queues)
     → Stepped s event reply (record s { pool = q; socks = w })
@@ -131,11 +152,19 @@ socks_step s q w event reply is can step ready m =
     let xs : List ℕ = held_all p s.reass.datagrams in
     let zs : List ℕ = numbers p s.output in
     let same : SameAt p q (xs ++ zs) =
-    same_beside (xs ++ zs) m (λ k. omega (arith, is.all k, split s k, times-append k xs zs)) (λ k h. omega (arith, h, is.all k, split s k, times-append k xs zs, live_at_most p k)) in
-    let r : ReassKept p q s.reass = reass_kept p q s.reass (same_part p q (xs ++ zs) xs same (λ k. omega (arith, times-append k xs zs))) is.reass in
-    let o : OutputKept p q s.output = output_kept p q s.output (same_part p q (xs ++ zs) zs same (λ k. omega (arith, times-append k xs zs))) is.output in
+    same_beside (xs ++ zs) m (λ k. omega (arith, is.all k, split s k, times-append k xs zs))
+    (λ k h. omega (arith, h, is.all k, split s k, times-append k xs zs, live_at_most p k)) in
+    let r : ReassKept p q s.reass = reass_kept p q s.reass
+    (same_part p q (xs ++ zs) xs same (λ k. omega (arith, times-append k xs zs))) is.reass in
+    let o : OutputKept p q s.output = output_kept p q s.output
+    (same_part p q (xs ++ zs) zs same (λ k. omega (arith, times-append k xs zs))) is.output in
     let rest : State = record (rest_of s) { unfinished = unfinished p s.reass.datagrams; counters = s.counters } in
-    let new : with_sockets q w rest ≡ state_of n = λ i. with_sockets q w (record (rest_of s) { unfinished = sym r.shows i; counters = s.counters; output = sym o.shows i }) in
+    let new : with_sockets q w rest ≡ state_of n =
+    λ i. with_sockets q w (record (rest_of s) {
+      unfinished = sym r.shows i;
+      counters = s.counters;
+      output = sym o.shows i;
+    }) in
     stepped s n event reply is can refl ready r.table o.queue
     (moves_beside (chains_of s) (chains_of n) (xs ++ zs) m
     (λ k. omega (arith, split s k, times-append k xs zs))
@@ -144,7 +173,8 @@ socks_step s q w event reply is can step ready m =
 
 -- ---- a step of the output queue alone
 
-pub output_step : (s : StackView) (q : PoolView) (u : TrainView) (event : Event) (reply : Reply) → IsStack s → IsEvent event → IsQueue q u → Moves s.pool (numbers s.pool s.output) q (numbers q u)
+pub output_step : (s : StackView) (q : PoolView) (u : TrainView) (event : Event) (reply : Reply) → IsStack s
+    → IsEvent event → IsQueue q u → Moves s.pool (numbers s.pool s.output) q (numbers q u)
     → Step (state_of s) event reply (record (state_of s) { output = packets q u })
     → Stepped s event reply (record s { pool = q; output = u })
 output_step s q u event reply is can queue m step =
@@ -153,11 +183,15 @@ output_step s q u event reply is can queue m step =
     let xs : List ℕ = held_all p s.reass.datagrams in
     let ys : List ℕ = queued_chains p s.socks.queues in
     let same : SameAt p q (xs ++ ys) =
-    same_beside (xs ++ ys) m (λ k. omega (arith, is.all k, split s k, times-append k xs ys)) (λ k h. omega (arith, h, is.all k, split s k, times-append k xs ys, live_at_most p k)) in
-    let r : ReassKept p q s.reass = reass_kept p q s.reass (same_part p q (xs ++ ys) xs same (λ k. omega (arith, times-append k xs ys))) is.reass in
-    let v : Kept p q s.socks = kept p q s.socks (same_part p q (xs ++ ys) ys same (λ k. omega (arith, times-append k xs ys))) is.socks in
+    same_beside (xs ++ ys) m (λ k. omega (arith, is.all k, split s k, times-append k xs ys))
+    (λ k h. omega (arith, h, is.all k, split s k, times-append k xs ys, live_at_most p k)) in
+    let r : ReassKept p q s.reass = reass_kept p q s.reass
+    (same_part p q (xs ++ ys) xs same (λ k. omega (arith, times-append k xs ys))) is.reass in
+    let v : Kept p q s.socks = kept p q s.socks (same_part p q (xs ++ ys) ys same
+    (λ k. omega (arith, times-append k xs ys))) is.socks in
     let new : record (state_of s) { output = packets q u } ≡ state_of n =
-    λ i. machine (record (rest_of s) { unfinished = sym r.shows i; counters = s.counters; output = packets q u }) (λ fd. sym (v.shows fd) i) s.socks.pcbs in
+    λ i. machine (record (rest_of s) { unfinished = sym r.shows i; counters = s.counters; output = packets q u })
+    (λ fd. sym (v.shows fd) i) s.socks.pcbs in
     stepped s n event reply is can refl v.ready r.table queue
     (moves_beside (chains_of s) (chains_of n) (xs ++ ys) m
     (λ k. omega (arith, split s k, times-append k xs ys))
@@ -166,7 +200,9 @@ output_step s q u event reply is can queue m step =
 
 -- ---- a step of the unfinished datagrams and counters alone
 
-pub reass_step : (s : StackView) (q : PoolView) (es : TableView) (c : Counters) (event : Event) (reply : Reply) → IsStack s → IsEvent event → IsReady q es → Moves s.pool (held_all s.pool s.reass.datagrams) q (held_all q es.datagrams)
+pub reass_step : (s : StackView) (q : PoolView) (es : TableView) (c : Counters) (event : Event) (reply : Reply)
+    → IsStack s → IsEvent event → IsReady q es → Moves s.pool (held_all s.pool s.reass.datagrams) q
+    (held_all q es.datagrams)
     → Step (state_of s) event reply (record (state_of s) { unfinished = unfinished q es.datagrams; counters = c })
     → Stepped s event reply (record s { pool = q; reass = es; counters = c })
 reass_step s q es c event reply is can table m step =
@@ -175,11 +211,15 @@ reass_step s q es c event reply is can table m step =
     let ys : List ℕ = queued_chains p s.socks.queues in
     let zs : List ℕ = numbers p s.output in
     let same : SameAt p q (ys ++ zs) =
-    same_beside (ys ++ zs) m (λ k. omega (arith, is.all k, split s k, times-append k ys zs)) (λ k h. omega (arith, h, is.all k, split s k, times-append k ys zs, live_at_most p k)) in
-    let v : Kept p q s.socks = kept p q s.socks (same_part p q (ys ++ zs) ys same (λ k. omega (arith, times-append k ys zs))) is.socks in
-    let o : OutputKept p q s.output = output_kept p q s.output (same_part p q (ys ++ zs) zs same (λ k. omega (arith, times-append k ys zs))) is.output in
+    same_beside (ys ++ zs) m (λ k. omega (arith, is.all k, split s k, times-append k ys zs))
+    (λ k h. omega (arith, h, is.all k, split s k, times-append k ys zs, live_at_most p k)) in
+    let v : Kept p q s.socks = kept p q s.socks (same_part p q (ys ++ zs) ys same
+    (λ k. omega (arith, times-append k ys zs))) is.socks in
+    let o : OutputKept p q s.output = output_kept p q s.output
+    (same_part p q (ys ++ zs) zs same (λ k. omega (arith, times-append k ys zs))) is.output in
     let new : record (state_of s) { unfinished = unfinished q es.datagrams; counters = c } ≡ state_of n =
-    λ i. machine (record (rest_of s) { unfinished = unfinished q es.datagrams; counters = c; output = sym o.shows i }) (λ fd. sym (v.shows fd) i) s.socks.pcbs in
+    λ i. machine (record (rest_of s) { unfinished = unfinished q es.datagrams; counters = c; output = sym o.shows i })
+    (λ fd. sym (v.shows fd) i) s.socks.pcbs in
     stepped s n event reply is can refl v.ready table o.queue
     (moves_beside (chains_of s) (chains_of n) (ys ++ zs) m
     (λ k. omega (arith, split s k, times-append k ys zs))
@@ -188,8 +228,10 @@ reass_step s q es c event reply is can table m step =
 
 -- ---- a step of all parts but the output queue
 
-pub input_step : (s : StackView) (q : PoolView) (w : SocksView) (es : TableView) (c : Counters) (event : Event) (reply : Reply) → IsStack s → IsEvent event → IsSocks q w → IsReady q es
-    → Moves s.pool (held_all s.pool s.reass.datagrams ++ queued_chains s.pool s.socks.queues) q (held_all q es.datagrams ++ queued_chains q w.queues)
+pub input_step : (s : StackView) (q : PoolView) (w : SocksView) (es : TableView) (c : Counters) (event : Event)
+    (reply : Reply) → IsStack s → IsEvent event → IsSocks q w → IsReady q es
+    → Moves s.pool (held_all s.pool s.reass.datagrams ++ queued_chains s.pool s.socks.queues) q
+    (held_all q es.datagrams ++ queued_chains q w.queues)
     → Step (state_of s) event reply (with_net q w (unfinished q es.datagrams) c (rest_of s))
     → Stepped s event reply (record s { pool = q; socks = w; reass = es; counters = c })
 input_step s q w es c event reply is can ready table m step =
@@ -198,11 +240,17 @@ input_step s q w es c event reply is can ready table m step =
     let xs : List ℕ = held_all p s.reass.datagrams ++ queued_chains p s.socks.queues in
     let zs : List ℕ = numbers p s.output in
     let same : SameAt p q zs =
-    same_beside zs m (λ k. omega (arith, is.all k, times-append k xs zs)) (λ k h. omega (arith, h, is.all k, times-append k xs zs, live_at_most p k)) in
+    same_beside zs m (λ k. omega (arith, is.all k, times-append k xs zs))
+    (λ k h. omega (arith, h, is.all k, times-append k xs zs, live_at_most p k)) in
     let o : OutputKept p q s.output = output_kept p q s.output same is.output in
-    let new : with_net q w (unfinished q es.datagrams) c (rest_of s) ≡ state_of n = λ i. with_net q w (unfinished q es.datagrams) c (record (rest_of s) { output = sym o.shows i }) in
+    let new : with_net q w (unfinished q es.datagrams) c (rest_of s) ≡ state_of n =
+    λ i. with_net q w (unfinished q es.datagrams) c (record (rest_of s) { output = sym o.shows i }) in
     stepped s n event reply is can refl ready table o.queue
     (moves_beside (chains_of s) (chains_of n) zs m
     (λ k. omega (arith, times-append k xs zs))
-    (λ k. omega (arith, times-append k (held_all q es.datagrams ++ queued_chains q w.queues) (numbers q s.output), ap (times k) o.chains)))
+    (λ k. omega (
+      arith,
+      times-append k (held_all q es.datagrams ++ queued_chains q w.queues) (numbers q s.output),
+      ap (times k) o.chains,
+    )))
     (subst (λ (t : State). Step (state_of s) event reply t) new step)

@@ -31,17 +31,22 @@ record IsFirst (p : PoolView) (t : TrainView) (q : PoolView) (c : ℕ) (u : Trai
   plain : (entry_of (chain_of q c) 0).cluster ≡ None
   later : BeginPlain q u
 
-is_first : (p q : PoolView) (t u : TrainView) (c tag : ℕ) → IsHeld p t → BeginPlain p t → 0 < t.len → queued_packets q u ≡ remove (queued_packets p t) 0
+is_first : (p q : PoolView) (t u : TrainView) (c tag : ℕ) → IsHeld p t → BeginPlain p t → 0 < t.len
+    → queued_packets q u ≡ remove (queued_packets p t) 0
     → queued_packet_at p t 0 ≡ record { number = c; entries = (chain_of q c).entries; tag = tag } → IsFirst p t q c u
 is_first p q t u c tag held plain some is_queued_packets is_queued_packet = go (queued_packets p t) refl plain
   where
     go : (cs : List QueuedPacket) → queued_packets p t ≡ cs → AreBegunPlain cs → IsFirst p t q c u
     go [] e begun = absurd (omega (arith, length-queued_packets p t held, some, ap length e))
     go (x ∷ xs) e begun =
-        let same : x.entries ≡ (chain_of q c).entries = ap (λ (y : QueuedPacket). y.entries) (sym (ap (λ (cs : List QueuedPacket). slice_index_or cs 0 no_queued_packet) e) ∙ is_queued_packet) in
+        let same : x.entries ≡ (chain_of q c).entries =
+        ap (λ (y : QueuedPacket). y.entries)
+        (sym (ap (λ (cs : List QueuedPacket). slice_index_or cs 0 no_queued_packet) e) ∙ is_queued_packet) in
         let left : xs ≡ queued_packets q u = sym (is_queued_packets ∙ ap (λ (cs : List QueuedPacket). remove cs 0) e) in
         record {
-          items = ap (map (λ (queued_packet : QueuedPacket). item_of queued_packet.entries)) e ∙ (λ i. item_of (same i) ∷ map (λ (queued_packet : QueuedPacket). item_of queued_packet.entries) (left i));
+          items = ap (map (λ (queued_packet : QueuedPacket). item_of queued_packet.entries)) e
+              ∙ (λ i. item_of (same i) ∷ map (λ (queued_packet : QueuedPacket). item_of queued_packet.entries)
+              (left i));
           plain = ap (λ (es : List Entry). (slice_index_or es 0 no_entry).cluster) (sym same) ∙ begun.0;
           later = subst AreBegunPlain left begun.1;
         }
@@ -70,10 +75,12 @@ record IsLater (p : PoolView) (c : ℕ) (u : TrainView) (xs : List ℕ) (q : Poo
   plain : BeginPlain q u
   moves : Moves p ((c ∷ numbers p u) ++ xs) q (numbers q u ++ ys)
 
-is_later : (p q : PoolView) (c : ℕ) (u : TrainView) (xs ys : List ℕ) → IsOwned p ((c ∷ numbers p u) ++ xs) → IsHeld p u → BeginPlain p u → Moves p (c ∷ xs) q ys → IsLater p c u xs q ys
+is_later : (p q : PoolView) (c : ℕ) (u : TrainView) (xs ys : List ℕ) → IsOwned p ((c ∷ numbers p u) ++ xs) → IsHeld p u
+    → BeginPlain p u → Moves p (c ∷ xs) q ys → IsLater p c u xs q ys
 is_later p q c u xs ys owned held plain m =
     let same : SameAt p q (numbers p u) =
-    same_beside (numbers p u) m (λ k. omega (arith, owned k, times-append k (numbers p u) xs)) (λ k h. omega (arith, owned k, h, live_at_most p k, times-append k (numbers p u) xs)) in
+    same_beside (numbers p u) m (λ k. omega (arith, owned k, times-append k (numbers p u) xs))
+    (λ k h. omega (arith, owned k, h, live_at_most p k, times-append k (numbers p u) xs)) in
     let ns : numbers q u ≡ numbers p u = numbers_same p q u same in
     let cs : queued_packets q u ≡ queued_packets p u = queued_packets_same p q u same in
     record {
@@ -88,33 +95,46 @@ is_later p q c u xs ys owned held plain m =
 
 -- ---- one packet more
 
-pub record IsOneMore (v : NetView) (t : TrainView) (q : PoolView) (s : SocksView) (ds : TableView) (b : Counters) (u : TrainView) : Type 0 where
+pub record IsOneMore (v : NetView) (t : TrainView) (q : PoolView) (s : SocksView) (ds : TableView) (b : Counters)
+    (u : TrainView) : Type 0 where
   pub way : AreArriving v t (net_seen q s ds b) u
   pub held : IsHeld q u
   pub plain : BeginPlain q u
   pub owned : IsOwned q (numbers q u ++ (held_all q ds.datagrams ++ queued_chains q s.queues))
 
 -- what is asked for before it arrives
-pub taken : {p q : PoolView} {s : SocksView} {ds : TableView} {c : ℕ} (t u : TrainView) → IsOwned p (numbers p t ++ (held_all p ds.datagrams ++ queued_chains p s.queues)) → IsReady p ds → IsSocks p s
+pub taken : {p q : PoolView} {s : SocksView} {ds : TableView} {c : ℕ} (t u : TrainView)
+    → IsOwned p (numbers p t ++ (held_all p ds.datagrams ++ queued_chains p s.queues)) → IsReady p ds → IsSocks p s
     → Moves p (numbers p t) q (c ∷ numbers q u) → Aside p ds s (numbers p t) q (c ∷ numbers q u)
 taken {p} {q} {s} {ds} {c} t u owned table socks m = aside (numbers p t) (c ∷ numbers q u) owned table socks m
 
-pub one_owned : {p q : PoolView} {s : SocksView} {ds : TableView} {c : ℕ} (t u : TrainView) → Aside p ds s (numbers p t) q (c ∷ numbers q u) → IsOwned q (c ∷ (held_all q ds.datagrams ++ queued_chains q s.queues))
-one_owned {q = q} {s = s} {ds = ds} {c = c} t u a = λ k. omega (arith, a.owned k, times-append k (numbers q u) (held_all q ds.datagrams ++ queued_chains q s.queues))
+pub one_owned : {p q : PoolView} {s : SocksView} {ds : TableView} {c : ℕ} (t u : TrainView)
+    → Aside p ds s (numbers p t) q (c ∷ numbers q u)
+    → IsOwned q (c ∷ (held_all q ds.datagrams ++ queued_chains q s.queues))
+one_owned {q = q} {s = s} {ds = ds} {c = c} t u a =
+    λ k. omega (arith, a.owned k, times-append k (numbers q u) (held_all q ds.datagrams ++ queued_chains q s.queues))
 
-pub one_more : {v : NetView} {t u u1 : TrainView} {q q1 q2 : PoolView} {s s2 : SocksView} {ds ds2 : TableView} {a b : Counters} {c : ℕ} (tag : ℕ)
-    → AreArriving v t (net_seen q s ds a) u → IsHeld q u → BeginPlain q u → IsOwned q (numbers q u ++ (held_all q ds.datagrams ++ queued_chains q s.queues)) → IsReady q ds
-    → 0 < u.len → queued_packets q1 u1 ≡ remove (queued_packets q u) 0 → queued_packet_at q u 0 ≡ record { number = c; entries = (chain_of q1 c).entries; tag = tag } → IsHeld q1 u1 → Moves q (numbers q u) q1 (c ∷ numbers q1 u1)
+pub one_more : {v : NetView} {t u u1 : TrainView} {q q1 q2 : PoolView} {s s2 : SocksView} {ds ds2 : TableView}
+    {a b : Counters} {c : ℕ} (tag : ℕ)
+    → AreArriving v t (net_seen q s ds a) u → IsHeld q u → BeginPlain q u
+    → IsOwned q (numbers q u ++ (held_all q ds.datagrams ++ queued_chains q s.queues)) → IsReady q ds
+    → 0 < u.len → queued_packets q1 u1 ≡ remove (queued_packets q u) 0
+    → queued_packet_at q u 0 ≡ record { number = c; entries = (chain_of q1 c).entries; tag = tag } → IsHeld q1 u1
+    → Moves q (numbers q u) q1 (c ∷ numbers q1 u1)
     → IsArrived (net_seen q1 s ds a) c (net_seen q2 s2 ds2 b)
     → IsOneMore v t q2 s2 ds2 b u1
-one_more {v} {t} {u} {u1} {q} {q1} {q2} {s} {s2} {ds} {ds2} {a} {b} {c} tag w held plain owned table some is_queued_packets is_queued_packet held1 m arrived =
+one_more {v} {t} {u} {u1} {q} {q1} {q2} {s} {s2} {ds} {ds2} {a} {b} {c} tag w held plain owned table some
+    is_queued_packets is_queued_packet held1 m arrived =
     let x : Aside q ds s (numbers q u) q1 (c ∷ numbers q1 u1) = taken u u1 owned table w.parts.ready m in
     let f : IsFirst q u q1 c u1 = is_first q q1 u u1 c tag held plain some is_queued_packets is_queued_packet in
-    let l : IsLater q1 c u1 (held_all q1 ds.datagrams ++ queued_chains q1 s.queues) q2 (held_all q2 ds2.datagrams ++ queued_chains q2 s2.queues) =
-    is_later q1 q2 c u1 (held_all q1 ds.datagrams ++ queued_chains q1 s.queues) (held_all q2 ds2.datagrams ++ queued_chains q2 s2.queues) x.owned held1 f.later arrived.parts.moves in
+    let l : IsLater q1 c u1 (held_all q1 ds.datagrams ++ queued_chains q1 s.queues) q2
+    (held_all q2 ds2.datagrams ++ queued_chains q2 s2.queues) =
+    is_later q1 q2 c u1 (held_all q1 ds.datagrams ++ queued_chains q1 s.queues)
+    (held_all q2 ds2.datagrams ++ queued_chains q2 s2.queues) x.owned held1 f.later arrived.parts.moves in
     let wl : Weight = weight_owned q1 (numbers q1 u1) in
     let weighs : all_of (λ (item : Item). item.weight) (packets q1 u1) ≡ wl = output_weighs q1 (numbers q1 u1) in
-    let now : (rest : State) → with_net q1 s (unfinished q1 ds.datagrams) a rest ≡ with_net q s (unfinished q ds.datagrams) a rest = λ rest. x.shows a rest in
+    let now : (rest : State) → with_net q1 s (unfinished q1 ds.datagrams) a rest
+    ≡ with_net q s (unfinished q ds.datagrams) a rest = λ rest. x.shows a rest in
     let in_hand : (rest : State) (held : Weight) → IsAccountedAt v rest (held_with v.pool held (numbers v.pool t))
     → IsAccounted q1 (with_net q1 s (unfinished q1 ds.datagrams) a rest) ((held ⊕ wl) ⊕ weight_at q1 c) =
     λ rest held acc. first_last held (weight_at q1 c) wl (as_owned held (c ∷ numbers q1 u1)
@@ -124,18 +144,25 @@ one_more {v} {t} {u} {u1} {q} {q1} {q2} {s} {s2} {ds} {ds2} {a} {b} {c} tag w he
     λ rest acc. subst (λ (h : Weight). IsAccounted q1 (with_net q1 s (unfinished q1 ds.datagrams) a rest)
     (h ⊕ weight_at q1 c)) (nothing-both wl)
     (in_hand rest nothing (as_held nothing (numbers v.pool t)
-    (subst (λ (h : Weight). IsAccountedAt v rest h) (sym (nothing-both (weight_owned v.pool (numbers v.pool t)))) acc))) in
+    (subst (λ (h : Weight). IsAccountedAt v rest h) (sym (nothing-both (weight_owned v.pool (numbers v.pool t))))
+    acc))) in
     record {
       way = record {
         goes = λ rest new acc later.
             let mid : State = with_net q2 s2 (unfinished q2 ds2.datagrams) b rest in
-            let step : Arrives exact_ledger Looped wl (item_at q1 c) (with_net q1 s (unfinished q1 ds.datagrams) a rest) mid =
+            let step : Arrives exact_ledger Looped wl (item_at q1 c) (with_net q1 s (unfinished q1 ds.datagrams) a rest)
+            mid =
             arrived.step rest wl Looped f.plain (alone rest acc) in
-            let first : Arrives exact_ledger Looped (all_of (λ (item : Item). item.weight) (packets q1 u1)) (item_at q1 c) (with_net q s (unfinished q ds.datagrams) a rest) mid =
-            subst (λ (h : Weight). Arrives exact_ledger Looped h (item_at q1 c) (with_net q s (unfinished q ds.datagrams) a rest) mid) (sym weighs)
+            let first : Arrives exact_ledger Looped (all_of (λ (item : Item). item.weight) (packets q1 u1))
+            (item_at q1 c) (with_net q s (unfinished q ds.datagrams) a rest) mid =
+            subst (λ (h : Weight). Arrives exact_ledger Looped h (item_at q1 c)
+            (with_net q s (unfinished q ds.datagrams) a rest) mid) (sym weighs)
             (subst (λ (old : State). Arrives exact_ledger Looped wl (item_at q1 c) old mid) (now rest) step) in
-            let others : AllArrive exact_ledger (packets q1 u1) mid new = subst (λ (items : List Item). AllArrive exact_ledger items mid new) l.items later in
-            w.goes rest new acc (subst (λ (items : List Item). AllArrive exact_ledger items (with_net q s (unfinished q ds.datagrams) a rest) new) (sym f.items) (mid, first, others));
+            let others : AllArrive exact_ledger (packets q1 u1) mid new =
+            subst (λ (items : List Item). AllArrive exact_ledger items mid new) l.items later in
+            w.goes rest new acc
+            (subst (λ (items : List Item). AllArrive exact_ledger items
+            (with_net q s (unfinished q ds.datagrams) a rest) new) (sym f.items) (mid, first, others));
         parts = record {
           accounts = λ rest held acc. as_held held (numbers q2 u1)
               (subst (λ (h : Weight). IsAccounted q2 (with_net q2 s2 (unfinished q2 ds2.datagrams) b rest) (held ⊕ h))
@@ -153,7 +180,8 @@ one_more {v} {t} {u} {u1} {q} {q1} {q2} {s} {s2} {ds} {ds2} {a} {b} {c} tag w he
 
 -- ---- the end of the loop
 
-pub all_arrived : (v : NetView) (t : TrainView) (w : NetView) (u : TrainView) → AreArriving v t w u → u.len ≡ 0 → HaveArrived v t w
+pub all_arrived : (v : NetView) (t : TrainView) (w : NetView) (u : TrainView) → AreArriving v t w u → u.len ≡ 0
+    → HaveArrived v t w
 all_arrived v t w u way none = record {
   step = λ rest acc. way.goes rest (state_at w rest) acc
       (subst (λ (items : List Item). AllArrive exact_ledger items (state_at w rest) (state_at w rest))

@@ -26,7 +26,9 @@ use Rattle.net_stack.proofs.Lifted.{OutputKept, output_kept}
 abbrev pub net_chains : SendView → TableView → List ℕ
 net_chains u t = held_all u.pool t.datagrams ++ queued_chains u.pool u.socks.queues
 
-pub looped_owned : {v u : SendView} {r t : TableView} → AreParts v r u t → IsOwned v.pool (held_all v.pool r.datagrams ++ out_chains v) → IsOwned u.pool (numbers u.pool u.net.looped ++ net_chains u t)
+pub looped_owned : {v u : SendView} {r t : TableView} → AreParts v r u t
+    → IsOwned v.pool (held_all v.pool r.datagrams ++ out_chains v)
+    → IsOwned u.pool (numbers u.pool u.net.looped ++ net_chains u t)
 looped_owned {v} {u} {r} {t} is owned = λ k. omega (
   arith,
   owned_after is.moves owned k,
@@ -37,7 +39,8 @@ looped_owned {v} {u} {r} {t} is owned = λ k. omega (
   times-append k (held_all u.pool t.datagrams) (queued_chains u.pool u.socks.queues),
 )
 
-pub has_sent : {fd : ℕ} {to : Option Addr} {bytes : List ℕ} {v u : SendView} {r t t2 : TableView} {result : Result ℕ Errno} {q : PoolView} {s : SocksView} {c : Counters}
+pub has_sent : {fd : ℕ} {to : Option Addr} {bytes : List ℕ} {v u : SendView} {r t t2 : TableView}
+    {result : Result ℕ Errno} {q : PoolView} {s : SocksView} {c : Counters}
     → IsOwned v.pool (held_all v.pool r.datagrams ++ out_chains v) → IsTried fd to bytes v r result u t
     → HaveArrived (net_seen u.pool u.socks t u.net.counters) u.net.looped (net_seen q s t2 c) → IsReady q t2
     → HasSent fd to bytes v r result (sending q s (record (u.net) { looped = no_train; counters = c })) t2
@@ -49,22 +52,38 @@ has_sent {fd} {to} {bytes} {v} {u} {r} {t} {t2} {result} {q} {s} {c} owned tried
     let ys : List ℕ = numbers p u.net.out in
     let zs : List ℕ = queued_chains p u.socks.queues in
     let mid : IsOwned p (ls ++ (xs ++ (ys ++ zs))) = owned_after tried.parts.moves owned in
-    let split : (k : ℕ) → times k (ls ++ (xs ++ (ys ++ zs))) ≡ times k ls + (times k xs + (times k ys + times k zs)) = λ k. omega (arith, times-append k ls (xs ++ (ys ++ zs)), times-append k xs (ys ++ zs), times-append k ys zs) in
-    let before : (k : ℕ) → times k (ls ++ (xs ++ zs)) ≡ times k ls + (times k xs + times k zs) = λ k. omega (arith, times-append k ls (xs ++ zs), times-append k xs zs) in
-    let same : SameAt p q ys = same_beside ys arrived.parts.moves (λ k. omega (arith, mid k, split k)) (λ k h. omega (arith, h, mid k, split k, before k, live_at_most p k)) in
+    let split : (k : ℕ) → times k (ls ++ (xs ++ (ys ++ zs))) ≡ times k ls + (times k xs + (times k ys + times k zs)) =
+    λ k. omega (arith, times-append k ls (xs ++ (ys ++ zs)), times-append k xs (ys ++ zs), times-append k ys zs) in
+    let before : (k : ℕ) → times k (ls ++ (xs ++ zs)) ≡ times k ls + (times k xs + times k zs) =
+    λ k. omega (arith, times-append k ls (xs ++ zs), times-append k xs zs) in
+    let same : SameAt p q ys = same_beside ys arrived.parts.moves (λ k. omega (arith, mid k, split k))
+    (λ k h. omega (arith, h, mid k, split k, before k, live_at_most p k)) in
     let o : OutputKept p q u.net.out = output_kept p q u.net.out same tried.parts.out in
     let rest_of : State → State = λ rest. record rest { output = packets p u.net.out; next_id = u.net.next_id } in
-    let now : (rest : State) → machine (record rest { output = packets p u.net.out; next_id = u.net.next_id; unfinished = unfinished q t2.datagrams; counters = c }) (queues_of q s.queues) s.pcbs ≡ all_in w t2 rest =
-    λ rest i. machine (record rest { output = sym o.shows i; next_id = u.net.next_id; unfinished = unfinished q t2.datagrams; counters = c }) (queues_of q s.queues) s.pcbs in
+    let now : (rest : State)
+    → machine (record rest {
+      output = packets p u.net.out;
+      next_id = u.net.next_id;
+      unfinished = unfinished q t2.datagrams;
+      counters = c;
+    }) (queues_of q s.queues) s.pcbs ≡ all_in w t2 rest =
+    λ rest i. machine (record rest {
+      output = sym o.shows i;
+      next_id = u.net.next_id;
+      unfinished = unfinished q t2.datagrams;
+      counters = c;
+    }) (queues_of q s.queues) s.pcbs in
     record {
       step = λ rest mtu acc. tried.goes rest (all_in w t2 rest) mtu acc
-          (subst (λ (new : State). AllArrive exact_ledger (packets p u.net.looped) (all_in u t rest) new) (now rest) (arrived.step (rest_of rest) (tried.accounts rest acc)));
+          (subst (λ (new : State). AllArrive exact_ledger (packets p u.net.looped) (all_in u t rest) new) (now rest)
+          (arrived.step (rest_of rest) (tried.accounts rest acc)));
       socks = arrived.parts.ready;
       out = o.queue;
       none = refl;
       reass = ready;
       mtu = tried.parts.mtu;
-      moves = moves_trans tried.parts.moves (moves_beside (ls ++ (xs ++ (ys ++ zs))) (held_all q t2.datagrams ++ out_chains w) ys arrived.parts.moves
+      moves = moves_trans tried.parts.moves (moves_beside (ls ++ (xs ++ (ys ++ zs)))
+          (held_all q t2.datagrams ++ out_chains w) ys arrived.parts.moves
           (λ k. omega (arith, split k, before k))
           (λ k. omega (
             arith,

@@ -33,11 +33,15 @@ free_live config k = live_none (free_pool config) k (get-empty nat_cmp k)
 -- ---- the start
 
 -- the pool over a store of that size
-pub pool_of_store : (config : Config) (store : StoreView) (p : PoolView) → store ≡ free_store (record { mbufs = config.mbufs; clusters = config.clusters })
-    → p ≡ record { mbufs = length store.mbufs; clusters = length store.clusters; chains = finmap.empty } → p ≡ free_pool config
+pub pool_of_store : (config : Config) (store : StoreView) (p : PoolView)
+    → store ≡ free_store (record { mbufs = config.mbufs; clusters = config.clusters })
+    → p ≡ record { mbufs = length store.mbufs; clusters = length store.clusters; chains = finmap.empty }
+    → p ≡ free_pool config
 pool_of_store config store p e is =
-    let a : length store.mbufs ≡ config.mbufs = ap (λ (t : StoreView). length t.mbufs) e ∙ length-replicate config.mbufs None in
-    let b : length store.clusters ≡ config.clusters = ap (λ (t : StoreView). length t.clusters) e ∙ length-replicate config.clusters free_cluster in
+    let a : length store.mbufs ≡ config.mbufs = ap (λ (t : StoreView). length t.mbufs) e
+    ∙ length-replicate config.mbufs None in
+    let b : length store.clusters ≡ config.clusters = ap (λ (t : StoreView). length t.clusters) e
+    ∙ length-replicate config.clusters free_cluster in
     is ∙ (λ i. record { mbufs = a i; clusters = b i; chains = finmap.empty })
 
 -- the parts that a stack starts with
@@ -103,7 +107,8 @@ started config s is h = record {
 -- ---- the end
 
 -- a pool whose chains have all gone
-gone : (config : Config) (p q : PoolView) (xs : List ℕ) → config.mbufs ≡ p.mbufs → config.clusters ≡ p.clusters → IsAll p xs → Moves p xs q [] → q ≡ free_pool config
+gone : (config : Config) (p q : PoolView) (xs : List ℕ) → config.mbufs ≡ p.mbufs → config.clusters ≡ p.clusters
+    → IsAll p xs → Moves p xs q [] → q ≡ free_pool config
 gone config p q xs em ec all m = moves_nothing {p = free_pool config} {q = q} (record {
   mbufs = m.mbufs ∙ sym em;
   clusters = m.clusters ∙ sym ec;
@@ -116,41 +121,55 @@ pub record SocksGone (s : Fields) (q : PoolView) : Type 0 where
   pub reass : ReassKept s.host.pool q s.host.reass
   pub output : OutputKept s.host.pool q s.host.net.out
 
-pub socks_gone : (s : Fields) (q : PoolView) → IsStack (seen s) → Moves s.host.pool (queued_chains s.host.pool s.host.socks.queues) q [] → SocksGone s q
+pub socks_gone : (s : Fields) (q : PoolView) → IsStack (seen s)
+    → Moves s.host.pool (queued_chains s.host.pool s.host.socks.queues) q [] → SocksGone s q
 socks_gone s q is m =
     let p : PoolView = s.host.pool in
     let xs : List ℕ = held_all p s.host.reass.datagrams in
     let zs : List ℕ = numbers p s.host.net.out in
     let same : SameAt p q (xs ++ zs) =
-    same_beside (xs ++ zs) m (λ k. omega (arith, is.all k, split (seen s) k, times-append k xs zs)) (λ k h. omega (arith, h, is.all k, split (seen s) k, times-append k xs zs, live_at_most p k)) in
+    same_beside (xs ++ zs) m (λ k. omega (arith, is.all k, split (seen s) k, times-append k xs zs))
+    (λ k h. omega (arith, h, is.all k, split (seen s) k, times-append k xs zs, live_at_most p k)) in
     record {
-      reass = reass_kept p q s.host.reass (same_part p q (xs ++ zs) xs same (λ k. omega (arith, times-append k xs zs))) is.reass;
-      output = output_kept p q s.host.net.out (same_part p q (xs ++ zs) zs same (λ k. omega (arith, times-append k xs zs))) is.output;
+      reass = reass_kept p q s.host.reass (same_part p q (xs ++ zs) xs same (λ k. omega (arith, times-append k xs zs)))
+          is.reass;
+      output = output_kept p q s.host.net.out (same_part p q (xs ++ zs) zs same
+          (λ k. omega (arith, times-append k xs zs))) is.output;
     }
 
 -- once the unfinished datagrams ended too
 pub record ReassGone (s : Fields) (r : PoolView) : Type 0 where
   pub output : OutputKept s.host.pool r s.host.net.out
-  pub moves : Moves s.host.pool (held_all s.host.pool s.host.reass.datagrams ++ queued_chains s.host.pool s.host.socks.queues) r []
+  pub moves : Moves s.host.pool (held_all s.host.pool s.host.reass.datagrams
+      ++ queued_chains s.host.pool s.host.socks.queues) r []
 
-pub reass_gone : (s : Fields) (q r : PoolView) → IsStack (seen s) → Moves s.host.pool (queued_chains s.host.pool s.host.socks.queues) q [] → Moves q (held_all q s.host.reass.datagrams) r [] → ReassGone s r
+pub reass_gone : (s : Fields) (q r : PoolView) → IsStack (seen s)
+    → Moves s.host.pool (queued_chains s.host.pool s.host.socks.queues) q []
+    → Moves q (held_all q s.host.reass.datagrams) r [] → ReassGone s r
 reass_gone s q r is m n =
     let p : PoolView = s.host.pool in
     let xs : List ℕ = held_all p s.host.reass.datagrams in
     let ys : List ℕ = queued_chains p s.host.socks.queues in
     let zs : List ℕ = numbers p s.host.net.out in
-    let first : Moves p (xs ++ ys) q xs = moves_beside (xs ++ ys) xs xs m (λ k. omega (arith, times-append k xs ys)) (λ k. omega arith) in
-    let both : Moves p (xs ++ ys) r [] = moves_trans first (subst (λ (l : List ℕ). Moves q l r []) (socks_gone s q is m).reass.chains n) in
+    let first : Moves p (xs ++ ys) q xs = moves_beside (xs ++ ys) xs xs m (λ k. omega (arith, times-append k xs ys))
+    (λ k. omega arith) in
+    let both : Moves p (xs ++ ys) r [] = moves_trans first
+    (subst (λ (l : List ℕ). Moves q l r []) (socks_gone s q is m).reass.chains n) in
     record {
-      output = output_kept p r s.host.net.out (same_beside zs both (λ k. omega (arith, is.all k, times-append k (xs ++ ys) zs)) (λ k h. omega (arith, h, is.all k, times-append k (xs ++ ys) zs, live_at_most p k))) is.output;
+      output = output_kept p r s.host.net.out (same_beside zs both
+          (λ k. omega (arith, is.all k, times-append k (xs ++ ys) zs))
+          (λ k h. omega (arith, h, is.all k, times-append k (xs ++ ys) zs, live_at_most p k))) is.output;
       moves = both;
     }
 
 -- once all ended
-pub all_gone : (s : Fields) (r t : PoolView) → IsStack (seen s) → ReassGone s r → Moves r (numbers r s.host.net.out) t [] → t ≡ free_pool s.config
+pub all_gone : (s : Fields) (r t : PoolView) → IsStack (seen s) → ReassGone s r
+    → Moves r (numbers r s.host.net.out) t [] → t ≡ free_pool s.config
 all_gone s r t is g n =
     let p : PoolView = s.host.pool in
     let xs : List ℕ = held_all p s.host.reass.datagrams ++ queued_chains p s.host.socks.queues in
     let zs : List ℕ = numbers p s.host.net.out in
-    let first : Moves p (xs ++ zs) r zs = moves_beside (xs ++ zs) zs zs g.moves (λ k. omega (arith, times-append k xs zs)) (λ k. omega arith) in
-    gone s.config p t (chains_of (seen s)) is.mbufs is.clusters is.all (moves_trans first (subst (λ (l : List ℕ). Moves r l t []) g.output.chains n))
+    let first : Moves p (xs ++ zs) r zs = moves_beside (xs ++ zs) zs zs g.moves
+    (λ k. omega (arith, times-append k xs zs)) (λ k. omega arith) in
+    gone s.config p t (chains_of (seen s)) is.mbufs is.clusters is.all
+    (moves_trans first (subst (λ (l : List ℕ). Moves r l t []) g.output.chains n))

@@ -37,25 +37,35 @@ use Rattle.net_stack.proofs.Lifted.{ReassKept, reass_kept, OutputKept, output_ke
 
 -- ---- one test
 
-pub record IsOnce (fd : ℕ) (to : Option Addr) (bytes : List ℕ) (v : SendView) (r : TableView) (result : Result ℕ Errno) (u : SendView) : Type 0 where
+pub record IsOnce (fd : ℕ) (to : Option Addr) (bytes : List ℕ) (v : SendView) (r : TableView) (result : Result ℕ Errno)
+    (u : SendView) : Type 0 where
   pub step : (rest : State) → rest.config.mtu ≡ v.net.mtu → IsAccounted v.pool (all_in v r rest) nothing
-      → SendsOnce exact_ledger fd to bytes (all_in v r rest) (sent_reply result) (packets u.pool u.net.looped) (all_in u r rest)
-  pub accounts : (rest : State) → IsAccounted v.pool (all_in v r rest) nothing → IsAccounted u.pool (all_in u r rest) (weight_owned u.pool (numbers u.pool u.net.looped))
+      → SendsOnce exact_ledger fd to bytes (all_in v r rest) (sent_reply result) (packets u.pool u.net.looped)
+      (all_in u r rest)
+  pub accounts : (rest : State) → IsAccounted v.pool (all_in v r rest) nothing
+      → IsAccounted u.pool (all_in u r rest) (weight_owned u.pool (numbers u.pool u.net.looped))
   pub parts : AreParts v r u r
 
-pub once : {fd : ℕ} {to : Option Addr} {bytes : List ℕ} {v u : SendView} {r : TableView} {result : Result ℕ Errno} → IsSent fd to bytes v result u → IsReady v.pool r → IsOwned v.pool (held_all v.pool r.datagrams ++ out_chains v)
+pub once : {fd : ℕ} {to : Option Addr} {bytes : List ℕ} {v u : SendView} {r : TableView} {result : Result ℕ Errno}
+    → IsSent fd to bytes v result u → IsReady v.pool r → IsOwned v.pool (held_all v.pool r.datagrams ++ out_chains v)
     → IsOnce fd to bytes v r result u
 once {fd} {to} {bytes} {v} {u} {r} {result} is ready owned =
     let p : PoolView = v.pool in
     let q : PoolView = u.pool in
     let xs : List ℕ = held_all p r.datagrams in
-    let same : SameAt p q xs = same_beside xs is.moves (λ k. omega (arith, owned k, times-append k xs (out_chains v))) (λ k h. omega (arith, h, owned k, times-append k xs (out_chains v), live_at_most p k)) in
+    let same : SameAt p q xs = same_beside xs is.moves (λ k. omega (arith, owned k, times-append k xs (out_chains v)))
+    (λ k h. omega (arith, h, owned k, times-append k xs (out_chains v), live_at_most p k)) in
     let rk : ReassKept p q r = reass_kept p q r same ready in
-    let now : (rest : State) → state_in u (record rest { unfinished = unfinished p r.datagrams }) ≡ all_in u r rest = λ rest i. state_in u (record rest { unfinished = sym rk.shows i }) in
+    let now : (rest : State) → state_in u (record rest { unfinished = unfinished p r.datagrams }) ≡ all_in u r rest =
+    λ rest i. state_in u (record rest { unfinished = sym rk.shows i }) in
     record {
-      step = λ rest mtu acc. subst (λ (t : State). SendsOnce exact_ledger fd to bytes (all_in v r rest) (sent_reply result) (packets q u.net.looped) t) (now rest) (is.step (record rest { unfinished = unfinished p r.datagrams }) mtu acc);
+      step = λ rest mtu acc. subst (λ (t : State). SendsOnce exact_ledger fd to bytes (all_in v r rest)
+          (sent_reply result) (packets q u.net.looped) t) (now rest)
+          (is.step (record rest { unfinished = unfinished p r.datagrams }) mtu acc);
       accounts = λ rest acc. subst (λ (t : State). IsAccounted q t (weight_owned q (numbers q u.net.looped))) (now rest)
-          (subst (λ (w : Weight). IsAccounted q (state_in u (record rest { unfinished = unfinished p r.datagrams })) w) (output_weighs q (numbers q u.net.looped)) (is.accounts (record rest { unfinished = unfinished p r.datagrams }) acc));
+          (subst (λ (w : Weight). IsAccounted q (state_in u (record rest { unfinished = unfinished p r.datagrams })) w)
+          (output_weighs q (numbers q u.net.looped))
+          (is.accounts (record rest { unfinished = unfinished p r.datagrams }) acc));
       parts = record {
         socks = is.socks;
         out = is.out;
@@ -63,7 +73,8 @@ once {fd} {to} {bytes} {v} {u} {r} {result} is ready owned =
         plain = is.plain;
         reass = rk.table;
         mtu = is.mtu;
-        moves = moves_beside (xs ++ out_chains v) (numbers q u.net.looped ++ (held_all q r.datagrams ++ out_chains u)) xs is.moves
+        moves = moves_beside (xs ++ out_chains v) (numbers q u.net.looped ++ (held_all q r.datagrams ++ out_chains u))
+            xs is.moves
             (λ k. omega (arith, times-append k xs (out_chains v)))
             (λ k. omega (
               arith,
@@ -110,7 +121,8 @@ pub record WasLack (v : SendView) (result : Result ℕ Errno) (u : SendView) : T
   pub reply : sent_reply result ≡ Refused (NoBufs Pool)
   pub same : u ≡ v
 
-pub was_lack : {fd : ℕ} {to : Option Addr} {bytes : List ℕ} {v u : SendView} (result : Result ℕ Errno) → lacks_pool result ≡ true → IsSent fd to bytes v result u → WasLack v result u
+pub was_lack : {fd : ℕ} {to : Option Addr} {bytes : List ℕ} {v u : SendView} (result : Result ℕ Errno)
+    → lacks_pool result ≡ true → IsSent fd to bytes v result u → WasLack v result u
 was_lack {v = v} {u = u} (Ok n) h is = absurd (true≢false (sym h))
 was_lack {v = v} {u = u} (Err errno) h is = record { reply = ap Refused (lack_is errno h); same = go is.refused }
   where
@@ -120,9 +132,12 @@ was_lack {v = v} {u = u} (Err errno) h is = record { reply = ap Refused (lack_is
 
 -- ---- at once
 
-pub tried_at_once : {fd : ℕ} {to : Option Addr} {bytes : List ℕ} {v u : SendView} {r : TableView} {result : Result ℕ Errno} → lacks_pool result ≡ false → IsOnce fd to bytes v r result u → IsTried fd to bytes v r result u r
+pub tried_at_once : {fd : ℕ} {to : Option Addr} {bytes : List ℕ} {v u : SendView} {r : TableView}
+    {result : Result ℕ Errno} → lacks_pool result ≡ false → IsOnce fd to bytes v r result u
+    → IsTried fd to bytes v r result u r
 tried_at_once {fd} {to} {bytes} {v} {u} {r} {result} enough is = record {
-  goes = λ rest new mtu acc all. sends_at_once fd to bytes (all_in v r rest) (sent_reply result) (packets u.pool u.net.looped) (all_in u r rest) new (no_lack result enough) (is.step rest mtu acc) all;
+  goes = λ rest new mtu acc all. sends_at_once fd to bytes (all_in v r rest) (sent_reply result)
+      (packets u.pool u.net.looped) (all_in u r rest) new (no_lack result enough) (is.step rest mtu acc) all;
   accounts = is.accounts;
   parts = is.parts;
 }
@@ -131,31 +146,47 @@ tried_at_once {fd} {to} {bytes} {v} {u} {r} {result} enough is = record {
 
 pub record IsReclaimed (v : SendView) (r : TableView) (q : PoolView) (t : TableView) (c : Counters) : Type 0 where
   pub can : CanSend (sending q v.socks (record (v.net) { counters = c }))
-  pub shows : (rest : State) → all_in (sending q v.socks (record (v.net) { counters = c })) t rest ≡ reclaimed (all_in v r rest)
-  pub accounts : (rest : State) → IsAccounted v.pool (all_in v r rest) nothing → IsAccounted q (all_in (sending q v.socks (record (v.net) { counters = c })) t rest) nothing
+  pub shows : (rest : State) → all_in (sending q v.socks (record (v.net) { counters = c })) t rest
+      ≡ reclaimed (all_in v r rest)
+  pub accounts : (rest : State) → IsAccounted v.pool (all_in v r rest) nothing
+      → IsAccounted q (all_in (sending q v.socks (record (v.net) { counters = c })) t rest) nothing
   pub owned : IsOwned q (held_all q t.datagrams ++ out_chains (sending q v.socks (record (v.net) { counters = c })))
-  pub moves : Moves v.pool (held_all v.pool r.datagrams ++ out_chains v) q (held_all q t.datagrams ++ out_chains (sending q v.socks (record (v.net) { counters = c })))
+  pub moves : Moves v.pool (held_all v.pool r.datagrams ++ out_chains v) q
+      (held_all q t.datagrams ++ out_chains (sending q v.socks (record (v.net) { counters = c })))
 
 none_of : {X : Type 0} (xs : List X) → length xs ≡ 0 → xs ≡ []
 none_of [] e = refl
 none_of (x ∷ xs) e = absurd (omega arith)
 
-pub gives_back : {v : SendView} {r t : TableView} {q : PoolView} {c : Counters} (k : ℕ) → CanSend v → IsReady v.pool r → IsOwned v.pool (held_all v.pool r.datagrams ++ out_chains v) → length t.datagrams ≡ 0 → k ≡ length r.datagrams
-    → c ≡ counts_more IpReclaimed k v.net.counters → Moves v.pool (held_all v.pool r.datagrams) q [] → IsReclaimed v r q t c
+pub gives_back : {v : SendView} {r t : TableView} {q : PoolView} {c : Counters} (k : ℕ) → CanSend v → IsReady v.pool r
+    → IsOwned v.pool (held_all v.pool r.datagrams ++ out_chains v) → length t.datagrams ≡ 0 → k ≡ length r.datagrams
+    → c ≡ counts_more IpReclaimed k v.net.counters → Moves v.pool (held_all v.pool r.datagrams) q []
+    → IsReclaimed v r q t c
 gives_back {v} {r} {t} {q} {c} k can ready owned none count is_c m =
     let p : PoolView = v.pool in
     let w : SendView = sending q v.socks (record (v.net) { counters = c }) in
     let xs : List ℕ = held_all p r.datagrams in
     let ys : List ℕ = numbers p v.net.out in
     let zs : List ℕ = queued_chains p v.socks.queues in
-    let split : (j : ℕ) → times j (xs ++ out_chains v) ≡ times j xs + (times j ys + times j zs) = λ j. omega (arith, times-append j xs (ys ++ zs), times-append j ys zs) in
-    let same : SameAt p q (ys ++ zs) = same_beside (ys ++ zs) m (λ j. omega (arith, owned j, split j, times-append j ys zs)) (λ j h. omega (arith, h, owned j, split j, times-append j ys zs, live_at_most p j)) in
-    let o : OutputKept p q v.net.out = output_kept p q v.net.out (same_part p q (ys ++ zs) ys same (λ j. omega (arith, times-append j ys zs))) can.out in
-    let s : Kept p q v.socks = kept p q v.socks (same_part p q (ys ++ zs) zs same (λ j. omega (arith, times-append j ys zs))) can.socks in
+    let split : (j : ℕ) → times j (xs ++ out_chains v) ≡ times j xs + (times j ys + times j zs) =
+    λ j. omega (arith, times-append j xs (ys ++ zs), times-append j ys zs) in
+    let same : SameAt p q (ys ++ zs) = same_beside (ys ++ zs) m
+    (λ j. omega (arith, owned j, split j, times-append j ys zs))
+    (λ j h. omega (arith, h, owned j, split j, times-append j ys zs, live_at_most p j)) in
+    let o : OutputKept p q v.net.out = output_kept p q v.net.out
+    (same_part p q (ys ++ zs) ys same (λ j. omega (arith, times-append j ys zs))) can.out in
+    let s : Kept p q v.socks = kept p q v.socks (same_part p q (ys ++ zs) zs same
+    (λ j. omega (arith, times-append j ys zs))) can.socks in
     let empty : t.datagrams ≡ [] = none_of t.datagrams none in
-    let counts : c ≡ counts_more IpReclaimed (length (unfinished p r.datagrams)) v.net.counters = is_c ∙ ap (λ (n : ℕ). counts_more IpReclaimed n v.net.counters) (count ∙ sym (length-unfinished p r.datagrams)) in
+    let counts : c ≡ counts_more IpReclaimed (length (unfinished p r.datagrams)) v.net.counters = is_c
+    ∙ ap (λ (n : ℕ). counts_more IpReclaimed n v.net.counters) (count ∙ sym (length-unfinished p r.datagrams)) in
     let now : (rest : State) → all_in w t rest ≡ reclaimed (all_in v r rest) =
-    λ rest i. machine (record rest { unfinished = unfinished q (empty i); output = o.shows i; next_id = v.net.next_id; counters = counts i }) (λ fd. s.shows fd i) v.socks.pcbs in
+    λ rest i. machine (record rest {
+      unfinished = unfinished q (empty i);
+      output = o.shows i;
+      next_id = v.net.next_id;
+      counters = counts i;
+    }) (λ fd. s.shows fd i) v.socks.pcbs in
     let all : Moves p (xs ++ out_chains v) q (held_all q t.datagrams ++ out_chains w) =
     moves_beside (xs ++ out_chains v) (held_all q t.datagrams ++ out_chains w) (ys ++ zs) m
     (λ j. omega (arith, split j, times-append j ys zs))
@@ -174,7 +205,8 @@ gives_back {v} {r} {t} {q} {c} k can ready owned none count is_c m =
         socks = s.ready;
         out = o.queue;
         owned = λ j. omega (arith, left j, times-append j (held_all q t.datagrams) (out_chains w));
-        looped = held_same p q v.net.looped (same_part p q (ys ++ zs) (numbers p v.net.looped) same (λ j. omega (arith, ap (times j) (none_left p v.net.looped can.none)))) can.looped;
+        looped = held_same p q v.net.looped (same_part p q (ys ++ zs) (numbers p v.net.looped) same
+            (λ j. omega (arith, ap (times j) (none_left p v.net.looped can.none)))) can.looped;
         none = can.none;
         mtu = can.mtu;
         apart = can.apart;
@@ -183,7 +215,8 @@ gives_back {v} {r} {t} {q} {c} k can ready owned none count is_c m =
       shows = now;
       accounts = λ rest acc. subst (λ (x : State). IsAccounted q x nothing) (sym (now rest))
           (let old : State = all_in v r rest in
-          let ws : Weight = all_of (λ (socket : Socket). all_of (λ d. d.item.weight) socket.queue) (sockets_with (queues_of p v.socks.queues) v.socks.pcbs) in
+          let ws : Weight = all_of (λ (socket : Socket). all_of (λ d. d.item.weight) socket.queue)
+          (sockets_with (queues_of p v.socks.queues) v.socks.pcbs) in
           let wu : Weight = all_of (λ (u : Unfinished). mbuf ⊕ weight_of_pieces u.bytes) (unfinished p r.datagrams) in
           let wo : Weight = all_of (λ (item : Item). item.weight) (packets p v.net.out) in
           let of_table : SameWeight (weight_owned p xs) wu = table_weighs p r.datagrams ready.table.each in
@@ -206,13 +239,19 @@ gives_back {v} {r} {t} {q} {c} k can ready owned none count is_c m =
 
 -- ---- once more
 
-pub tried_again : {fd : ℕ} {to : Option Addr} {bytes : List ℕ} {v u w : SendView} {r t : TableView} {first result : Result ℕ Errno} {q : PoolView} {c : Counters}
-    → WasLack v first u → IsOnce fd to bytes v r first u → IsReclaimed v r q t c → IsOnce fd to bytes (sending q v.socks (record (v.net) { counters = c })) t result w → IsTried fd to bytes v r result w t
+pub tried_again : {fd : ℕ} {to : Option Addr} {bytes : List ℕ} {v u w : SendView} {r t : TableView}
+    {first result : Result ℕ Errno} {q : PoolView} {c : Counters}
+    → WasLack v first u → IsOnce fd to bytes v r first u → IsReclaimed v r q t c
+    → IsOnce fd to bytes (sending q v.socks (record (v.net) { counters = c })) t result w
+    → IsTried fd to bytes v r result w t
 tried_again {fd} {to} {bytes} {v} {u} {w} {r} {t} {first} {result} {q} {c} lack one back two = record {
   goes = λ rest new mtu acc all.
-      sends_again fd to bytes (all_in v r rest) (packets u.pool u.net.looped) (all_in u r rest) (sent_reply result) (packets w.pool w.net.looped) (all_in w t rest) new
-      (subst (λ (reply : Reply). SendsOnce exact_ledger fd to bytes (all_in v r rest) reply (packets u.pool u.net.looped) (all_in u r rest)) lack.reply (one.step rest mtu acc))
-      (subst (λ (old : State). SendsOnce exact_ledger fd to bytes old (sent_reply result) (packets w.pool w.net.looped) (all_in w t rest)) (back.shows rest) (two.step rest mtu (back.accounts rest acc)))
+      sends_again fd to bytes (all_in v r rest) (packets u.pool u.net.looped) (all_in u r rest) (sent_reply result)
+      (packets w.pool w.net.looped) (all_in w t rest) new
+      (subst (λ (reply : Reply). SendsOnce exact_ledger fd to bytes (all_in v r rest) reply
+      (packets u.pool u.net.looped) (all_in u r rest)) lack.reply (one.step rest mtu acc))
+      (subst (λ (old : State). SendsOnce exact_ledger fd to bytes old (sent_reply result) (packets w.pool w.net.looped)
+      (all_in w t rest)) (back.shows rest) (two.step rest mtu (back.accounts rest acc)))
       all;
   accounts = λ rest acc. two.accounts rest (back.accounts rest acc);
   parts = record {

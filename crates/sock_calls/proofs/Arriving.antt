@@ -39,28 +39,37 @@ pub laid_weight : (es : List Entry) → flat.weight_of (laid es) ≡ weight_of e
 laid_weight [] = refl
 laid_weight (e ∷ es) = go e.cluster (laid_weight es)
   where
-    go : (o : Option ℕ) → flat.weight_of (laid es) ≡ weight_of es → flat.weight_of (laid (record { bytes = e.bytes; start = e.start; cluster = o } ∷ es)) ≡ weight_of (record { bytes = e.bytes; start = e.start; cluster = o } ∷ es)
+    go : (o : Option ℕ) → flat.weight_of (laid es) ≡ weight_of es
+        → flat.weight_of (laid (record { bytes = e.bytes; start = e.start; cluster = o } ∷ es))
+        ≡ weight_of (record { bytes = e.bytes; start = e.start; cluster = o } ∷ es)
     go None later = λ i. record { mbufs = suc (later i).mbufs; bag = (later i).bag }
     go (Some k) later = λ i. record { mbufs = suc (later i).mbufs; bag = k ∷ (later i).bag }
 
-kept_weight : {p q : PoolView} {c d : ℕ} {h : IpHead} {t : Table} {to : List ℕ} {from : Addr} → udp.IsDelivered p c h t q to from d → weight_at q d ≡ weight_at p c
+kept_weight : {p q : PoolView} {c d : ℕ} {h : IpHead} {t : Table} {to : List ℕ} {from : Addr}
+    → udp.IsDelivered p c h t q to from d → weight_at q d ≡ weight_at p c
 kept_weight {p} {q} {c} {d} is =
     ap (λ (k : ℕ). weight_of (chain_of q k).entries) is.same
     ∙ ap (λ (v : ChainView). weight_of v.entries) (shown_with p q c _ is.chain)
     ∙ sym (laid_weight _) ∙ data_weight _ (chain_of p c) ∙ laid_weight (chain_of p c).entries
 
 -- ---- the sockets that hear it
-sockets_are : (f : Queues) (t : Table) (found : List Block) → Each (λ (b : Block). block_at b.fd t ≡ Some b) found → map (socket_with f) found ≡ sockets_named f t (map (λ b. b.fd) found)
+sockets_are : (f : Queues) (t : Table) (found : List Block) → Each (λ (b : Block). block_at b.fd t ≡ Some b) found
+    → map (socket_with f) found ≡ sockets_named f t (map (λ b. b.fd) found)
 sockets_are f t [] hs = refl
-sockets_are f t (b ∷ bs) hs = let here : socket_with f b ≡ socket_named f t b.fd = sym (named_is f t b.fd b hs.0) in λ i. here i ∷ sockets_are f t bs hs.1 i
+sockets_are f t (b ∷ bs) hs = let here : socket_with f b ≡ socket_named f t b.fd =
+    sym (named_is f t b.fd b hs.0) in λ i. here i ∷ sockets_are f t bs hs.1 i
 
-open_all : (t : Table) (found : List Block) → Each (λ (b : Block). block_at b.fd t ≡ Some b) found → Each (λ (fd : ℕ). IsOpen fd t) (map (λ b. b.fd) found)
+open_all : (t : Table) (found : List Block) → Each (λ (b : Block). block_at b.fd t ≡ Some b) found
+    → Each (λ (fd : ℕ). IsOpen fd t) (map (λ b. b.fd) found)
 open_all t [] hs = tt
 open_all t (b ∷ bs) hs = (ap is_some hs.0, open_all t bs hs.1)
 
-pub all_open : (t : Table) (destination : ℕ) (q : LookupKey) (fds : List ℕ) → udp.AreHearers t destination q fds → All (λ (fd : ℕ). IsOpen fd t) fds
+pub all_open : (t : Table) (destination : ℕ) (q : LookupKey) (fds : List ℕ) → udp.AreHearers t destination q fds
+    → All (λ (fd : ℕ). IsOpen fd t) fds
 all_open t destination q fds h =
-    subst (All (λ (fd : ℕ). IsOpen fd t)) (sym h.named) (All-from_recursion (λ (fd : ℕ). IsOpen fd t) (map (λ b. b.fd) h.found) (open_all t h.found (recursion_from_All (λ (b : Block). block_at b.fd t ≡ Some b) h.found h.held)))
+    subst (All (λ (fd : ℕ). IsOpen fd t)) (sym h.named)
+    (All-from_recursion (λ (fd : ℕ). IsOpen fd t) (map (λ b. b.fd) h.found)
+    (open_all t h.found (recursion_from_All (λ (b : Block). block_at b.fd t ≡ Some b) h.found h.held)))
 
 -- ---- what the delivery asks for
 pub record Reached (p : PoolView) (c : ℕ) (xs : List ℕ) (s : SocksView) (q : PoolView) (d : ℕ) : Type 0 where
@@ -69,11 +78,17 @@ pub record Reached (p : PoolView) (c : ℕ) (xs : List ℕ) (s : SocksView) (q :
   pub owned : IsOwned q (d ∷ (xs ++ queued_chains q s.queues))
   pub moves : Moves p (c ∷ (xs ++ queued_chains p s.queues)) q (d ∷ (xs ++ queued_chains q s.queues))
 
-pub reached : (p q : PoolView) (c d : ℕ) (xs : List ℕ) (s : SocksView) → IsOwned p (c ∷ (xs ++ queued_chains p s.queues)) → IsSocks p s → Moves p (c ∷ []) q (d ∷ []) → Reached p c xs s q d
+pub reached : (p q : PoolView) (c d : ℕ) (xs : List ℕ) (s : SocksView)
+    → IsOwned p (c ∷ (xs ++ queued_chains p s.queues)) → IsSocks p s → Moves p (c ∷ []) q (d ∷ [])
+    → Reached p c xs s q d
 reached p q c d xs s o r m =
     let ys : List ℕ = queued_chains p s.queues in
-    let all : SameAt p q (xs ++ ys) = same_beside (xs ++ ys) m (λ k. omega (arith, o k)) (λ k h. omega (arith, o k, h, live_at_most p k)) in
-    let k : Kept p q s = kept p q s (record { same = λ j h. all.same j (omega (arith, h, times-append j xs ys)); mbufs = all.mbufs }) r in
+    let all : SameAt p q (xs ++ ys) = same_beside (xs ++ ys) m (λ k. omega (arith, o k))
+    (λ k h. omega (arith, o k, h, live_at_most p k)) in
+    let k : Kept p q s = kept p q s (record {
+      same = λ j h. all.same j (omega (arith, h, times-append j xs ys));
+      mbufs = all.mbufs;
+    }) r in
     let mv : Moves p (c ∷ (xs ++ ys)) q (d ∷ (xs ++ queued_chains q s.queues)) =
     subst (λ (l : List ℕ). Moves p (c ∷ (xs ++ ys)) q (d ∷ (xs ++ l))) (sym k.chains)
     (moves_beside (c ∷ (xs ++ ys)) (d ∷ (xs ++ ys)) (xs ++ ys) m (λ k. omega arith) (λ k. omega arith)) in
@@ -85,7 +100,9 @@ reached p q c d xs s o r m =
     }
 
 -- ---- both ends
-same_accounts : {p q : PoolView} {s : State} (held : Weight) (c d : ℕ) → IsAccounted p s (held ⊕ weight_at p c) → IsOwned p (c ∷ []) → Moves p (c ∷ []) q (d ∷ []) → weight_at q d ≡ weight_at p c → IsAccounted q s (held ⊕ weight_at q d)
+same_accounts : {p q : PoolView} {s : State} (held : Weight) (c d : ℕ) → IsAccounted p s (held ⊕ weight_at p c)
+    → IsOwned p (c ∷ []) → Moves p (c ∷ []) q (d ∷ []) → weight_at q d ≡ weight_at p c
+    → IsAccounted q s (held ⊕ weight_at q d)
 same_accounts {p} {q} {s} held c d a o m e =
     accounted_after a m o refl (record {
       mbufs = omega (arith, ap (λ (w : Weight). w.mbufs) e);
@@ -101,70 +118,108 @@ same_accounts {p} {q} {s} held c d a o m e =
       );
     })
 
-pub delivered_input : {p q r : PoolView} {t u : Table} {bs cs : List SockBufView} {us vs ws : List Unfinished} {xs ys zs : List ℕ} {c e : Counters} {chain d : ℕ} {h : IpHead} {to : List ℕ} {from : Addr}
-    → IsSocks p (record { pcbs = t; queues = bs }) → IsOwned p (chain ∷ (xs ++ queued_chains p bs)) → udp.IsDelivered p chain h t q to from d → Moves p (chain ∷ []) q (d ∷ []) → vs ≡ us → ys ≡ xs
-    → IsDelivered (seen q (record { pcbs = t; queues = bs }) vs ys c) d to from (seen r (record { pcbs = u; queues = cs }) ws zs e)
-    → IsInput (seen p (record { pcbs = t; queues = bs }) us xs c) chain h.src h.dst h.proto (seen r (record { pcbs = u; queues = cs }) ws zs e)
-delivered_input {p} {q} {r} {t} {u} {bs} {cs} {us} {vs} {ws} {xs} {ys} {zs} {c} {e} {chain} {d} {h} {to} {from} socks owned is m same_vs same_ys done =
+pub delivered_input : {p q r : PoolView} {t u : Table} {bs cs : List SockBufView} {us vs ws : List Unfinished}
+    {xs ys zs : List ℕ} {c e : Counters} {chain d : ℕ} {h : IpHead} {to : List ℕ} {from : Addr}
+    → IsSocks p (record { pcbs = t; queues = bs }) → IsOwned p (chain ∷ (xs ++ queued_chains p bs))
+    → udp.IsDelivered p chain h t q to from d → Moves p (chain ∷ []) q (d ∷ []) → vs ≡ us → ys ≡ xs
+    → IsDelivered (seen q (record { pcbs = t; queues = bs }) vs ys c) d to from
+    (seen r (record { pcbs = u; queues = cs }) ws zs e)
+    → IsInput (seen p (record { pcbs = t; queues = bs }) us xs c) chain h.src h.dst h.proto
+    (seen r (record { pcbs = u; queues = cs }) ws zs e)
+delivered_input {p} {q} {r} {t} {u} {bs} {cs} {us} {vs} {ws} {xs} {ys} {zs} {c} {e} {chain} {d} {h} {to} {from} socks
+    owned is m same_vs same_ys done =
     let s : SocksView = record { pcbs = t; queues = bs } in
     let x = reached p q chain d xs s owned socks m in
     let heavy : weight_at q d ≡ weight_at p chain = kept_weight is in
-    let now : (rest : State) → with_net q s vs c rest ≡ with_net p s us c rest = λ rest. shows_same p q t bs c rest x.socks.shows same_vs in
+    let now : (rest : State) → with_net q s vs c rest ≡ with_net p s us c rest =
+    λ rest. shows_same p q t bs c rest x.socks.shows same_vs in
     let item : item_at q d ≡ record { bytes = udp_bytes (string (chain_of p chain)); weight = weight_at p chain } =
     λ i. record { bytes = (ap (λ (k : ℕ). string (chain_of q k)) is.same ∙ is.bytes) i; weight = heavy i } in
-    let accounts : (rest : State) (held : Weight) → IsAccounted p (with_net p s us c rest) (held ⊕ weight_at p chain) → IsAccounted q (with_net q s vs c rest) (held ⊕ weight_at q d) = λ rest held a.
-    subst (λ (m : State). IsAccounted q m (held ⊕ weight_at q d)) (sym (now rest)) (same_accounts held chain d a (λ k. omega (arith, owned k)) m heavy) in
+    let accounts : (rest : State) (held : Weight) → IsAccounted p (with_net p s us c rest) (held ⊕ weight_at p chain)
+    → IsAccounted q (with_net q s vs c rest) (held ⊕ weight_at q d) = λ rest held a.
+    subst (λ (m : State). IsAccounted q m (held ⊕ weight_at q d)) (sym (now rest))
+    (same_accounts held chain d a (λ k. omega (arith, owned k)) m heavy) in
     let named : (f : Queues) → sockets_named f t to ≡ map (socket_with f) is.heard.found = λ f.
-    ap (sockets_named f t) is.heard.named ∙ sym (sockets_are f t is.heard.found (recursion_from_All (λ (b : Block). block_at b.fd t ≡ Some b) is.heard.found is.heard.held)) in
+    ap (sockets_named f t) is.heard.named
+    ∙ sym (sockets_are f t is.heard.found (recursion_from_All (λ (b : Block). block_at b.fd t ≡ Some b)
+    is.heard.found is.heard.held)) in
     record {
       step = λ rest held a.
           let new : State = with_net r (record { pcbs = u; queues = cs }) ws e rest in
           let one = done.step rest held (accounts rest held a) in
-          let two = subst (λ (i : Item). Delivers exact_ledger held from i (sockets_named (queues_of q bs) t to) (with_net q s vs c rest) new) item one in
-          let three = subst (λ (l : List Socket). Delivers exact_ledger held from (record { bytes = udp_bytes (string (chain_of p chain)); weight = weight_at p chain }) l (with_net q s vs c rest) new) (named (queues_of q bs)) two in
-          subst (λ (old : State). WholeArrives exact_ledger held h.src h.dst h.proto (item_at p chain) old new) (now rest)
-          (delivered_arrives exact_ledger held p q chain d h t to from (weight_at p chain) is (record rest { unfinished = vs; counters = c }) new (queues_of q bs) three);
+          let two = subst (λ (i : Item). Delivers exact_ledger held from i (sockets_named (queues_of q bs) t to)
+          (with_net q s vs c rest) new) item one in
+          let three = subst (λ (l : List Socket). Delivers exact_ledger held from
+          (record { bytes = udp_bytes (string (chain_of p chain)); weight = weight_at p chain }) l
+          (with_net q s vs c rest) new) (named (queues_of q bs)) two in
+          subst (λ (old : State). WholeArrives exact_ledger held h.src h.dst h.proto (item_at p chain) old new)
+          (now rest)
+          (delivered_arrives exact_ledger held p q chain d h t to from (weight_at p chain) is
+          (record rest { unfinished = vs; counters = c }) new (queues_of q bs) three);
       parts = record {
         accounts = λ rest held a. done.parts.accounts rest held (accounts rest held a);
         ready = done.parts.ready;
         pcbs = done.parts.pcbs;
-        moves = moves_trans x.moves (subst (λ (l : List ℕ). Moves q (d ∷ (l ++ queued_chains q bs)) r (zs ++ queued_chains r cs)) same_ys done.parts.moves);
+        moves = moves_trans x.moves
+            (subst (λ (l : List ℕ). Moves q (d ∷ (l ++ queued_chains q bs)) r (zs ++ queued_chains r cs)) same_ys
+            done.parts.moves);
       };
     }
 
-pub dropped_input : {p q : PoolView} {t : Table} {bs : List SockBufView} {us vs : List Unfinished} {xs ys : List ℕ} {c e : Counters} {chain : ℕ} {h : IpHead} (why : Why)
-    → IsSocks p (record { pcbs = t; queues = bs }) → IsOwned p (chain ∷ (xs ++ queued_chains p bs)) → udp.IsDropped p chain h t q why → (SameAt p q xs → vs ≡ us) → (SameAt p q xs → ys ≡ xs) → e ≡ counted why c
-    → IsInput (seen p (record { pcbs = t; queues = bs }) us xs c) chain h.src h.dst h.proto (seen q (record { pcbs = t; queues = bs }) vs ys e)
+pub dropped_input : {p q : PoolView} {t : Table} {bs : List SockBufView} {us vs : List Unfinished} {xs ys : List ℕ}
+    {c e : Counters} {chain : ℕ} {h : IpHead} (why : Why)
+    → IsSocks p (record { pcbs = t; queues = bs }) → IsOwned p (chain ∷ (xs ++ queued_chains p bs))
+    → udp.IsDropped p chain h t q why → (SameAt p q xs → vs ≡ us) → (SameAt p q xs → ys ≡ xs) → e ≡ counted why c
+    → IsInput (seen p (record { pcbs = t; queues = bs }) us xs c) chain h.src h.dst h.proto
+    (seen q (record { pcbs = t; queues = bs }) vs ys e)
 dropped_input {p} {q} {t} {bs} {us} {vs} {xs} {ys} {c} {e} {chain} {h} why socks owned is same_vs same_ys is_e =
     let s : SocksView = record { pcbs = t; queues = bs } in
     let gone = freed p q chain xs s owned socks is.freed in
-    let now : (rest : State) → with_net q s vs e rest ≡ ends why (with_net p s us c rest) = λ rest. ends_here p q t bs c why rest gone.socks.shows (same_vs gone.same) is_e in
+    let now : (rest : State) → with_net q s vs e rest ≡ ends why (with_net p s us c rest) =
+    λ rest. ends_here p q t bs c why rest gone.socks.shows (same_vs gone.same) is_e in
     record {
       step = λ rest held a.
-          subst (λ (new : State). WholeArrives exact_ledger held h.src h.dst h.proto (item_at p chain) (with_net p s us c rest) new) (sym (now rest))
-          (dropped_arrives exact_ledger held p q chain h t why (weight_at p chain) is (record rest { unfinished = us; counters = c }) (queues_of p bs));
+          subst (λ (new : State). WholeArrives exact_ledger held h.src h.dst h.proto (item_at p chain)
+          (with_net p s us c rest) new) (sym (now rest))
+          (dropped_arrives exact_ledger held p q chain h t why (weight_at p chain) is
+          (record rest { unfinished = us; counters = c }) (queues_of p bs));
       parts = record {
-        accounts = λ rest held a. subst (λ (x : State). IsAccounted q x held) (sym (now rest)) (freed_accounts chain why a (λ k. omega (arith, owned k)) is.freed);
+        accounts = λ rest held a. subst (λ (x : State). IsAccounted q x held) (sym (now rest))
+            (freed_accounts chain why a (λ k. omega (arith, owned k)) is.freed);
         ready = gone.socks.ready;
         pcbs = refl;
-        moves = subst (λ (zs : List ℕ). Moves p (chain ∷ (xs ++ queued_chains p bs)) q (zs ++ queued_chains q bs)) (sym (same_ys gone.same)) gone.moves;
+        moves = subst (λ (zs : List ℕ). Moves p (chain ∷ (xs ++ queued_chains p bs)) q (zs ++ queued_chains q bs))
+            (sym (same_ys gone.same)) gone.moves;
       };
     }
 
 -- the table that the look-up leaves is the same
-pub delivered_to : {p q r : PoolView} {t t' u : Table} {bs cs : List SockBufView} {us vs ws : List Unfinished} {xs ys zs : List ℕ} {c e : Counters} {chain d : ℕ} {h : IpHead} {to fds : List ℕ} {from : Addr}
-    → IsSocks p (record { pcbs = t; queues = bs }) → IsOwned p (chain ∷ (xs ++ queued_chains p bs)) → udp.IsDelivered p chain h t q to from d → Moves p (chain ∷ []) q (d ∷ []) → vs ≡ us → ys ≡ xs → t' ≡ t → fds ≡ to
-    → IsDelivered (seen q (record { pcbs = t'; queues = bs }) vs ys c) d fds from (seen r (record { pcbs = u; queues = cs }) ws zs e)
-    → IsInput (seen p (record { pcbs = t; queues = bs }) us xs c) chain h.src h.dst h.proto (seen r (record { pcbs = u; queues = cs }) ws zs e)
-delivered_to {p} {q} {r} {t} {t'} {u} {bs} {cs} {us} {vs} {ws} {xs} {ys} {zs} {c} {e} {chain} {d} {h} {to} {fds} {from} socks owned is m same_vs same_ys same_t same_to done =
+pub delivered_to : {p q r : PoolView} {t t' u : Table} {bs cs : List SockBufView} {us vs ws : List Unfinished}
+    {xs ys zs : List ℕ} {c e : Counters} {chain d : ℕ} {h : IpHead} {to fds : List ℕ} {from : Addr}
+    → IsSocks p (record { pcbs = t; queues = bs }) → IsOwned p (chain ∷ (xs ++ queued_chains p bs))
+    → udp.IsDelivered p chain h t q to from d → Moves p (chain ∷ []) q (d ∷ []) → vs ≡ us → ys ≡ xs → t' ≡ t
+    → fds ≡ to
+    → IsDelivered (seen q (record { pcbs = t'; queues = bs }) vs ys c) d fds from
+    (seen r (record { pcbs = u; queues = cs }) ws zs e)
+    → IsInput (seen p (record { pcbs = t; queues = bs }) us xs c) chain h.src h.dst h.proto
+    (seen r (record { pcbs = u; queues = cs }) ws zs e)
+delivered_to {p} {q} {r} {t} {t'} {u} {bs} {cs} {us} {vs} {ws} {xs} {ys} {zs} {c} {e} {chain} {d} {h} {to} {fds} {from}
+    socks owned is m same_vs same_ys same_t same_to done =
     let then = seen r (record { pcbs = u; queues = cs }) ws zs e in
     delivered_input socks owned is m same_vs same_ys
     (subst (λ (l : List ℕ). IsDelivered (seen q (record { pcbs = t; queues = bs }) vs ys c) d l from then) same_to
-    (subst (λ (x : Table). IsDelivered (seen q (record { pcbs = x; queues = bs }) vs ys c) d fds from then) same_t done))
+    (subst (λ (x : Table). IsDelivered (seen q (record { pcbs = x; queues = bs }) vs ys c) d fds from then) same_t
+    done))
 
-pub dropped_to : {p q : PoolView} {t t' : Table} {bs : List SockBufView} {us vs : List Unfinished} {xs ys : List ℕ} {c e : Counters} {chain : ℕ} {h : IpHead} (why : Why)
-    → IsSocks p (record { pcbs = t; queues = bs }) → IsOwned p (chain ∷ (xs ++ queued_chains p bs)) → udp.IsDropped p chain h t q why → (SameAt p q xs → vs ≡ us) → (SameAt p q xs → ys ≡ xs) → t' ≡ t → e ≡ counted why c
-    → IsInput (seen p (record { pcbs = t; queues = bs }) us xs c) chain h.src h.dst h.proto (seen q (record { pcbs = t'; queues = bs }) vs ys e)
-dropped_to {p} {q} {t} {t'} {bs} {us} {vs} {xs} {ys} {c} {e} {chain} {h} why socks owned is same_vs same_ys same_t is_e =
-    subst (λ (u : Table). IsInput (seen p (record { pcbs = t; queues = bs }) us xs c) chain h.src h.dst h.proto (seen q (record { pcbs = u; queues = bs }) vs ys e)) (sym same_t)
+pub dropped_to : {p q : PoolView} {t t' : Table} {bs : List SockBufView} {us vs : List Unfinished} {xs ys : List ℕ}
+    {c e : Counters} {chain : ℕ} {h : IpHead} (why : Why)
+    → IsSocks p (record { pcbs = t; queues = bs }) → IsOwned p (chain ∷ (xs ++ queued_chains p bs))
+    → udp.IsDropped p chain h t q why → (SameAt p q xs → vs ≡ us) → (SameAt p q xs → ys ≡ xs) → t' ≡ t
+    → e ≡ counted why c
+    → IsInput (seen p (record { pcbs = t; queues = bs }) us xs c) chain h.src h.dst h.proto
+    (seen q (record { pcbs = t'; queues = bs }) vs ys e)
+dropped_to {p} {q} {t} {t'} {bs} {us} {vs} {xs} {ys} {c} {e} {chain} {h} why socks owned is same_vs same_ys same_t
+    is_e =
+    subst (λ (u : Table). IsInput (seen p (record { pcbs = t; queues = bs }) us xs c) chain h.src h.dst h.proto
+    (seen q (record { pcbs = u; queues = bs }) vs ys e)) (sym same_t)
     (dropped_input why socks owned is same_vs same_ys is_e)

@@ -20,7 +20,8 @@ use Rattle.sock_calls.proofs.Places.{at_three}
 -- ---- one socket
 
 -- a socket has the name of its block
-pub block_named : (f : Queues) (t : Table) (fd : ℕ) (rest : State) → name_in (block_at fd t) ≡ socket_name fd (machine rest f t)
+pub block_named : (f : Queues) (t : Table) (fd : ℕ) (rest : State)
+    → name_in (block_at fd t) ≡ socket_name fd (machine rest f t)
 block_named f t fd rest = go (block_at fd t) ∙ ap named (sym (socket_found rest f t fd))
   where
     go : (o : Option Block) → name_in o ≡ named (option_map (socket_with f) o)
@@ -28,25 +29,29 @@ block_named f t fd rest = go (block_at fd t) ∙ ap named (sym (socket_found res
     go (Some b) = refl
 
 -- the oldest datagram of a queue is that of the socket whose block was found
-pub next_found : (f : Queues) (t : Table) (fd : ℕ) (b : Block) (rest : State) → block_at fd t ≡ Some b → b.fd ≡ fd → next_of (f fd) ≡ next_datagram fd (machine rest f t)
+pub next_found : (f : Queues) (t : Table) (fd : ℕ) (b : Block) (rest : State) → block_at fd t ≡ Some b → b.fd ≡ fd
+    → next_of (f fd) ≡ next_datagram fd (machine rest f t)
 next_found f t fd b rest is names =
     ap (λ (k : ℕ). next_of (f k)) (sym names)
     ∙ ap (λ (o : Option Block). next_in (option_map (socket_with f) o)) (sym is)
     ∙ ap next_in (sym (socket_found rest f t fd))
 
-pub next_refused : (f : Queues) (t : Table) (fd : ℕ) (rest : State) → block_at fd t ≡ None → next_in None ≡ next_datagram fd (machine rest f t)
+pub next_refused : (f : Queues) (t : Table) (fd : ℕ) (rest : State) → block_at fd t ≡ None
+    → next_in None ≡ next_datagram fd (machine rest f t)
 next_refused f t fd rest is =
     ap (λ (o : Option Block). next_in (option_map (socket_with f) o)) (sym is)
     ∙ ap next_in (sym (socket_found rest f t fd))
 
 -- the same of how many bytes wait
-pub bytes_found : (f : Queues) (t : Table) (fd : ℕ) (b : Block) (rest : State) → block_at fd t ≡ Some b → b.fd ≡ fd → Ok (queue.bytes_queued (f fd)) ≡ bytes_queued fd (machine rest f t)
+pub bytes_found : (f : Queues) (t : Table) (fd : ℕ) (b : Block) (rest : State) → block_at fd t ≡ Some b → b.fd ≡ fd
+    → Ok (queue.bytes_queued (f fd)) ≡ bytes_queued fd (machine rest f t)
 bytes_found f t fd b rest is names =
     ap (λ (k : ℕ). Ok (queue.bytes_queued (f k))) (sym names)
     ∙ ap (λ (o : Option Block). bytes_in (option_map (socket_with f) o)) (sym is)
     ∙ ap bytes_in (sym (socket_found rest f t fd))
 
-pub bytes_refused : (f : Queues) (t : Table) (fd : ℕ) (rest : State) → block_at fd t ≡ None → bytes_in None ≡ bytes_queued fd (machine rest f t)
+pub bytes_refused : (f : Queues) (t : Table) (fd : ℕ) (rest : State) → block_at fd t ≡ None
+    → bytes_in None ≡ bytes_queued fd (machine rest f t)
 bytes_refused f t fd rest is =
     ap (λ (o : Option Block). bytes_in (option_map (socket_with f) o)) (sym is)
     ∙ ap bytes_in (sym (socket_found rest f t fd))
@@ -68,7 +73,8 @@ power_most n lt = omega (arith, pow-le-pow_right {n = 2} (omega arith) {i = suc 
 
 -- the bit of a place below 64 isn't lost
 pub bit_kept : (n : ℕ) → n < 64 → 1 * 2 ^ n % 18446744073709551616 ≡ 2 ^ n
-bit_kept n lt = mod-eq_of_lt {n = 1 * 2 ^ n} {m = 18446744073709551616} (omega (arith, power_most n lt, pow_pos n)) ∙ (let e : 1 * 2 ^ n ≡ 2 ^ n = omega arith in e)
+bit_kept n lt = mod-eq_of_lt {n = 1 * 2 ^ n} {m = 18446744073709551616} (omega (arith, power_most n lt, pow_pos n))
+    ∙ (let e : 1 * 2 ^ n ≡ 2 ^ n = omega arith in e)
 
 -- one place more
 pub set_more : (test : ℕ → Bool) (n : ℕ) → set_below test (suc n) ≡ set_below test n + cond (test n) (2 ^ n) 0
@@ -82,12 +88,16 @@ set_none test = refl
 -- the walk over the queues: one place more, in whose queue nothing waits where it says so
 pub one_more : (p : PoolView) (bs : List SockBufView) (i set after : ℕ) (b : SockBufView) (none : Bool) → i < length bs
     → (IsSockBuf p (slice_index_or bs i b) → none ≡ (length (datagrams p (slice_index_or bs i b)) == 0))
-    → ((k : ℕ) → IsSockBuf p (queue_at bs k)) → set ≡ set_below (waits_at p bs) i → after ≡ set + cond none 0 (2 ^ i) → after ≡ set_below (waits_at p bs) (i + 1)
+    → ((k : ℕ) → IsSockBuf p (queue_at bs k)) → set ≡ set_below (waits_at p bs) i → after ≡ set + cond none 0 (2 ^ i)
+    → after ≡ set_below (waits_at p bs) (i + 1)
 one_more p bs i set after b none lt says each is grown =
     let there : slice_index_or bs i b ≡ queue_at bs i = at_default bs i b no_datagrams lt in
-    let waits : none ≡ (length (queues_of p bs i) == 0) = says (subst (IsSockBuf p) (sym there) (each i)) ∙ ap (λ (x : SockBufView). length (datagrams p x) == 0) there in
-    let turned : cond none 0 (2 ^ i) ≡ cond (waits_at p bs i) (2 ^ i) 0 = ap (λ (t : Bool). cond {A = ℕ} t 0 (2 ^ i)) waits ∙ go (length (queues_of p bs i) == 0) in
-    grown ∙ omega (arith, is, turned) ∙ sym (set_more (waits_at p bs) i) ∙ ap (set_below (waits_at p bs)) (let e : suc i ≡ i + 1 = omega arith in e)
+    let waits : none ≡ (length (queues_of p bs i) == 0) = says (subst (IsSockBuf p) (sym there) (each i))
+    ∙ ap (λ (x : SockBufView). length (datagrams p x) == 0) there in
+    let turned : cond none 0 (2 ^ i) ≡ cond (waits_at p bs i) (2 ^ i) 0 =
+    ap (λ (t : Bool). cond {A = ℕ} t 0 (2 ^ i)) waits ∙ go (length (queues_of p bs i) == 0) in
+    grown ∙ omega (arith, is, turned) ∙ sym (set_more (waits_at p bs) i)
+    ∙ ap (set_below (waits_at p bs)) (let e : suc i ≡ i + 1 = omega arith in e)
   where
     go : (t : Bool) → cond t 0 (2 ^ i) ≡ cond (not t) (2 ^ i) 0
     go true = refl
@@ -98,19 +108,23 @@ pub set_same : (f g : ℕ → Bool) (n : ℕ) → ((k : ℕ) → k < n → f k �
 unfolding set_below
 set_same f g zero same = refl
 set_same f g (suc n) same =
-    let here : cond (f n) (2 ^ n) 0 ≡ cond (g n) (2 ^ n) 0 = ap (λ (t : Bool). cond {A = ℕ} t (2 ^ n) 0) (same n (omega arith)) in
+    let here : cond (f n) (2 ^ n) 0 ≡ cond (g n) (2 ^ n) 0 =
+    ap (λ (t : Bool). cond {A = ℕ} t (2 ^ n) 0) (same n (omega arith)) in
     omega (arith, here, set_same f g n (λ k lt. same k (omega (arith, lt))))
 
 -- a datagram waits in a queue where it waits in the socket
-waits_found : (f : Queues) (t : Table) (fd : ℕ) (rest : State) → (block_at fd t ≡ None → f fd ≡ []) → not (length (f fd) == 0) ≡ waits_in (socket_at fd (machine rest f t))
+waits_found : (f : Queues) (t : Table) (fd : ℕ) (rest : State) → (block_at fd t ≡ None → f fd ≡ [])
+    → not (length (f fd) == 0) ≡ waits_in (socket_at fd (machine rest f t))
 waits_found f t fd rest closed = go (block_at fd t) refl ∙ ap waits_in (sym (socket_found rest f t fd))
   where
     go : (o : Option Block) → block_at fd t ≡ o → not (length (f fd) == 0) ≡ waits_in (option_map (socket_with f) o)
     go None is = ap (λ (ds : List Datagram). not (length ds == 0)) (closed is)
     go (Some b) is = ap (λ (k : ℕ). not (length (f k) == 0)) (sym (named_at t fd b is))
 
-pub all_waiting : (p : PoolView) (bs : List SockBufView) (t : Table) (rest : State) → IsSocks p (record { pcbs = t; queues = from_three bs })
-    → set_below (waits_at p bs) 64 ≡ set_below (λ k. waits_in (socket_at (3 + k) (machine rest (queues_of p (from_three bs)) t))) 64
+pub all_waiting : (p : PoolView) (bs : List SockBufView) (t : Table) (rest : State)
+    → IsSocks p (record { pcbs = t; queues = from_three bs })
+    → set_below (waits_at p bs) 64 ≡ set_below (λ k. waits_in
+    (socket_at (3 + k) (machine rest (queues_of p (from_three bs)) t))) 64
 all_waiting p bs t rest is =
     set_same (waits_at p bs) (λ k. waits_in (socket_at (3 + k) (machine rest (queues_of p (from_three bs)) t))) 64
     (λ k lt. ap (λ (b : SockBufView). not (length (datagrams p b) == 0)) (sym (at_three bs k (3 + k) (omega arith)))

@@ -36,10 +36,13 @@ pub record Hand (held : Weight) (before : Weight) (kept : Weight) (after : Weigh
   pub mbufs : held.mbufs + after.mbufs ≡ kept.mbufs + before.mbufs
   pub bag : (c : ℕ) → bag_times c held.bag + bag_times c after.bag ≡ bag_times c kept.bag + bag_times c before.bag
 
-pub moved_accounts : {p q : PoolView} {held kept : Weight} (t : Table) (bs cs : List SockBufView) (rest : State) (ins outs : List ℕ)
-    → IsSocks p (record { pcbs = t; queues = bs }) → IsSocks q (record { pcbs = t; queues = cs }) → Moves p (ins ++ queued_chains p bs) q (outs ++ queued_chains q cs) → IsOwned p (ins ++ queued_chains p bs)
+pub moved_accounts : {p q : PoolView} {held kept : Weight} (t : Table) (bs cs : List SockBufView) (rest : State)
+    (ins outs : List ℕ)
+    → IsSocks p (record { pcbs = t; queues = bs }) → IsSocks q (record { pcbs = t; queues = cs })
+    → Moves p (ins ++ queued_chains p bs) q (outs ++ queued_chains q cs) → IsOwned p (ins ++ queued_chains p bs)
     → Hand held (weight_owned p ins) kept (weight_owned q outs)
-    → IsAccounted p (with_sockets p (record { pcbs = t; queues = bs }) rest) held → IsAccounted q (with_sockets q (record { pcbs = t; queues = cs }) rest) kept
+    → IsAccounted p (with_sockets p (record { pcbs = t; queues = bs }) rest) held
+    → IsAccounted q (with_sockets q (record { pcbs = t; queues = cs }) rest) kept
 moved_accounts {p} {q} {held} {kept} t bs cs rest ins outs is_p is_q m o h a =
     let u : Weight = all_of (λ (x : Unfinished). mbuf ⊕ weight_of_pieces x.bytes) rest.unfinished in
     let out : Weight = all_of (λ (item : Item). item.weight) rest.output in
@@ -50,7 +53,14 @@ moved_accounts {p} {q} {held} {kept} t bs cs rest ins outs is_p is_q m o h a =
     let before = all_of-append (weight_at p) ins (queued_chains p bs) in
     let after = all_of-append (weight_at q) outs (queued_chains q cs) in
     accounted_after a m o refl (record {
-      mbufs = omega (arith, h.mbufs, wp.mbufs, wq.mbufs, ap (λ (x : Weight). x.mbufs) before, ap (λ (x : Weight). x.mbufs) after);
+      mbufs = omega (
+        arith,
+        h.mbufs,
+        wp.mbufs,
+        wq.mbufs,
+        ap (λ (x : Weight). x.mbufs) before,
+        ap (λ (x : Weight). x.mbufs) after,
+      );
       bag = λ k. omega (
         arith,
         h.bag k,
@@ -70,51 +80,80 @@ moved_accounts {p} {q} {held} {kept} t bs cs rest ins outs is_p is_q m o h a =
     })
 
 -- one chain in hand goes
-pub one_goes : (p q : PoolView) (c : ℕ) (held : Weight) → Hand (held ⊕ weight_at p c) (weight_owned p (c ∷ [])) held (weight_owned q [])
+pub one_goes : (p q : PoolView) (c : ℕ) (held : Weight)
+    → Hand (held ⊕ weight_at p c) (weight_owned p (c ∷ [])) held (weight_owned q [])
 one_goes p q c held = record {
   mbufs = omega arith;
   bag = λ k. omega (arith, times-both k held (weight_at p c), times-both k (weight_at p c) nothing);
 }
 
 -- a packet's end leaves the accounts
-pub ends_accounted : {p : PoolView} {s : State} {held : Weight} (why : Why) → IsAccounted p s held → IsAccounted p (ends why s) held
+pub ends_accounted : {p : PoolView} {s : State} {held : Weight} (why : Why) → IsAccounted p s held
+    → IsAccounted p (ends why s) held
 ends_accounted why b = record { mbufs = b.mbufs; clusters = b.clusters; total = b.total; references = b.references }
 
-pub freed_accounts : {p q : PoolView} {s : State} {held : Weight} (c : ℕ) (why : Why) → IsAccounted p s (held ⊕ weight_at p c) → IsOwned p (c ∷ []) → q ≡ without p c → IsAccounted q (ends why s) held
+pub freed_accounts : {p q : PoolView} {s : State} {held : Weight} (c : ℕ) (why : Why)
+    → IsAccounted p s (held ⊕ weight_at p c) → IsOwned p (c ∷ []) → q ≡ without p c → IsAccounted q (ends why s) held
 freed_accounts {p} {q} {s} {held} c why b o e =
     let w : Weight = weight_at p c in
     accounted_after b (moves_without p q c (live_first p c [] o) e) o refl (record {
       mbufs = omega arith;
-      bag = λ k. omega (arith, times-both k (weight_of_state s) (held ⊕ w), times-both k held w, times-both k (weight_of_state s) held, times-both k w nothing);
+      bag = λ k. omega (
+        arith,
+        times-both k (weight_of_state s) (held ⊕ w),
+        times-both k held w,
+        times-both k (weight_of_state s) held,
+        times-both k w nothing,
+      );
     })
 
 -- ---- the machine after a step that no queue shows
-pub shows_same : (p q : PoolView) (t : Table) (bs : List SockBufView) {us vs : List Unfinished} (c : Counters) (rest : State) → ((k : ℕ) → queues_of q bs k ≡ queues_of p bs k) → vs ≡ us
+pub shows_same : (p q : PoolView) (t : Table) (bs : List SockBufView) {us vs : List Unfinished} (c : Counters)
+    (rest : State) → ((k : ℕ) → queues_of q bs k ≡ queues_of p bs k) → vs ≡ us
     → with_net q (record { pcbs = t; queues = bs }) vs c rest ≡ with_net p (record { pcbs = t; queues = bs }) us c rest
 shows_same p q t bs {us} {vs} c rest shows same =
     same_machine (queues_of q bs) (queues_of p bs) t (record rest { unfinished = vs; counters = c }) (λ k _. shows k)
     ∙ (λ i. machine (record rest { unfinished = same i; counters = c }) (queues_of p bs) t)
 
-pub ends_here : (p q : PoolView) (t : Table) (bs : List SockBufView) {us vs : List Unfinished} (c : Counters) {d : Counters} (why : Why) (rest : State) → ((k : ℕ) → queues_of q bs k ≡ queues_of p bs k) → vs ≡ us → d ≡ counted why c
-    → with_net q (record { pcbs = t; queues = bs }) vs d rest ≡ ends why (with_net p (record { pcbs = t; queues = bs }) us c rest)
+pub ends_here : (p q : PoolView) (t : Table) (bs : List SockBufView) {us vs : List Unfinished} (c : Counters)
+    {d : Counters} (why : Why) (rest : State) → ((k : ℕ) → queues_of q bs k ≡ queues_of p bs k) → vs ≡ us
+    → d ≡ counted why c
+    → with_net q (record { pcbs = t; queues = bs }) vs d rest
+    ≡ ends why (with_net p (record { pcbs = t; queues = bs }) us c rest)
 ends_here p q t bs {us} {vs} c {d} why rest shows same is =
     shows_same p q t bs d rest shows same ∙ (λ i. with_net p (record { pcbs = t; queues = bs }) us (is i) rest)
 
 -- ---- the three ends, as the machine has them
 module _ (held : Weight) (sender : Addr) (item : Item) (to : Socket) (old mid new : State) where
-  full_appends : fits to.queue (length item.bytes) ≡ false → new ≡ ends UdpFullSocket old → Appends exact_ledger held sender item to old new
+  full_appends : fits to.queue (length item.bytes) ≡ false → new ≡ ends UdpFullSocket old
+      → Appends exact_ledger held sender item to old new
   full_appends f e = record { yes = λ t. absurd (false≢true (sym f ∙ t)); no = λ _. e }
 
-  lacking_appends : fits to.queue (length item.bytes) ≡ true → HasBuffers exact_ledger old (held ⊕ item.weight) (need_mbufs 1) false mid → new ≡ ends NoBufs mid → Appends exact_ledger held sender item to old new
+  lacking_appends : fits to.queue (length item.bytes) ≡ true
+      → HasBuffers exact_ledger old (held ⊕ item.weight) (need_mbufs 1) false mid → new ≡ ends NoBufs mid
+      → Appends exact_ledger held sender item to old new
   lacking_appends f a e = record {
-    yes = λ _. record { answer = false; mid = mid; has_buffers = a; goes_on = record { yes = λ t. absurd (false≢true t); no = λ _. e } };
+    yes = λ _. record {
+      answer = false;
+      mid = mid;
+      has_buffers = a;
+      goes_on = record { yes = λ t. absurd (false≢true t); no = λ _. e };
+    };
     no = λ t. absurd (false≢true (sym t ∙ f));
   }
 
-  fitting_appends : fits to.queue (length item.bytes) ≡ true → HasBuffers exact_ledger old (held ⊕ item.weight) (need_mbufs 1) true mid
-      → new ≡ change_socket to.fd (queued (record { sender = sender; item = record item { weight = mbuf ⊕ item.weight } })) mid → Appends exact_ledger held sender item to old new
+  fitting_appends : fits to.queue (length item.bytes) ≡ true
+      → HasBuffers exact_ledger old (held ⊕ item.weight) (need_mbufs 1) true mid
+      → new ≡ change_socket to.fd
+      (queued (record { sender = sender; item = record item { weight = mbuf ⊕ item.weight } })) mid
+      → Appends exact_ledger held sender item to old new
   fitting_appends f a e = record {
-    yes = λ _. record { answer = true; mid = mid; has_buffers = a; goes_on = record { yes = λ _. e; no = λ t. absurd (false≢true (sym t)) } };
+    yes = λ _. record {
+      answer = true;
+      mid = mid;
+      has_buffers = a;
+      goes_on = record { yes = λ _. e; no = λ t. absurd (false≢true (sym t)) };
+    };
     no = λ t. absurd (false≢true (sym t ∙ f));
   }
 
@@ -124,7 +163,8 @@ pub record Freed (p : PoolView) (c : ℕ) (xs : List ℕ) (s : SocksView) (q : P
   pub socks : Kept p q s
   pub moves : Moves p (c ∷ (xs ++ queued_chains p s.queues)) q (xs ++ queued_chains q s.queues)
 
-pub freed : (p q : PoolView) (c : ℕ) (xs : List ℕ) (s : SocksView) → IsOwned p (c ∷ (xs ++ queued_chains p s.queues)) → IsSocks p s → q ≡ without p c → Freed p c xs s q
+pub freed : (p q : PoolView) (c : ℕ) (xs : List ℕ) (s : SocksView) → IsOwned p (c ∷ (xs ++ queued_chains p s.queues))
+    → IsSocks p s → q ≡ without p c → Freed p c xs s q
 freed p q c xs s o r e =
     let ys : List ℕ = queued_chains p s.queues in
     let gone : times c (xs ++ ys) ≡ 0 = apart_first p c (xs ++ ys) o in
@@ -146,11 +186,13 @@ pub record Tested (p : PoolView) (c : ℕ) (xs : List ℕ) (s : SocksView) (q : 
   pub owned : IsOwned q (c ∷ (ys ++ queued_chains q s.queues))
   pub moves : Moves p (c ∷ (xs ++ queued_chains p s.queues)) q (c ∷ (ys ++ queued_chains q s.queues))
 
-pub tested : (p q : PoolView) (c : ℕ) (xs ys : List ℕ) (s : SocksView) → IsOwned p (c ∷ (xs ++ queued_chains p s.queues)) → IsSocks p s → Moves p xs q ys → Tested p c xs s q ys
+pub tested : (p q : PoolView) (c : ℕ) (xs ys : List ℕ) (s : SocksView)
+    → IsOwned p (c ∷ (xs ++ queued_chains p s.queues)) → IsSocks p s → Moves p xs q ys → Tested p c xs s q ys
 tested p q c xs ys s o r m =
     let zs : List ℕ = queued_chains p s.queues in
     let rest : SameAt p q (c ∷ zs) =
-    same_beside (c ∷ zs) m (λ k. omega (arith, o k, times-append k xs zs)) (λ k h. omega (arith, o k, h, live_at_most p k, times-append k xs zs)) in
+    same_beside (c ∷ zs) m (λ k. omega (arith, o k, times-append k xs zs))
+    (λ k h. omega (arith, o k, h, live_at_most p k, times-append k xs zs)) in
     let k : Kept p q s = kept p q s (record { same = λ k h. rest.same k (omega (arith, h)); mbufs = rest.mbufs }) r in
     let all : Moves p (c ∷ (xs ++ zs)) q (c ∷ (ys ++ queued_chains q s.queues)) =
     subst (λ (l : List ℕ). Moves p (c ∷ (xs ++ zs)) q (c ∷ (ys ++ l))) (sym k.chains)
@@ -164,14 +206,20 @@ tested p q c xs ys s o r m =
     }
 
 -- ---- the chain in hand came to a queue
-pub record Joined (p : PoolView) (c : ℕ) (xs : List ℕ) (bs : List SockBufView) (q : PoolView) (cs : List SockBufView) : Type 0 where
+pub record Joined (p : PoolView) (c : ℕ) (xs : List ℕ) (bs : List SockBufView) (q : PoolView) (cs : List SockBufView)
+    : Type 0 where
   pub same : SameAt p q xs
   pub moves : Moves p (c ∷ (xs ++ queued_chains p bs)) q (xs ++ queued_chains q cs)
 
-pub joined : (p q : PoolView) (c : ℕ) (xs : List ℕ) (bs cs : List SockBufView) → IsOwned p (c ∷ (xs ++ queued_chains p bs)) → Moves p (c ∷ queued_chains p bs) q (queued_chains q cs) → Joined p c xs bs q cs
+pub joined : (p q : PoolView) (c : ℕ) (xs : List ℕ) (bs cs : List SockBufView)
+    → IsOwned p (c ∷ (xs ++ queued_chains p bs)) → Moves p (c ∷ queued_chains p bs) q (queued_chains q cs)
+    → Joined p c xs bs q cs
 joined p q c xs bs cs o m = record {
-  same = same_beside xs m (λ k. omega (arith, o k, times-append k xs (queued_chains p bs))) (λ k h. omega (arith, o k, h, live_at_most p k, times-append k xs (queued_chains p bs)));
-  moves = moves_beside (c ∷ (xs ++ queued_chains p bs)) (xs ++ queued_chains q cs) xs m (λ k. omega (arith, times-append k xs (queued_chains p bs))) (λ k. omega (arith, times-append k xs (queued_chains q cs)));
+  same = same_beside xs m (λ k. omega (arith, o k, times-append k xs (queued_chains p bs)))
+      (λ k h. omega (arith, o k, h, live_at_most p k, times-append k xs (queued_chains p bs)));
+  moves = moves_beside (c ∷ (xs ++ queued_chains p bs)) (xs ++ queued_chains q cs) xs m
+      (λ k. omega (arith, times-append k xs (queued_chains p bs)))
+      (λ k. omega (arith, times-append k xs (queued_chains q cs)));
 }
 
 -- ---- the three ends, as the contract has them
@@ -181,7 +229,8 @@ abbrev Named : ℕ → Table → Type 0
 Named fd t = (b : Block) → block_at fd t ≡ Some b → b.fd ≡ fd
 
 -- what a full queue leaves: the chain was freed and counted
-pub record IsFull (p : PoolView) (t : Table) (bs : List SockBufView) (us : List Unfinished) (xs : List ℕ) (c : Counters) (chain fd : ℕ) (q : PoolView) (vs : List Unfinished) (ys : List ℕ) (d : Counters) : Type 0 where
+pub record IsFull (p : PoolView) (t : Table) (bs : List SockBufView) (us : List Unfinished) (xs : List ℕ) (c : Counters)
+    (chain fd : ℕ) (q : PoolView) (vs : List Unfinished) (ys : List ℕ) (d : Counters) : Type 0 where
   pub socks : IsSocks p (record { pcbs = t; queues = bs })
   pub owned : IsOwned p (chain ∷ (xs ++ queued_chains p bs))
   pub named : Named fd t
@@ -191,65 +240,92 @@ pub record IsFull (p : PoolView) (t : Table) (bs : List SockBufView) (us : List 
   pub waiting : SameAt p q xs → ys ≡ xs
   pub counters : d ≡ counted UdpFullSocket c
 
-pub full_end : {p q : PoolView} {t : Table} {bs : List SockBufView} {us vs : List Unfinished} {xs ys : List ℕ} {c d : Counters} {chain fd : ℕ} (sender : Addr) → IsFull p t bs us xs c chain fd q vs ys d
-    → IsAppended (seen p (record { pcbs = t; queues = bs }) us xs c) chain fd sender (seen q (record { pcbs = t; queues = bs }) vs ys d)
+pub full_end : {p q : PoolView} {t : Table} {bs : List SockBufView} {us vs : List Unfinished} {xs ys : List ℕ}
+    {c d : Counters} {chain fd : ℕ} (sender : Addr) → IsFull p t bs us xs c chain fd q vs ys d
+    → IsAppended (seen p (record { pcbs = t; queues = bs }) us xs c) chain fd sender
+    (seen q (record { pcbs = t; queues = bs }) vs ys d)
 full_end {p} {q} {t} {bs} {us} {vs} {xs} {ys} {c} {d} {chain} {fd} sender f =
     let s : SocksView = record { pcbs = t; queues = bs } in
     let gone = freed p q chain xs s f.owned f.socks f.freed in
-    let now : (rest : State) → with_net q s vs d rest ≡ ends UdpFullSocket (with_net p s us c rest) = λ rest. ends_here p q t bs c UdpFullSocket rest gone.socks.shows (f.unfinished gone.same) f.counters in
+    let now : (rest : State) → with_net q s vs d rest ≡ ends UdpFullSocket (with_net p s us c rest) =
+    λ rest. ends_here p q t bs c UdpFullSocket rest gone.socks.shows (f.unfinished gone.same) f.counters in
     record {
       step = λ rest held b e a.
-          full_appends held sender (item_at p chain) (socket_with (queues_of p bs) b) (with_net p s us c rest) (with_net p s us c rest) (with_net q s vs d rest)
-          (ap (λ (k : ℕ). fits (queues_of p bs k) (length (string (chain_of p chain)))) (f.named b e) ∙ f.full) (now rest);
+          full_appends held sender (item_at p chain) (socket_with (queues_of p bs) b) (with_net p s us c rest)
+          (with_net p s us c rest) (with_net q s vs d rest)
+          (ap (λ (k : ℕ). fits (queues_of p bs k) (length (string (chain_of p chain)))) (f.named b e) ∙ f.full)
+          (now rest);
       others = λ k ne. gone.socks.shows k;
       parts = record {
-        accounts = λ rest held a. subst (λ (x : State). IsAccounted q x held) (sym (now rest)) (freed_accounts chain UdpFullSocket a (λ k. omega (arith, f.owned k)) f.freed);
+        accounts = λ rest held a. subst (λ (x : State). IsAccounted q x held) (sym (now rest))
+            (freed_accounts chain UdpFullSocket a (λ k. omega (arith, f.owned k)) f.freed);
         ready = gone.socks.ready;
         pcbs = refl;
-        moves = subst (λ (zs : List ℕ). Moves p (chain ∷ (xs ++ queued_chains p bs)) q (zs ++ queued_chains q bs)) (sym (f.waiting gone.same)) gone.moves;
+        moves = subst (λ (zs : List ℕ). Moves p (chain ∷ (xs ++ queued_chains p bs)) q (zs ++ queued_chains q bs))
+            (sym (f.waiting gone.same)) gone.moves;
       };
     }
 
 -- what a test of the pool leaves, in the words of the machine
-pub record IsTested (p : PoolView) (t : Table) (bs : List SockBufView) (us : List Unfinished) (xs : List ℕ) (c : Counters) (chain : ℕ) (n : ℕ) (answer : Bool) (q : PoolView) (vs : List Unfinished) (ys : List ℕ) (d : Counters) : Type 0 where
+pub record IsTested (p : PoolView) (t : Table) (bs : List SockBufView) (us : List Unfinished) (xs : List ℕ)
+    (c : Counters) (chain : ℕ) (n : ℕ) (answer : Bool) (q : PoolView) (vs : List Unfinished) (ys : List ℕ)
+    (d : Counters) : Type 0 where
   pub socks : IsSocks p (record { pcbs = t; queues = bs })
   pub owned : IsOwned p (chain ∷ (xs ++ queued_chains p bs))
   pub moves : Moves p xs q ys
-  pub reserves : (rest : State) (held : Weight) → IsAccounted p (with_net p (record { pcbs = t; queues = bs }) us c rest) held
-      → Reserves (with_net p (record { pcbs = t; queues = bs }) us c rest) held (need_mbufs n) answer (with_net p (record { pcbs = t; queues = bs }) vs d rest) q
+  pub reserves : (rest : State) (held : Weight) → IsAccounted p
+      (with_net p (record { pcbs = t; queues = bs }) us c rest) held
+      → Reserves (with_net p (record { pcbs = t; queues = bs }) us c rest) held (need_mbufs n) answer
+      (with_net p (record { pcbs = t; queues = bs }) vs d rest) q
 
 -- the pool lacks an mbuf: the chain was freed and counted
-pub lacking_end : {p q r : PoolView} {t : Table} {bs : List SockBufView} {us vs ws : List Unfinished} {xs ys zs : List ℕ} {c d e : Counters} {chain fd : ℕ} (sender : Addr)
-    → IsTested p t bs us xs c chain 1 false q vs ys d → Named fd t → fits (queues_of p bs fd) (length (string (chain_of p chain))) ≡ true
+pub lacking_end : {p q r : PoolView} {t : Table} {bs : List SockBufView} {us vs ws : List Unfinished}
+    {xs ys zs : List ℕ} {c d e : Counters} {chain fd : ℕ} (sender : Addr)
+    → IsTested p t bs us xs c chain 1 false q vs ys d → Named fd t
+    → fits (queues_of p bs fd) (length (string (chain_of p chain))) ≡ true
     → r ≡ without q chain → (SameAt q r ys → ws ≡ vs) → (SameAt q r ys → zs ≡ ys) → e ≡ counted NoBufs d
-    → IsAppended (seen p (record { pcbs = t; queues = bs }) us xs c) chain fd sender (seen r (record { pcbs = t; queues = bs }) ws zs e)
-lacking_end {p} {q} {r} {t} {bs} {us} {vs} {ws} {xs} {ys} {zs} {c} {d} {e} {chain} {fd} sender i named room is_r same_ws same_zs is_e =
+    → IsAppended (seen p (record { pcbs = t; queues = bs }) us xs c) chain fd sender
+    (seen r (record { pcbs = t; queues = bs }) ws zs e)
+lacking_end {p} {q} {r} {t} {bs} {us} {vs} {ws} {xs} {ys} {zs} {c} {d} {e} {chain} {fd} sender i named room is_r same_ws
+    same_zs is_e =
     let s : SocksView = record { pcbs = t; queues = bs } in
     let x = tested p q chain xs ys s i.owned i.socks i.moves in
     let gone = freed q r chain ys s x.owned x.socks.ready is_r in
-    let now : (rest : State) → with_net r s ws e rest ≡ ends NoBufs (with_net p s vs d rest) = λ rest. ends_here p r t bs d NoBufs rest (λ k. gone.socks.shows k ∙ x.socks.shows k) (same_ws gone.same) is_e in
+    let now : (rest : State) → with_net r s ws e rest ≡ ends NoBufs (with_net p s vs d rest) =
+    λ rest. ends_here p r t bs d NoBufs rest (λ k. gone.socks.shows k ∙ x.socks.shows k) (same_ws gone.same) is_e in
     record {
       step = λ rest held b at a.
-          lacking_appends held sender (item_at p chain) (socket_with (queues_of p bs) b) (with_net p s us c rest) (with_net p s vs d rest) (with_net r s ws e rest)
-          (ap (λ (k : ℕ). fits (queues_of p bs k) (length (string (chain_of p chain)))) (named b at) ∙ room) (i.reserves rest (held ⊕ weight_at p chain) a).has_buffers (now rest);
+          lacking_appends held sender (item_at p chain) (socket_with (queues_of p bs) b) (with_net p s us c rest)
+          (with_net p s vs d rest) (with_net r s ws e rest)
+          (ap (λ (k : ℕ). fits (queues_of p bs k) (length (string (chain_of p chain)))) (named b at) ∙ room)
+          (i.reserves rest (held ⊕ weight_at p chain) a).has_buffers (now rest);
       others = λ k ne. gone.socks.shows k ∙ x.socks.shows k;
       parts = record {
         accounts = λ rest held a.
             subst (λ (m : State). IsAccounted r m held) (sym (now rest))
-            (freed_accounts chain NoBufs (subst (λ (v : ChainView). IsAccounted q (with_net p s vs d rest) (held ⊕ weight_of v.entries)) (sym x.chain) (i.reserves rest (held ⊕ weight_at p chain) a).accounted) (λ k. omega (arith, x.owned k)) is_r);
+            (freed_accounts chain NoBufs
+            (subst (λ (v : ChainView). IsAccounted q (with_net p s vs d rest) (held ⊕ weight_of v.entries))
+            (sym x.chain) (i.reserves rest (held ⊕ weight_at p chain) a).accounted) (λ k. omega (arith, x.owned k))
+            is_r);
         ready = gone.socks.ready;
         pcbs = refl;
-        moves = moves_trans x.moves (subst (λ (l : List ℕ). Moves q (chain ∷ (ys ++ queued_chains q bs)) r (l ++ queued_chains r bs)) (sym (same_zs gone.same)) gone.moves);
+        moves = moves_trans x.moves
+            (subst (λ (l : List ℕ). Moves q (chain ∷ (ys ++ queued_chains q bs)) r (l ++ queued_chains r bs))
+            (sym (same_zs gone.same)) gone.moves);
       };
     }
 
 -- the datagram is in the queue
-pub fitting_end : {p q r : PoolView} {t : Table} {bs cs : List SockBufView} {us vs ws : List Unfinished} {xs ys zs : List ℕ} {c d : Counters} {chain fd : ℕ} (sender : Addr)
-    → IsTested p t bs us xs c chain 1 true q vs ys d → Named fd t → IsOpen fd t → fits (queues_of p bs fd) (length (string (chain_of p chain))) ≡ true
+pub fitting_end : {p q r : PoolView} {t : Table} {bs cs : List SockBufView} {us vs ws : List Unfinished}
+    {xs ys zs : List ℕ} {c d : Counters} {chain fd : ℕ} (sender : Addr)
+    → IsTested p t bs us xs c chain 1 true q vs ys d → Named fd t → IsOpen fd t
+    → fits (queues_of p bs fd) (length (string (chain_of p chain))) ≡ true
     → StepsAt q (chain ∷ []) bs fd r [] cs → queues_of r cs fd ≡ queues_of q bs fd ++ datagram_from sender q chain ∷ []
     → (SameAt q r ys → ws ≡ vs) → (SameAt q r ys → zs ≡ ys)
-    → IsAppended (seen p (record { pcbs = t; queues = bs }) us xs c) chain fd sender (seen r (record { pcbs = t; queues = cs }) ws zs d)
-fitting_end {p} {q} {r} {t} {bs} {cs} {us} {vs} {ws} {xs} {ys} {zs} {c} {d} {chain} {fd} sender i named opened room st here same_ws same_zs =
+    → IsAppended (seen p (record { pcbs = t; queues = bs }) us xs c) chain fd sender
+    (seen r (record { pcbs = t; queues = cs }) ws zs d)
+fitting_end {p} {q} {r} {t} {bs} {cs} {us} {vs} {ws} {xs} {ys} {zs} {c} {d} {chain} {fd} sender i named opened room st
+    here same_ws same_zs =
     let s : SocksView = record { pcbs = t; queues = bs } in
     let x = tested p q chain xs ys s i.owned i.socks i.moves in
     let j = joined q r chain ys bs cs x.owned st.moves in
@@ -258,28 +334,47 @@ fitting_end {p} {q} {r} {t} {bs} {cs} {us} {vs} {ws} {xs} {ys} {zs} {c} {d} {cha
       owned = st.owned;
       places = st.len ∙ i.socks.places;
       apart = i.socks.apart;
-      closed = λ k none. st.others k (λ e. false≢true (sym (ap is_some none) ∙ ap (λ (j : ℕ). is_some (block_at j t)) e ∙ opened)) ∙ x.socks.shows k ∙ i.socks.closed k none;
+      closed = λ k none. st.others k (λ e. false≢true
+          (sym (ap is_some none) ∙ ap (λ (j : ℕ). is_some (block_at j t)) e ∙ opened)) ∙ x.socks.shows k
+          ∙ i.socks.closed k none;
     } in
     let came : queues_of r cs fd ≡ queues_of p bs fd ++ datagram_from sender p chain ∷ [] =
-    here ∙ (λ n. x.socks.shows fd n ++ record { sender = sender; item = record { bytes = flat_bytes (x.chain n).entries; weight = mbuf ⊕ weight_of (x.chain n).entries } } ∷ []) in
-    let pushed : (rest : State) → with_net r (record { pcbs = t; queues = cs }) ws d rest ≡ change_socket fd (queued (datagram_from sender p chain)) (with_net p s vs d rest) = λ rest.
+    here ∙ (λ n. x.socks.shows fd n ++ record {
+      sender = sender;
+      item = record { bytes = flat_bytes (x.chain n).entries; weight = mbuf ⊕ weight_of (x.chain n).entries };
+    }
+    ∷ []) in
+    let pushed : (rest : State) → with_net r (record { pcbs = t; queues = cs }) ws d rest
+    ≡ change_socket fd (queued (datagram_from sender p chain)) (with_net p s vs d rest) = λ rest.
     (λ n. machine (record rest { unfinished = same_ws j.same n; counters = d }) (queues_of r cs) t)
-    ∙ queue_changed (queues_of p bs) (queues_of r cs) t (record rest { unfinished = vs; counters = d }) fd (λ ds. ds ++ datagram_from sender p chain ∷ []) came (λ k ne. st.others k ne ∙ x.socks.shows k) in
+    ∙ queue_changed (queues_of p bs) (queues_of r cs) t (record rest { unfinished = vs; counters = d }) fd
+    (λ ds. ds ++ datagram_from sender p chain ∷ []) came (λ k ne. st.others k ne ∙ x.socks.shows k) in
     record {
       step = λ rest held b at a.
-          fitting_appends held sender (item_at p chain) (socket_with (queues_of p bs) b) (with_net p s us c rest) (with_net p s vs d rest) (with_net r (record { pcbs = t; queues = cs }) ws d rest)
-          (ap (λ (k : ℕ). fits (queues_of p bs k) (length (string (chain_of p chain)))) (named b at) ∙ room) (i.reserves rest (held ⊕ weight_at p chain) a).has_buffers
-          (pushed rest ∙ ap (λ (k : ℕ). change_socket k (queued (datagram_from sender p chain)) (with_net p s vs d rest)) (sym (named b at)));
+          fitting_appends held sender (item_at p chain) (socket_with (queues_of p bs) b) (with_net p s us c rest)
+          (with_net p s vs d rest) (with_net r (record { pcbs = t; queues = cs }) ws d rest)
+          (ap (λ (k : ℕ). fits (queues_of p bs k) (length (string (chain_of p chain)))) (named b at) ∙ room)
+          (i.reserves rest (held ⊕ weight_at p chain) a).has_buffers
+          (pushed rest
+          ∙ ap (λ (k : ℕ). change_socket k (queued (datagram_from sender p chain)) (with_net p s vs d rest))
+          (sym (named b at)));
       others = λ k ne. st.others k ne ∙ x.socks.shows k;
       parts = record {
         accounts = λ rest held a.
             let a1 = (i.reserves rest (held ⊕ weight_at p chain) a).accounted in
-            let a2 = subst (λ (m : State). IsAccounted q m (held ⊕ weight_at p chain)) (sym (shows_same p q t bs d rest x.socks.shows refl)) a1 in
-            let a3 = subst (λ (v : ChainView). IsAccounted q (with_net q s vs d rest) (held ⊕ weight_of v.entries)) (sym x.chain) a2 in
-            subst (λ (us : List Unfinished). IsAccounted r (with_net r (record { pcbs = t; queues = cs }) us d rest) held) (sym (same_ws j.same))
-            (moved_accounts t bs cs (record rest { unfinished = vs; counters = d }) (chain ∷ []) [] x.socks.ready ready st.moves (λ k. omega (arith, x.owned k, times-append k ys (queued_chains q bs))) (one_goes q r chain held) a3);
+            let a2 = subst (λ (m : State). IsAccounted q m (held ⊕ weight_at p chain))
+            (sym (shows_same p q t bs d rest x.socks.shows refl)) a1 in
+            let a3 = subst (λ (v : ChainView). IsAccounted q (with_net q s vs d rest) (held ⊕ weight_of v.entries))
+            (sym x.chain) a2 in
+            subst (λ (us : List Unfinished). IsAccounted r (with_net r (record { pcbs = t; queues = cs }) us d rest)
+            held) (sym (same_ws j.same))
+            (moved_accounts t bs cs (record rest { unfinished = vs; counters = d }) (chain ∷ []) [] x.socks.ready ready
+            st.moves (λ k. omega (arith, x.owned k, times-append k ys (queued_chains q bs)))
+            (one_goes q r chain held) a3);
         ready = ready;
         pcbs = refl;
-        moves = moves_trans x.moves (subst (λ (l : List ℕ). Moves q (chain ∷ (ys ++ queued_chains q bs)) r (l ++ queued_chains r cs)) (sym (same_zs j.same)) j.moves);
+        moves = moves_trans x.moves
+            (subst (λ (l : List ℕ). Moves q (chain ∷ (ys ++ queued_chains q bs)) r (l ++ queued_chains r cs))
+            (sym (same_zs j.same)) j.moves);
       };
     }

@@ -20,7 +20,8 @@ at_set [] i q h = absurd (omega arith)
 at_set (x ∷ qs) zero q h = refl
 at_set (x ∷ qs) (suc i) q h = at_set qs i q (omega arith)
 
-pub at_other : (qs : List SockBufView) (i k : ℕ) (q : SockBufView) → (k ≡ i → ⊥) → queue_at (slice_set qs i q) k ≡ queue_at qs k
+pub at_other : (qs : List SockBufView) (i k : ℕ) (q : SockBufView) → (k ≡ i → ⊥)
+    → queue_at (slice_set qs i q) k ≡ queue_at qs k
 at_other [] i k q ne = refl
 at_other (x ∷ qs) zero zero q ne = absurd (ne refl)
 at_other (x ∷ qs) zero (suc k) q ne = refl
@@ -28,41 +29,74 @@ at_other (x ∷ qs) (suc i) zero q ne = refl
 at_other (x ∷ qs) (suc i) (suc k) q ne = at_other qs i k q (λ e. ne (ap suc e))
 
 -- the chains of all, with one queue changed
-pub times_set : (p : PoolView) (qs : List SockBufView) (i : ℕ) (q : SockBufView) (k : ℕ) → i < length qs → times k (queued_chains p (slice_set qs i q)) + times k (chains_of p (queue_at qs i)) ≡ times k (queued_chains p qs) + times k (chains_of p q)
+pub times_set : (p : PoolView) (qs : List SockBufView) (i : ℕ) (q : SockBufView) (k : ℕ) → i < length qs
+    → times k (queued_chains p (slice_set qs i q)) + times k (chains_of p (queue_at qs i))
+    ≡ times k (queued_chains p qs) + times k (chains_of p q)
 times_set p [] i q k h = absurd (omega arith)
-times_set p (x ∷ qs) zero q k h = omega (arith, times-append k (chains_of p x) (queued_chains p qs), times-append k (chains_of p q) (queued_chains p qs))
-times_set p (x ∷ qs) (suc i) q k h = omega (arith, times_set p qs i q k (omega arith), times-append k (chains_of p x) (queued_chains p qs), times-append k (chains_of p x) (queued_chains p (slice_set qs i q)))
+times_set p (x ∷ qs) zero q k h = omega (
+  arith,
+  times-append k (chains_of p x) (queued_chains p qs),
+  times-append k (chains_of p q) (queued_chains p qs),
+)
+times_set p (x ∷ qs) (suc i) q k h = omega (
+  arith,
+  times_set p qs i q k (omega arith),
+  times-append k (chains_of p x) (queued_chains p qs),
+  times-append k (chains_of p x)
+      (queued_chains p (slice_set qs i q)),
+)
 
-pub times_at : (p : PoolView) (qs : List SockBufView) (i k : ℕ) → times k (chains_of p (queue_at qs i)) ≤ times k (queued_chains p qs)
+pub times_at : (p : PoolView) (qs : List SockBufView) (i k : ℕ)
+    → times k (chains_of p (queue_at qs i)) ≤ times k (queued_chains p qs)
 times_at p [] i k = omega arith
 times_at p (x ∷ qs) zero k = omega (arith, times-append k (chains_of p x) (queued_chains p qs))
 times_at p (x ∷ qs) (suc i) k = omega (arith, times_at p qs i k, times-append k (chains_of p x) (queued_chains p qs))
 
 -- ---- what isn't touched stays
-pub queued_same : (p q : PoolView) (qs : List SockBufView) → SameAt p q (queued_chains p qs) → queued_chains q qs ≡ queued_chains p qs
+pub queued_same : (p q : PoolView) (qs : List SockBufView) → SameAt p q (queued_chains p qs)
+    → queued_chains q qs ≡ queued_chains p qs
 queued_same p q [] s = refl
 queued_same p q (x ∷ qs) s =
-    let here : chains_of q x ≡ chains_of p x = chains_same p q x (same_part p q (queued_chains p (x ∷ qs)) (chains_of p x) s (λ k. omega (arith, times-append k (chains_of p x) (queued_chains p qs)))) in
-    let later : queued_chains q qs ≡ queued_chains p qs = queued_same p q qs (same_part p q (queued_chains p (x ∷ qs)) (queued_chains p qs) s (λ k. omega (arith, times-append k (chains_of p x) (queued_chains p qs)))) in
+    let here : chains_of q x ≡ chains_of p x = chains_same p q x
+    (same_part p q (queued_chains p (x ∷ qs)) (chains_of p x) s
+    (λ k. omega (arith, times-append k (chains_of p x) (queued_chains p qs)))) in
+    let later : queued_chains q qs ≡ queued_chains p qs =
+    queued_same p q qs (same_part p q (queued_chains p (x ∷ qs)) (queued_chains p qs) s
+    (λ k. omega (arith, times-append k (chains_of p x) (queued_chains p qs)))) in
     λ j. here j ++ later j
 
 -- ---- queue i became v, and the chains `ins` came to it, while `outs` left it
-pub record Steps (p : PoolView) (ins : List ℕ) (qs : List SockBufView) (i : ℕ) (v : SockBufView) (q : PoolView) (outs : List ℕ) : Type 0 where
+pub record Steps (p : PoolView) (ins : List ℕ) (qs : List SockBufView) (i : ℕ) (v : SockBufView) (q : PoolView)
+    (outs : List ℕ) : Type 0 where
   pub others : (k : ℕ) → (k ≡ i → ⊥) → queues_of q (slice_set qs i v) k ≡ queues_of p qs k
   pub here : queues_of q (slice_set qs i v) i ≡ datagrams q v
   pub each : (k : ℕ) → IsSockBuf q (queue_at (slice_set qs i v) k)
   pub moves : Moves p (ins ++ queued_chains p qs) q (outs ++ queued_chains q (slice_set qs i v))
 
-pub one_steps : {p q : PoolView} (ins outs : List ℕ) (qs : List SockBufView) (i : ℕ) (v : SockBufView) → i < length qs → ((k : ℕ) → IsSockBuf p (queue_at qs k)) → IsOwned p (ins ++ queued_chains p qs)
+pub one_steps : {p q : PoolView} (ins outs : List ℕ) (qs : List SockBufView) (i : ℕ) (v : SockBufView) → i < length qs
+    → ((k : ℕ) → IsSockBuf p (queue_at qs k)) → IsOwned p (ins ++ queued_chains p qs)
     → IsSockBuf q v → Moves p (ins ++ chains_of p (queue_at qs i)) q (outs ++ chains_of q v) → Steps p ins qs i v q outs
 one_steps {p} {q} ins outs qs i v h each owned ready m =
     let rest : List SockBufView = slice_set qs i no_datagrams in
-    let parts : (k : ℕ) → times k (queued_chains p rest) + times k (chains_of p (queue_at qs i)) ≡ times k (queued_chains p qs) = λ k. omega (arith, times_set p qs i no_datagrams k h) in
+    let parts : (k : ℕ) → times k (queued_chains p rest) + times k (chains_of p (queue_at qs i))
+    ≡ times k (queued_chains p qs) = λ k. omega (arith, times_set p qs i no_datagrams k h) in
     let same : SameAt p q (queued_chains p rest) =
     same_beside (queued_chains p rest) m (λ k. omega (arith, parts k, owned k, times-append k ins (queued_chains p qs)))
-    (λ k some. omega (arith, parts k, owned k, live_at_most p k, times-append k ins (queued_chains p qs), times-append k ins (chains_of p (queue_at qs i)))) in
+    (λ k some. omega (
+      arith,
+      parts k,
+      owned k,
+      live_at_most p k,
+      times-append k ins (queued_chains p qs),
+      times-append k ins (chains_of p (queue_at qs i)),
+    )) in
     let at : (k : ℕ) → (k ≡ i → ⊥) → SameAt p q (chains_of p (queue_at qs k)) = λ k ne.
-    same_part p q (queued_chains p rest) (chains_of p (queue_at qs k)) same (λ j. omega (arith, times_at p rest k j, ap (λ (x : SockBufView). times j (chains_of p x)) (at_other qs i k no_datagrams ne))) in
+    same_part p q (queued_chains p rest) (chains_of p (queue_at qs k)) same
+    (λ j. omega (
+      arith,
+      times_at p rest k j,
+      ap (λ (x : SockBufView). times j (chains_of p x)) (at_other qs i k no_datagrams ne),
+    )) in
     record {
       others = λ k ne. ap (datagrams q) (at_other qs i k v ne) ∙ datagrams_same p q (queue_at qs k) (at k ne);
       here = ap (datagrams q) (at_set qs i v h);
@@ -70,8 +104,14 @@ one_steps {p} {q} ins outs qs i v h each owned ready m =
         | inl e ↦ subst (IsSockBuf q) (sym (ap (queue_at (slice_set qs i v)) e ∙ at_set qs i v h)) ready
         | inr ne ↦ subst (IsSockBuf q) (sym (at_other qs i k v ne)) (ready_same p q (queue_at qs k) (at k ne) (each k))
       ];
-      moves = moves_beside (ins ++ queued_chains p qs) (outs ++ queued_chains q (slice_set qs i v)) (queued_chains p rest) m
-          (λ k. omega (arith, parts k, times-append k ins (queued_chains p qs), times-append k ins (chains_of p (queue_at qs i))))
+      moves = moves_beside (ins ++ queued_chains p qs) (outs ++ queued_chains q (slice_set qs i v))
+          (queued_chains p rest) m
+          (λ k. omega (
+            arith,
+            parts k,
+            times-append k ins (queued_chains p qs),
+            times-append k ins (chains_of p (queue_at qs i)),
+          ))
           (λ k. omega (
             arith,
             times-append k outs (queued_chains q (slice_set qs i v)),
@@ -95,9 +135,12 @@ pub record Kept (p q : PoolView) (v : SocksView) : Type 0 where
 
 pub kept : (p q : PoolView) (v : SocksView) → SameAt p q (queued_chains p v.queues) → IsSocks p v → Kept p q v
 kept p q v s r =
-    let at : (k : ℕ) → SameAt p q (chains_of p (queue_at v.queues k)) = λ k. same_part p q (queued_chains p v.queues) (chains_of p (queue_at v.queues k)) s (λ j. times_at p v.queues k j) in
+    let at : (k : ℕ) → SameAt p q (chains_of p (queue_at v.queues k)) =
+    λ k. same_part p q (queued_chains p v.queues) (chains_of p (queue_at v.queues k)) s
+    (λ j. times_at p v.queues k j) in
     let chains : queued_chains q v.queues ≡ queued_chains p v.queues = queued_same p q v.queues s in
-    let shows : (k : ℕ) → queues_of q v.queues k ≡ queues_of p v.queues k = λ k. datagrams_same p q (queue_at v.queues k) (at k) in
+    let shows : (k : ℕ) → queues_of q v.queues k ≡ queues_of p v.queues k =
+    λ k. datagrams_same p q (queue_at v.queues k) (at k) in
     record {
       ready = record {
         each = λ k. ready_same p q (queue_at v.queues k) (at k) (r.each k);
@@ -110,17 +153,22 @@ kept p q v s r =
       chains = chains;
     }
 
-pub at_default : (bs : List SockBufView) (i : ℕ) (d e : SockBufView) → i < length bs → slice_index_or bs i d ≡ slice_index_or bs i e
+pub at_default : (bs : List SockBufView) (i : ℕ) (d e : SockBufView) → i < length bs
+    → slice_index_or bs i d ≡ slice_index_or bs i e
 at_default [] i d e h = absurd (omega arith)
 at_default (x ∷ bs) zero d e h = refl
 at_default (x ∷ bs) (suc i) d e h = at_default bs i d e (omega arith)
 
 -- the step of one queue among all of them
-pub steps_at : {p q : PoolView} (ins outs : List ℕ) (bs : List SockBufView) (i : ℕ) (x e y : SockBufView) → i < length bs → x ≡ slice_index_or bs i e → ((k : ℕ) → IsSockBuf p (queue_at bs k)) → IsOwned p (ins ++ queued_chains p bs)
-    → IsSockBuf q y → Moves p (ins ++ chains_of p x) q (outs ++ chains_of q y) → StepsAt p ins bs i q outs (slice_set bs i y)
+pub steps_at : {p q : PoolView} (ins outs : List ℕ) (bs : List SockBufView) (i : ℕ) (x e y : SockBufView)
+    → i < length bs → x ≡ slice_index_or bs i e → ((k : ℕ) → IsSockBuf p (queue_at bs k))
+    → IsOwned p (ins ++ queued_chains p bs)
+    → IsSockBuf q y → Moves p (ins ++ chains_of p x) q (outs ++ chains_of q y)
+    → StepsAt p ins bs i q outs (slice_set bs i y)
 steps_at {p} {q} ins outs bs i x e y lt is each owned ready m =
     let at : x ≡ queue_at bs i = is ∙ at_default bs i e no_datagrams lt in
-    let s : Steps p ins bs i y q outs = one_steps ins outs bs i y lt each owned ready (subst (λ (v : SockBufView). Moves p (ins ++ chains_of p v) q (outs ++ chains_of q y)) at m) in
+    let s : Steps p ins bs i y q outs = one_steps ins outs bs i y lt each owned ready
+    (subst (λ (v : SockBufView). Moves p (ins ++ chains_of p v) q (outs ++ chains_of q y)) at m) in
     record {
       len = length-set bs i y;
       others = s.others;
@@ -141,17 +189,30 @@ pub moves_to : {p q : PoolView} {xs ys : List ℕ} → Moves p xs q [] → ys �
 moves_to {p} {q} {xs} {ys} m e = subst (Moves p xs q) (sym e) m
 
 -- where nothing waits in any queue, there is no chain
-pub all_gone : (q : PoolView) (bs : List SockBufView) → ((k : ℕ) → IsSockBuf q (queue_at bs k)) → ((k : ℕ) → k < length bs → queues_of q bs k ≡ []) → queued_chains q bs ≡ []
+pub all_gone : (q : PoolView) (bs : List SockBufView) → ((k : ℕ) → IsSockBuf q (queue_at bs k))
+    → ((k : ℕ) → k < length bs → queues_of q bs k ≡ []) → queued_chains q bs ≡ []
 all_gone q [] each none = refl
-all_gone q (b ∷ bs) each none = λ i. none_there q b (each 0) (none 0 (omega arith)) i ++ all_gone q bs (λ k. each (suc k)) (λ k lt. none (suc k) (omega arith)) i
+all_gone q (b ∷ bs) each none = λ i. none_there q b (each 0) (none 0 (omega arith)) i
+    ++ all_gone q bs (λ k. each (suc k)) (λ k lt. none (suc k) (omega arith)) i
 
 -- ---- queues by descriptor
-pub each_from_three : (p : PoolView) (bs : List SockBufView) → ((k : ℕ) → IsSockBuf p (queue_at (from_three bs) k)) → (i : ℕ) → IsSockBuf p (queue_at bs i)
+pub each_from_three : (p : PoolView) (bs : List SockBufView) → ((k : ℕ) → IsSockBuf p (queue_at (from_three bs) k))
+    → (i : ℕ) → IsSockBuf p (queue_at bs i)
 each_from_three p bs each i = each (suc (suc (suc i)))
 
-pub all_empty : (q : PoolView) (bs : List SockBufView) → ((k : ℕ) → IsSockBuf q (queue_at bs k)) → ((k : ℕ) → k < length bs → queues_of q bs k ≡ []) → AreEmpty bs
+pub all_empty : (q : PoolView) (bs : List SockBufView) → ((k : ℕ) → IsSockBuf q (queue_at bs k))
+    → ((k : ℕ) → k < length bs → queues_of q bs k ≡ []) → AreEmpty bs
 all_empty q [] each none = tt
-all_empty q (b ∷ bs) each none = (omega (arith, length-queued_packets q b.train (each 0).held, length-map (queued_packets q b.train) (λ (queued_packet : QueuedPacket). datagram_of queued_packet.entries), ap length (none 0 (omega arith))), all_empty q bs (λ k. each (suc k)) (λ k lt. none (suc k) (omega arith)))
+all_empty q (b ∷ bs) each none = (
+  omega (
+    arith,
+    length-queued_packets q b.train (each 0).held,
+    length-map (queued_packets q b.train) (λ (queued_packet : QueuedPacket). datagram_of queued_packet.entries),
+    ap
+        length (none 0 (omega arith)),
+  ),
+  all_empty q bs (λ k. each (suc k)) (λ k lt. none (suc k) (omega arith)),
+)
 
 -- ---- the frame
 

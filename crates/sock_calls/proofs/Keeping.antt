@@ -18,27 +18,39 @@ none_of None e = refl
 none_of (Some x) e = absurd (true≢false e)
 
 -- those that aren't open now weren't before
-pub keeps : (p : PoolView) (v : SocksView) (t : Table) → IsSocks p v → AreApart t.blocks → ((fd : ℕ) → block_at fd t ≡ None → block_at fd v.pcbs ≡ None) → IsSocks p (record { pcbs = t; queues = v.queues })
-keeps p v t is apart none = record { each = is.each; owned = is.owned; places = is.places; apart = apart; closed = λ fd e. is.closed fd (none fd e) }
+pub keeps : (p : PoolView) (v : SocksView) (t : Table) → IsSocks p v → AreApart t.blocks
+    → ((fd : ℕ) → block_at fd t ≡ None → block_at fd v.pcbs ≡ None) → IsSocks p (record { pcbs = t; queues = v.queues })
+keeps p v t is apart none = record {
+  each = is.each;
+  owned = is.owned;
+  places = is.places;
+  apart = apart;
+  closed = λ fd e. is.closed fd (none fd e);
+}
 
 pub none_before : (old new : Table) → KeepsOpen old new → (fd : ℕ) → block_at fd new ≡ None → block_at fd old ≡ None
 none_before old new kept fd e = none_of (block_at fd old) (sym (same_open old new kept fd) ∙ ap is_some e)
 
-pub keeps_open : (p : PoolView) (v : SocksView) (t : Table) → IsSocks p v → AreApart t.blocks → KeepsOpen v.pcbs t → IsSocks p (record { pcbs = t; queues = v.queues })
+pub keeps_open : (p : PoolView) (v : SocksView) (t : Table) → IsSocks p v → AreApart t.blocks → KeepsOpen v.pcbs t
+    → IsSocks p (record { pcbs = t; queues = v.queues })
 keeps_open p v t is apart kept = keeps p v t is apart (none_before v.pcbs t kept)
 
 -- ---- one more is open
-none_beside : (old new : Table) (fd : ℕ) → OpensOnly old fd new → (k : ℕ) → block_at k new ≡ None → block_at k old ≡ None
+none_beside : (old new : Table) (fd : ℕ) → OpensOnly old fd new → (k : ℕ) → block_at k new ≡ None
+    → block_at k old ≡ None
 none_beside old new fd opens k e = elim (cases_eq k fd) [
-  | inl is ↦ absurd (true≢false (sym (opened old new fd opens) ∙ ap (λ (j : ℕ). is_some (block_at j new)) (sym is) ∙ ap is_some e))
+  | inl is ↦ absurd (true≢false (sym (opened old new fd opens) ∙ ap (λ (j : ℕ). is_some (block_at j new)) (sym is)
+      ∙ ap is_some e))
   | inr ne ↦ none_of (block_at k old) (sym (opened_others old new fd k opens ne) ∙ ap is_some e)
 ]
 
-pub keeps_more : (p : PoolView) (v : SocksView) (t : Table) (fd : ℕ) → IsSocks p v → AreApart t.blocks → OpensOnly v.pcbs fd t → IsSocks p (record { pcbs = t; queues = v.queues })
+pub keeps_more : (p : PoolView) (v : SocksView) (t : Table) (fd : ℕ) → IsSocks p v → AreApart t.blocks
+    → OpensOnly v.pcbs fd t → IsSocks p (record { pcbs = t; queues = v.queues })
 keeps_more p v t fd is apart opens = keeps p v t is apart (none_beside v.pcbs t fd opens)
 
 -- what waits at a descriptor that is about to be opened
-pub none_waits : (p : PoolView) (v : SocksView) (t : Table) (fd : ℕ) → IsSocks p v → OpensOnly v.pcbs fd t → queues_of p v.queues fd ≡ []
+pub none_waits : (p : PoolView) (v : SocksView) (t : Table) (fd : ℕ) → IsSocks p v → OpensOnly v.pcbs fd t
+    → queues_of p v.queues fd ≡ []
 none_waits p v t fd is opens = is.closed fd (none_of (block_at fd v.pcbs) (none_is (block_at fd v.pcbs) opens.before))
   where
     none_is : {T : Type 0} (o : Option T) → IsNone o → is_some o ≡ false
@@ -46,11 +58,14 @@ none_waits p v t fd is opens = is.closed fd (none_of (block_at fd v.pcbs) (none_
     none_is (Some x) h = absurd (true≢false h)
 
 -- a socket was opened, or none could be
-pub keeps_opened : (p : PoolView) (v : SocksView) (t : Table) (result : Result ℕ Errno) → IsSocks p v → AreApart t.blocks → IfOk result (λ fd. OpensOnly v.pcbs fd t) → OnErr result (t ≡ v.pcbs) → IsSocks p (record { pcbs = t; queues = v.queues })
+pub keeps_opened : (p : PoolView) (v : SocksView) (t : Table) (result : Result ℕ Errno) → IsSocks p v
+    → AreApart t.blocks → IfOk result (λ fd. OpensOnly v.pcbs fd t) → OnErr result (t ≡ v.pcbs)
+    → IsSocks p (record { pcbs = t; queues = v.queues })
 keeps_opened p v t (Ok fd) is apart opens same = keeps_more p v t fd is apart opens
 keeps_opened p v t (Err errno) is apart opens same = keeps p v t is apart (λ fd e. sym (ap (block_at fd) same) ∙ e)
 
-pub none_waits_there : (p : PoolView) (v : SocksView) (t : Table) (result : Result ℕ Errno) → IsSocks p v → IfOk result (λ fd. OpensOnly v.pcbs fd t) → IfOk result (λ fd. queues_of p v.queues fd ≡ [])
+pub none_waits_there : (p : PoolView) (v : SocksView) (t : Table) (result : Result ℕ Errno) → IsSocks p v
+    → IfOk result (λ fd. OpensOnly v.pcbs fd t) → IfOk result (λ fd. queues_of p v.queues fd ≡ [])
 none_waits_there p v t (Ok fd) is opens = none_waits p v t fd is opens
 none_waits_there p v t (Err errno) is opens = tt
 
@@ -66,7 +81,13 @@ none_owned : (p : PoolView) (bs : List SockBufView) → Empty bs → IsOwned p (
 none_owned p bs e = λ k. omega (arith, ap (times k) (none_queued p bs e))
 
 none_apart : AreApart []
-none_apart = record { fds = λ fd. omega arith; least = λ fd h. absurd (omega arith); most = λ fd h. absurd (omega arith); ports = refl; fours = λ local port peer. omega arith }
+none_apart = record {
+  fds = λ fd. omega arith;
+  least = λ fd h. absurd (omega arith);
+  most = λ fd h. absurd (omega arith);
+  ports = refl;
+  fours = λ local port peer. omega arith;
+}
 
 empty_from_three : (bs : List SockBufView) → Empty bs → Empty (from_three bs)
 empty_from_three bs e zero = refl
@@ -74,7 +95,8 @@ empty_from_three bs e (suc zero) = refl
 empty_from_three bs e (suc (suc zero)) = refl
 empty_from_three bs e (suc (suc (suc k))) = e k
 
-pub no_sockets : (p : PoolView) (t : Table) (bs : List SockBufView) → t.blocks ≡ [] → Empty bs → length bs ≡ 64 → IsSocks p (record { pcbs = t; queues = from_three bs })
+pub no_sockets : (p : PoolView) (t : Table) (bs : List SockBufView) → t.blocks ≡ [] → Empty bs → length bs ≡ 64
+    → IsSocks p (record { pcbs = t; queues = from_three bs })
 no_sockets p t bs none e places =
     let all : Empty (from_three bs) = empty_from_three bs e in
     record {
@@ -86,7 +108,9 @@ no_sockets p t bs none e places =
     }
 
 -- ---- a socket was closed, and its queue emptied
-pub keeps_closed : (p q : PoolView) (v : SocksView) (t : Table) (cs : List SockBufView) (fd : ℕ) → IsSocks p v → AreApart t.blocks → ClosesOnly v.pcbs fd t → StepsAt p [] v.queues fd q [] cs → queues_of q cs fd ≡ [] → IsSocks q (record { pcbs = t; queues = cs })
+pub keeps_closed : (p q : PoolView) (v : SocksView) (t : Table) (cs : List SockBufView) (fd : ℕ) → IsSocks p v
+    → AreApart t.blocks → ClosesOnly v.pcbs fd t → StepsAt p [] v.queues fd q [] cs → queues_of q cs fd ≡ []
+    → IsSocks q (record { pcbs = t; queues = cs })
 keeps_closed p q v t cs fd is apart closes steps empty = record {
   each = steps.each;
   owned = steps.owned;
@@ -94,13 +118,19 @@ keeps_closed p q v t cs fd is apart closes steps empty = record {
   apart = apart;
   closed = λ k e. elim (cases_eq k fd) [
     | inl here ↦ ap (queues_of q cs) here ∙ empty
-    | inr ne ↦ steps.others k ne ∙ is.closed k (none_of (block_at k v.pcbs) (sym (closed_others v.pcbs t fd k closes ne) ∙ ap is_some e))
+    | inr ne ↦ steps.others k ne
+        ∙ is.closed k (none_of (block_at k v.pcbs) (sym (closed_others v.pcbs t fd k closes ne) ∙ ap is_some e))
   ];
 }
 
 -- what isn't open any more has no say in the machine
-pub closed_machine : (f g : Queues) (t old : Table) (fd : ℕ) (rest : State) → ClosesOnly old fd t → ((k : ℕ) → (k ≡ fd → ⊥) → g k ≡ f k) → machine rest f t ≡ machine rest g t
-closed_machine f g t old fd rest closes others = same_machine f g t rest (λ k at. sym (others k (λ e. absurd (true≢false (sym at ∙ ap (λ (j : ℕ). is_some (block_at j t)) e ∙ is_none_none (block_at fd t) (closed old t fd closes))))))
+pub closed_machine : (f g : Queues) (t old : Table) (fd : ℕ) (rest : State) → ClosesOnly old fd t
+    → ((k : ℕ) → (k ≡ fd → ⊥) → g k ≡ f k) → machine rest f t ≡ machine rest g t
+closed_machine f g t old fd rest closes others =
+    same_machine f g t rest
+    (λ k at. sym
+    (others k (λ e. absurd (true≢false (sym at ∙ ap (λ (j : ℕ). is_some (block_at j t)) e
+    ∙ is_none_none (block_at fd t) (closed old t fd closes))))))
   where
     is_none_none : {T : Type 0} (o : Option T) → IsNone o → is_some o ≡ false
     is_none_none None h = refl

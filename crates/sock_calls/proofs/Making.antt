@@ -32,27 +32,38 @@ Stores p bytes q d =
 -- the headers in front of them give the layout of a send
 abbrev pub SentLayout : Type 0
 SentLayout = (cs xs hs : List ℕ) → length cs ≡ count_by is_cluster (user (length xs)) → length hs ≡ 28
-    → laid (prepended (record { front = alone true; entries = stored_first 56 true cs (user (length xs)) xs; cells = [] }) hs) ≡ laid_on cs (sent (length xs))
+    → laid (prepended (record {
+      front = alone true;
+      entries = stored_first 56 true cs (user (length xs)) xs;
+      cells = [];
+    }) hs) ≡ laid_on cs (sent (length xs))
 
 pub no_lack : (p : PoolView) (n : ℕ) → Has p (sent n) → Lacks p (user n) → ⊥
 no_lack p n has (inl few) = omega (arith, has.0, few, (beside n).mbufs)
 no_lack p n has (inr few) = omega (arith, has.1, few, (beside n).clusters)
 
-laid_there : {p q : PoolView} {d : ℕ} (bytes hs : List ℕ) → SentLayout → (s : Stores p bytes q d) → length hs ≡ 28 → laid (prepended (chain_of q d) hs) ≡ laid_on s.0 (sent (length bytes))
-laid_there {p} {q} {d} bytes hs law s len = ap laid (λ i. prepended (record { front = s.3.front i; entries = s.3.entries i; cells = [] }) hs) ∙ law s.0 bytes hs s.2 len
+laid_there : {p q : PoolView} {d : ℕ} (bytes hs : List ℕ) → SentLayout → (s : Stores p bytes q d) → length hs ≡ 28
+    → laid (prepended (chain_of q d) hs) ≡ laid_on s.0 (sent (length bytes))
+laid_there {p} {q} {d} bytes hs law s len = ap laid
+    (λ i. prepended (record { front = s.3.front i; entries = s.3.entries i; cells = [] }) hs) ∙ law s.0 bytes hs s.2 len
 
-count_there : {p q : PoolView} {d : ℕ} (bytes hs : List ℕ) → SentLayout → Stores p bytes q d → length hs ≡ 28 → length (prepended (chain_of q d) hs) ≡ length (sent (length bytes))
+count_there : {p q : PoolView} {d : ℕ} (bytes hs : List ℕ) → SentLayout → Stores p bytes q d → length hs ≡ 28
+    → length (prepended (chain_of q d) hs) ≡ length (sent (length bytes))
 count_there {p} {q} {d} bytes hs law s len =
-    sym (length-map (prepended (chain_of q d) hs) _) ∙ ap (λ (es : List flat.Entry). length es) (laid_there bytes hs law s len) ∙ laid_count s.0 (sent (length bytes))
+    sym (length-map (prepended (chain_of q d) hs) _)
+    ∙ ap (λ (es : List flat.Entry). length es) (laid_there bytes hs law s len)
+    ∙ laid_count s.0 (sent (length bytes))
 
 prepend_few : (v : ChainView) (hs : List ℕ) → prepend_need v (length hs) + length v.entries ≤ length (prepended v hs)
 prepend_few v hs = go (has_front v (length hs)) _ _ (omega (arith, length-drop 1 v.entries))
   where
-    go : (t : Bool) (x y : Entry) → length v.entries ≤ suc (length (drop 1 v.entries)) → cond t 0 1 + length v.entries ≤ length (cond {A = List Entry} t (x ∷ drop 1 v.entries) (y ∷ v.entries))
+    go : (t : Bool) (x y : Entry) → length v.entries ≤ suc (length (drop 1 v.entries))
+        → cond t 0 1 + length v.entries ≤ length (cond {A = List Entry} t (x ∷ drop 1 v.entries) (y ∷ v.entries))
     go true x y h = omega (arith, h)
     go false x y h = omega arith
 
-pub no_lack_there : {p q : PoolView} {d : ℕ} (bytes hs : List ℕ) → SentLayout → Stores p bytes q d → length hs ≡ 28 → Has p (sent (length bytes)) → LacksMbufs q (prepend_need (chain_of q d) (length hs)) → ⊥
+pub no_lack_there : {p q : PoolView} {d : ℕ} (bytes hs : List ℕ) → SentLayout → Stores p bytes q d → length hs ≡ 28
+    → Has p (sent (length bytes)) → LacksMbufs q (prepend_need (chain_of q d) (length hs)) → ⊥
 no_lack_there {p} {q} {d} bytes hs law s len has few = omega (
   arith,
   has.0,
@@ -74,10 +85,13 @@ headed_front v n e = go (has_front v n)
     go true = h
     go false = h
 
-pub stored_is : {p q r : PoolView} {d d' : ℕ} (bytes hs : List ℕ) → SentLayout → Stores p bytes q d → string (chain_of q d) ≡ bytes → length hs ≡ 28
-    → Makes (without q d) r d' (prepended_front (chain_of q d) (length hs)) (prepended (chain_of q d) hs) → string (chain_of r d') ≡ hs ++ string (chain_of q d) → IsStored p bytes r d'
+pub stored_is : {p q r : PoolView} {d d' : ℕ} (bytes hs : List ℕ) → SentLayout → Stores p bytes q d
+    → string (chain_of q d) ≡ bytes → length hs ≡ 28
+    → Makes (without q d) r d' (prepended_front (chain_of q d) (length hs)) (prepended (chain_of q d) hs)
+    → string (chain_of r d') ≡ hs ++ string (chain_of q d) → IsStored p bytes r d'
 stored_is {p} {q} {r} {d} {d'} bytes hs law s is len m string_is =
-    let made = makes_as p (prepended_front (chain_of q d) (length hs)) (prepended (chain_of q d) hs) m (adds_undone (without q d) s.3.adds refl) refl refl in
+    let made = makes_as p (prepended_front (chain_of q d) (length hs)) (prepended (chain_of q d) hs) m
+    (adds_undone (without q d) s.3.adds refl) refl refl in
     let whole : string (chain_of r d') ≡ hs ++ bytes = string_is ∙ ap (λ (xs : List ℕ). hs ++ xs) is in
     record {
       clusters = s.0;
@@ -88,7 +102,12 @@ stored_is {p} {q} {r} {d} {d'} bytes hs law s is len m string_is =
         headed = ap (λ f. f.header) made.front ∙ headed_front (chain_of q d) (length hs) s.3.front;
         laid = ap laid made.entries ∙ laid_there bytes hs law s len;
         size = omega (arith, ap (λ (xs : List ℕ). length xs) whole, length-append hs bytes, len);
-        held = omega (arith, makes_held made, ap (λ (es : List Entry). length es) made.entries, count_there bytes hs law s len);
+        held = omega (
+          arith,
+          makes_held made,
+          ap (λ (es : List Entry). length es) made.entries,
+          count_there bytes hs law s len,
+        );
       };
       holds = ap (drop 28) whole ∙ ap (λ (k : ℕ). drop k (hs ++ bytes)) (sym len) ∙ drop-append_seam hs bytes;
     }
@@ -100,34 +119,47 @@ ready {p} {q} {cs} {n} {c} l most = datagram_sent (chain_of q c) cs n l.headed l
 no_flat : flat.Entry
 no_flat = record { size = 0; cluster = None }
 
-first_size : (es : List Entry) (x : flat.Entry) (xs : List flat.Entry) → laid es ≡ x ∷ xs → length (slice_index_or es 0 no_entry).bytes ≡ x.size
+first_size : (es : List Entry) (x : flat.Entry) (xs : List flat.Entry) → laid es ≡ x ∷ xs
+    → length (slice_index_or es 0 no_entry).bytes ≡ x.size
 first_size [] x xs h = absurd (omega (arith, ap (λ (ys : List flat.Entry). length ys) h))
 first_size (e ∷ es) x xs h = ap (λ (ys : List flat.Entry). (slice_index_or ys 0 no_flat).size) h
 
-plain_first : (cs : List ℕ) (n : ℕ) (rooms : List flat.Room) → laid_on cs (flat.Plain n ∷ rooms) ≡ record { size = n; cluster = None } ∷ laid_on cs rooms
+plain_first : (cs : List ℕ) (n : ℕ) (rooms : List flat.Room)
+    → laid_on cs (flat.Plain n ∷ rooms) ≡ record { size = n; cluster = None } ∷ laid_on cs rooms
 unfolding laid_on
 plain_first [] n rooms = refl
 plain_first (c ∷ cs) n rooms = refl
 
 -- the headers stand in the first mbuf
-pub has_headers : {p q : PoolView} {cs : List ℕ} {n c : ℕ} → IsLaidOut p n cs q c → 28 ≤ length (entry_of (chain_of q c) 0).bytes
+pub has_headers : {p q : PoolView} {cs : List ℕ} {n c : ℕ} → IsLaidOut p n cs q c
+    → 28 ≤ length (entry_of (chain_of q c) 0).bytes
 has_headers {p} {q} {cs} {n} {c} l = go (nat_le n 72) l.laid
   where
-    go : (t : Bool) → laid (chain_of q c).entries ≡ laid_on cs (cond {A = List flat.Room} t (flat.Plain (28 + n) ∷ []) (flat.Plain 28 ∷ user n)) → 28 ≤ length (entry_of (chain_of q c) 0).bytes
+    go : (t : Bool) → laid (chain_of q c).entries
+        ≡ laid_on cs (cond {A = List flat.Room} t (flat.Plain (28 + n) ∷ []) (flat.Plain 28 ∷ user n))
+        → 28 ≤ length (entry_of (chain_of q c) 0).bytes
     go true is = omega (arith, first_size (chain_of q c).entries _ _ (is ∙ plain_first cs (28 + n) []))
     go false is = omega (arith, first_size (chain_of q c).entries _ _ (is ∙ plain_first cs 28 (user n)))
 
 string_size : (es : List Entry) → length (flat_bytes es) ≡ sum_by (λ (x : flat.Entry). x.size) (laid es)
 string_size [] = refl
-string_size (e ∷ es) = omega (arith, length-append e.bytes (flat_bytes es), sum_by-cons (λ (x : flat.Entry). x.size) (record { size = length e.bytes; cluster = e.cluster }) (laid es), string_size es)
+string_size (e ∷ es) = omega (
+  arith,
+  length-append e.bytes (flat_bytes es),
+  sum_by-cons (λ (x : flat.Entry). x.size) (record { size = length e.bytes; cluster = e.cluster }) (laid es),
+  string_size es,
+)
 
-pub built_is : {p q r : PoolView} {c : ℕ} (x : sending.Sending) → IsStored p x.bytes q c → r ≡ with_chain q c (built x.source x.to.ip x.port x.to.port (chain_of q c))
-    → string (chain_of r c) ≡ take 20 (string (chain_of q c)) ++ udp x.source x.to.ip x.port x.to.port (drop 28 (string (chain_of q c))) → IsBuilt p x r c
+pub built_is : {p q r : PoolView} {c : ℕ} (x : sending.Sending) → IsStored p x.bytes q c
+    → r ≡ with_chain q c (built x.source x.to.ip x.port x.to.port (chain_of q c))
+    → string (chain_of r c) ≡ take 20 (string (chain_of q c))
+    ++ udp x.source x.to.ip x.port x.to.port (drop 28 (string (chain_of q c))) → IsBuilt p x r c
 built_is {p} {q} {r} {c} x s e string_is =
     let v : ChainView = chain_of q c in
     let w : ChainView = built x.source x.to.ip x.port x.to.port v in
     let shown : chain_of r c ≡ w = shown_with q r c w e in
-    let laid_is : laid (chain_of r c).entries ≡ laid v.entries = ap (λ (u : ChainView). laid u.entries) shown ∙ built_laid x.source x.to.ip x.port x.to.port v (has_headers s.lies) in
+    let laid_is : laid (chain_of r c).entries ≡ laid v.entries = ap (λ (u : ChainView). laid u.entries) shown
+    ∙ built_laid x.source x.to.ip x.port x.to.port v (has_headers s.lies) in
     let m : Makes p q c v.front v.entries = record { adds = s.lies.made; front = refl; entries = refl } in
     let made : Makes p r c w.front w.entries = makes_then r w m e in
     let front_size : length (take 20 (string v)) ≡ 20 = omega (arith, length-take 20 (string v), s.lies.size) in
@@ -139,19 +171,23 @@ built_is {p} {q} {r} {c} x s e string_is =
         made = made.adds;
         headed = ap (λ (u : ChainView). u.front.header) shown ∙ s.lies.headed;
         laid = laid_is ∙ s.lies.laid;
-        size = string_size (chain_of r c).entries ∙ ap (λ (es : List flat.Entry). sum_by (λ (y : flat.Entry). y.size) es) laid_is ∙ sym (string_size v.entries) ∙ s.lies.size;
+        size = string_size (chain_of r c).entries
+            ∙ ap (λ (es : List flat.Entry). sum_by (λ (y : flat.Entry). y.size) es) laid_is
+            ∙ sym (string_size v.entries) ∙ s.lies.size;
         held = omega (
           arith,
           makes_held made,
           ap (λ (u : ChainView). length u.entries) shown,
-          length-map {B = flat.Entry} (chain_of r c).entries (λ (y : Entry). record { size = length y.bytes; cluster = y.cluster }),
+          length-map {B = flat.Entry} (chain_of r c).entries
+              (λ (y : Entry). record { size = length y.bytes; cluster = y.cluster }),
           ap (λ (es : List flat.Entry). length es) laid_is,
           ap (λ (es : List flat.Entry). length es) s.lies.laid,
           laid_count s.clusters (sent (length x.bytes)),
         );
       };
       datagram = ap (drop 20) string_is
-          ∙ ap (λ (k : ℕ). drop k (take 20 (string v) ++ udp x.source x.to.ip x.port x.to.port (drop 28 (string v)))) (sym front_size)
+          ∙ ap (λ (k : ℕ). drop k (take 20 (string v) ++ udp x.source x.to.ip x.port x.to.port (drop 28 (string v))))
+          (sym front_size)
           ∙ drop-append_seam (take 20 (string v)) (udp x.source x.to.ip x.port x.to.port (drop 28 (string v)))
           ∙ ap (udp x.source x.to.ip x.port x.to.port) s.holds;
     }

@@ -25,16 +25,21 @@ use Rattle.sock_calls.proofs.SentRooms.{laid_count}
 
 -- ---- what it takes
 
-one_part : (n mtu : ℕ) (rooms : List Room) → n + 28 ≤ mtu → sent n ≡ rooms → need n mtu ≡ record { mbufs = length rooms + 0; clusters = count_by is_cluster rooms }
+one_part : (n mtu : ℕ) (rooms : List Room) → n + 28 ≤ mtu → sent n ≡ rooms
+    → need n mtu ≡ record { mbufs = length rooms + 0; clusters = count_by is_cluster rooms }
 one_part n mtu rooms fits is =
     let cut = cuts_short (n + 8) mtu (omega arith) in
-    λ i. record { mbufs = length (is i) + sum_by (need_of_part (is i)) (drop 1 (cut i)); clusters = count_by is_cluster (is i) }
+    λ i. record {
+      mbufs = length (is i) + sum_by (need_of_part (is i)) (drop 1 (cut i));
+      clusters = count_by is_cluster (is i);
+    }
 
 small_rooms : (n : ℕ) → n ≤ 72 → sent n ≡ Plain (28 + n) ∷ []
 small_rooms n few = cond-true {A = List Room} _ _ _ (le-leb n 72 few)
 
 large_rooms : (n : ℕ) → 208 ≤ n → n ≤ 1992 → sent n ≡ Plain 28 ∷ Cluster n ∷ []
-large_rooms n many most = cond-false {A = List Room} _ _ _ (lt-leb n 72 (omega (arith, many))) ∙ ap (λ (rs : List Room). Plain 28 ∷ rs) (one_cluster 56 n (omega arith) many most)
+large_rooms n many most = cond-false {A = List Room} _ _ _ (lt-leb n 72 (omega (arith, many)))
+    ∙ ap (λ (rs : List Room). Plain 28 ∷ rs) (one_cluster 56 n (omega arith) many most)
 
 pub small_need : (n mtu : ℕ) → n ≤ 72 → n + 28 ≤ mtu → record { mbufs = 1; clusters = 0 } ≡ need n mtu
 small_need n mtu few fits = sym (one_part n mtu (Plain (28 + n) ∷ []) fits (small_rooms n few))
@@ -46,14 +51,19 @@ large_need n mtu many most fits = sym (one_part n mtu (Plain 28 ∷ Cluster n �
 pub small_free : (p : PoolView) (n : ℕ) → n ≤ 72 → Has p (sent n) → held_mbufs p < p.mbufs
 small_free p n few has = omega (arith, has.0, ap (λ (rs : List Room). length rs) (small_rooms n few))
 
-pub large_free : (p : PoolView) (n : ℕ) → 208 ≤ n → n ≤ 1992 → Has p (sent n) → (held_mbufs p + 2 ≤ p.mbufs) × (0 < free_clusters p)
-large_free p n many most has = (omega (arith, has.0, ap (λ (rs : List Room). length rs) (large_rooms n many most)), omega (arith, has.1, ap (count_by is_cluster) (large_rooms n many most)))
+pub large_free : (p : PoolView) (n : ℕ) → 208 ≤ n → n ≤ 1992 → Has p (sent n) → (held_mbufs p + 2 ≤ p.mbufs)
+    × (0 < free_clusters p)
+large_free p n many most has = (
+  omega (arith, has.0, ap (λ (rs : List Room). length rs) (large_rooms n many most)),
+  omega (arith, has.1, ap (count_by is_cluster) (large_rooms n many most)),
+)
 
 -- a send to the link isn't a broadcast
 pub need_link : (c : Config) (ip n : ℕ) → Way.Link ≡ way_of c ip → need_to c ip n ≡ need n (mtu_to c ip)
 need_link c ip n e = go (is_looped c ip) (ip == c.bcast) e
   where
-    go : (u t : Bool) → Way.Link ≡ cond u Way.Loopback (cond t Way.Both Way.Link) → cond t (need_bcast n) (need n (mtu_to c ip)) ≡ need n (mtu_to c ip)
+    go : (u t : Bool) → Way.Link ≡ cond u Way.Loopback (cond t Way.Both Way.Link)
+        → cond t (need_bcast n) (need n (mtu_to c ip)) ≡ need n (mtu_to c ip)
     go true t e = cc
     go false true e = cc
     go false false e = refl
@@ -63,7 +73,8 @@ need_link c ip n e = go (is_looped c ip) (ip == c.bcast) e
 abbrev pub entry : List ℕ → ℕ → Option ℕ → Entry
 entry xs start o = record { bytes = xs; start = start; cluster = o }
 
-lies : {p q : PoolView} {c : ℕ} (v : ChainView) (cs : List ℕ) (n : ℕ) → Adds p q c v → v.front.header ≡ true → length cs ≡ count_by is_cluster (sent n) → AreFree p cs
+lies : {p q : PoolView} {c : ℕ} (v : ChainView) (cs : List ℕ) (n : ℕ) → Adds p q c v → v.front.header ≡ true
+    → length cs ≡ count_by is_cluster (sent n) → AreFree p cs
     → laid v.entries ≡ laid_on cs (sent n) → length (string v) ≡ n + 28 → IsLaidOut p n cs q c
 lies {p} {q} {c} v cs n adds headed number free is size =
     let shown : chain_of q c ≡ v = shown_adds adds in
@@ -87,14 +98,19 @@ data_of : (hs xs ys : List ℕ) → length hs ≡ 28 → ys ≡ hs ++ xs → dro
 data_of hs xs ys len is = ap (drop 28) is ∙ ap (λ (k : ℕ). drop k (hs ++ xs)) (sym len) ∙ drop-append_seam hs xs
 
 one_free : (p : PoolView) (k : ℕ) → k < p.clusters → references p k ≡ 0 → AreFree p (k ∷ [])
-one_free p k within none = record { exist = (within, tt); free = (none, tt); once = λ j. omega (arith, count_cons (λ (i : ℕ). i == j) k [], most (k == j)) }
+one_free p k within none = record {
+  exist = (within, tt);
+  free = (none, tt);
+  once = λ j. omega (arith, count_cons (λ (i : ℕ). i == j) k [], most (k == j));
+}
   where
     most : (b : Bool) → cond {A = ℕ} b 1 0 ≤ 1
     most true = omega arith
     most false = omega arith
 
 -- in its own room
-pub stored_plain : {p q : PoolView} {c : ℕ} (hs xs : List ℕ) (start : ℕ) → length hs ≡ 28 → length xs ≤ 72 → Adds p q c (one_mbuf true (entry (hs ++ xs) start None) c) → IsStored p xs q c
+pub stored_plain : {p q : PoolView} {c : ℕ} (hs xs : List ℕ) (start : ℕ) → length hs ≡ 28 → length xs ≤ 72
+    → Adds p q c (one_mbuf true (entry (hs ++ xs) start None) c) → IsStored p xs q c
 unfolding laid_on
 stored_plain {p} {q} {c} hs xs start len few adds =
     let v : ChainView = one_mbuf true (entry (hs ++ xs) start None) c in
@@ -103,41 +119,60 @@ stored_plain {p} {q} {c} hs xs start len few adds =
     let size : length (hs ++ xs) ≡ 28 + length xs = omega (arith, length-append hs xs, len) in
     record {
       clusters = [];
-      lies = lies v [] (length xs) adds refl (sym (ap (count_by is_cluster) rooms)) (record { exist = tt; free = tt; once = λ k. omega arith })
+      lies = lies v [] (length xs) adds refl (sym (ap (count_by is_cluster) rooms))
+          (record { exist = tt; free = tt; once = λ k. omega arith })
           ((λ i. record { size = size i; cluster = None } ∷ []) ∙ sym (ap (laid_on []) rooms))
           (omega (arith, ap (λ (ys : List ℕ). length ys) whole, size));
       holds = data_of hs xs (string (chain_of q c)) len (ap string (shown_adds adds) ∙ whole);
     }
 
-pub plain_string : {p q : PoolView} {c : ℕ} (hs xs : List ℕ) (start : ℕ) → Adds p q c (one_mbuf true (entry (hs ++ xs) start None) c) → string (chain_of q c) ≡ hs ++ xs
+pub plain_string : {p q : PoolView} {c : ℕ} (hs xs : List ℕ) (start : ℕ)
+    → Adds p q c (one_mbuf true (entry (hs ++ xs) start None) c) → string (chain_of q c) ≡ hs ++ xs
 plain_string hs xs start adds = ap string (shown_adds adds) ∙ append-nil (hs ++ xs)
 
 -- in a cluster, behind an mbuf with the headers
-pub stored_cluster : {p q : PoolView} {c k : ℕ} (hs xs : List ℕ) (start : ℕ) (cells : List ℕ) → length hs ≡ 28 → 208 ≤ length xs → length xs ≤ 1992 → k < p.clusters → references p k ≡ 0
-    → Adds p q c (record { front = alone true; entries = entry hs start None ∷ entry xs 56 (Some k) ∷ []; cells = cells }) → IsStored p xs q c
+pub stored_cluster : {p q : PoolView} {c k : ℕ} (hs xs : List ℕ) (start : ℕ) (cells : List ℕ) → length hs ≡ 28
+    → 208 ≤ length xs → length xs ≤ 1992 → k < p.clusters → references p k ≡ 0
+    → Adds p q c (record {
+      front = alone true;
+      entries = entry hs start None ∷ entry xs 56 (Some k) ∷ [];
+      cells = cells;
+    }) → IsStored p xs q c
 unfolding laid_on
 stored_cluster {p} {q} {c} {k} hs xs start cells len many most within none adds =
-    let v : ChainView = record { front = alone true; entries = entry hs start None ∷ entry xs 56 (Some k) ∷ []; cells = cells } in
+    let v : ChainView = record {
+      front = alone true;
+      entries = entry hs start None ∷ entry xs 56 (Some k) ∷ [];
+      cells = cells;
+    } in
     let rooms = large_rooms (length xs) many most in
     let whole : string v ≡ hs ++ xs = ap (λ (ys : List ℕ). hs ++ ys) (append-nil xs) in
     record {
       clusters = k ∷ [];
       lies = lies v (k ∷ []) (length xs) adds refl (sym (ap (count_by is_cluster) rooms)) (one_free p k within none)
-          ((λ i. record { size = len i; cluster = None } ∷ record { size = length xs; cluster = Some k } ∷ []) ∙ sym (ap (laid_on (k ∷ [])) rooms))
+          ((λ i. record { size = len i; cluster = None } ∷ record { size = length xs; cluster = Some k } ∷ [])
+          ∙ sym (ap (laid_on (k ∷ [])) rooms))
           (omega (arith, ap (λ (ys : List ℕ). length ys) whole, length-append hs xs, len));
       holds = data_of hs xs (string (chain_of q c)) len (ap string (shown_adds adds) ∙ whole);
     }
 
-pub cluster_string : {p q : PoolView} {c k : ℕ} (hs xs : List ℕ) (start : ℕ) (cells : List ℕ) → Adds p q c (record { front = alone true; entries = entry hs start None ∷ entry xs 56 (Some k) ∷ []; cells = cells }) → string (chain_of q c) ≡ hs ++ xs
+pub cluster_string : {p q : PoolView} {c k : ℕ} (hs xs : List ℕ) (start : ℕ) (cells : List ℕ)
+    → Adds p q c (record {
+      front = alone true;
+      entries = entry hs start None ∷ entry xs 56 (Some k) ∷ [];
+      cells = cells;
+    }) → string (chain_of q c) ≡ hs ++ xs
 cluster_string hs xs start cells adds = ap string (shown_adds adds) ∙ ap (λ (ys : List ℕ). hs ++ ys) (append-nil xs)
 
 -- a new chain of one mbuf, linked after another
-pub linked : {p q r s : PoolView} {b c : ℕ} (e f : Entry) → Adds p q b (one_mbuf false f b) → Adds q r c (one_mbuf true e c) → s ≡ with_chain (without r b) c (joined (chain_of r c) (chain_of r b))
+pub linked : {p q r s : PoolView} {b c : ℕ} (e f : Entry) → Adds p q b (one_mbuf false f b)
+    → Adds q r c (one_mbuf true e c) → s ≡ with_chain (without r b) c (joined (chain_of r c) (chain_of r b))
     → Adds p s c (record { front = alone true; entries = e ∷ f ∷ []; cells = c ∷ b ∷ [] })
 linked {p} {q} {r} {s} {b} {c} e f back front is =
     let v : ChainView = one_mbuf true e c in
     subst (λ (w : ChainView). Adds p s c (joined v w)) (shown_adds back)
-    (subst (λ (t : PoolView). Adds t s c (joined v (chain_of q b))) (adds_undone (without q b) back refl) (linked_front q r s b c v (live_adds back) front is))
+    (subst (λ (t : PoolView). Adds t s c (joined v (chain_of q b))) (adds_undone (without q b) back refl)
+    (linked_front q r s b c v (live_adds back) front is))
 
 -- a send to the link goes by the link's MTU
 pub mtu_link : (c : Config) (ip : ℕ) → Way.Link ≡ way_of c ip → mtu_to c ip ≡ c.mtu
@@ -149,7 +184,8 @@ mtu_link c ip e = go (is_looped c ip) (ip == c.bcast) e
 
 -- ---- its datagram
 
-pub built_at : {p q : PoolView} {chain : ℕ} (x : sending.Sending) (headers : List ℕ) → IsStored p x.bytes q chain → string (chain_of q chain) ≡ headers ++ x.bytes → length headers ≡ 28
+pub built_at : {p q : PoolView} {chain : ℕ} (x : sending.Sending) (headers : List ℕ) → IsStored p x.bytes q chain
+    → string (chain_of q chain) ≡ headers ++ x.bytes → length headers ≡ 28
     → drop 20 headers ++ x.bytes ≡ sending.datagram x → IsBuilt p x q chain
 built_at x headers stored is len whole = record {
   clusters = stored.clusters;

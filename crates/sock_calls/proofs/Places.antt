@@ -14,7 +14,8 @@ pub at_three : (bs : List SockBufView) (i fd : ℕ) → i + 3 ≡ fd → queue_a
 at_three bs i fd e = let three : fd ≡ suc (suc (suc i)) = omega (arith, e) in ap (queue_at (from_three bs)) three
 
 -- a step of a place is one of its descriptor
-pub steps_three : {p q : PoolView} {ins outs : List ℕ} {bs cs : List SockBufView} {i : ℕ} (fd : ℕ) → i + 3 ≡ fd → StepsAt p ins bs i q outs cs → StepsAt p ins (from_three bs) fd q outs (from_three cs)
+pub steps_three : {p q : PoolView} {ins outs : List ℕ} {bs cs : List SockBufView} {i : ℕ} (fd : ℕ) → i + 3 ≡ fd
+    → StepsAt p ins bs i q outs cs → StepsAt p ins (from_three bs) fd q outs (from_three cs)
 steps_three {p} {q} {ins} {outs} {bs} {cs} {i} fd e s = record {
   len = omega (arith, s.len);
   others = others;
@@ -38,21 +39,26 @@ steps_three {p} {q} {ins} {outs} {bs} {cs} {i} fd e s = record {
 -- ---- queues in a vector `v` of the library, which is lent as the slice `bs` and shows as `now`
 
 -- what was read at a place
-pub read_is : {bs now : List SockBufView} {i : ℕ} (d : SockBufView) → bs ≡ now → i < length bs → slice_index_or bs i d ≡ queue_at now i
+pub read_is : {bs now : List SockBufView} {i : ℕ} (d : SockBufView) → bs ≡ now → i < length bs
+    → slice_index_or bs i d ≡ queue_at now i
 read_is {bs} {now} {i} d is lt = at_default bs i d no_datagrams lt ∙ ap (λ (l : List SockBufView). queue_at l i) is
 
 -- the same at the place of a descriptor
-pub named_is : {bs now : List SockBufView} {i : ℕ} (d : SockBufView) (fd : ℕ) → bs ≡ now → i < length bs → i + 3 ≡ fd → slice_index_or bs i d ≡ queue_at (from_three now) fd
+pub named_is : {bs now : List SockBufView} {i : ℕ} (d : SockBufView) (fd : ℕ) → bs ≡ now → i < length bs → i + 3 ≡ fd
+    → slice_index_or bs i d ≡ queue_at (from_three now) fd
 named_is {bs} {now} {i} d fd is lt e = read_is d is lt ∙ sym (at_three now i fd e)
 
 -- what the vector has once a place of the slice was written
-pub written : (v : ArrayVec SockBufView) (bs : List SockBufView) (i : ℕ) (y : SockBufView) → bs ≡ v.items → (with_items v (slice_set bs i y)).items ≡ slice_set bs i y
+pub written : (v : ArrayVec SockBufView) (bs : List SockBufView) (i : ℕ) (y : SockBufView) → bs ≡ v.items
+    → (with_items v (slice_set bs i y)).items ≡ slice_set bs i y
 written v bs i y is = items-with_items v (slice_set bs i y) (length-set bs i y ∙ ap length is)
 
 -- the step of the queue at a place
-pub steps_inside : {p q : PoolView} {bs now : List SockBufView} {i : ℕ} {y : SockBufView} (v : ArrayVec SockBufView) (d : SockBufView) (ins outs : List ℕ) → bs ≡ v.items → v.items ≡ now → i < length bs
+pub steps_inside : {p q : PoolView} {bs now : List SockBufView} {i : ℕ} {y : SockBufView} (v : ArrayVec SockBufView)
+    (d : SockBufView) (ins outs : List ℕ) → bs ≡ v.items → v.items ≡ now → i < length bs
     → ((k : ℕ) → IsSockBuf p (queue_at now k)) → IsOwned p (ins ++ queued_chains p now)
-    → IsSockBuf q y → Moves p (ins ++ chains_of p (slice_index_or bs i d)) q (outs ++ chains_of q y) → StepsAt p ins now i q outs (with_items v (slice_set bs i y)).items
+    → IsSockBuf q y → Moves p (ins ++ chains_of p (slice_index_or bs i d)) q (outs ++ chains_of q y)
+    → StepsAt p ins now i q outs (with_items v (slice_set bs i y)).items
 steps_inside {p} {q} {bs} {now} {i} {y} v d ins outs is shows lt each owned ready m =
     subst (λ (l : List SockBufView). StepsAt p ins now i q outs l) (sym (written v bs i y is))
     (subst (λ (l : List SockBufView). StepsAt p ins l i q outs (slice_set bs i y)) (is ∙ shows)

@@ -31,49 +31,75 @@ laid_count [] (Cluster n ∷ rooms) = ap suc (laid_count [] rooms)
 laid_count (c ∷ cs) (Cluster n ∷ rooms) = ap suc (laid_count cs rooms)
 
 -- one more mbuf, which a range meets or doesn't
-met_one : (at a b n : ℕ) (e : flat.Entry) (es : List flat.Entry) (room : Room) (rooms : List Room) → e.size ≡ size_of room
+met_one : (at a b n : ℕ) (e : flat.Entry) (es : List flat.Entry) (room : Room) (rooms : List Room)
+    → e.size ≡ size_of room
     → ((at : ℕ) → length (meets_from (λ (x : flat.Entry). x.size) at es a b) ≡ length (meets_from size_of at rooms a b))
-    → length (meets_from (λ (x : flat.Entry). x.size) at (e ∷ es) a b) ≡ length (meets_from size_of at (room ∷ rooms) a b)
+    → length (meets_from (λ (x : flat.Entry). x.size) at (e ∷ es) a b)
+    ≡ length (meets_from size_of at (room ∷ rooms) a b)
 unfolding meets_from
 met_one at a b n e es room rooms same later =
-    ap (λ (k : ℕ). length (cond {A = List flat.Entry} (nat_lt (max at a) (min (at + k) b)) (e ∷ meets_from (λ (x : flat.Entry). x.size) (at + k) es a b) (meets_from (λ (x : flat.Entry). x.size) (at + k) es a b))) same
+    ap (λ (k : ℕ). length (cond {A = List flat.Entry} (nat_lt (max at a) (min (at + k) b))
+    (e ∷ meets_from (λ (x : flat.Entry). x.size) (at + k) es a b)
+    (meets_from (λ (x : flat.Entry). x.size) (at + k) es a b))) same
     ∙ go (nat_lt (max at a) (min (at + size_of room) b)) (later (at + size_of room))
   where
-    go : (t : Bool) → length (meets_from (λ (x : flat.Entry). x.size) (at + size_of room) es a b) ≡ length (meets_from size_of (at + size_of room) rooms a b)
-        → length (cond {A = List flat.Entry} t (e ∷ meets_from (λ (x : flat.Entry). x.size) (at + size_of room) es a b) (meets_from (λ (x : flat.Entry). x.size) (at + size_of room) es a b))
-        ≡ length (cond {A = List Room} t (room ∷ meets_from size_of (at + size_of room) rooms a b) (meets_from size_of (at + size_of room) rooms a b))
+    go : (t : Bool) → length (meets_from (λ (x : flat.Entry). x.size) (at + size_of room) es a b)
+        ≡ length (meets_from size_of (at + size_of room) rooms a b)
+        → length (cond {A = List flat.Entry} t (e ∷ meets_from (λ (x : flat.Entry). x.size) (at + size_of room) es a b)
+        (meets_from (λ (x : flat.Entry). x.size) (at + size_of room) es a b))
+        ≡ length (cond {A = List Room} t (room ∷ meets_from size_of (at + size_of room) rooms a b)
+        (meets_from size_of (at + size_of room) rooms a b))
     go true h = ap suc h
     go false h = h
 
-met_none : (at a b : ℕ) → length (meets_from (λ (x : flat.Entry). x.size) at [] a b) ≡ length (meets_from size_of at [] a b)
+met_none : (at a b : ℕ) → length (meets_from (λ (x : flat.Entry). x.size) at [] a b)
+    ≡ length (meets_from size_of at [] a b)
 unfolding meets_from
 met_none at a b = refl
 
-met_laid : (cs : List ℕ) (rooms : List Room) (a b at : ℕ) → length (meets_from (λ (x : flat.Entry). x.size) at (laid_on cs rooms) a b) ≡ length (meets_from size_of at rooms a b)
+met_laid : (cs : List ℕ) (rooms : List Room) (a b at : ℕ)
+    → length (meets_from (λ (x : flat.Entry). x.size) at (laid_on cs rooms) a b)
+    ≡ length (meets_from size_of at rooms a b)
 unfolding laid_on
 met_laid [] [] a b at = met_none at a b
 met_laid (c ∷ cs) [] a b at = met_none at a b
-met_laid [] (Plain n ∷ rooms) a b at = met_one at a b n (record { size = n; cluster = None }) (laid_on [] rooms) (Plain n) rooms refl (met_laid [] rooms a b)
-met_laid (c ∷ cs) (Plain n ∷ rooms) a b at = met_one at a b n (record { size = n; cluster = None }) (laid_on (c ∷ cs) rooms) (Plain n) rooms refl (met_laid (c ∷ cs) rooms a b)
-met_laid [] (Cluster n ∷ rooms) a b at = met_one at a b n (record { size = n; cluster = None }) (laid_on [] rooms) (Cluster n) rooms refl (met_laid [] rooms a b)
-met_laid (c ∷ cs) (Cluster n ∷ rooms) a b at = met_one at a b n (record { size = n; cluster = Some c }) (laid_on cs rooms) (Cluster n) rooms refl (met_laid cs rooms a b)
+met_laid [] (Plain n ∷ rooms) a b at = met_one at a b n (record { size = n; cluster = None }) (laid_on [] rooms)
+    (Plain n) rooms refl (met_laid [] rooms a b)
+met_laid (c ∷ cs) (Plain n ∷ rooms) a b at = met_one at a b n (record { size = n; cluster = None })
+    (laid_on (c ∷ cs) rooms) (Plain n) rooms refl (met_laid (c ∷ cs) rooms a b)
+met_laid [] (Cluster n ∷ rooms) a b at = met_one at a b n (record { size = n; cluster = None }) (laid_on [] rooms)
+    (Cluster n) rooms refl (met_laid [] rooms a b)
+met_laid (c ∷ cs) (Cluster n ∷ rooms) a b at = met_one at a b n (record { size = n; cluster = Some c })
+    (laid_on cs rooms) (Cluster n) rooms refl (met_laid cs rooms a b)
 
 -- ---- what the later fragments take
-parts_need : (v : ChainView) (cs : List ℕ) (rooms : List Room) → laid v.entries ≡ laid_on cs rooms → (ps : List Part) → sum_by (part_need v) ps ≡ sum_by (need_of_part rooms) ps
+parts_need : (v : ChainView) (cs : List ℕ) (rooms : List Room) → laid v.entries ≡ laid_on cs rooms → (ps : List Part)
+    → sum_by (part_need v) ps ≡ sum_by (need_of_part rooms) ps
 parts_need v cs rooms is [] = refl
 parts_need v cs rooms is (p ∷ ps) =
-    let here : length (entries_met (laid v.entries) (20 + p.offset) (20 + p.offset + p.size)) ≡ length (meets rooms (20 + p.offset) (20 + p.offset + p.size)) =
-    ap (λ (es : List flat.Entry). length (entries_met es (20 + p.offset) (20 + p.offset + p.size))) is ∙ met_laid cs rooms (20 + p.offset) (20 + p.offset + p.size) 0 in
-    omega (arith, here, parts_need v cs rooms is ps, sum_by-cons (part_need v) p ps, sum_by-cons (need_of_part rooms) p ps)
+    let here : length (entries_met (laid v.entries) (20 + p.offset) (20 + p.offset + p.size))
+    ≡ length (meets rooms (20 + p.offset) (20 + p.offset + p.size)) =
+    ap (λ (es : List flat.Entry). length (entries_met es (20 + p.offset) (20 + p.offset + p.size))) is
+    ∙ met_laid cs rooms (20 + p.offset) (20 + p.offset + p.size) 0 in
+    omega (
+      arith,
+      here,
+      parts_need v cs rooms is ps,
+      sum_by-cons (part_need v) p ps,
+      sum_by-cons (need_of_part rooms) p ps,
+    )
 
-pub later_is : (v : ChainView) (cs : List ℕ) (n mtu : ℕ) → laid v.entries ≡ laid_on cs (sent n) → length (string v) ≡ n + 28 → later_need v mtu ≡ sum_by (need_of_part (sent n)) (drop 1 (cuts (n + 8) mtu))
+pub later_is : (v : ChainView) (cs : List ℕ) (n mtu : ℕ) → laid v.entries ≡ laid_on cs (sent n)
+    → length (string v) ≡ n + 28 → later_need v mtu ≡ sum_by (need_of_part (sent n)) (drop 1 (cuts (n + 8) mtu))
 later_is v cs n mtu is size =
     let carried : length (string v) - 20 ≡ n + 8 = omega (arith, size) in
-    ap (λ (k : ℕ). sum_by (part_need v) (drop 1 (cuts k mtu))) carried ∙ parts_need v cs (sent n) is (drop 1 (cuts (n + 8) mtu))
+    ap (λ (k : ℕ). sum_by (part_need v) (drop 1 (cuts k mtu))) carried
+    ∙ parts_need v cs (sent n) is (drop 1 (cuts (n + 8) mtu))
 
 uncut : (n mtu : ℕ) → n + 28 ≤ mtu → drop 1 (cuts (n + 8) mtu) ≡ []
 unfolding cuts
-uncut n mtu h = ap (λ (ps : List Part). drop 1 ps) (cond-true {A = List Part} (nat_le (20 + (n + 8)) mtu) _ _ (le-leb (20 + (n + 8)) mtu (omega (arith, h))))
+uncut n mtu h = ap (λ (ps : List Part). drop 1 ps)
+    (cond-true {A = List Part} (nat_le (20 + (n + 8)) mtu) _ _ (le-leb (20 + (n + 8)) mtu (omega (arith, h))))
 
 -- ---- what a send takes
 pub some_sent : (n : ℕ) → 0 < length (sent n)
@@ -96,7 +122,8 @@ user_small (suc m) h =
     let room : next_room 1992 100 n ≡ Plain n = cond-false {A = Room} _ _ _ test ∙ ap Plain least in
     let none : n - n ≡ 0 = omega arith in
     ap or_empty (rooms_step 1992 100 n (omega arith) (omega arith) (omega arith))
-    ∙ (λ j. or_empty (room j ∷ rest_rooms (n - size_of (room j)))) ∙ ap (λ (k : ℕ). Plain n ∷ rest_rooms k) none ∙ ap (λ (rs : List Room). Plain n ∷ rs) rest_none
+    ∙ (λ j. or_empty (room j ∷ rest_rooms (n - size_of (room j)))) ∙ ap (λ (k : ℕ). Plain n ∷ rest_rooms k) none
+    ∙ ap (λ (rs : List Room). Plain n ∷ rs) rest_none
 
 -- the rooms of the bytes alone, and those with the headers
 pub record Beside (n : ℕ) : Type 0 where
@@ -113,7 +140,10 @@ beside n = go (cases_lt 72 n)
     go (inr h) =
         let is : sent n ≡ Plain (28 + n) ∷ [] = cond-true {A = List Room} _ _ _ (le-leb n 72 h) in
         let small = user_small n h in
-        record { clusters = ap (count_by is_cluster) is ∙ sym (ap (count_by is_cluster) small); mbufs = omega (arith, ap (λ (rs : List Room). length rs) is, ap (λ (rs : List Room). length rs) small) }
+        record {
+          clusters = ap (count_by is_cluster) is ∙ sym (ap (count_by is_cluster) small);
+          mbufs = omega (arith, ap (λ (rs : List Room). length rs) is, ap (λ (rs : List Room). length rs) small);
+        }
 
 pub need_clusters : (c : Config) (ip n : ℕ) → (need_to c ip n).clusters ≡ count_by is_cluster (sent n)
 need_clusters c ip n = go (ip == c.bcast)
@@ -129,11 +159,15 @@ need_most c ip n = go (ip == c.bcast)
     go true = omega arith
     go false = omega arith
 
-pub has_mbufs : (p : PoolView) (c : Config) (ip n : ℕ) → are_free p (need_to c ip n).mbufs (need_to c ip n).clusters ≡ true → held_mbufs p + (need_to c ip n).mbufs ≤ p.mbufs
-has_mbufs p c ip n h = enough_mbufs p (need_to c ip n).mbufs (need_to c ip n).clusters h (omega (arith, some_sent n, need_most c ip n))
+pub has_mbufs : (p : PoolView) (c : Config) (ip n : ℕ)
+    → are_free p (need_to c ip n).mbufs (need_to c ip n).clusters ≡ true
+    → held_mbufs p + (need_to c ip n).mbufs ≤ p.mbufs
+has_mbufs p c ip n h = enough_mbufs p (need_to c ip n).mbufs (need_to c ip n).clusters h
+    (omega (arith, some_sent n, need_most c ip n))
 
 -- ---- the packets beyond the datagram take the rest
-pub need_is_way : (c : Config) (ip n : ℕ) (v : ChainView) (cs : List ℕ) → IsRouted c → (ip ≡ c.bcast → n + 28 ≤ c.mtu) → laid v.entries ≡ laid_on cs (sent n) → length (string v) ≡ n + 28
+pub need_is_way : (c : Config) (ip n : ℕ) (v : ChainView) (cs : List ℕ) → IsRouted c → (ip ≡ c.bcast → n + 28 ≤ c.mtu)
+    → laid v.entries ≡ laid_on cs (sent n) → length (string v) ≡ n + 28
     → (need_to c ip n).mbufs ≡ length (sent n) + way_need (way_of c ip) v (mtu_to c ip)
 need_is_way c ip n v cs routed fits is size = go (ip == c.bcast) refl (is_looped c ip) refl
   where
@@ -143,11 +177,18 @@ need_is_way c ip n v cs routed fits is size = go (ip == c.bcast) refl (is_looped
     not_looped : (ip == c.bcast) ≡ true → is_looped c ip ≡ false
     not_looped e =
         let b : ip ≡ c.bcast = eqb-true ip c.bcast e in
-        λ i. ne_eqb ip c.addr (λ a. routed.apart (sym b ∙ a)) i || ne_eqb ip 2130706433 (λ a. routed.outside (sym b ∙ a)) i
+        λ i. ne_eqb ip c.addr (λ a. routed.apart (sym b ∙ a)) i || ne_eqb ip 2130706433
+        (λ a. routed.outside (sym b ∙ a)) i
 
     go : (t : Bool) → (ip == c.bcast) ≡ t → (u : Bool) → is_looped c ip ≡ u
-        → (cond t (need_bcast n) (need n (cond u 1536 c.mtu))).mbufs ≡ length (sent n) + way_need (cond u Way.Loopback (cond t Way.Both Way.Link)) v (cond u 1536 c.mtu)
+        → (cond t (need_bcast n) (need n (cond u 1536 c.mtu))).mbufs
+        ≡ length (sent n) + way_need (cond u Way.Loopback (cond t Way.Both Way.Link)) v (cond u 1536 c.mtu)
     go true e true f = absurd (true≢false (sym f ∙ not_looped e))
-    go true e false f = omega (arith, count, later_is v cs n c.mtu is size, ap (λ (ps : List Part). sum_by (need_of_part (sent n)) ps) (uncut n c.mtu (fits (eqb-true ip c.bcast e))))
+    go true e false f = omega (
+      arith,
+      count,
+      later_is v cs n c.mtu is size,
+      ap (λ (ps : List Part). sum_by (need_of_part (sent n)) ps) (uncut n c.mtu (fits (eqb-true ip c.bcast e))),
+    )
     go false e true f = omega (arith, later_is v cs n 1536 is size)
     go false e false f = omega (arith, later_is v cs n c.mtu is size)

@@ -32,22 +32,41 @@ none_arrive looped mid new e arrive = subst (λ (l : List Item). AllArrive exact
 
 module _ (fd : ℕ) (to : Option Addr) (bytes : List ℕ) where
   -- ---- one that isn't refused for the pool
-  by_at_once : (me : Socket) (old : State) (reply : Reply) (looped : List Item) (mid new : State) → (Lacks reply → ⊥) → SendsBy exact_ledger fd to bytes me old reply looped mid → AllArrive exact_ledger looped mid new
+  by_at_once : (me : Socket) (old : State) (reply : Reply) (looped : List Item) (mid new : State) → (Lacks reply → ⊥)
+      → SendsBy exact_ledger fd to bytes me old reply looped mid → AllArrive exact_ledger looped mid new
       → Sends exact_ledger fd to bytes me old reply new
   by_at_once me old reply looped mid new enough by arrive = record {
     none = λ e. go (by.none e);
-    some = λ errno e. ((by.some errno e).0.0, none_arrive looped mid new (by.some errno e).1 arrive ∙ (by.some errno e).0.1);
+    some = λ errno e. (
+      (by.some errno e).0.0,
+      none_arrive looped mid new (by.some errno e).1 arrive
+          ∙ (by.some errno e).0.1,
+    );
   }
     where
       go : ((yes : Bool) × (yes ≡ has_enough old nothing (need_to old.config (target old me to).ip (length bytes)))
-          × Choice yes (Puts exact_ledger fd me (target old me to) bytes old reply looped mid) (RefusesAll (NoBufs Pool) old reply looped mid))
-          → (yes : Bool) × (middle : State) × HasBuffers exact_ledger old nothing (need_to old.config (target old me to).ip (length bytes)) yes middle
-          × Choice yes (Goes exact_ledger fd me (target old me to) bytes middle reply new) (Refuses (NoBufs Pool) middle reply new)
-      go (true, has, next) = (true, old, inl (has, refl), record { yes = λ h. put_goes exact_ledger fd me (target old me to) bytes old reply looped mid new (next.yes refl) arrive; no = λ h. absurd (true≢false h) })
+          × Choice yes (Puts exact_ledger fd me (target old me to) bytes old reply looped mid)
+          (RefusesAll (NoBufs Pool) old reply looped mid))
+          → (yes : Bool) × (middle : State) × HasBuffers exact_ledger old nothing
+          (need_to old.config (target old me to).ip (length bytes)) yes middle
+          × Choice yes (Goes exact_ledger fd me (target old me to) bytes middle reply new)
+          (Refuses (NoBufs Pool) middle reply new)
+      go (true, has, next) = (
+        true,
+        old,
+        inl (has, refl),
+        record {
+          yes = λ h. put_goes exact_ledger fd me (target old me to) bytes old reply looped mid new
+              (next.yes refl) arrive;
+          no = λ h. absurd (true≢false h);
+        },
+      )
       go (false, has, next) = absurd (enough (next.no refl).0.0)
 
-  pub sends_at_once : (old : State) (reply : Reply) (looped : List Item) (mid new : State) → (reply ≡ Refused (NoBufs Pool) → ⊥)
-      → SendsOnce exact_ledger fd to bytes old reply looped mid → AllArrive exact_ledger looped mid new → Step old (Send fd to bytes) reply new
+  pub sends_at_once : (old : State) (reply : Reply) (looped : List Item) (mid new : State)
+      → (reply ≡ Refused (NoBufs Pool) → ⊥)
+      → SendsOnce exact_ledger fd to bytes old reply looped mid → AllArrive exact_ledger looped mid new
+      → Step old (Send fd to bytes) reply new
   sends_at_once old reply looped mid new enough once arrive = record {
     none = λ e. ((once.none e).0.0, none_arrive looped mid new (once.none e).1 arrive ∙ (once.none e).0.1);
     some = λ me e. by_at_once me old reply looped mid new enough (once.some me e) arrive;
@@ -82,11 +101,13 @@ lacks (Shown usage) = false
 abbrev NoLack : List (Bool × Errno) → Type 0
 NoLack faults = Each (λ (fault : Bool × Errno). is_lack fault.1 ≡ false) faults
 
-no_lack : (faults : List (Bool × Errno)) (errno : Errno) → NoLack faults → first_fault faults ≡ Some errno → is_lack errno ≡ false
+no_lack : (faults : List (Bool × Errno)) (errno : Errno) → NoLack faults → first_fault faults ≡ Some errno
+    → is_lack errno ≡ false
 no_lack [] errno all e = absurd (none-some errno e)
 no_lack (fault ∷ faults) errno all e = go fault.0 e (λ is. no_lack faults errno all.1 is)
   where
-    go : (t : Bool) → cond t (Some fault.1) (first_fault faults) ≡ Some errno → (first_fault faults ≡ Some errno → is_lack errno ≡ false) → is_lack errno ≡ false
+    go : (t : Bool) → cond t (Some fault.1) (first_fault faults) ≡ Some errno
+        → (first_fault faults ≡ Some errno → is_lack errno ≡ false) → is_lack errno ≡ false
     go true is later = ap is_lack (sym (same_Some fault.1 errno is)) ∙ all.0
     go false is later = later is
 
@@ -110,31 +131,60 @@ module _ (fd : ℕ) (to : Option Addr) (bytes : List ℕ) where
   -- what a test leads to
   abbrev pub Tested : Socket → State → Reply → List Item → State → Type 0
   Tested me old reply looped new =
-      (yes : Bool) × (yes ≡ has_enough old nothing (need_of_send me old)) × Choice yes (Puts exact_ledger fd me (target old me to) bytes old reply looped new) (RefusesAll (NoBufs Pool) old reply looped new)
+      (yes : Bool) × (yes ≡ has_enough old nothing (need_of_send me old))
+      × Choice yes (Puts exact_ledger fd me (target old me to) bytes old reply looped new)
+      (RefusesAll (NoBufs Pool) old reply looped new)
 
-  puts_not : (me : Socket) (old : State) (first : List Item) (same : State) → Puts exact_ledger fd me (target old me to) bytes old (Refused (NoBufs Pool)) first same → ⊥
+  puts_not : (me : Socket) (old : State) (first : List Item) (same : State)
+      → Puts exact_ledger fd me (target old me to) bytes old (Refused (NoBufs Pool)) first same → ⊥
   puts_not me old first same (port, named, clusters, gets, taken, left) = not_queued _ (length bytes) left.answer
 
-  lacked : (me : Socket) (old : State) (first : List Item) (same : State) → Tested me old (Refused (NoBufs Pool)) first same → false ≡ has_enough old nothing (need_of_send me old)
+  lacked : (me : Socket) (old : State) (first : List Item) (same : State)
+      → Tested me old (Refused (NoBufs Pool)) first same → false ≡ has_enough old nothing (need_of_send me old)
   lacked me old first same (false, has, next) = has
   lacked me old first same (true, has, next) = absurd (puts_not me old first same (next.yes refl))
 
-  then_again : (me : Socket) (old : State) (reply : Reply) (looped : List Item) (mid new : State) → false ≡ has_enough old nothing (need_of_send me old) → Tested me (reclaimed old) reply looped mid → AllArrive exact_ledger looped mid new
-      → (yes : Bool) × (middle : State) × HasBuffers exact_ledger old nothing (need_of_send me old) yes middle × Choice yes (Goes exact_ledger fd me (target old me to) bytes middle reply new) (Refuses (NoBufs Pool) middle reply new)
-  then_again me old reply looped mid new was (true, has, next) arrive =
-      (true, reclaimed old, inr (was, refl, has), record { yes = λ h. put_goes exact_ledger fd me (target old me to) bytes (reclaimed old) reply looped mid new (next.yes refl) arrive; no = λ h. absurd (true≢false h) })
-  then_again me old reply looped mid new was (false, has, next) arrive =
-      (false, reclaimed old, (was, refl, has), record { yes = λ h. absurd (true≢false (sym h)); no = λ h. ((next.no refl).0.0, none_arrive looped mid new (next.no refl).1 arrive ∙ (next.no refl).0.1) })
+  then_again : (me : Socket) (old : State) (reply : Reply) (looped : List Item) (mid new : State)
+      → false ≡ has_enough old nothing (need_of_send me old) → Tested me (reclaimed old) reply looped mid
+      → AllArrive exact_ledger looped mid new
+      → (yes : Bool) × (middle : State) × HasBuffers exact_ledger old nothing (need_of_send me old) yes middle
+      × Choice yes (Goes exact_ledger fd me (target old me to) bytes middle reply new)
+      (Refuses (NoBufs Pool) middle reply new)
+  then_again me old reply looped mid new was (true, has, next) arrive = (
+    true,
+    reclaimed old,
+    inr (was, refl, has),
+    record {
+      yes = λ h. put_goes exact_ledger fd me (target old me to) bytes (reclaimed old) reply looped mid new
+          (next.yes refl) arrive;
+      no = λ h. absurd (true≢false h);
+    },
+  )
+  then_again me old reply looped mid new was (false, has, next) arrive = (
+    false,
+    reclaimed old,
+    (was, refl, has),
+    record {
+      yes = λ h. absurd (true≢false (sym h));
+      no = λ h. ((next.no refl).0.0, none_arrive looped mid new (next.no refl).1 arrive ∙ (next.no refl).0.1);
+    },
+  )
 
-  by_again : (me : Socket) (old : State) (first : List Item) (same : State) (reply : Reply) (looped : List Item) (mid new : State) → SendsBy exact_ledger fd to bytes me old (Refused (NoBufs Pool)) first same
-      → SendsBy exact_ledger fd to bytes me (reclaimed old) reply looped mid → AllArrive exact_ledger looped mid new → Sends exact_ledger fd to bytes me old reply new
+  by_again : (me : Socket) (old : State) (first : List Item) (same : State) (reply : Reply) (looped : List Item)
+      (mid new : State) → SendsBy exact_ledger fd to bytes me old (Refused (NoBufs Pool)) first same
+      → SendsBy exact_ledger fd to bytes me (reclaimed old) reply looped mid → AllArrive exact_ledger looped mid new
+      → Sends exact_ledger fd to bytes me old reply new
   by_again me old first same reply looped mid new before by arrive = record {
     none = λ e. then_again me old reply looped mid new (lacked me old first same (before.none e)) (by.none e) arrive;
-    some = λ errno e. absurd (not_lack errno (no_lack (send_faults old me to (length bytes)) errno (send_lacks_not old me to (length bytes)) e) (sym (before.some errno e).0.0));
+    some = λ errno e. absurd
+        (not_lack errno (no_lack (send_faults old me to (length bytes)) errno (send_lacks_not old me to (length bytes))
+        e) (sym (before.some errno e).0.0));
   }
 
-  pub sends_again : (old : State) (first : List Item) (same : State) (reply : Reply) (looped : List Item) (mid new : State) → SendsOnce exact_ledger fd to bytes old (Refused (NoBufs Pool)) first same
-      → SendsOnce exact_ledger fd to bytes (reclaimed old) reply looped mid → AllArrive exact_ledger looped mid new → Step old (Send fd to bytes) reply new
+  pub sends_again : (old : State) (first : List Item) (same : State) (reply : Reply) (looped : List Item)
+      (mid new : State) → SendsOnce exact_ledger fd to bytes old (Refused (NoBufs Pool)) first same
+      → SendsOnce exact_ledger fd to bytes (reclaimed old) reply looped mid → AllArrive exact_ledger looped mid new
+      → Step old (Send fd to bytes) reply new
   sends_again old first same reply looped mid new before once arrive = record {
     none = λ e. absurd (not_lack BadDescriptor refl (sym (before.none e).0.0));
     some = λ me e. by_again me old first same reply looped mid new (before.some me e) (once.some me e) arrive;

@@ -20,25 +20,29 @@ weighs : (es : List Entry) → IsDatagram es → weight_of es ≡ (datagram_of e
 weighs [] h = absurd h
 weighs (e ∷ es) h =
     let none : e.cluster ≡ None = ap (λ (x : Entry). x.cluster) h.0 in
-    let bag : (weight_of (e ∷ es)).bag ≡ (weight_of es).bag = ap (λ (o : Option ℕ). (weight_of (record { bytes = e.bytes; start = e.start; cluster = o } ∷ es)).bag) none in
+    let bag : (weight_of (e ∷ es)).bag ≡ (weight_of es).bag =
+    ap (λ (o : Option ℕ). (weight_of (record { bytes = e.bytes; start = e.start; cluster = o } ∷ es)).bag) none in
     let mbufs : (weight_of (e ∷ es)).mbufs ≡ 1 + (weight_of es).mbufs = omega arith in
     λ i. record { mbufs = mbufs i; bag = bag i }
 
 abbrev pub queue_weight : List Datagram → Weight
 queue_weight ds = all_of (λ (d : Datagram). d.item.weight) ds
 
-owned_weighs : (p : PoolView) (xs : List ℕ) → Each (λ (queued_packet : QueuedPacket). IsDatagram queued_packet.entries) (map (queued_packet_of p) xs) → weight_owned p xs ≡ queue_weight (datagrams_of (map (queued_packet_of p) xs))
+owned_weighs : (p : PoolView) (xs : List ℕ) → Each (λ (queued_packet : QueuedPacket). IsDatagram queued_packet.entries)
+    (map (queued_packet_of p) xs) → weight_owned p xs ≡ queue_weight (datagrams_of (map (queued_packet_of p) xs))
 owned_weighs p [] h = refl
 owned_weighs p (x ∷ xs) h =
     let here : weight_at p x ≡ (datagram_of (chain_of p x).entries).item.weight = weighs (chain_of p x).entries h.0 in
     let later : weight_owned p xs ≡ queue_weight (datagrams_of (map (queued_packet_of p) xs)) = owned_weighs p xs h.1 in
     λ i. here i ⊕ later i
 
-pub queue_weighs : (p : PoolView) (b : SockBufView) → IsSockBuf p b → weight_owned p (chains_of p b) ≡ queue_weight (datagrams p b)
+pub queue_weighs : (p : PoolView) (b : SockBufView) → IsSockBuf p b
+    → weight_owned p (chains_of p b) ≡ queue_weight (datagrams p b)
 queue_weighs p b is = owned_weighs p (chains_of p b) is.each
 
 -- ---- all queues, by place
-chains_mbufs : (p : PoolView) (bs : List SockBufView) → (weight_owned p (queued_chains p bs)).mbufs ≡ sum_by (λ b. (weight_owned p (chains_of p b)).mbufs) bs
+chains_mbufs : (p : PoolView) (bs : List SockBufView)
+    → (weight_owned p (queued_chains p bs)).mbufs ≡ sum_by (λ b. (weight_owned p (chains_of p b)).mbufs) bs
 chains_mbufs p [] = refl
 chains_mbufs p (b ∷ bs) = omega (
   arith,
@@ -47,7 +51,9 @@ chains_mbufs p (b ∷ bs) = omega (
   chains_mbufs p bs,
 )
 
-chains_times : (p : PoolView) (c : ℕ) (bs : List SockBufView) → bag_times c (weight_owned p (queued_chains p bs)).bag ≡ sum_by (λ b. bag_times c (weight_owned p (chains_of p b)).bag) bs
+chains_times : (p : PoolView) (c : ℕ) (bs : List SockBufView)
+    → bag_times c (weight_owned p (queued_chains p bs)).bag
+    ≡ sum_by (λ b. bag_times c (weight_owned p (chains_of p b)).bag) bs
 chains_times p c [] = refl
 chains_times p c (b ∷ bs) = omega (
   arith,
@@ -57,7 +63,9 @@ chains_times p c (b ∷ bs) = omega (
   chains_times p c bs,
 )
 
-by_place : (f : ℕ → ℕ) (g : SockBufView → ℕ) (bs : List SockBufView) (at : ℕ) → ((i k : ℕ) → i < length bs → k ≡ at + i → f k ≡ g (queue_at bs i)) → sum_by g bs ≡ sum_by f (range_with_len at (length bs))
+by_place : (f : ℕ → ℕ) (g : SockBufView → ℕ) (bs : List SockBufView) (at : ℕ)
+    → ((i k : ℕ) → i < length bs → k ≡ at + i → f k ≡ g (queue_at bs i))
+    → sum_by g bs ≡ sum_by f (range_with_len at (length bs))
 by_place f g [] at same = refl
 by_place f g (b ∷ bs) at same =
     let e : range_with_len at (length (b ∷ bs)) ≡ at ∷ range_with_len (at + 1) (length bs) = refl in
@@ -87,7 +95,9 @@ none_named : (fd : ℕ) (bs : List Block) → count_by (has_fd fd) bs ≡ 0 → 
 none_named fd [] h = refl
 none_named fd (b ∷ bs) h = go (none_named fd bs) (has_fd fd b) (count_cons (has_fd fd) b bs)
   where
-    go : (count_by (has_fd fd) bs ≡ 0 → find (has_fd fd) bs ≡ None) → (t : Bool) → count_by (has_fd fd) (b ∷ bs) ≡ cond t 1 0 + count_by (has_fd fd) bs → cond t (Some b) (find (has_fd fd) bs) ≡ None
+    go : (count_by (has_fd fd) bs ≡ 0 → find (has_fd fd) bs ≡ None) → (t : Bool)
+        → count_by (has_fd fd) (b ∷ bs) ≡ cond t 1 0 + count_by (has_fd fd) bs
+        → cond t (Some b) (find (has_fd fd) bs) ≡ None
     go later true n = absurd (omega (arith, h, n))
     go later false n = later (omega (arith, h, n))
 
@@ -98,23 +108,36 @@ not_open t apart fd low = none_named fd t.blocks (go (count_by (has_fd fd) t.blo
     go zero e = refl
     go (suc n) e = absurd (omega (arith, low, apart.least fd (omega (arith, e))))
 
-pub socks_weigh : (p : PoolView) (v : SocksView) → IsSocks p v → SameWeight (all_of (λ (socket : Socket). queue_weight socket.queue) (sockets_with (queues_of p v.queues) v.pcbs)) (weight_owned p (queued_chains p v.queues))
+pub socks_weigh : (p : PoolView) (v : SocksView) → IsSocks p v
+    → SameWeight (all_of (λ (socket : Socket). queue_weight socket.queue) (sockets_with (queues_of p v.queues) v.pcbs))
+    (weight_owned p (queued_chains p v.queues))
 socks_weigh p v is =
-    let none : (fd : ℕ) → block_at fd v.pcbs ≡ None → queue_weight (queues_of p v.queues fd) ≡ queue_weight [] = λ fd e. ap queue_weight (is.closed fd e) in
-    let low : (fd : ℕ) → fd < 3 → queue_weight (queues_of p v.queues fd) ≡ queue_weight [] = λ fd lt. none fd (not_open v.pcbs is.apart fd lt) in
+    let none : (fd : ℕ) → block_at fd v.pcbs ≡ None
+    → queue_weight (queues_of p v.queues fd) ≡ queue_weight [] = λ fd e. ap queue_weight (is.closed fd e) in
+    let low : (fd : ℕ) → fd < 3 → queue_weight (queues_of p v.queues fd) ≡ queue_weight [] =
+    λ fd lt. none fd (not_open v.pcbs is.apart fd lt) in
     let mbufs : ℕ → ℕ = λ fd. (queue_weight (queues_of p v.queues fd)).mbufs in
     let refs : ℕ → ℕ → ℕ = λ c fd. bag_times c (queue_weight (queues_of p v.queues fd)).bag in
     record {
       mbufs = queued_mbufs (queues_of p v.queues) v.pcbs
           ∙ by_descriptor v.pcbs mbufs is.apart (λ fd e. ap (λ (w : Weight). w.mbufs) (none fd e))
-          ∙ sym (from_three mbufs (ap (λ (w : Weight). w.mbufs) (low 0 (omega arith))) (ap (λ (w : Weight). w.mbufs) (low 1 (omega arith))) (ap (λ (w : Weight). w.mbufs) (low 2 (omega arith))))
-          ∙ sym (subst (λ (n : ℕ). sum_by (λ b. (weight_owned p (chains_of p b)).mbufs) v.queues ≡ sum_by mbufs (range_with_len 0 n)) is.places
-          (by_place mbufs (λ b. (weight_owned p (chains_of p b)).mbufs) v.queues 0 (λ i k lt e. ap mbufs (let z : k ≡ i = omega (arith, e) in z) ∙ sym (ap (λ (w : Weight). w.mbufs) (queue_weighs p (queue_at v.queues i) (is.each i))))))
+          ∙ sym (from_three mbufs (ap (λ (w : Weight). w.mbufs) (low 0 (omega arith)))
+          (ap (λ (w : Weight). w.mbufs) (low 1 (omega arith))) (ap (λ (w : Weight). w.mbufs) (low 2 (omega arith))))
+          ∙ sym (subst (λ (n : ℕ). sum_by (λ b. (weight_owned p (chains_of p b)).mbufs) v.queues
+          ≡ sum_by mbufs (range_with_len 0 n)) is.places
+          (by_place mbufs (λ b. (weight_owned p (chains_of p b)).mbufs) v.queues 0
+          (λ i k lt e. ap mbufs (let z : k ≡ i = omega (arith, e) in z)
+          ∙ sym (ap (λ (w : Weight). w.mbufs) (queue_weighs p (queue_at v.queues i) (is.each i))))))
           ∙ sym (chains_mbufs p v.queues);
       bag = λ c. queued_times (queues_of p v.queues) c v.pcbs
           ∙ by_descriptor v.pcbs (refs c) is.apart (λ fd e. ap (λ (w : Weight). bag_times c w.bag) (none fd e))
-          ∙ sym (from_three (refs c) (ap (λ (w : Weight). bag_times c w.bag) (low 0 (omega arith))) (ap (λ (w : Weight). bag_times c w.bag) (low 1 (omega arith))) (ap (λ (w : Weight). bag_times c w.bag) (low 2 (omega arith))))
-          ∙ sym (subst (λ (n : ℕ). sum_by (λ b. bag_times c (weight_owned p (chains_of p b)).bag) v.queues ≡ sum_by (refs c) (range_with_len 0 n)) is.places
-          (by_place (refs c) (λ b. bag_times c (weight_owned p (chains_of p b)).bag) v.queues 0 (λ i k lt e. ap (refs c) (let z : k ≡ i = omega (arith, e) in z) ∙ sym (ap (λ (w : Weight). bag_times c w.bag) (queue_weighs p (queue_at v.queues i) (is.each i))))))
+          ∙ sym (from_three (refs c) (ap (λ (w : Weight). bag_times c w.bag) (low 0 (omega arith)))
+          (ap (λ (w : Weight). bag_times c w.bag) (low 1 (omega arith)))
+          (ap (λ (w : Weight). bag_times c w.bag) (low 2 (omega arith))))
+          ∙ sym (subst (λ (n : ℕ). sum_by (λ b. bag_times c (weight_owned p (chains_of p b)).bag) v.queues
+          ≡ sum_by (refs c) (range_with_len 0 n)) is.places
+          (by_place (refs c) (λ b. bag_times c (weight_owned p (chains_of p b)).bag) v.queues 0
+          (λ i k lt e. ap (refs c) (let z : k ≡ i = omega (arith, e) in z)
+          ∙ sym (ap (λ (w : Weight). bag_times c w.bag) (queue_weighs p (queue_at v.queues i) (is.each i))))))
           ∙ sym (chains_times p c v.queues);
     }

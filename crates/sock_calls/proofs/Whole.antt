@@ -59,16 +59,25 @@ bag p true (Some c) n h = record {
     most : (b : Bool) → cond {A = ℕ} b 1 0 ≤ 1
     most true = omega arith
     most false = omega arith
-bag p false None n h = record { number = refl; need = refl; exist = tt; free = tt; once = λ k. omega arith; weight = refl }
+bag p false None n h = record {
+  number = refl;
+  need = refl;
+  exist = tt;
+  free = tt;
+  once = λ k. omega arith;
+  weight = refl;
+}
 bag p false (Some c) n h = absurd h
 
 free_is : (p : PoolView) (m k : ℕ) → held_mbufs p + m ≤ p.mbufs → k ≤ free_clusters p → are_free p m k ≡ true
-free_is p m k mbufs clusters = λ i. le-leb m (p.mbufs - held_mbufs p) (omega (arith, mbufs)) i && le-leb k (free_clusters p) clusters i
+free_is p m k mbufs clusters = λ i. le-leb m (p.mbufs - held_mbufs p) (omega (arith, mbufs)) i
+    && le-leb k (free_clusters p) clusters i
 
 -- ---- the step
 
 -- what is known of the packet when it's stored, and what that left
-pub record IsStored (p : PoolView) (t : Table) (bs : List SockBufView) (packet : List ℕ) (from to : Addr) (fd : ℕ) (is_large : Bool) (q : PoolView) (cs : List SockBufView) : Type 0 where
+pub record IsStored (p : PoolView) (t : Table) (bs : List SockBufView) (packet : List ℕ) (from to : Addr) (fd : ℕ)
+    (is_large : Bool) (q : PoolView) (cs : List SockBufView) : Type 0 where
   pub checked : IsChecked packet from to
   pub socks : IsSocks p (record { pcbs = t; queues = bs })
   pub ours : to.ip ≡ t.addr
@@ -83,7 +92,8 @@ pub record IsStored (p : PoolView) (t : Table) (bs : List SockBufView) (packet :
   pub steps : StepsAt p [] bs fd q [] cs
   pub here : queues_of q cs fd ≡ queues_of p bs fd ++ stored_datagram from (drop 28 packet) cluster ∷ []
 
-module _ (p q : PoolView) (t : Table) (bs cs : List SockBufView) (packet : List ℕ) (from to : Addr) (fd : ℕ) (is_large : Bool) (is : IsStored p t bs packet from to fd is_large q cs) (rest : State)
+module _ (p q : PoolView) (t : Table) (bs cs : List SockBufView) (packet : List ℕ) (from to : Addr) (fd : ℕ)
+    (is_large : Bool) (is : IsStored p t bs packet from to fd is_large q cs) (rest : State)
     (acc : IsAccounted p (with_sockets p (record { pcbs = t; queues = bs }) rest) nothing) where
   abbrev f : Queues
   f = queues_of p bs
@@ -110,10 +120,12 @@ module _ (p q : PoolView) (t : Table) (bs cs : List SockBufView) (packet : List 
   one_more : has_enough mid (nothing ⊕ w) (need_mbufs 1) ≡ true
   one_more =
       let some : 1 ≤ state.free_mbufs mid (nothing ⊕ w) = omega (arith, acc.total, acc.mbufs, is.mbufs) in
-      λ i. le-leb 1 (state.free_mbufs mid (nothing ⊕ w)) some i && le-leb 0 (state.free_clusters mid (nothing ⊕ w)) (omega arith) i
+      λ i. le-leb 1 (state.free_mbufs mid (nothing ⊕ w)) some i
+      && le-leb 0 (state.free_clusters mid (nothing ⊕ w)) (omega arith) i
 
   put : new ≡ change_socket fd (queued (stored_datagram from (drop 28 packet) is.cluster)) mid
-  put = queue_changed f (queues_of q cs) t (counts_packet rest) fd (λ (ds : List Datagram). ds ++ stored_datagram from (drop 28 packet) is.cluster ∷ []) is.here is.steps.others
+  put = queue_changed f (queues_of q cs) t (counts_packet rest) fd
+      (λ (ds : List Datagram). ds ++ stored_datagram from (drop 28 packet) is.cluster ∷ []) is.here is.steps.others
 
   appends : Appends exact_ledger nothing from data_of (socket_with f is.found.0) mid new
   appends = record {
@@ -121,29 +133,43 @@ module _ (p q : PoolView) (t : Table) (bs cs : List SockBufView) (packet : List 
       answer = true;
       mid = mid;
       has_buffers = inl (sym one_more, refl);
-      goes_on = record { yes = λ _. put ∙ ap (λ (k : ℕ). change_socket k (queued (stored_datagram from (drop 28 packet) is.cluster)) mid) (sym is.found.1); no = λ e. absurd (true≢false e) };
+      goes_on = record {
+        yes = λ _. put
+            ∙ ap (λ (k : ℕ). change_socket k (queued (stored_datagram from (drop 28 packet) is.cluster)) mid)
+            (sym is.found.1);
+        no = λ e. absurd (true≢false e);
+      };
     };
     no = λ e. absurd (false≢true (sym e ∙ ap (λ (k : ℕ). fits (f k) (length (drop 28 packet))) is.found.1 ∙ is.fits));
   }
 
   heard : hearers mid to.ip (packet_key to.ip to.port from) ≡ socket_with f is.found.0 ∷ []
-  heard = (λ i. cond (is.one i) (receivers (packet_key to.ip to.port from) (sockets_with f t)) (option_to_list (best (packet_key to.ip to.port from) (sockets_with f t)))) ∙ ap option_to_list (is.found.3 f)
+  heard = (λ i. cond (is.one i) (receivers (packet_key to.ip to.port from) (sockets_with f t))
+      (option_to_list (best (packet_key to.ip to.port from) (sockets_with f t)))) ∙ ap option_to_list (is.found.3 f)
 
   abbrev s : List ℕ
   s = drop 20 packet
 
   bytes_are : udp_bytes s ≡ drop 28 packet
-  bytes_are = ap (λ (n : ℕ). drop 8 (take n s)) is.checked.len ∙ ap (drop 8) (take_all (length s) s (omega arith)) ∙ drop-drop 8 20 packet
+  bytes_are = ap (λ (n : ℕ). drop 8 (take n s)) is.checked.len ∙ ap (drop 8) (take_all (length s) s (omega arith))
+      ∙ drop-drop 8 20 packet
 
-  goes : GoesTo exact_ledger nothing (record { ip = from.ip; port = u16_at 0 s }) (record { bytes = udp_bytes s; weight = w }) to.ip
+  goes : GoesTo exact_ledger nothing (record { ip = from.ip; port = u16_at 0 s })
+      (record { bytes = udp_bytes s; weight = w }) to.ip
       (hearers mid to.ip (packet_key to.ip (u16_at 2 s) (record { ip = from.ip; port = u16_at 0 s }))) mid new
   goes =
-      let one : GoesTo exact_ledger nothing from data_of to.ip (hearers mid to.ip (packet_key to.ip to.port from)) mid new =
+      let one : GoesTo exact_ledger nothing from data_of to.ip (hearers mid to.ip (packet_key to.ip to.port from)) mid
+      new =
       subst (λ (l : List Socket). GoesTo exact_ledger nothing from data_of to.ip l mid new) (sym heard) appends in
-      let two = subst (λ (n : ℕ). GoesTo exact_ledger nothing from data_of to.ip (hearers mid to.ip (packet_key to.ip n from)) mid new) (sym is.checked.port) one in
-      let three = subst (λ (n : ℕ). GoesTo exact_ledger nothing (record { ip = from.ip; port = n }) data_of to.ip (hearers mid to.ip (packet_key to.ip (u16_at 2 s) (record { ip = from.ip; port = n }))) mid new) (sym is.checked.source_port) two in
-      subst (λ (xs : List ℕ). GoesTo exact_ledger nothing (record { ip = from.ip; port = u16_at 0 s }) (record { bytes = xs; weight = w }) to.ip
-      (hearers mid to.ip (packet_key to.ip (u16_at 2 s) (record { ip = from.ip; port = u16_at 0 s }))) mid new) (sym bytes_are) three
+      let two = subst (λ (n : ℕ). GoesTo exact_ledger nothing from data_of to.ip
+      (hearers mid to.ip (packet_key to.ip n from)) mid new) (sym is.checked.port) one in
+      let three = subst (λ (n : ℕ). GoesTo exact_ledger nothing (record { ip = from.ip; port = n }) data_of to.ip
+      (hearers mid to.ip (packet_key to.ip (u16_at 2 s) (record { ip = from.ip; port = n }))) mid new)
+      (sym is.checked.source_port) two in
+      subst (λ (xs : List ℕ). GoesTo exact_ledger nothing (record { ip = from.ip; port = u16_at 0 s })
+      (record { bytes = xs; weight = w }) to.ip
+      (hearers mid to.ip (packet_key to.ip (u16_at 2 s) (record { ip = from.ip; port = u16_at 0 s }))) mid new)
+      (sym bytes_are) three
 
   whole : WholeArrives exact_ledger nothing from.ip to.ip 17 (record { bytes = s; weight = w }) mid new
   whole = record {
@@ -159,7 +185,8 @@ module _ (p q : PoolView) (t : Table) (bs cs : List SockBufView) (packet : List 
 
   carried_is : carried item ≡ record { bytes = s; weight = w }
   carried_is =
-      let all : take (total_of packet) packet ≡ packet = take_all (total_of packet) packet (omega (arith, is.checked.plain.total)) in
+      let all : take (total_of packet) packet ≡ packet =
+      take_all (total_of packet) packet (omega (arith, is.checked.plain.total)) in
       λ i. record { bytes = drop 20 (all i); weight = weighs i }
 
   passes : Passes exact_ledger (By_wire (length packet)) nothing item mid new
@@ -167,9 +194,12 @@ module _ (p q : PoolView) (t : Table) (bs cs : List SockBufView) (packet : List 
     yes = λ _. record {
       yes = λ e. absurd (true≢false (sym e ∙ is.checked.plain.whole));
       no = λ _.
-          subst (λ (x : ℕ). WholeArrives exact_ledger nothing x (head_of packet).destination (head_of packet).protocol (carried item) mid new) (sym is.checked.source)
-          (subst (λ (x : ℕ). WholeArrives exact_ledger nothing from.ip x (head_of packet).protocol (carried item) mid new) (sym is.checked.destination)
-          (subst (λ (x : ℕ). WholeArrives exact_ledger nothing from.ip to.ip x (carried item) mid new) (sym is.checked.plain.protocol)
+          subst (λ (x : ℕ). WholeArrives exact_ledger nothing x (head_of packet).destination (head_of packet).protocol
+          (carried item) mid new) (sym is.checked.source)
+          (subst (λ (x : ℕ). WholeArrives exact_ledger nothing from.ip x (head_of packet).protocol (carried item) mid
+          new) (sym is.checked.destination)
+          (subst (λ (x : ℕ). WholeArrives exact_ledger nothing from.ip to.ip x (carried item) mid new)
+          (sym is.checked.plain.protocol)
           (subst (λ (x : Item). WholeArrives exact_ledger nothing from.ip to.ip 17 x mid new) (sym carried_is) whole)));
     };
     no = λ e. absurd (false≢true (sym e ∙ for_us));
@@ -178,7 +208,8 @@ module _ (p q : PoolView) (t : Table) (bs cs : List SockBufView) (packet : List 
       for_us : is_for_us mid.config (head_of packet).destination ≡ true
       for_us =
           let d : ℕ = (head_of packet).destination in
-          ap (λ (b : Bool). ((b || (d == t.bcast)) || (d == 2130706433)) || (d == 4294967295)) (eq-eqb d t.addr (is.checked.destination ∙ is.ours))
+          ap (λ (b : Bool). ((b || (d == t.bcast)) || (d == 2130706433)) || (d == 4294967295))
+          (eq-eqb d t.addr (is.checked.destination ∙ is.ours))
 
   arrives : Arrives exact_ledger (By_wire (length packet)) nothing item old new
   arrives = record { none = λ _. passes; some = λ why e. absurd (none-some why (sym is.checked.plain.faultless ∙ e)) }
@@ -200,7 +231,8 @@ module _ (p q : PoolView) (t : Table) (bs cs : List SockBufView) (packet : List 
         record {
           number = is_bag.number ∙ ap (count_by is_cluster) (sym is.room);
           distinct = is_bag.once;
-          free = All-from_recursion (IsFree old nothing) (bag_of is.cluster) (free_each p old (bag_of is.cluster) acc is_bag.exist is_bag.free);
+          free = All-from_recursion (IsFree old nothing) (bag_of is.cluster)
+              (free_each p old (bag_of is.cluster) acc is_bag.exist is_bag.free);
         },
         arrives,
       );
@@ -210,7 +242,8 @@ module _ (p q : PoolView) (t : Table) (bs cs : List SockBufView) (packet : List 
 
 -- ---- and what it leaves
 
-pub comes_whole : {p q : PoolView} {t : Table} {bs cs : List SockBufView} {packet : List ℕ} {from to : Addr} {fd : ℕ} {is_large : Bool} → IsStored p t bs packet from to fd is_large q cs
+pub comes_whole : {p q : PoolView} {t : Table} {bs cs : List SockBufView} {packet : List ℕ} {from to : Addr} {fd : ℕ}
+    {is_large : Bool} → IsStored p t bs packet from to fd is_large q cs
     → ComesWhole p (record { pcbs = t; queues = bs }) packet q (record { pcbs = t; queues = cs })
 comes_whole {p} {q} {t} {bs} {cs} {packet} {from} {to} {fd} {is_large} is = record {
   step = λ rest acc. comes p q t bs cs packet from to fd is_large is rest acc;
@@ -227,5 +260,6 @@ comes_whole {p} {q} {t} {bs} {cs} {packet} {from} {to} {fd} {is_large} is = reco
       owned = is.steps.owned;
       places = is.steps.len ∙ is.socks.places;
       apart = is.socks.apart;
-      closed = λ k none. is.steps.others k (λ e. none-some is.found.0 (sym none ∙ ap (λ (j : ℕ). block_at j t) e ∙ is.found.2)) ∙ is.socks.closed k none;
+      closed = λ k none. is.steps.others k (λ e. none-some is.found.0
+          (sym none ∙ ap (λ (j : ℕ). block_at j t) e ∙ is.found.2)) ∙ is.socks.closed k none;
     }

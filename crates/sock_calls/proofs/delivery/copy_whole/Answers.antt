@@ -9,11 +9,20 @@ use Rattle.sock_calls.proofs.delivery.copy_whole.Goals as goal
 
 pub unreachable-requires : goal.unreachable-requires
 unreachable-requires c =
-    omega (arith, c.in-Err.ensures.err, c.requires.free, ap (λ (i : Item). i.weight.mbufs) (copied_item (room_low (chain_of c.args.pool.now c.args.chain.now).front.header) (chain_of c.args.pool.now c.args.chain.now).entries))
+    omega (
+      arith,
+      c.in-Err.ensures.err,
+      c.requires.free,
+      ap (λ (i : Item). i.weight.mbufs) (copied_item
+          (room_low (chain_of c.args.pool.now c.args.chain.now).front.header)
+          (chain_of c.args.pool.now c.args.chain.now).entries),
+    )
 
 pub returns-clause-item : goal.returns-clause-item
 returns-clause-item c =
-    ap item_of c.in-Ok.ensures.ok.entries ∙ copied_item (room_low (chain_of c.args.pool.now c.args.chain.now).front.header) (chain_of c.args.pool.now c.args.chain.now).entries
+    ap item_of c.in-Ok.ensures.ok.entries ∙ copied_item
+    (room_low (chain_of c.args.pool.now c.args.chain.now).front.header)
+    (chain_of c.args.pool.now c.args.chain.now).entries
 
 pub returns-clause-moves : goal.returns-clause-moves
 returns-clause-moves c = moves_adds c.in-Ok.ensures.ok.adds

@@ -6,7 +6,9 @@ pub in_mbuf-requires-clause-free : goal.in_mbuf-requires-clause-free
 in_mbuf-requires-clause-free c = small_free c.args.pool.now (length c.args.bytes.now) (omega arith) c.requires.free
 
 pub in_cluster-requires-clause-free : goal.in_cluster-requires-clause-free
-in_cluster-requires-clause-free c = (large_free c.args.pool.now (length c.args.bytes.now) (c.requires.many (omega arith)) c.requires.most c.requires.free).0
+in_cluster-requires-clause-free c = (large_free c.args.pool.now (length c.args.bytes.now)
+    (c.requires.many (omega arith)) c.requires.most c.requires.free).0
 
 pub in_cluster-requires-clause-cluster : goal.in_cluster-requires-clause-cluster
-in_cluster-requires-clause-cluster c = (large_free c.args.pool.now (length c.args.bytes.now) (c.requires.many (omega arith)) c.requires.most c.requires.free).1
+in_cluster-requires-clause-cluster c = (large_free c.args.pool.now (length c.args.bytes.now)
+    (c.requires.many (omega arith)) c.requires.most c.requires.free).1

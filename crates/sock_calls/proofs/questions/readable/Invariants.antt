@@ -8,6 +8,7 @@ use Rattle.sock_calls.proofs.questions.readable.Given as goal
 
 abbrev pub invariant-places : goal.invariant-places
 invariant-places l = record {
-  set : (p : PoolView) → ((k : ℕ) → IsSockBuf p (queue_at l.queues k)) → l.set ≡ set_below (waits_at p l.queues) l.place;
+  set : (p : PoolView) → ((k : ℕ) → IsSockBuf p (queue_at l.queues k))
+      → l.set ≡ set_below (waits_at p l.queues) l.place;
   small : l.set < 2 ^ l.place;
 }

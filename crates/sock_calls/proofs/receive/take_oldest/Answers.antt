@@ -18,25 +18,33 @@ record Left (p : PoolView) (b : SockBufView) (r : PoolView) (d : SockBufView) (f
   ready : IsSockBuf r d
   moves : Moves p (chains_of p b) r (chains_of r d)
 
-left : (p q r : PoolView) (b d : SockBufView) (sender : Addr) (c : ℕ) → IsSockBuf p b → IsSockBuf q d → TakesOldest p b sender c q d → r ≡ without q c → Left p b r d (datagram_from sender q c)
+left : (p q r : PoolView) (b d : SockBufView) (sender : Addr) (c : ℕ) → IsSockBuf p b → IsSockBuf q d
+    → TakesOldest p b sender c q d → r ≡ without q c → Left p b r d (datagram_from sender q c)
 left p q r b d sender c was now takes gone =
     let owned : IsOwned q (c ∷ chains_of q d) = owned_after takes.moves was.held.owned in
-    let same : SameAt q r (chains_of q d) = same_without q r c (chains_of q d) (apart_first q c (chains_of q d) owned) gone in
+    let same : SameAt q r (chains_of q d) = same_without q r c (chains_of q d) (apart_first q c (chains_of q d) owned)
+    gone in
     record {
-      datagrams = takes.datagrams ∙ ap (λ (ds : List Datagram). datagram_from sender q c ∷ ds) (sym (datagrams_same q r d same));
+      datagrams = takes.datagrams ∙ ap (λ (ds : List Datagram). datagram_from sender q c ∷ ds)
+          (sym (datagrams_same q r d same));
       ready = ready_same q r d same now;
-      moves = subst (Moves p (chains_of p b) r) (sym (chains_same q r d same)) (then_without r c (chains_of q d) takes.moves was.held.owned gone);
+      moves = subst (Moves p (chains_of p b) r) (sym (chains_same q r d same))
+          (then_without r c (chains_of q d) takes.moves was.held.owned gone);
     }
 
-all_left : (c : goal.After-free_chain) → Left c.args.pool.now c.args.queue.now c.free_chain.new.self c.take.new.self (datagram_from c.in_ok-sender.sender c.take.new.pool c.in_ok-sender.chain)
-all_left c = left c.args.pool.now c.take.new.pool c.free_chain.new.self c.args.queue.now c.take.new.self c.in_ok-sender.sender c.in_ok-sender.chain c.requires.ready c.in_ok-sender.ensures.ready c.in_ok-sender.ensures.takes c.free_chain.ensures
+all_left : (c : goal.After-free_chain) → Left c.args.pool.now c.args.queue.now c.free_chain.new.self c.take.new.self
+    (datagram_from c.in_ok-sender.sender c.take.new.pool c.in_ok-sender.chain)
+all_left c = left c.args.pool.now c.take.new.pool c.free_chain.new.self c.args.queue.now c.take.new.self
+    c.in_ok-sender.sender c.in_ok-sender.chain c.requires.ready c.in_ok-sender.ensures.ready
+    c.in_ok-sender.ensures.takes c.free_chain.ensures
 
 pub returns-clause-taken : goal.returns-clause-taken
 returns-clause-taken c = (
   datagram_from c.in_ok-sender.sender c.take.new.pool c.in_ok-sender.chain,
   (all_left c).datagrams,
   refl,
-  copied c.min-len.result _ _ (string (chain_of c.take.new.pool c.in_ok-sender.chain)) c.m_copydata.new.to _ c.m_copydata.ensures
+  copied c.min-len.result _ _ (string (chain_of c.take.new.pool c.in_ok-sender.chain)) c.m_copydata.new.to _
+      c.m_copydata.ensures
       (omega (arith, length-take c.min-len.result c.args.room.now, c.min-len.ensures))
       (c.min-len.ensures ∙ ap (λ (j : ℕ). min j (length c.args.room.now)) c.len.ensures),
 )
@@ -49,6 +57,7 @@ returns-clause-moves c = (all_left c).moves
 
 pub returns-clause-rest : goal.returns-clause-rest
 returns-clause-rest c =
-    rest_kept c.min-len.result _ _ (string (chain_of c.take.new.pool c.in_ok-sender.chain)) c.m_copydata.new.to c.args.room.now c.m_copydata.ensures
+    rest_kept c.min-len.result _ _ (string (chain_of c.take.new.pool c.in_ok-sender.chain)) c.m_copydata.new.to
+    c.args.room.now c.m_copydata.ensures
     (omega (arith, length-take c.min-len.result c.args.room.now, c.min-len.ensures))
     (c.min-len.ensures ∙ ap (λ (j : ℕ). min j (length c.args.room.now)) c.len.ensures)

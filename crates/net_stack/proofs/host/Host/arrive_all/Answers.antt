@@ -8,25 +8,34 @@ some : (n : ℕ) → (n ≡ 0 → ⊥) → 0 < n
 some n ne = omega arith
 
 pub arrive-requires-clause-socks : goal.arrive-requires-clause-socks
-arrive-requires-clause-socks c = (taken c.packets.train c.take-chain.new.self c.packets.invariant.owned c.packets.invariant.reass c.packets.invariant.way.parts.ready c.take-chain.ensures.moves).socks.ready
+arrive-requires-clause-socks c = (taken c.packets.train c.take-chain.new.self c.packets.invariant.owned
+    c.packets.invariant.reass c.packets.invariant.way.parts.ready c.take-chain.ensures.moves).socks.ready
 
 pub arrive-requires-clause-reass : goal.arrive-requires-clause-reass
-arrive-requires-clause-reass c = (taken c.packets.train c.take-chain.new.self c.packets.invariant.owned c.packets.invariant.reass c.packets.invariant.way.parts.ready c.take-chain.ensures.moves).reass.table
+arrive-requires-clause-reass c = (taken c.packets.train c.take-chain.new.self c.packets.invariant.owned
+    c.packets.invariant.reass c.packets.invariant.way.parts.ready c.take-chain.ensures.moves).reass.table
 
 pub arrive-requires-clause-owned : goal.arrive-requires-clause-owned
-arrive-requires-clause-owned c = one_owned c.packets.train c.take-chain.new.self (taken c.packets.train c.take-chain.new.self c.packets.invariant.owned c.packets.invariant.reass c.packets.invariant.way.parts.ready c.take-chain.ensures.moves)
+arrive-requires-clause-owned c = one_owned c.packets.train c.take-chain.new.self
+    (taken c.packets.train c.take-chain.new.self c.packets.invariant.owned c.packets.invariant.reass
+    c.packets.invariant.way.parts.ready c.take-chain.ensures.moves)
 
 pub packets-preserved : goal.packets-preserved
 packets-preserved c =
-    let more = one_more {ds = c.packets.self.reass} {ds2 = c.arrive.new.self.reass} c.take-chain.result.1 c.packets.invariant.way c.packets.invariant.held c.packets.invariant.plain c.packets.invariant.owned c.packets.invariant.reass
-    (some c.packets.train.len (eqb-false _ _ (sym c.is_empty.ensures ∙ c.packets-test.true))) c.take-chain.ensures.queued_packets c.take-chain.ensures.taken c.take-chain.ensures.held c.take-chain.ensures.moves c.arrive.ensures.arrived in
+    let more = one_more {ds = c.packets.self.reass} {ds2 = c.arrive.new.self.reass} c.take-chain.result.1
+    c.packets.invariant.way c.packets.invariant.held c.packets.invariant.plain c.packets.invariant.owned
+    c.packets.invariant.reass
+    (some c.packets.train.len (eqb-false _ _ (sym c.is_empty.ensures ∙ c.packets-test.true)))
+    c.take-chain.ensures.queued_packets c.take-chain.ensures.taken c.take-chain.ensures.held
+    c.take-chain.ensures.moves c.arrive.ensures.arrived in
     record {
       way = more.way;
       reass = c.arrive.ensures.reass;
       held = more.held;
       plain = more.plain;
       owned = more.owned;
-      output = c.arrive.ensures.output ∙ (λ i. record (c.packets.invariant.output i) { counters = c.arrive.new.self.net.counters });
+      output = c.arrive.ensures.output
+          ∙ (λ i. record (c.packets.invariant.output i) { counters = c.arrive.new.self.net.counters });
     }
 
 pub returns-clause-arrived : goal.returns-clause-arrived

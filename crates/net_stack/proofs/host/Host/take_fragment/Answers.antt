@@ -8,20 +8,31 @@ use Rattle.net_stack.proofs.Arriving.{waits, completes}
 use Rattle.net_stack.proofs.host.Host.take_fragment.Goals as goal
 
 pub arrive-requires-clause-owned : goal.arrive-requires-clause-owned
-arrive-requires-clause-owned c = λ k. omega (arith, c.requires.owned k, times-append k (held_all c.args.self.now.pool c.args.self.now.reass.datagrams) (queued_chains c.args.self.now.pool c.args.self.now.socks.queues))
+arrive-requires-clause-owned c = λ k. omega (
+  arith,
+  c.requires.owned k,
+  times-append k (held_all c.args.self.now.pool c.args.self.now.reass.datagrams)
+      (queued_chains c.args.self.now.pool c.args.self.now.socks.queues),
+)
 
 pub input-requires-clause-ready : goal.input-requires-clause-ready
 input-requires-clause-ready c =
-    (beside_socks (c.args.chain ∷ held_all c.args.self.now.pool c.args.self.now.reass.datagrams) (c.in-Whole.chain ∷ []) (held_all c.arrive.new.pool c.arrive.new.self.datagrams) c.requires.owned c.requires.socks c.in-Whole.ensures.moves).socks.ready
+    (beside_socks (c.args.chain ∷ held_all c.args.self.now.pool c.args.self.now.reass.datagrams) (c.in-Whole.chain ∷ [])
+    (held_all c.arrive.new.pool c.arrive.new.self.datagrams) c.requires.owned c.requires.socks
+    c.in-Whole.ensures.moves).socks.ready
 
 pub input-requires-clause-owned : goal.input-requires-clause-owned
 input-requires-clause-owned c =
-    owned_after (beside_socks (c.args.chain ∷ held_all c.args.self.now.pool c.args.self.now.reass.datagrams) (c.in-Whole.chain ∷ []) (held_all c.arrive.new.pool c.arrive.new.self.datagrams) c.requires.owned c.requires.socks c.in-Whole.ensures.moves).moves c.requires.owned
+    owned_after (beside_socks (c.args.chain ∷ held_all c.args.self.now.pool c.args.self.now.reass.datagrams)
+    (c.in-Whole.chain ∷ []) (held_all c.arrive.new.pool c.arrive.new.self.datagrams) c.requires.owned
+    c.requires.socks c.in-Whole.ensures.moves).moves c.requires.owned
 
 pub returns-in-Whole-clause-taken : goal.returns-in-Whole-clause-taken
 returns-in-Whole-clause-taken c =
-    completes {ds = c.args.self.now.reass} {es = c.arrive.new.self} c.in-Whole.head c.requires.owned c.requires.socks (record {
-      step = λ rest held origin new came acc goes. fragment_arrives held origin c.args.head c.args.self.now.pool c.args.chain _ new came c.requires.total c.requires.header (c.in-Whole.ensures.step rest held new acc goes);
+    completes {ds = c.args.self.now.reass} {es = c.arrive.new.self} c.in-Whole.head c.requires.owned c.requires.socks
+    (record {
+      step = λ rest held origin new came acc goes. fragment_arrives held origin c.args.head c.args.self.now.pool
+          c.args.chain _ new came c.requires.total c.requires.header (c.in-Whole.ensures.step rest held new acc goes);
       accounts = c.in-Whole.ensures.accounts;
       moves = c.in-Whole.ensures.moves;
     }) c.input.ensures.input
@@ -29,7 +40,8 @@ returns-in-Whole-clause-taken c =
 pub returns-in-Kept-clause-taken : goal.returns-in-Kept-clause-taken
 returns-in-Kept-clause-taken c =
     waits {ds = c.args.self.now.reass} {es = c.arrive.new.self} c.requires.owned c.requires.socks (record {
-      step = λ rest held origin new came acc goes. fragment_arrives held origin c.args.head c.args.self.now.pool c.args.chain _ new came c.requires.total c.requires.header (c.in-Kept.ensures.step rest held new acc goes);
+      step = λ rest held origin new came acc goes. fragment_arrives held origin c.args.head c.args.self.now.pool
+          c.args.chain _ new came c.requires.total c.requires.header (c.in-Kept.ensures.step rest held new acc goes);
       accounts = c.in-Kept.ensures.accounts;
       moves = c.in-Kept.ensures.moves;
     })
@@ -37,7 +49,8 @@ returns-in-Kept-clause-taken c =
 pub returns-in-Dropped-clause-taken : goal.returns-in-Dropped-clause-taken
 returns-in-Dropped-clause-taken c =
     waits {ds = c.args.self.now.reass} {es = c.arrive.new.self} c.requires.owned c.requires.socks (record {
-      step = λ rest held origin new came acc goes. fragment_arrives held origin c.args.head c.args.self.now.pool c.args.chain _ new came c.requires.total c.requires.header (c.in-Dropped.ensures.step rest held new acc goes);
+      step = λ rest held origin new came acc goes. fragment_arrives held origin c.args.head c.args.self.now.pool
+          c.args.chain _ new came c.requires.total c.requires.header (c.in-Dropped.ensures.step rest held new acc goes);
       accounts = c.in-Dropped.ensures.accounts;
       moves = c.in-Dropped.ensures.moves;
     })

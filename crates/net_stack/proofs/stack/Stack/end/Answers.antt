@@ -13,23 +13,29 @@ use Rattle.net_stack.proofs.Started.{socks_gone, reass_gone, all_gone}
 use Rattle.net_stack.proofs.stack.Stack.end.Goals as goal
 
 pub flush-requires : goal.flush-requires
-flush-requires c = (lent_inside c.self.inside c.as_mut-parts.result.now c.as_mut-parts.ensures.value c.self.invariant).stack.socks
+flush-requires c = (lent_inside c.self.inside c.as_mut-parts.result.now c.as_mut-parts.ensures.value
+    c.self.invariant).stack.socks
 
 pub end_empty-requires : goal.end_empty-requires
-end_empty-requires c = subst (λ (h : Host). AreEmpty h.socks.queues) (sym c.into_inner-pool.ensures) c.flush.ensures.empty
+end_empty-requires c = subst (λ (h : Host). AreEmpty h.socks.queues) (sym c.into_inner-pool.ensures)
+    c.flush.ensures.empty
 
 pub end-requires : goal.end-requires
 end-requires c =
     let f : Fields = lent c.self.inside c.as_mut-parts.result.now in
-    let is : IsInside f = lent_inside c.self.inside c.as_mut-parts.result.now c.as_mut-parts.ensures.value c.self.invariant in
-    subst (λ (h : Host). IsTable h.pool h.reass.datagrams) (sym c.into_inner-pool.ensures) (socks_gone f c.flush.new.pool is.stack c.flush.ensures.moves).reass.table.table
+    let is : IsInside f = lent_inside c.self.inside c.as_mut-parts.result.now c.as_mut-parts.ensures.value
+    c.self.invariant in
+    subst (λ (h : Host). IsTable h.pool h.reass.datagrams) (sym c.into_inner-pool.ensures)
+    (socks_gone f c.flush.new.pool is.stack c.flush.ensures.moves).reass.table.table
 
 pub end-requires-2-clause-out : goal.end-requires-2-clause-out
 end-requires-2-clause-out c =
     let f : Fields = lent c.self.inside c.as_mut-parts.result.now in
-    let is : IsInside f = lent_inside c.self.inside c.as_mut-parts.result.now c.as_mut-parts.ensures.value c.self.invariant in
+    let is : IsInside f = lent_inside c.self.inside c.as_mut-parts.result.now c.as_mut-parts.ensures.value
+    c.self.invariant in
     let gone : Moves c.flush.new.pool (held_all c.flush.new.pool f.host.reass.datagrams) c.end.new.pool [] =
-    subst (λ (h : Host). Moves h.pool (held_all h.pool h.reass.datagrams) c.end.new.pool []) c.into_inner-pool.ensures c.end.ensures in
+    subst (λ (h : Host). Moves h.pool (held_all h.pool h.reass.datagrams) c.end.new.pool []) c.into_inner-pool.ensures
+    c.end.ensures in
     subst (λ (h : Host). IsQueue c.end.new.pool h.net.out) (sym c.into_inner-pool.ensures)
     (reass_gone f c.flush.new.pool c.end.new.pool is.stack c.flush.ensures.moves gone).output.queue
 
@@ -41,10 +47,14 @@ end-requires-2-clause-none c =
 pub returns : goal.returns
 returns c =
     let f : Fields = lent c.self.inside c.as_mut-parts.result.now in
-    let is : IsInside f = lent_inside c.self.inside c.as_mut-parts.result.now c.as_mut-parts.ensures.value c.self.invariant in
+    let is : IsInside f = lent_inside c.self.inside c.as_mut-parts.result.now c.as_mut-parts.ensures.value
+    c.self.invariant in
     let gone : Moves c.flush.new.pool (held_all c.flush.new.pool f.host.reass.datagrams) c.end.new.pool [] =
-    subst (λ (h : Host). Moves h.pool (held_all h.pool h.reass.datagrams) c.end.new.pool []) c.into_inner-pool.ensures c.end.ensures in
+    subst (λ (h : Host). Moves h.pool (held_all h.pool h.reass.datagrams) c.end.new.pool []) c.into_inner-pool.ensures
+    c.end.ensures in
     all_gone f c.end.new.pool c.end-2.new.pool is.stack
     (reass_gone f c.flush.new.pool c.end.new.pool is.stack c.flush.ensures.moves gone)
-    (subst (λ (h : Host). Moves c.end.new.pool (numbers c.end.new.pool h.net.out) c.end-2.new.pool []) c.into_inner-pool.ensures c.end-2.ensures)
-    ∙ ap (λ (v : StackView). free_pool v.config) (lent_shows c.self.inside c.as_mut-parts.result.now c.args.self c.as_mut-parts.ensures.value c.self.view_is)
+    (subst (λ (h : Host). Moves c.end.new.pool (numbers c.end.new.pool h.net.out) c.end-2.new.pool [])
+    c.into_inner-pool.ensures c.end-2.ensures)
+    ∙ ap (λ (v : StackView). free_pool v.config)
+    (lent_shows c.self.inside c.as_mut-parts.result.now c.args.self c.as_mut-parts.ensures.value c.self.view_is)

@@ -11,7 +11,9 @@ pub returns-clause-stack : goal.returns-clause-stack
 returns-clause-stack c = subst IsStack c.self.view_is c.self.invariant.stack
 
 pub returns-clause-accounted : goal.returns-clause-accounted
-returns-clause-accounted c = subst (λ (s : StackView). IsAccounted s.pool (state_of s) nothing) c.self.view_is (accounts (seen (fields c.self.inside)) c.self.invariant.stack)
+returns-clause-accounted c = subst (λ (s : StackView). IsAccounted s.pool (state_of s) nothing) c.self.view_is
+    (accounts (seen (fields c.self.inside)) c.self.invariant.stack)
 
 pub returns-clause-link : goal.returns-clause-link
-returns-clause-link c = subst (λ (s : StackView). s.config.mtu ≤ MAX_MTU) c.self.view_is c.self.invariant.stack.consistent.config.greatest_mtu
+returns-clause-link c = subst (λ (s : StackView). s.config.mtu ≤ MAX_MTU) c.self.view_is
+    c.self.invariant.stack.consistent.config.greatest_mtu

@@ -8,7 +8,11 @@ use Rattle.net_stack.proofs.Called.{lent, lent_inside, lent_shows}
 use Rattle.net_stack.proofs.stack.Stack.mbstat.Goals as goal
 
 right : (c : goal.After-mbstat) → c.mbstat.result ≡ usage_of (state_of c.args.self.now)
-right c = c.mbstat.ensures (state_of (seen (lent c.self.inside c.deref.result.now))) (accounts (seen (lent c.self.inside c.deref.result.now)) (lent_inside c.self.inside c.deref.result.now c.deref.ensures c.self.invariant).stack) ∙ ap (λ (v : StackView). usage_of (state_of v)) (lent_shows c.self.inside c.deref.result.now c.args.self.now c.deref.ensures c.self.view_is)
+right c = c.mbstat.ensures (state_of (seen (lent c.self.inside c.deref.result.now)))
+    (accounts (seen (lent c.self.inside c.deref.result.now))
+    (lent_inside c.self.inside c.deref.result.now c.deref.ensures c.self.invariant).stack)
+    ∙ ap (λ (v : StackView). usage_of (state_of v))
+    (lent_shows c.self.inside c.deref.result.now c.args.self.now c.deref.ensures c.self.view_is)
 
 pub returns-clause-step : goal.returns-clause-step
 returns-clause-step c = (c.mbstat.result, right c, refl, refl)

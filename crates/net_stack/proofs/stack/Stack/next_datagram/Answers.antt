@@ -11,4 +11,6 @@ pub returns : goal.returns
 returns c =
     let s : StackView = seen (lent c.self.inside c.as_ref-host.result.now) in
     let rest : State = record (rest_of s) { unfinished = unfinished s.pool s.reass.datagrams; counters = s.counters } in
-    subst (λ (v : StackView). c.next_datagram.result ≡ next_datagram c.args.fd (state_of v)) (lent_shows c.self.inside c.as_ref-host.result.now c.args.self.now c.as_ref-host.ensures c.self.view_is) (c.next_datagram.ensures rest)
+    subst (λ (v : StackView). c.next_datagram.result ≡ next_datagram c.args.fd (state_of v))
+    (lent_shows c.self.inside c.as_ref-host.result.now c.args.self.now c.as_ref-host.ensures c.self.view_is)
+    (c.next_datagram.ensures rest)

@@ -8,15 +8,22 @@ use Rattle.net_stack.proofs.Given.{nth_within}
 use Rattle.net_stack.proofs.stack.Stack.output_packet.Goals as goal
 
 pub packet-requires-clause-queue : goal.packet-requires-clause-queue
-packet-requires-clause-queue c = (lent_inside c.self.inside c.as_ref-host.result.now c.as_ref-host.ensures c.self.invariant).stack.output
+packet-requires-clause-queue c = (lent_inside c.self.inside c.as_ref-host.result.now c.as_ref-host.ensures
+    c.self.invariant).stack.output
 
 pub packet-requires-clause-fits : goal.packet-requires-clause-fits
 packet-requires-clause-fits c =
-    nth_within c.args.i (length c.args.room.now) (packets c.as_ref-host.result.now.pool c.as_ref-host.result.now.net.out)
-    (are_within (lent c.self.inside c.as_ref-host.result.now) (length c.args.room.now) (lent_inside c.self.inside c.as_ref-host.result.now c.as_ref-host.ensures c.self.invariant)
-    (subst (λ (s : StackView). s.config.mtu ≤ length c.args.room.now) (sym (lent_shows c.self.inside c.as_ref-host.result.now c.args.self.now c.as_ref-host.ensures c.self.view_is)) c.requires))
+    nth_within c.args.i (length c.args.room.now)
+    (packets c.as_ref-host.result.now.pool c.as_ref-host.result.now.net.out)
+    (are_within (lent c.self.inside c.as_ref-host.result.now) (length c.args.room.now)
+    (lent_inside c.self.inside c.as_ref-host.result.now c.as_ref-host.ensures c.self.invariant)
+    (subst (λ (s : StackView). s.config.mtu ≤ length c.args.room.now)
+    (sym (lent_shows c.self.inside c.as_ref-host.result.now c.args.self.now c.as_ref-host.ensures c.self.view_is))
+    c.requires))
 
 pub returns-clause-packet : goal.returns-clause-packet
 returns-clause-packet c =
-    subst (λ (v : StackView). option_map (λ n. take n c.packet.new.room) c.packet.result ≡ nth_packet c.args.i (state_of v).output)
-    (lent_shows c.self.inside c.as_ref-host.result.now c.args.self.now c.as_ref-host.ensures c.self.view_is) c.packet.ensures.packet
+    subst (λ (v : StackView). option_map (λ n. take n c.packet.new.room) c.packet.result
+    ≡ nth_packet c.args.i (state_of v).output)
+    (lent_shows c.self.inside c.as_ref-host.result.now c.args.self.now c.as_ref-host.ensures c.self.view_is)
+    c.packet.ensures.packet

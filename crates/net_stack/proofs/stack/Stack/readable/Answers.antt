@@ -11,4 +11,7 @@ pub returns : goal.returns
 returns c =
     let s : StackView = seen (lent c.self.inside c.deref.result.now) in
     let rest : State = record (rest_of s) { unfinished = unfinished s.pool s.reass.datagrams; counters = s.counters } in
-    subst (λ (v : StackView). c.readable.result ≡ readable (state_of v)) (lent_shows c.self.inside c.deref.result.now c.args.self.now c.deref.ensures c.self.view_is) (c.readable.ensures s.pool rest (lent_inside c.self.inside c.deref.result.now c.deref.ensures c.self.invariant).stack.socks)
+    subst (λ (v : StackView). c.readable.result ≡ readable (state_of v))
+    (lent_shows c.self.inside c.deref.result.now c.args.self.now c.deref.ensures c.self.view_is)
+    (c.readable.ensures s.pool rest (lent_inside c.self.inside c.deref.result.now c.deref.ensures
+    c.self.invariant).stack.socks)

@@ -10,21 +10,27 @@ use Rattle.net_stack.proofs.stack.Stack.sendto.Goals as goal
 pub send-requires-clause-send : goal.send-requires-clause-send
 send-requires-clause-send c =
     let h : Host = c.deref_mut.result.now in
-    can_send c.self.inside.config h.pool h.socks h.reass h.net (lent_inside c.self.inside c.deref_mut.result.now c.deref_mut.ensures.value c.self.invariant).stack (lent_inside c.self.inside c.deref_mut.result.now c.deref_mut.ensures.value c.self.invariant).mtu
+    can_send c.self.inside.config h.pool h.socks h.reass h.net
+    (lent_inside c.self.inside c.deref_mut.result.now c.deref_mut.ensures.value c.self.invariant).stack
+    (lent_inside c.self.inside c.deref_mut.result.now c.deref_mut.ensures.value c.self.invariant).mtu
     (lent_inside c.self.inside c.deref_mut.result.now c.deref_mut.ensures.value c.self.invariant).looped
 
 pub send-requires-clause-owned : goal.send-requires-clause-owned
 send-requires-clause-owned c =
     let h : Host = c.deref_mut.result.now in
-    send_owned c.self.inside.config h.pool h.socks h.reass h.net (lent_inside c.self.inside c.deref_mut.result.now c.deref_mut.ensures.value c.self.invariant).stack
+    send_owned c.self.inside.config h.pool h.socks h.reass h.net
+    (lent_inside c.self.inside c.deref_mut.result.now c.deref_mut.ensures.value c.self.invariant).stack
 
 all : (c : goal.After-self-1) → Called c.args.self.now (Send c.args.fd c.args.to c.args.bytes.now)
     (sent_reply c.send.result) (record (lent c.self.inside c.deref_mut.result.now) { host = c.send.new.self })
 all c =
     subst (λ (o : Option Addr). Called c.args.self.now (Send c.args.fd o c.args.bytes.now)
-    (sent_reply c.send.result) (record (lent c.self.inside c.deref_mut.result.now) { host = c.send.new.self })) c.with_range-to.ensures.same
-    (sent_called (lent c.self.inside c.deref_mut.result.now) c.args.self.now c.send.new.self c.args.fd c.with_range-to.result c.args.bytes.now
-    c.send.result (lent_inside c.self.inside c.deref_mut.result.now c.deref_mut.ensures.value c.self.invariant) (lent_shows c.self.inside c.deref_mut.result.now c.args.self.now c.deref_mut.ensures.value c.self.view_is)
+    (sent_reply c.send.result) (record (lent c.self.inside c.deref_mut.result.now) { host = c.send.new.self }))
+    c.with_range-to.ensures.same
+    (sent_called (lent c.self.inside c.deref_mut.result.now) c.args.self.now c.send.new.self c.args.fd
+    c.with_range-to.result c.args.bytes.now
+    c.send.result (lent_inside c.self.inside c.deref_mut.result.now c.deref_mut.ensures.value c.self.invariant)
+    (lent_shows c.self.inside c.deref_mut.result.now c.args.self.now c.deref_mut.ensures.value c.self.view_is)
     (c.with_range-to.ensures.range, are_bytes c.args.bytes.now c.type_inv.bytes) c.send.ensures)
 
 pub invariant_of-self : goal.invariant_of-self

@@ -7,7 +7,8 @@ use Rattle.net_stack.proofs.stack.Stack.start.Goals as goal
 
 starts : (c : In-Ok-new) → Starts c.args.config (record { config = c.args.config; host = c.in-Ok-new.host.value })
 starts c =
-    subst (λ (h : Host). Starts c.args.config (record { config = c.args.config; host = h })) (sym c.in-Ok-new.ensures.ok) (record {
+    subst (λ (h : Host). Starts c.args.config (record { config = c.args.config; host = h }))
+    (sym c.in-Ok-new.ensures.ok) (record {
       same = refl;
       pool = pool_of_store c.args.config c.in-Ok.store c.over-pool.result c.in-Ok.ensures.ok c.over-pool.ensures;
       socks = c.in-Ok-boot-2.ensures.ready;
@@ -29,4 +30,5 @@ pub returns-in-Ok-new : goal.returns-in-Ok-new
 returns-in-Ok-new c = started_state c.args.config _ (starts c)
 
 pub end_new-requires-clause-socks : goal.end_new-requires-clause-socks
-end_new-requires-clause-socks c = subst (λ (h : Host). AreEmpty h.socks.queues) (sym c.in-Err.ensures.value_returned) c.in-Ok-boot-2.ensures.empty
+end_new-requires-clause-socks c = subst (λ (h : Host). AreEmpty h.socks.queues) (sym c.in-Err.ensures.value_returned)
+    c.in-Ok-boot-2.ensures.empty

@@ -8,4 +8,6 @@ use Rattle.net_stack.proofs.stack.Stack.unfinished_len.Goals as goal
 pub returns : goal.returns
 returns c =
     let s : StackView = seen (lent c.self.inside c.deref.result.now) in
-    subst (λ (v : StackView). c.len.result ≡ length (state_of v).unfinished) (lent_shows c.self.inside c.deref.result.now c.args.self.now c.deref.ensures c.self.view_is) (c.len.ensures ∙ sym (length-unfinished s.pool s.reass.datagrams))
+    subst (λ (v : StackView). c.len.result ≡ length (state_of v).unfinished)
+    (lent_shows c.self.inside c.deref.result.now c.args.self.now c.deref.ensures c.self.view_is)
+    (c.len.ensures ∙ sym (length-unfinished s.pool s.reass.datagrams))

@@ -13,7 +13,8 @@ pub fits_at-requires : goal.fits_at-requires
 fits_at-requires g c = descriptor_of c.args.self.now.pcbs c.args.fd c.requires.socks.apart c.requires.opened
 
 pub append_at-requires-clause-descriptor : goal.append_at-requires-clause-descriptor
-append_at-requires-clause-descriptor g c = descriptor_of c.args.self.now.pcbs c.args.fd c.requires.socks.apart c.requires.opened
+append_at-requires-clause-descriptor g c = descriptor_of c.args.self.now.pcbs c.args.fd c.requires.socks.apart
+    c.requires.opened
 
 pub returns-then-not-fits_at-clause-appended : goal.returns-then-not-fits_at-clause-appended
 returns-then-not-fits_at-clause-appended g c =
@@ -23,7 +24,8 @@ returns-then-not-fits_at-clause-appended g c =
       socks = c.requires.socks;
       owned = c.requires.owned;
       named = named_at c.args.self.now.pcbs c.args.fd;
-      full = ap (fits (queues_of p (from_three c.args.self.now.queues) c.args.fd)) (sym c.len-len.ensures) ∙ sym (c.if-not-fits_at.ensures p c.requires.socks.each);
+      full = ap (fits (queues_of p (from_three c.args.self.now.queues) c.args.fd)) (sym c.len-len.ensures)
+          ∙ sym (c.if-not-fits_at.ensures p c.requires.socks.each);
       freed = c.free_chain.ensures;
       unfinished = λ s. g.met.R.Waiting.unfinished_same p c.free_chain.new.self w s;
       waiting = λ s. g.met.R.Reclaim.owned_same p c.free_chain.new.self w s;
@@ -34,7 +36,8 @@ pub returns-then-not-fits_at-clause-waits : goal.returns-then-not-fits_at-clause
 returns-then-not-fits_at-clause-waits g c =
     let p = c.args.pool.now in
     let w = c.args.waiting.now in
-    let gone = freed p c.free_chain.new.self c.args.datagram.chain (g.R.Reclaim.owned p w) _ c.requires.owned c.requires.socks c.free_chain.ensures in
+    let gone = freed p c.free_chain.new.self c.args.datagram.chain (g.R.Reclaim.owned p w) _ c.requires.owned
+    c.requires.socks c.free_chain.ensures in
     g.met.R.Reclaim.ready_same p c.free_chain.new.self w gone.same c.requires.waits
 
 pub free_chain-requires-then-not-reserve : goal.free_chain-requires-then-not-reserve
@@ -42,7 +45,8 @@ free_chain-requires-then-not-reserve g c =
     let p = c.args.pool.now in
     let q = c.reserve.new.pool in
     let ys = g.R.Reclaim.owned q c.reserve.new.waiting in
-    let x = tested p q c.args.datagram.chain (g.R.Reclaim.owned p c.args.waiting.now) ys _ c.requires.owned c.requires.socks c.reserve.ensures.moves in
+    let x = tested p q c.args.datagram.chain (g.R.Reclaim.owned p c.args.waiting.now) ys _ c.requires.owned
+    c.requires.socks c.reserve.ensures.moves in
     live_first q c.args.datagram.chain (ys ++ queued_chains q (from_three c.args.self.now.queues)) x.owned
 
 pub returns-then-not-reserve-clause-appended : goal.returns-then-not-reserve-clause-appended
@@ -57,7 +61,8 @@ returns-then-not-reserve-clause-appended g c =
       moves = c.reserve.ensures.moves;
       reserves = λ rest held a. c.if-not-reserve.ensures.reserves _ held refl refl a;
     }) (named_at c.args.self.now.pcbs c.args.fd)
-    (ap (fits (queues_of p (from_three c.args.self.now.queues) c.args.fd)) (sym c.len-len.ensures) ∙ sym (c.if-not-fits_at.ensures p c.requires.socks.each))
+    (ap (fits (queues_of p (from_three c.args.self.now.queues) c.args.fd)) (sym c.len-len.ensures)
+    ∙ sym (c.if-not-fits_at.ensures p c.requires.socks.each))
     c.free_chain-then-not-reserve.ensures
     (λ s. g.met.R.Waiting.unfinished_same q r v s)
     (λ s. g.met.R.Reclaim.owned_same q r v s)
@@ -70,7 +75,8 @@ returns-then-not-reserve-clause-waits g c =
     let v = c.reserve.new.waiting in
     let r = c.free_chain-then-not-reserve.new.self in
     let ys = g.R.Reclaim.owned q v in
-    let x = tested p q c.args.datagram.chain (g.R.Reclaim.owned p c.args.waiting.now) ys _ c.requires.owned c.requires.socks c.reserve.ensures.moves in
+    let x = tested p q c.args.datagram.chain (g.R.Reclaim.owned p c.args.waiting.now) ys _ c.requires.owned
+    c.requires.socks c.reserve.ensures.moves in
     let gone = freed q r c.args.datagram.chain ys _ x.owned x.socks.ready c.free_chain-then-not-reserve.ensures in
     g.met.R.Reclaim.ready_same q r v gone.same c.reserve.ensures.ready
 
@@ -78,7 +84,8 @@ pub append_at-requires-clause-each : goal.append_at-requires-clause-each
 append_at-requires-clause-each g c =
     let p = c.args.pool.now in
     let q = c.reserve.new.pool in
-    let x = tested p q c.args.datagram.chain (g.R.Reclaim.owned p c.args.waiting.now) (g.R.Reclaim.owned q c.reserve.new.waiting) _ c.requires.owned c.requires.socks c.reserve.ensures.moves in
+    let x = tested p q c.args.datagram.chain (g.R.Reclaim.owned p c.args.waiting.now)
+    (g.R.Reclaim.owned q c.reserve.new.waiting) _ c.requires.owned c.requires.socks c.reserve.ensures.moves in
     x.socks.ready.each
 
 pub append_at-requires-clause-owned : goal.append_at-requires-clause-owned
@@ -86,25 +93,32 @@ append_at-requires-clause-owned g c =
     let p = c.args.pool.now in
     let q = c.reserve.new.pool in
     let ys = g.R.Reclaim.owned q c.reserve.new.waiting in
-    let x = tested p q c.args.datagram.chain (g.R.Reclaim.owned p c.args.waiting.now) ys _ c.requires.owned c.requires.socks c.reserve.ensures.moves in
+    let x = tested p q c.args.datagram.chain (g.R.Reclaim.owned p c.args.waiting.now) ys _ c.requires.owned
+    c.requires.socks c.reserve.ensures.moves in
     λ k. omega (arith, x.owned k, times-append k ys (queued_chains q (from_three c.args.self.now.queues)))
 
 pub append_at-requires-clause-free : goal.append_at-requires-clause-free
-append_at-requires-clause-free g c = omega (arith, enough_mbufs c.reserve.new.pool 1 0 (sym c.if-not-reserve.ensures.answer) (omega arith))
+append_at-requires-clause-free g c = omega (
+  arith,
+  enough_mbufs c.reserve.new.pool 1 0 (sym c.if-not-reserve.ensures.answer) (omega arith),
+)
 
 pub append_at-requires-clause-len : goal.append_at-requires-clause-len
 append_at-requires-clause-len g c =
     let p = c.args.pool.now in
     let q = c.reserve.new.pool in
-    let x = tested p q c.args.datagram.chain (g.R.Reclaim.owned p c.args.waiting.now) (g.R.Reclaim.owned q c.reserve.new.waiting) _ c.requires.owned c.requires.socks c.reserve.ensures.moves in
+    let x = tested p q c.args.datagram.chain (g.R.Reclaim.owned p c.args.waiting.now)
+    (g.R.Reclaim.owned q c.reserve.new.waiting) _ c.requires.owned c.requires.socks c.reserve.ensures.moves in
     c.len-len.ensures ∙ ap (λ (v : ChainView). length (string v)) (sym x.chain)
 
 pub append_at-requires-clause-fits : goal.append_at-requires-clause-fits
 append_at-requires-clause-fits g c =
     let p = c.args.pool.now in
     let q = c.reserve.new.pool in
-    let x = tested p q c.args.datagram.chain (g.R.Reclaim.owned p c.args.waiting.now) (g.R.Reclaim.owned q c.reserve.new.waiting) _ c.requires.owned c.requires.socks c.reserve.ensures.moves in
-    ap (λ (ds : List Datagram). fits ds c.len-len.result) (x.socks.shows c.args.fd) ∙ sym (c.if-not-fits_at.ensures p c.requires.socks.each)
+    let x = tested p q c.args.datagram.chain (g.R.Reclaim.owned p c.args.waiting.now)
+    (g.R.Reclaim.owned q c.reserve.new.waiting) _ c.requires.owned c.requires.socks c.reserve.ensures.moves in
+    ap (λ (ds : List Datagram). fits ds c.len-len.result) (x.socks.shows c.args.fd)
+    ∙ sym (c.if-not-fits_at.ensures p c.requires.socks.each)
 
 pub returns-clause-appended : goal.returns-clause-appended
 returns-clause-appended g c =
@@ -118,7 +132,8 @@ returns-clause-appended g c =
       moves = c.reserve.ensures.moves;
       reserves = λ rest held a. c.if-not-reserve.ensures.reserves _ held refl refl a;
     }) (named_at c.args.self.now.pcbs c.args.fd) c.requires.opened
-    (ap (fits (queues_of p (from_three c.args.self.now.queues) c.args.fd)) (sym c.len-len.ensures) ∙ sym (c.if-not-fits_at.ensures p c.requires.socks.each))
+    (ap (fits (queues_of p (from_three c.args.self.now.queues) c.args.fd)) (sym c.len-len.ensures)
+    ∙ sym (c.if-not-fits_at.ensures p c.requires.socks.each))
     c.append_at.ensures.steps c.append_at.ensures.here
     (λ s. g.met.R.Waiting.unfinished_same q r v s)
     (λ s. g.met.R.Reclaim.owned_same q r v s)
@@ -129,5 +144,8 @@ returns-clause-waits g c =
     let q = c.reserve.new.pool in
     let v = c.reserve.new.waiting in
     let ys = g.R.Reclaim.owned q v in
-    let x = tested p q c.args.datagram.chain (g.R.Reclaim.owned p c.args.waiting.now) ys _ c.requires.owned c.requires.socks c.reserve.ensures.moves in
-    g.met.R.Reclaim.ready_same q c.append_at.new.pool v (joined q c.append_at.new.pool c.args.datagram.chain ys (from_three c.args.self.now.queues) (from_three c.append_at.new.self) x.owned c.append_at.ensures.steps.moves).same c.reserve.ensures.ready
+    let x = tested p q c.args.datagram.chain (g.R.Reclaim.owned p c.args.waiting.now) ys _ c.requires.owned
+    c.requires.socks c.reserve.ensures.moves in
+    g.met.R.Reclaim.ready_same q c.append_at.new.pool v
+    (joined q c.append_at.new.pool c.args.datagram.chain ys (from_three c.args.self.now.queues)
+    (from_three c.append_at.new.self) x.owned c.append_at.ensures.steps.moves).same c.reserve.ensures.ready

@@ -18,7 +18,8 @@ receivers-init g c = record {
 
 pub deliver_copy-requires-clause-opened : goal.deliver_copy-requires-clause-opened
 deliver_copy-requires-clause-opened g c =
-    subst (λ (t : Table). IsOpen (slice_index_or c.args.fds.now c.receivers.i 0) t) (sym c.receivers.invariant.way.parts.pcbs)
+    subst (λ (t : Table). IsOpen (slice_index_or c.args.fds.now c.receivers.i 0) t)
+    (sym c.receivers.invariant.way.parts.pcbs)
     (All-get_or (λ (k : ℕ). IsOpen k c.args.self.now.pcbs) c.args.fds.now c.receivers.i 0
     (omega (arith, c.receivers-test.true)) c.requires.opened)
 
@@ -38,19 +39,24 @@ deliver-requires-clause-owned g c = owned_after c.receivers.invariant.way.parts.
 pub receivers-preserved : goal.receivers-preserved
 receivers-preserved g c =
     let p = c.args.pool.now in
-    let at = seen p (shown c.args.self.now) (g.R.Waiting.unfinished p c.args.waiting.now) (g.R.Reclaim.owned p c.args.waiting.now) c.args.counters.now in
+    let at = seen p (shown c.args.self.now) (g.R.Waiting.unfinished p c.args.waiting.now)
+    (g.R.Reclaim.owned p c.args.waiting.now) c.args.counters.now in
     let q = c.receivers.pool in
-    let now = seen q (shown c.receivers.self) (g.R.Waiting.unfinished q c.receivers.waiting) (g.R.Reclaim.owned q c.receivers.waiting) c.receivers.counters in
+    let now = seen q (shown c.receivers.self) (g.R.Waiting.unfinished q c.receivers.waiting)
+    (g.R.Reclaim.owned q c.receivers.waiting) c.receivers.counters in
     let r = c.deliver_copy.new.pool in
-    let then = seen r (shown c.deliver_copy.new.self) (g.R.Waiting.unfinished r c.deliver_copy.new.waiting) (g.R.Reclaim.owned r c.deliver_copy.new.waiting) c.deliver_copy.new.counters in
+    let then = seen r (shown c.deliver_copy.new.self) (g.R.Waiting.unfinished r c.deliver_copy.new.waiting)
+    (g.R.Reclaim.owned r c.deliver_copy.new.waiting) c.deliver_copy.new.counters in
     let fd = slice_index_or c.args.fds.now c.receivers.i 0 in
     let is_open : IsSome (block_at fd c.receivers.self.pcbs) =
     subst (λ (t : Table). IsOpen fd t) (sym c.receivers.invariant.way.parts.pcbs)
-    (All-get_or (λ (k : ℕ). IsOpen k c.args.self.now.pcbs) c.args.fds.now c.receivers.i 0 (omega (arith, c.receivers-test.true)) c.requires.opened) in
+    (All-get_or (λ (k : ℕ). IsOpen k c.args.self.now.pcbs) c.args.fds.now c.receivers.i 0
+    (omega (arith, c.receivers-test.true)) c.requires.opened) in
     let e : suc c.receivers.i ≡ c.receivers.i + 1 = omega arith in
     record {
       way = subst (λ (j : ℕ). IsUnderWay at c.args.datagram.chain c.args.fds.now c.args.datagram.sender j then) e
-          (offered_one at c.args.datagram.chain c.args.fds.now c.args.datagram.sender c.receivers.i fd now then c.receivers.invariant.way
+          (offered_one at c.args.datagram.chain c.args.fds.now c.args.datagram.sender c.receivers.i fd
+          now then c.receivers.invariant.way
           c.deliver_copy.ensures.offered (omega (arith, c.receivers-test.true)) refl c.requires.distinct is_open);
       within = omega (arith, c.receivers-test.true);
       waits = c.deliver_copy.ensures.waits;
@@ -59,17 +65,22 @@ receivers-preserved g c =
 pub returns-clause-delivered : goal.returns-clause-delivered
 returns-clause-delivered g c =
     let p = c.args.pool.now in
-    let at = seen p (shown c.args.self.now) (g.R.Waiting.unfinished p c.args.waiting.now) (g.R.Reclaim.owned p c.args.waiting.now) c.args.counters.now in
+    let at = seen p (shown c.args.self.now) (g.R.Waiting.unfinished p c.args.waiting.now)
+    (g.R.Reclaim.owned p c.args.waiting.now) c.args.counters.now in
     let q = c.receivers.pool in
-    let now = seen q (shown c.receivers.self) (g.R.Waiting.unfinished q c.receivers.waiting) (g.R.Reclaim.owned q c.receivers.waiting) c.receivers.counters in
+    let now = seen q (shown c.receivers.self) (g.R.Waiting.unfinished q c.receivers.waiting)
+    (g.R.Reclaim.owned q c.receivers.waiting) c.receivers.counters in
     let r = c.deliver.new.pool in
-    let then = seen r (shown c.deliver.new.self) (g.R.Waiting.unfinished r c.deliver.new.waiting) (g.R.Reclaim.owned r c.deliver.new.waiting) c.deliver.new.counters in
+    let then = seen r (shown c.deliver.new.self) (g.R.Waiting.unfinished r c.deliver.new.waiting)
+    (g.R.Reclaim.owned r c.deliver.new.waiting) c.deliver.new.counters in
     let last = length c.args.fds.now - 1 in
     let fd = slice_index_or c.args.fds.now last 0 in
     let e : c.receivers.i ≡ last = omega (arith, c.receivers-test.false, c.receivers.invariant.within) in
     let is_open : IsSome (block_at fd c.receivers.self.pcbs) =
     subst (λ (t : Table). IsOpen fd t) (sym c.receivers.invariant.way.parts.pcbs)
-    (All-get_or (λ (k : ℕ). IsOpen k c.args.self.now.pcbs) c.args.fds.now last 0 (omega (arith, c.requires.some)) c.requires.opened) in
+    (All-get_or (λ (k : ℕ). IsOpen k c.args.self.now.pcbs) c.args.fds.now last 0 (omega (arith, c.requires.some))
+    c.requires.opened) in
     delivered_all at c.args.datagram.chain c.args.fds.now c.args.datagram.sender last fd now then
-    (subst (λ (j : ℕ). IsUnderWay at c.args.datagram.chain c.args.fds.now c.args.datagram.sender j now) e c.receivers.invariant.way)
+    (subst (λ (j : ℕ). IsUnderWay at c.args.datagram.chain c.args.fds.now c.args.datagram.sender j now) e
+    c.receivers.invariant.way)
     c.deliver.ensures.appended (omega (arith, c.requires.some)) refl is_open

@@ -22,15 +22,25 @@ copy_whole-requires-clause-live g c =
     let p = c.args.pool.now in
     let q = c.reserve.new.pool in
     let ys = g.R.Reclaim.owned q c.reserve.new.waiting in
-    let x = tested p q c.args.datagram.now.chain (g.R.Reclaim.owned p c.args.waiting.now) ys _ c.requires.owned c.requires.socks c.reserve.ensures.moves in
+    let x = tested p q c.args.datagram.now.chain (g.R.Reclaim.owned p c.args.waiting.now) ys _ c.requires.owned
+    c.requires.socks c.reserve.ensures.moves in
     live_first q c.args.datagram.now.chain (ys ++ queued_chains q (from_three c.args.self.now.queues)) x.owned
 
 pub copy_whole-requires-clause-free : goal.copy_whole-requires-clause-free
 copy_whole-requires-clause-free g c =
     let p = c.args.pool.now in
     let q = c.reserve.new.pool in
-    let x = tested p q c.args.datagram.now.chain (g.R.Reclaim.owned p c.args.waiting.now) (g.R.Reclaim.owned q c.reserve.new.waiting) _ c.requires.owned c.requires.socks c.reserve.ensures.moves in
-    let free : held_mbufs q + c.mbufs-mbufs.result ≤ q.mbufs = enough_mbufs q c.mbufs-mbufs.result 0 (sym c.if-not-reserve.ensures.answer) (omega (arith, c.mbufs-mbufs.ensures, c.laws.ensures.some c.args.datagram.now.chain (live_first q c.args.datagram.now.chain _ x.owned), ap (λ (v : ChainView). length v.entries) x.chain)) in
+    let x = tested p q c.args.datagram.now.chain (g.R.Reclaim.owned p c.args.waiting.now)
+    (g.R.Reclaim.owned q c.reserve.new.waiting) _ c.requires.owned c.requires.socks c.reserve.ensures.moves in
+    let free : held_mbufs q + c.mbufs-mbufs.result ≤ q.mbufs =
+    enough_mbufs q c.mbufs-mbufs.result 0 (sym c.if-not-reserve.ensures.answer)
+    (omega (
+      arith,
+      c.mbufs-mbufs.ensures,
+      c.laws.ensures.some c.args.datagram.now.chain
+          (live_first q c.args.datagram.now.chain _ x.owned),
+      ap (λ (v : ChainView). length v.entries) x.chain,
+    )) in
     omega (arith, free, c.mbufs-mbufs.ensures, ap (λ (v : ChainView). length v.entries) x.chain)
 
 pub deliver-requires-clause-socks : goal.deliver-requires-clause-socks
@@ -41,7 +51,9 @@ deliver-requires-clause-socks g c =
     let v = c.reserve.new.waiting in
     let xs = g.R.Reclaim.owned p w in
     let ys = g.R.Reclaim.owned q v in
-    let i : IsTested p c.args.self.now.pcbs (from_three c.args.self.now.queues) (g.R.Waiting.unfinished p w) xs c.args.counters.now c.args.datagram.now.chain c.mbufs-mbufs.result true q (g.R.Waiting.unfinished q v) ys c.reserve.new.counters = record {
+    let i : IsTested p c.args.self.now.pcbs (from_three c.args.self.now.queues) (g.R.Waiting.unfinished p w) xs
+    c.args.counters.now c.args.datagram.now.chain c.mbufs-mbufs.result true q (g.R.Waiting.unfinished q v) ys
+    c.reserve.new.counters = record {
       socks = c.requires.socks;
       owned = c.requires.owned;
       moves = c.reserve.ensures.moves;
@@ -58,7 +70,9 @@ deliver-requires-clause-waits g c =
     let v = c.reserve.new.waiting in
     let xs = g.R.Reclaim.owned p w in
     let ys = g.R.Reclaim.owned q v in
-    let i : IsTested p c.args.self.now.pcbs (from_three c.args.self.now.queues) (g.R.Waiting.unfinished p w) xs c.args.counters.now c.args.datagram.now.chain c.mbufs-mbufs.result true q (g.R.Waiting.unfinished q v) ys c.reserve.new.counters = record {
+    let i : IsTested p c.args.self.now.pcbs (from_three c.args.self.now.queues) (g.R.Waiting.unfinished p w) xs
+    c.args.counters.now c.args.datagram.now.chain c.mbufs-mbufs.result true q (g.R.Waiting.unfinished q v) ys
+    c.reserve.new.counters = record {
       socks = c.requires.socks;
       owned = c.requires.owned;
       moves = c.reserve.ensures.moves;
@@ -75,14 +89,18 @@ deliver-requires-clause-owned g c =
     let v = c.reserve.new.waiting in
     let xs = g.R.Reclaim.owned p w in
     let ys = g.R.Reclaim.owned q v in
-    let i : IsTested p c.args.self.now.pcbs (from_three c.args.self.now.queues) (g.R.Waiting.unfinished p w) xs c.args.counters.now c.args.datagram.now.chain c.mbufs-mbufs.result true q (g.R.Waiting.unfinished q v) ys c.reserve.new.counters = record {
+    let i : IsTested p c.args.self.now.pcbs (from_three c.args.self.now.queues) (g.R.Waiting.unfinished p w) xs
+    c.args.counters.now c.args.datagram.now.chain c.mbufs-mbufs.result true q (g.R.Waiting.unfinished q v) ys
+    c.reserve.new.counters = record {
       socks = c.requires.socks;
       owned = c.requires.owned;
       moves = c.reserve.ensures.moves;
       reserves = λ rest held a. c.if-not-reserve.ensures.reserves _ held refl refl a;
     } in
     let k = copy_ready c.copy_whole.result i c.copy_whole.ensures.moves in
-    subst (λ (zs : List ℕ). IsOwned c.copy_whole.new.pool (c.copy_whole.result ∷ (zs ++ queued_chains c.copy_whole.new.pool (from_three c.args.self.now.queues)))) (sym (g.met.R.Reclaim.owned_same q c.copy_whole.new.pool v k.same)) k.owned
+    subst (λ (zs : List ℕ). IsOwned c.copy_whole.new.pool
+    (c.copy_whole.result ∷ (zs ++ queued_chains c.copy_whole.new.pool (from_three c.args.self.now.queues))))
+    (sym (g.met.R.Reclaim.owned_same q c.copy_whole.new.pool v k.same)) k.owned
 
 pub returns-clause-offered : goal.returns-clause-offered
 returns-clause-offered g c =
@@ -92,11 +110,16 @@ returns-clause-offered g c =
     let v = c.reserve.new.waiting in
     let xs = g.R.Reclaim.owned p w in
     let ys = g.R.Reclaim.owned q v in
-    let i : IsTested p c.args.self.now.pcbs (from_three c.args.self.now.queues) (g.R.Waiting.unfinished p w) xs c.args.counters.now c.args.datagram.now.chain c.mbufs-mbufs.result true q (g.R.Waiting.unfinished q v) ys c.reserve.new.counters = record {
+    let i : IsTested p c.args.self.now.pcbs (from_three c.args.self.now.queues) (g.R.Waiting.unfinished p w) xs
+    c.args.counters.now c.args.datagram.now.chain c.mbufs-mbufs.result true q (g.R.Waiting.unfinished q v) ys
+    c.reserve.new.counters = record {
       socks = c.requires.socks;
       owned = c.requires.owned;
       moves = c.reserve.ensures.moves;
       reserves = λ rest held a. c.if-not-reserve.ensures.reserves _ held refl refl a;
     } in
     let k = copy_ready c.copy_whole.result i c.copy_whole.ensures.moves in
-    copy_offer c.args.fd c.copy_whole.result c.args.datagram.now.sender i c.mbufs-mbufs.ensures c.copy_whole.ensures.moves c.copy_whole.ensures.item (g.met.R.Waiting.unfinished_same q c.copy_whole.new.pool v k.same) (g.met.R.Reclaim.owned_same q c.copy_whole.new.pool v k.same) c.deliver.ensures.appended
+    copy_offer c.args.fd c.copy_whole.result c.args.datagram.now.sender i c.mbufs-mbufs.ensures
+    c.copy_whole.ensures.moves c.copy_whole.ensures.item
+    (g.met.R.Waiting.unfinished_same q c.copy_whole.new.pool v k.same)
+    (g.met.R.Reclaim.owned_same q c.copy_whole.new.pool v k.same) c.deliver.ensures.appended

@@ -17,17 +17,28 @@ send_packets-requires-clause-queue c = record {
 }
 
 pub send_packets-requires-clause-apart : goal.send_packets-requires-clause-apart
-send_packets-requires-clause-apart c = apart_adds c.args.net.now.out c.datagram-chain.ensures.lies.made c.requires.queue.held
+send_packets-requires-clause-apart c = apart_adds c.args.net.now.out c.datagram-chain.ensures.lies.made
+    c.requires.queue.held
 
 pub unreachable-requires : goal.unreachable-requires
 unreachable-requires c =
-    let h : Heading = record { id = c.args.net.now.next_id; source = c.source_of.result; port = c.ensure_port_of.result; to = c.args.route.to } in
+    let h : Heading = record {
+      id = c.args.net.now.next_id;
+      source = c.source_of.result;
+      port = c.ensure_port_of.result;
+      to = c.args.route.to;
+    } in
     packets_fit (config_of c.args.self.now.pcbs c.args.net.now.mtu) (sent_as h c.args.bytes.now) c.requires.routed
     c.requires.uncut c.requires.free c.datagram-chain.ensures c.requires.way c.requires.longest c.in-Err.ensures.err
 
 pub returns-clause-put : goal.returns-clause-put
 returns-clause-put c =
-    let h : Heading = record { id = c.args.net.now.next_id; source = c.source_of.result; port = c.ensure_port_of.result; to = c.args.route.to } in
+    let h : Heading = record {
+      id = c.args.net.now.next_id;
+      source = c.source_of.result;
+      port = c.ensure_port_of.result;
+      to = c.args.route.to;
+    } in
     put_is h refl refl c.source_of.ensures c.ensure_port_of.ensures.port c.ensure_port_of.ensures.descriptors
     (packets_made (config_of c.args.self.now.pcbs c.args.net.now.mtu) (sent_as h c.args.bytes.now)
     c.datagram-chain.ensures c.requires.way c.requires.longest c.ip_head-head.ensures c.requires.queue.held

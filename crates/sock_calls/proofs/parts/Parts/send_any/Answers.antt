@@ -18,52 +18,80 @@ use Rattle.sock_calls.proofs.parts.Parts.send_any.Goals as goal
 pub returns-in_default : goal.returns-in_default
 returns-in_default c =
     unchanged (sending c.args.pool.now (shown c.args.self.now) c.args.net.now) c.requires (λ rest e a.
-    not_open c.args.fd c.args.to c.args.bytes.now c.args.self.now.pcbs (queues_of c.args.pool.now (from_three c.args.self.now.queues)) (with_output c.args.pool.now c.args.net.now rest)
+    not_open c.args.fd c.args.to c.args.bytes.now c.args.self.now.pcbs
+    (queues_of c.args.pool.now (from_three c.args.self.now.queues))
+    (with_output c.args.pool.now c.args.net.now rest)
     (sym c.block.ensures.value ∙ c.in_default.is))
 
 pub returns-in-Err : goal.returns-in-Err
 returns-in-Err c =
     let b = c.in-Some.block in
-    let named : b.fd ≡ c.args.fd = subst (λ (o : Option Block). IfSome o (λ (k : Block). k.fd ≡ c.args.fd)) c.in-Some.is c.block.ensures.named in
+    let named : b.fd ≡ c.args.fd = subst (λ (o : Option Block). IfSome o (λ (k : Block). k.fd ≡ c.args.fd)) c.in-Some.is
+    c.block.ensures.named in
     let at : block_at c.args.fd c.args.self.now.pcbs ≡ Some b = sym c.block.ensures.value ∙ c.in-Some.is in
-    let checked = subst (λ (k : ℕ). ChecksSend c.args.self.now.pcbs c.args.net.now.mtu k c.args.to (length c.args.bytes.now) (Err c.in-Err.errno)) named c.in-Err.ensures.target in
+    let checked = subst (λ (k : ℕ). ChecksSend c.args.self.now.pcbs c.args.net.now.mtu k c.args.to
+    (length c.args.bytes.now) (Err c.in-Err.errno)) named c.in-Err.ensures.target in
     unchanged (sending c.args.pool.now (shown c.args.self.now) c.args.net.now) c.requires (λ rest e a.
-    refused_early c.args.to c.args.bytes.now c.args.self.now.pcbs (queues_of c.args.pool.now (from_three c.args.self.now.queues)) (with_output c.args.pool.now c.args.net.now rest) b at e checked)
+    refused_early c.args.to c.args.bytes.now c.args.self.now.pcbs
+    (queues_of c.args.pool.now (from_three c.args.self.now.queues))
+    (with_output c.args.pool.now c.args.net.now rest) b at e checked)
 
 pub returns-then-not-are_free : goal.returns-then-not-are_free
 returns-then-not-are_free c =
     let b = c.in-Some.block in
-    let named : b.fd ≡ c.args.fd = subst (λ (o : Option Block). IfSome o (λ (k : Block). k.fd ≡ c.args.fd)) c.in-Some.is c.block.ensures.named in
+    let named : b.fd ≡ c.args.fd = subst (λ (o : Option Block). IfSome o (λ (k : Block). k.fd ≡ c.args.fd)) c.in-Some.is
+    c.block.ensures.named in
     let at : block_at c.args.fd c.args.self.now.pcbs ≡ Some b = sym c.block.ensures.value ∙ c.in-Some.is in
-    let checked = subst (λ (k : ℕ). ChecksSend c.args.self.now.pcbs c.args.net.now.mtu k c.args.to (length c.args.bytes.now) (Ok c.in-Ok.target)) named c.in-Ok.ensures.target in
+    let checked = subst (λ (k : ℕ). ChecksSend c.args.self.now.pcbs c.args.net.now.mtu k c.args.to
+    (length c.args.bytes.now) (Ok c.in-Ok.target)) named c.in-Ok.ensures.target in
     unchanged (sending c.args.pool.now (shown c.args.self.now) c.args.net.now) c.requires (λ rest e a.
-    lacks_buffers c.args.to c.args.bytes.now c.args.self.now.pcbs (queues_of c.args.pool.now (from_three c.args.self.now.queues)) (with_output c.args.pool.now c.args.net.now rest) b at e a checked
-    (ap (λ (x : Need). are_free c.args.pool.now x.mbufs x.clusters) (sym (c.need_to-need.ensures c.args.net.now.mtu c.way_to-way.ensures.mtu)) ∙ sym c.are_free.ensures ∙ c.if-not-are_free.true))
+    lacks_buffers c.args.to c.args.bytes.now c.args.self.now.pcbs
+    (queues_of c.args.pool.now (from_three c.args.self.now.queues))
+    (with_output c.args.pool.now c.args.net.now rest) b at e a checked
+    (ap (λ (x : Need). are_free c.args.pool.now x.mbufs x.clusters)
+    (sym (c.need_to-need.ensures c.args.net.now.mtu c.way_to-way.ensures.mtu)) ∙ sym c.are_free.ensures
+    ∙ c.if-not-are_free.true))
 
 pub returns-then-is_lost : goal.returns-then-is_lost
 returns-then-is_lost c =
     let b = c.in-Some.block in
-    let named : b.fd ≡ c.args.fd = subst (λ (o : Option Block). IfSome o (λ (k : Block). k.fd ≡ c.args.fd)) c.in-Some.is c.block.ensures.named in
+    let named : b.fd ≡ c.args.fd = subst (λ (o : Option Block). IfSome o (λ (k : Block). k.fd ≡ c.args.fd)) c.in-Some.is
+    c.block.ensures.named in
     let at : block_at c.args.fd c.args.self.now.pcbs ≡ Some b = sym c.block.ensures.value ∙ c.in-Some.is in
-    let checked = subst (λ (k : ℕ). ChecksSend c.args.self.now.pcbs c.args.net.now.mtu k c.args.to (length c.args.bytes.now) (Ok c.in-Ok.target)) named c.in-Ok.ensures.target in
-    let put = subst (λ (k : ℕ). IsPut k c.in-Ok.target c.args.bytes.now c.args.pool.now c.args.self.now.pcbs c.args.net.now c.put-is_lost.result c.put-is_lost.new.pool c.put-is_lost.new.self.pcbs c.put-is_lost.new.net) named c.put-is_lost.ensures.put in
-    subst (λ (qs : List SockBufView). IsSent c.args.fd c.args.to c.args.bytes.now (sending c.args.pool.now (shown c.args.self.now) c.args.net.now)
-    (Err (NoBufs Queue)) (sending c.put-is_lost.new.pool (record { pcbs = c.put-is_lost.new.self.pcbs; queues = from_three qs }) c.put-is_lost.new.net))
+    let checked = subst (λ (k : ℕ). ChecksSend c.args.self.now.pcbs c.args.net.now.mtu k c.args.to
+    (length c.args.bytes.now) (Ok c.in-Ok.target)) named c.in-Ok.ensures.target in
+    let put = subst (λ (k : ℕ). IsPut k c.in-Ok.target c.args.bytes.now c.args.pool.now c.args.self.now.pcbs
+    c.args.net.now c.put-is_lost.result c.put-is_lost.new.pool c.put-is_lost.new.self.pcbs c.put-is_lost.new.net)
+    named c.put-is_lost.ensures.put in
+    subst (λ (qs : List SockBufView). IsSent c.args.fd c.args.to c.args.bytes.now
+    (sending c.args.pool.now (shown c.args.self.now) c.args.net.now)
+    (Err (NoBufs Queue)) (sending c.put-is_lost.new.pool
+    (record { pcbs = c.put-is_lost.new.self.pcbs; queues = from_three qs }) c.put-is_lost.new.net))
     (sym c.put-is_lost.ensures.queues)
     (sent_is b (Err (NoBufs Queue)) c.requires put c.laws.ensures.apart at checked
-    (ap (λ (x : Need). are_free c.args.pool.now x.mbufs x.clusters) (sym (c.need_to-need.ensures c.args.net.now.mtu c.way_to-way.ensures.mtu)) ∙ sym c.are_free.ensures ∙ c.if-not-are_free.false)
+    (ap (λ (x : Need). are_free c.args.pool.now x.mbufs x.clusters)
+    (sym (c.need_to-need.ensures c.args.net.now.mtu c.way_to-way.ensures.mtu)) ∙ sym c.are_free.ensures
+    ∙ c.if-not-are_free.false)
     (ap (λ (l : Bool). sent_or l (length c.args.bytes.now)) c.if-is_lost.true) (inl refl))
 
 pub returns : goal.returns
 returns c =
     let b = c.in-Some.block in
-    let named : b.fd ≡ c.args.fd = subst (λ (o : Option Block). IfSome o (λ (k : Block). k.fd ≡ c.args.fd)) c.in-Some.is c.block.ensures.named in
+    let named : b.fd ≡ c.args.fd = subst (λ (o : Option Block). IfSome o (λ (k : Block). k.fd ≡ c.args.fd)) c.in-Some.is
+    c.block.ensures.named in
     let at : block_at c.args.fd c.args.self.now.pcbs ≡ Some b = sym c.block.ensures.value ∙ c.in-Some.is in
-    let checked = subst (λ (k : ℕ). ChecksSend c.args.self.now.pcbs c.args.net.now.mtu k c.args.to (length c.args.bytes.now) (Ok c.in-Ok.target)) named c.in-Ok.ensures.target in
-    let put = subst (λ (k : ℕ). IsPut k c.in-Ok.target c.args.bytes.now c.args.pool.now c.args.self.now.pcbs c.args.net.now c.put-is_lost.result c.put-is_lost.new.pool c.put-is_lost.new.self.pcbs c.put-is_lost.new.net) named c.put-is_lost.ensures.put in
-    subst (λ (qs : List SockBufView). IsSent c.args.fd c.args.to c.args.bytes.now (sending c.args.pool.now (shown c.args.self.now) c.args.net.now)
-    (Ok (length c.args.bytes.now)) (sending c.put-is_lost.new.pool (record { pcbs = c.put-is_lost.new.self.pcbs; queues = from_three qs }) c.put-is_lost.new.net))
+    let checked = subst (λ (k : ℕ). ChecksSend c.args.self.now.pcbs c.args.net.now.mtu k c.args.to
+    (length c.args.bytes.now) (Ok c.in-Ok.target)) named c.in-Ok.ensures.target in
+    let put = subst (λ (k : ℕ). IsPut k c.in-Ok.target c.args.bytes.now c.args.pool.now c.args.self.now.pcbs
+    c.args.net.now c.put-is_lost.result c.put-is_lost.new.pool c.put-is_lost.new.self.pcbs c.put-is_lost.new.net)
+    named c.put-is_lost.ensures.put in
+    subst (λ (qs : List SockBufView). IsSent c.args.fd c.args.to c.args.bytes.now
+    (sending c.args.pool.now (shown c.args.self.now) c.args.net.now)
+    (Ok (length c.args.bytes.now)) (sending c.put-is_lost.new.pool
+    (record { pcbs = c.put-is_lost.new.self.pcbs; queues = from_three qs }) c.put-is_lost.new.net))
     (sym c.put-is_lost.ensures.queues)
     (sent_is b (Ok (length c.args.bytes.now)) c.requires put c.laws.ensures.apart at checked
-    (ap (λ (x : Need). are_free c.args.pool.now x.mbufs x.clusters) (sym (c.need_to-need.ensures c.args.net.now.mtu c.way_to-way.ensures.mtu)) ∙ sym c.are_free.ensures ∙ c.if-not-are_free.false)
+    (ap (λ (x : Need). are_free c.args.pool.now x.mbufs x.clusters)
+    (sym (c.need_to-need.ensures c.args.net.now.mtu c.way_to-way.ensures.mtu)) ∙ sym c.are_free.ensures
+    ∙ c.if-not-are_free.false)
     (ap (λ (l : Bool). sent_or l (length c.args.bytes.now)) c.if-is_lost.false) tt)

@@ -34,11 +34,15 @@ returns-clause-came c = λ _.
       found = c.in-Some-hearer.ensures.found;
       room = c.in-Some.ensures.room;
       mbufs = enough_mbufs p 2 c.from.result free (omega arith);
-      clusters = clusters_are c.in-Some.is_large c.from.result _ c.from.ensures (enough_clusters p 2 c.from.result free);
+      clusters = clusters_are c.in-Some.is_large c.from.result _ c.from.ensures
+          (enough_clusters p 2 c.from.result free);
       cluster = c.store_at.ensures.here.0;
       taken = c.store_at.ensures.here.1;
-      fits = ap (λ (xs : List ℕ). fits (queues_of p bs c.in-Some-hearer.fd) (length xs)) (sym carried) ∙ sym (c.fits_at.ensures p c.requires.each) ∙ c.if-not-fits_at.false;
+      fits = ap (λ (xs : List ℕ). fits (queues_of p bs c.in-Some-hearer.fd) (length xs)) (sym carried)
+          ∙ sym (c.fits_at.ensures p c.requires.each) ∙ c.if-not-fits_at.false;
       steps = c.store_at.ensures.steps;
-      here = c.store_at.ensures.here.2 ∙ ap (λ (xs : List ℕ). queues_of p bs c.in-Some-hearer.fd ++ stored_datagram from xs c.store_at.ensures.here.0 ∷ []) carried;
+      here = c.store_at.ensures.here.2 ∙ ap (λ (xs : List ℕ). queues_of p bs c.in-Some-hearer.fd
+          ++ stored_datagram from xs c.store_at.ensures.here.0 ∷ []) carried;
     } in
-    subst (λ (u : Table). ComesWhole p (shown c.args.self.now) packet q (record { pcbs = u; queues = cs })) (sym c.hearer.ensures.blocks) (comes_whole stored)
+    subst (λ (u : Table). ComesWhole p (shown c.args.self.now) packet q (record { pcbs = u; queues = cs }))
+    (sym c.hearer.ensures.blocks) (comes_whole stored)

@@ -12,7 +12,8 @@ use Rattle.sock_calls.proofs.queues.ReceiveQueues.append_at.Goals as goal
 pub append_fitting-requires-clause-ready : goal.append_fitting-requires-clause-ready
 append_fitting-requires-clause-ready c =
     let is = c.deref_mut.ensures.value in
-    let lt : c.place_of.result < length c.deref_mut.result.now = omega (arith, c.place_of.ensures.within, c.self.invariant, ap length is) in
+    let lt : c.place_of.result < length c.deref_mut.result.now =
+    omega (arith, c.place_of.ensures.within, c.self.invariant, ap length is) in
     let here = named_is c.index-deref_mut-place_of.result c.args.fd (is ∙ c.self.view_is) lt c.place_of.ensures.value in
     subst (IsSockBuf c.args.pool.now) (sym here) (c.requires.each c.args.fd)
 
@@ -23,23 +24,33 @@ pub append_fitting-requires-clause-apart : goal.append_fitting-requires-clause-a
 append_fitting-requires-clause-apart c =
     let p = c.args.pool.now in
     let is = c.deref_mut.ensures.value in
-    let lt : c.place_of.result < length c.deref_mut.result.now = omega (arith, c.place_of.ensures.within, c.self.invariant, ap length is) in
+    let lt : c.place_of.result < length c.deref_mut.result.now =
+    omega (arith, c.place_of.ensures.within, c.self.invariant, ap length is) in
     let here = named_is c.index-deref_mut-place_of.result c.args.fd (is ∙ c.self.view_is) lt c.place_of.ensures.value in
-    apart_first p c.args.datagram.chain _ (λ k. omega (arith, c.requires.owned k, times_at p (from_three c.args.self.now) c.args.fd k, ap (λ (v : SockBufView). times k (chains_of p v)) here))
+    apart_first p c.args.datagram.chain _ (λ k. omega (
+      arith,
+      c.requires.owned k,
+      times_at p (from_three c.args.self.now) c.args.fd k,
+      ap (λ (v : SockBufView). times k (chains_of p v)) here,
+    ))
 
 pub append_fitting-requires-clause-fits : goal.append_fitting-requires-clause-fits
 append_fitting-requires-clause-fits c =
     let is = c.deref_mut.ensures.value in
-    let lt : c.place_of.result < length c.deref_mut.result.now = omega (arith, c.place_of.ensures.within, c.self.invariant, ap length is) in
+    let lt : c.place_of.result < length c.deref_mut.result.now =
+    omega (arith, c.place_of.ensures.within, c.self.invariant, ap length is) in
     let here = named_is c.index-deref_mut-place_of.result c.args.fd (is ∙ c.self.view_is) lt c.place_of.ensures.value in
     ap (λ (v : SockBufView). fits (datagrams c.args.pool.now v) c.args.len) here ∙ c.requires.fits
 
 pub returns-clause-steps : goal.returns-clause-steps
 returns-clause-steps c =
     let is = c.deref_mut.ensures.value in
-    let lt : c.place_of.result < length c.deref_mut.result.now = omega (arith, c.place_of.ensures.within, c.self.invariant, ap length is) in
+    let lt : c.place_of.result < length c.deref_mut.result.now =
+    omega (arith, c.place_of.ensures.within, c.self.invariant, ap length is) in
     steps_three c.args.fd c.place_of.ensures.value
-    (steps_inside c.self.inside.queues c.index-deref_mut-place_of.result (c.args.datagram.chain ∷ []) [] is c.self.view_is lt (λ k. c.requires.each (suc (suc (suc k)))) c.requires.owned c.append_fitting.ensures.ready c.append_fitting.ensures.moves)
+    (steps_inside c.self.inside.queues c.index-deref_mut-place_of.result (c.args.datagram.chain ∷ []) [] is
+    c.self.view_is lt (λ k. c.requires.each (suc (suc (suc k)))) c.requires.owned c.append_fitting.ensures.ready
+    c.append_fitting.ensures.moves)
 
 pub returns-clause-here : goal.returns-clause-here
 returns-clause-here c =
@@ -49,9 +60,11 @@ returns-clause-here c =
     let i = c.place_of.result in
     let y = c.append_fitting.new.self in
     let is = c.deref_mut.ensures.value in
-    let lt : c.place_of.result < length c.deref_mut.result.now = omega (arith, c.place_of.ensures.within, c.self.invariant, ap length is) in
+    let lt : c.place_of.result < length c.deref_mut.result.now =
+    omega (arith, c.place_of.ensures.within, c.self.invariant, ap length is) in
     let here = named_is c.index-deref_mut-place_of.result c.args.fd (is ∙ c.self.view_is) lt c.place_of.ensures.value in
-    ap (λ (l : List SockBufView). datagrams q (queue_at (from_three l) c.args.fd)) (written c.self.inside.queues bs i y is)
+    ap (λ (l : List SockBufView). datagrams q (queue_at (from_three l) c.args.fd))
+    (written c.self.inside.queues bs i y is)
     ∙ ap (datagrams q) (at_three (slice_set bs i y) i c.args.fd c.place_of.ensures.value ∙ at_set bs i y lt)
     ∙ c.append_fitting.ensures.datagrams
     ∙ ap (λ (v : SockBufView). datagrams p v ++ datagram_from c.args.datagram.sender p c.args.datagram.chain ∷ []) here

@@ -8,19 +8,29 @@ use Rattle.sock_calls.proofs.queues.ReceiveQueues.flush_at.Goals as goal
 pub flush-requires : goal.flush-requires
 flush-requires c =
     let is = c.deref_mut.ensures.value in
-    let lt : c.args.place < length c.deref_mut.result.now = omega (arith, c.requires.place, c.self.invariant, ap length is) in
-    record { ready = subst (IsSockBuf c.args.pool.now) (sym (read_is c.index-deref_mut-place.result (is ∙ c.self.view_is) lt)) (c.requires.each c.args.place) }
+    let lt : c.args.place < length c.deref_mut.result.now =
+    omega (arith, c.requires.place, c.self.invariant, ap length is) in
+    record {
+      ready = subst (IsSockBuf c.args.pool.now)
+          (sym (read_is c.index-deref_mut-place.result (is ∙ c.self.view_is) lt)) (c.requires.each c.args.place);
+    }
 
 pub returns-clause-takes : goal.returns-clause-takes
 returns-clause-takes c =
     let is = c.deref_mut.ensures.value in
-    let lt : c.args.place < length c.deref_mut.result.now = omega (arith, c.requires.place, c.self.invariant, ap length is) in
-    steps_inside c.self.inside.queues c.index-deref_mut-place.result [] [] is c.self.view_is lt c.requires.each c.requires.owned c.flush.ensures.ready
-    (moves_to c.flush.ensures.moves (none_there c.flush.new.pool c.flush.new.self c.flush.ensures.ready c.flush.ensures.empty))
+    let lt : c.args.place < length c.deref_mut.result.now =
+    omega (arith, c.requires.place, c.self.invariant, ap length is) in
+    steps_inside c.self.inside.queues c.index-deref_mut-place.result [] [] is c.self.view_is lt c.requires.each
+    c.requires.owned c.flush.ensures.ready
+    (moves_to c.flush.ensures.moves (none_there c.flush.new.pool c.flush.new.self c.flush.ensures.ready
+    c.flush.ensures.empty))
 
 pub returns-clause-empty : goal.returns-clause-empty
 returns-clause-empty c =
     let is = c.deref_mut.ensures.value in
-    let lt : c.args.place < length c.deref_mut.result.now = omega (arith, c.requires.place, c.self.invariant, ap length is) in
-    ap (λ (bs : List SockBufView). queues_of c.flush.new.pool bs c.args.place) (written c.self.inside.queues c.deref_mut.result.now c.args.place c.flush.new.self is)
-    ∙ ap (datagrams c.flush.new.pool) (at_set c.deref_mut.result.now c.args.place c.flush.new.self lt) ∙ c.flush.ensures.empty
+    let lt : c.args.place < length c.deref_mut.result.now =
+    omega (arith, c.requires.place, c.self.invariant, ap length is) in
+    ap (λ (bs : List SockBufView). queues_of c.flush.new.pool bs c.args.place)
+    (written c.self.inside.queues c.deref_mut.result.now c.args.place c.flush.new.self is)
+    ∙ ap (datagrams c.flush.new.pool) (at_set c.deref_mut.result.now c.args.place c.flush.new.self lt)
+    ∙ c.flush.ensures.empty

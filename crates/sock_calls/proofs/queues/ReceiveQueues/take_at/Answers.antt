@@ -9,23 +9,31 @@ use Rattle.sock_calls.proofs.queues.ReceiveQueues.take_at.Goals as goal
 pub take_oldest-requires : goal.take_oldest-requires
 take_oldest-requires c =
     let is = c.deref_mut.ensures.value in
-    let lt : c.args.place < length c.deref_mut.result.now = omega (arith, c.requires.place, c.self.invariant, ap length is) in
-    record { ready = subst (IsSockBuf c.args.pool.now) (sym (read_is c.index-deref_mut-place.result (is ∙ c.self.view_is) lt)) (c.requires.each c.args.place) }
+    let lt : c.args.place < length c.deref_mut.result.now =
+    omega (arith, c.requires.place, c.self.invariant, ap length is) in
+    record {
+      ready = subst (IsSockBuf c.args.pool.now)
+          (sym (read_is c.index-deref_mut-place.result (is ∙ c.self.view_is) lt)) (c.requires.each c.args.place);
+    }
 
 pub returns-clause-takes : goal.returns-clause-takes
 returns-clause-takes c =
     let is = c.deref_mut.ensures.value in
-    let lt : c.args.place < length c.deref_mut.result.now = omega (arith, c.requires.place, c.self.invariant, ap length is) in
-    steps_inside c.self.inside.queues c.index-deref_mut-place.result [] [] is c.self.view_is lt c.requires.each c.requires.owned c.take_oldest.ensures.ready c.take_oldest.ensures.moves
+    let lt : c.args.place < length c.deref_mut.result.now =
+    omega (arith, c.requires.place, c.self.invariant, ap length is) in
+    steps_inside c.self.inside.queues c.index-deref_mut-place.result [] [] is c.self.view_is lt c.requires.each
+    c.requires.owned c.take_oldest.ensures.ready c.take_oldest.ensures.moves
 
 pub returns-clause-taken : goal.returns-clause-taken
 returns-clause-taken c =
     let is = c.deref_mut.ensures.value in
-    let lt : c.args.place < length c.deref_mut.result.now = omega (arith, c.requires.place, c.self.invariant, ap length is) in
+    let lt : c.args.place < length c.deref_mut.result.now =
+    omega (arith, c.requires.place, c.self.invariant, ap length is) in
     let bs = c.deref_mut.result.now in
     let y = c.take_oldest.new.queue in
     took_as (length c.args.room.now) c.take_oldest.result c.take_oldest.new.room
     (ap (datagrams c.args.pool.now) (sym (read_is c.index-deref_mut-place.result (is ∙ c.self.view_is) lt)))
     (ap (datagrams c.take_oldest.new.pool)
-    (ap (λ (l : List SockBufView). queue_at l c.args.place) (written c.self.inside.queues bs c.args.place y is) ∙ at_set bs c.args.place y lt))
+    (ap (λ (l : List SockBufView). queue_at l c.args.place) (written c.self.inside.queues bs c.args.place y is)
+    ∙ at_set bs c.args.place y lt))
     c.take_oldest.ensures.taken

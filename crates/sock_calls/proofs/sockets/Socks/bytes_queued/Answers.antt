@@ -14,12 +14,17 @@ pub returns-in-Some : goal.returns-in-Some
 returns-in-Some c = λ p rest is.
     let now = subst (IsSocks p) (sym c.self.view_is) is in
     subst (λ (v : SocksView). Ok c.bytes_at.result ≡ bytes_queued c.args.fd (with_sockets p v rest)) c.self.view_is
-    (ap Ok (subst (λ (bs : List SockBufView). IsSockBuf p (queue_at bs c.place_of.result) → c.bytes_at.result ≡ queue.bytes_queued (queues_of p bs c.place_of.result)) c.as_slice.ensures.value (c.bytes_at.ensures p)
+    (ap Ok (subst (λ (bs : List SockBufView). IsSockBuf p (queue_at bs c.place_of.result)
+    → c.bytes_at.result ≡ queue.bytes_queued (queues_of p bs c.place_of.result)) c.as_slice.ensures.value
+    (c.bytes_at.ensures p)
     (each_from_three p c.self.inside.parts.queues now.each c.place_of.result)
-    ∙ ap (λ b. queue.bytes_queued (datagrams p b)) (sym (at_three c.self.inside.parts.queues c.place_of.result c.args.fd c.place_of.ensures.value)))
-    ∙ bytes_found (queues_of p (from_three c.self.inside.parts.queues)) c.self.inside.parts.pcbs c.args.fd c.in-Some.field-0 rest (sym c.block.ensures.value ∙ c.in-Some.is) c.in-Some.ensures.named)
+    ∙ ap (λ b. queue.bytes_queued (datagrams p b))
+    (sym (at_three c.self.inside.parts.queues c.place_of.result c.args.fd c.place_of.ensures.value)))
+    ∙ bytes_found (queues_of p (from_three c.self.inside.parts.queues)) c.self.inside.parts.pcbs c.args.fd
+    c.in-Some.field-0 rest (sym c.block.ensures.value ∙ c.in-Some.is) c.in-Some.ensures.named)
 
 pub returns-in-None : goal.returns-in-None
 returns-in-None c = λ p rest is.
     subst (λ (v : SocksView). Err BadDescriptor ≡ bytes_queued c.args.fd (with_sockets p v rest)) c.self.view_is
-    (bytes_refused (queues_of p (from_three c.self.inside.parts.queues)) c.self.inside.parts.pcbs c.args.fd rest (sym c.block.ensures.value ∙ c.in-None.is))
+    (bytes_refused (queues_of p (from_three c.self.inside.parts.queues)) c.self.inside.parts.pcbs c.args.fd rest
+    (sym c.block.ensures.value ∙ c.in-None.is))

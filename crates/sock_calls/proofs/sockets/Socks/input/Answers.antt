@@ -18,9 +18,11 @@ deliver_all-requires-clause-socks g c =
     let s : SocksView = shown c.self.inside.parts in
     let socks : IsSocks p s = subst (IsSocks p) (sym c.self.view_is) c.requires.ready in
     let owned : IsOwned p (c.args.chain ∷ (xs ++ queued_chains p s.queues)) =
-    subst (λ (v : SocksView). IsOwned p (c.args.chain ∷ (xs ++ queued_chains p v.queues))) (sym c.self.view_is) c.requires.owned in
+    subst (λ (v : SocksView). IsOwned p (c.args.chain ∷ (xs ++ queued_chains p v.queues))) (sym c.self.view_is)
+    c.requires.owned in
     let x = reached p q c.args.chain c.in-Deliver.chain xs _ owned socks c.in-Deliver.ensures.moves in
-    subst (λ (t : Table). IsSocks q (record { pcbs = t; queues = from_three c.self.inside.parts.queues })) (sym c.input.ensures.blocks) x.socks.ready
+    subst (λ (t : Table). IsSocks q (record { pcbs = t; queues = from_three c.self.inside.parts.queues }))
+    (sym c.input.ensures.blocks) x.socks.ready
 
 pub deliver_all-requires-clause-opened : goal.deliver_all-requires-clause-opened
 deliver_all-requires-clause-opened g c =
@@ -30,7 +32,8 @@ deliver_all-requires-clause-opened g c =
 
 pub deliver_all-requires-clause-distinct : goal.deliver_all-requires-clause-distinct
 deliver_all-requires-clause-distinct g c =
-    λ fd. subst (λ (l : List ℕ). times fd l ≤ 1) (sym c.as_slice-hearers.ensures.value) (c.in-Deliver.ensures.answer.heard.once fd)
+    λ fd. subst (λ (l : List ℕ). times fd l ≤ 1) (sym c.as_slice-hearers.ensures.value)
+    (c.in-Deliver.ensures.answer.heard.once fd)
 
 pub deliver_all-requires-clause-waits : goal.deliver_all-requires-clause-waits
 deliver_all-requires-clause-waits g c =
@@ -41,7 +44,8 @@ deliver_all-requires-clause-waits g c =
     let s : SocksView = shown c.self.inside.parts in
     let socks : IsSocks p s = subst (IsSocks p) (sym c.self.view_is) c.requires.ready in
     let owned : IsOwned p (c.args.chain ∷ (xs ++ queued_chains p s.queues)) =
-    subst (λ (v : SocksView). IsOwned p (c.args.chain ∷ (xs ++ queued_chains p v.queues))) (sym c.self.view_is) c.requires.owned in
+    subst (λ (v : SocksView). IsOwned p (c.args.chain ∷ (xs ++ queued_chains p v.queues))) (sym c.self.view_is)
+    c.requires.owned in
     let x = reached p q c.args.chain c.in-Deliver.chain xs _ owned socks c.in-Deliver.ensures.moves in
     g.met.R.Reclaim.ready_same p q w x.same c.requires.waits
 
@@ -54,9 +58,12 @@ deliver_all-requires-clause-owned g c =
     let s : SocksView = shown c.self.inside.parts in
     let socks : IsSocks p s = subst (IsSocks p) (sym c.self.view_is) c.requires.ready in
     let owned : IsOwned p (c.args.chain ∷ (xs ++ queued_chains p s.queues)) =
-    subst (λ (v : SocksView). IsOwned p (c.args.chain ∷ (xs ++ queued_chains p v.queues))) (sym c.self.view_is) c.requires.owned in
+    subst (λ (v : SocksView). IsOwned p (c.args.chain ∷ (xs ++ queued_chains p v.queues))) (sym c.self.view_is)
+    c.requires.owned in
     let x = reached p q c.args.chain c.in-Deliver.chain xs _ owned socks c.in-Deliver.ensures.moves in
-    subst (λ (zs : List ℕ). IsOwned q (c.in-Deliver.chain ∷ (zs ++ queued_chains q (from_three c.self.inside.parts.queues)))) (sym (g.met.R.Reclaim.owned_same p q w x.same)) x.owned
+    subst (λ (zs : List ℕ). IsOwned q (c.in-Deliver.chain
+    ∷ (zs ++ queued_chains q (from_three c.self.inside.parts.queues))))
+    (sym (g.met.R.Reclaim.owned_same p q w x.same)) x.owned
 
 pub returns-in-Deliver-clause-input : goal.returns-in-Deliver-clause-input
 returns-in-Deliver-clause-input g c =
@@ -67,14 +74,18 @@ returns-in-Deliver-clause-input g c =
     let s : SocksView = shown c.self.inside.parts in
     let socks : IsSocks p s = subst (IsSocks p) (sym c.self.view_is) c.requires.ready in
     let owned : IsOwned p (c.args.chain ∷ (xs ++ queued_chains p s.queues)) =
-    subst (λ (v : SocksView). IsOwned p (c.args.chain ∷ (xs ++ queued_chains p v.queues))) (sym c.self.view_is) c.requires.owned in
+    subst (λ (v : SocksView). IsOwned p (c.args.chain ∷ (xs ++ queued_chains p v.queues))) (sym c.self.view_is)
+    c.requires.owned in
     let x = reached p q c.args.chain c.in-Deliver.chain xs _ owned socks c.in-Deliver.ensures.moves in
     let r = c.deliver_all.new.pool in
     subst (λ (v : SocksView). IsInput
-    (seen p v (g.R.Waiting.unfinished p w) xs c.args.counters.now) c.args.chain c.args.head.src c.args.head.dst c.args.head.proto
-    (seen r (shown c.deliver_all.new.self) (g.R.Waiting.unfinished r c.deliver_all.new.waiting) (g.R.Reclaim.owned r c.deliver_all.new.waiting) c.deliver_all.new.counters))
+    (seen p v (g.R.Waiting.unfinished p w) xs c.args.counters.now) c.args.chain c.args.head.src c.args.head.dst
+    c.args.head.proto
+    (seen r (shown c.deliver_all.new.self) (g.R.Waiting.unfinished r c.deliver_all.new.waiting)
+    (g.R.Reclaim.owned r c.deliver_all.new.waiting) c.deliver_all.new.counters))
     c.self.view_is
-    (delivered_to {h = c.args.head} socks owned c.in-Deliver.ensures.answer c.in-Deliver.ensures.moves (g.met.R.Waiting.unfinished_same p q w x.same) (g.met.R.Reclaim.owned_same p q w x.same)
+    (delivered_to {h = c.args.head} socks owned c.in-Deliver.ensures.answer c.in-Deliver.ensures.moves
+    (g.met.R.Waiting.unfinished_same p q w x.same) (g.met.R.Reclaim.owned_same p q w x.same)
     c.input.ensures.blocks c.as_slice-hearers.ensures.value c.deliver_all.ensures.delivered)
 
 pub returns-in-Drop-clause-input : goal.returns-in-Drop-clause-input
@@ -86,12 +97,17 @@ returns-in-Drop-clause-input g c =
     let s : SocksView = shown c.self.inside.parts in
     let socks : IsSocks p s = subst (IsSocks p) (sym c.self.view_is) c.requires.ready in
     let owned : IsOwned p (c.args.chain ∷ (xs ++ queued_chains p s.queues)) =
-    subst (λ (v : SocksView). IsOwned p (c.args.chain ∷ (xs ++ queued_chains p v.queues))) (sym c.self.view_is) c.requires.owned in
+    subst (λ (v : SocksView). IsOwned p (c.args.chain ∷ (xs ++ queued_chains p v.queues))) (sym c.self.view_is)
+    c.requires.owned in
     subst (λ (v : SocksView). IsInput
-    (seen p v (g.R.Waiting.unfinished p w) xs c.args.counters.now) c.args.chain c.args.head.src c.args.head.dst c.args.head.proto
-    (seen q (record { pcbs = c.input.new.pcbs; queues = from_three c.self.inside.parts.queues }) (g.R.Waiting.unfinished q w) (g.R.Reclaim.owned q w) c.count_ended.new.self))
+    (seen p v (g.R.Waiting.unfinished p w) xs c.args.counters.now) c.args.chain c.args.head.src c.args.head.dst
+    c.args.head.proto
+    (seen q (record { pcbs = c.input.new.pcbs; queues = from_three c.self.inside.parts.queues })
+    (g.R.Waiting.unfinished q w) (g.R.Reclaim.owned q w) c.count_ended.new.self))
     c.self.view_is
-    (dropped_to {h = c.args.head} c.in-Drop.why socks owned c.in-Drop.ensures.answer.1 (λ s. g.met.R.Waiting.unfinished_same p q w s) (λ s. g.met.R.Reclaim.owned_same p q w s) c.input.ensures.blocks c.count_ended.ensures)
+    (dropped_to {h = c.args.head} c.in-Drop.why socks owned c.in-Drop.ensures.answer.1
+    (λ s. g.met.R.Waiting.unfinished_same p q w s) (λ s. g.met.R.Reclaim.owned_same p q w s) c.input.ensures.blocks
+    c.count_ended.ensures)
 
 pub returns-in-Drop-clause-waits : goal.returns-in-Drop-clause-waits
 returns-in-Drop-clause-waits g c =
@@ -102,6 +118,7 @@ returns-in-Drop-clause-waits g c =
     let s : SocksView = shown c.self.inside.parts in
     let socks : IsSocks p s = subst (IsSocks p) (sym c.self.view_is) c.requires.ready in
     let owned : IsOwned p (c.args.chain ∷ (xs ++ queued_chains p s.queues)) =
-    subst (λ (v : SocksView). IsOwned p (c.args.chain ∷ (xs ++ queued_chains p v.queues))) (sym c.self.view_is) c.requires.owned in
+    subst (λ (v : SocksView). IsOwned p (c.args.chain ∷ (xs ++ queued_chains p v.queues))) (sym c.self.view_is)
+    c.requires.owned in
     let gone = freed p q c.args.chain xs _ owned socks c.in-Drop.ensures.answer.1.freed in
     g.met.R.Reclaim.ready_same p q w gone.same c.requires.waits

@@ -8,9 +8,14 @@ use Rattle.sock_calls.proofs.sockets.Socks.setsockopt.Goals as goal
 pub returns : goal.returns
 returns c = λ p is.
     let old : SocksView = record { pcbs = c.self.inside.parts.pcbs; queues = from_three c.self.inside.parts.queues } in
-    let new : SocksView = record { pcbs = c.set_option-done.new.self; queues = from_three c.self.inside.parts.queues } in
-    subst (λ (v : SocksView). IsCalled p v (Set_option c.args.fd c.args.option c.args.on) (done_reply c.set_option-done.result) new) c.self.view_is (record {
+    let new : SocksView = record {
+      pcbs = c.set_option-done.new.self;
+      queues = from_three c.self.inside.parts.queues;
+    } in
+    subst (λ (v : SocksView). IsCalled p v (Set_option c.args.fd c.args.option c.args.on)
+    (done_reply c.set_option-done.result) new) c.self.view_is (record {
       step = λ rest. c.set_option-done.ensures.step rest (queues_of p old.queues);
-      ready = keeps_open p old new.pcbs (subst (IsSocks p) (sym c.self.view_is) is) c.laws.ensures.apart c.set_option-done.ensures.descriptors;
+      ready = keeps_open p old new.pcbs (subst (IsSocks p) (sym c.self.view_is) is) c.laws.ensures.apart
+          c.set_option-done.ensures.descriptors;
       queues = refl;
     })

@@ -11,7 +11,9 @@ returns c = λ p is.
     let new : SocksView = record { pcbs = c.open-opened.new.self; queues = from_three c.self.inside.parts.queues } in
     let is_old : IsSocks p old = subst (IsSocks p) (sym c.self.view_is) is in
     subst (λ (v : SocksView). IsCalled p v Open (opened_reply c.open-opened.result) new) c.self.view_is (record {
-      step = λ rest. c.open-opened.ensures.step rest (queues_of p old.queues) (none_waits_there p old new.pcbs c.open-opened.result is_old c.open-opened.ensures.opened);
-      ready = keeps_opened p old new.pcbs c.open-opened.result is_old c.laws.ensures.apart c.open-opened.ensures.opened c.open-opened.ensures.err;
+      step = λ rest. c.open-opened.ensures.step rest (queues_of p old.queues)
+          (none_waits_there p old new.pcbs c.open-opened.result is_old c.open-opened.ensures.opened);
+      ready = keeps_opened p old new.pcbs c.open-opened.result is_old c.laws.ensures.apart c.open-opened.ensures.opened
+          c.open-opened.ensures.err;
       queues = refl;
     })
