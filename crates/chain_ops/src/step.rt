@@ -68,10 +68,12 @@ pub(crate) fn new_copy(
     ensures same { OnErr result (pool.new ≡ pool.old) }
 {
     let segment = pool.segment(chain, at);
-    if segment.cluster.is_some() {
-        return pool.new_shared(header, chain, at, skip, n);
-    }
-    copy_plain(pool, header, chain, at, skip, n)
+    let copy = if segment.cluster.is_some() {
+        pool.new_shared(header, chain, at, skip, n)?
+    } else {
+        copy_plain(pool, header, chain, at, skip, n)?
+    };
+    Ok(copy)
 }
 
 /// Links a chain of one mbuf, a copy of `n` bytes of an mbuf of another chain after the first `skip`, after
