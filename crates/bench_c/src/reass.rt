@@ -111,6 +111,8 @@ fn made_whole(pool: &mut Pool, table: &Reass, arrival: Arrival) -> u32
 
 /// A packet arrives as a fragment of the datagram `id`, at once if it can; a datagram that it makes whole is freed.
 /// Answers how many these are: 1 or 0.
+// Inlined, as `net_stack` has it: what's between the loop and `arrive_bytes` isn't what is timed.
+#[inline(always)]
 fn arrives(
     pool: &mut Pool,
     table: &mut Reass,
