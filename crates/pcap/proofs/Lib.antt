@@ -1,5 +1,4 @@
 mod Unique
 mod Answered
 mod Headers
-mod Written
 mod Framed

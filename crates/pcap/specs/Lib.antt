@@ -2,5 +2,4 @@ pub mod Types
 pub mod File
 pub mod Records
 pub mod Seen
-pub mod Sent
 pub mod Frames

@@ -1,9 +1,9 @@
-//! Why a file couldn't be read or written.
+//! Why a file couldn't be read.
 ghost use Rattle.std.specs.Prelude.{◌≡◌};
+ghost use Rattle.pcap.specs.File.{fault};
 ghost use Rattle.pcap.specs.declared.fault.ReadError.TheVariants as read_errors;
-ghost use Rattle.pcap.specs.declared.fault.WriteError.TheVariants as write_errors;
 
-use std::alloc::{AllocError, AllocFailed};
+use std::alloc::AllocFailed;
 use thiserror::Error;
 
 /// What is wrong with a file.
@@ -40,6 +40,15 @@ pub struct Fault {
     pub offset: usize,
 }
 
+impl Why {
+    /// This is wrong, and it stands so many bytes into the file.
+    pub(crate) fn at(self, offset: usize) -> Fault
+        ensures { result ≡ fault self offset }
+    {
+        Fault { why: self, offset }
+    }
+}
+
 /// Why [`crate::read`] read no file.
 #[derive(Debug, Drop, PartialEq, Eq, Error)]
 pub enum ReadError {
@@ -64,24 +73,5 @@ impl From<Fault> for ReadError {
 
     fn from(fault: Fault) -> ReadError {
         ReadError::Fault(fault)
-    }
-}
-
-/// Why a packet wasn't written.
-#[derive(Clone, Copy, Debug, PartialEq, Eq, Error)]
-pub enum WriteError {
-    /// Host memory was lacking.
-    #[error("no memory")]
-    Memory,
-    /// The packet has more than [`crate::LONGEST_PACKET`] bytes.
-    #[error("packet too long")]
-    TooLong,
-}
-
-impl From<AllocError> for WriteError {
-    ghost from_gives = { λ _ e. e ≡ write_errors.Memory };
-
-    fn from(_e: AllocError) -> WriteError {
-        WriteError::Memory
     }
 }

@@ -65,29 +65,17 @@ pub(crate) fn read_header(file: &[u8]) -> Result<Header, Fault>
     ensures long { OnOk result (HEADER_BYTES ≤ length file.now) }
 {
     if file.len() < HEADER_BYTES {
-        return Err(Fault {
-            why: Why::HeaderCut,
-            offset: 0,
-        });
+        return Err(Why::HeaderCut.at(0));
     }
     let Some((order, resolution)) = mark(u32_at(Order::Little, file, 0)) else {
-        return Err(Fault {
-            why: Why::BadMagic,
-            offset: 0,
-        });
+        return Err(Why::BadMagic.at(0));
     };
     if u16_at(order, file, 4) != 2 || u16_at(order, file, 6) != 4 {
-        return Err(Fault {
-            why: Why::BadVersion,
-            offset: 4,
-        });
+        return Err(Why::BadVersion.at(4));
     }
     let link_field = u32_at(order, file, 20);
     let Some(link) = LinkType::of((link_field % 65_536) as u16) else {
-        return Err(Fault {
-            why: Why::BadLinkType,
-            offset: 20,
-        });
+        return Err(Why::BadLinkType.at(20));
     };
     Ok(Header {
         order,

@@ -1,4 +1,4 @@
-//! Classic capture files, the format that tcpdump writes (pcap-savefile(5), draft-ietf-opsawg-pcap): a writer, a
+//! Classic capture files, the format that tcpdump writes (pcap-savefile(5), draft-ietf-opsawg-pcap): their headers, a
 //! reader, and the IPv4 packet in a frame of each link type that the reader takes.
 //!
 //! It uses nothing of the stack.
@@ -13,12 +13,10 @@ mod numbers;
 mod reader;
 mod writer;
 
-pub use fault::{Fault, ReadError, Why, WriteError};
+pub use fault::{Fault, ReadError, Why};
 pub use header::{Header, Order, Resolution};
 pub use laws::{frames_hold_packets, headers_are_read, one_reading, written_is_read};
 pub use link::{NoPacket, ipv4_packet};
 pub use link_type::LinkType;
 pub use reader::{Capture, Reader, Record, read};
-pub use writer::{
-    LONGEST_PACKET, Packet, file_header, put_header, put_record, record_header, write,
-};
+pub use writer::{LONGEST_PACKET, file_header, record_header};

@@ -94,10 +94,7 @@ impl<'a> Reader<'a> {
         }
         let offset = self.offset();
         if self.rest.len() < RECORD_HEADER_BYTES {
-            return Err(Fault {
-                why: Why::RecordCut,
-                offset,
-            });
+            return Err(Why::RecordCut.at(offset));
         }
         let order = self.header.order;
         let (seconds, rest) = first_u32(order, self.rest);
@@ -106,10 +103,7 @@ impl<'a> Reader<'a> {
         let (original_len, rest) = first_u32(order, rest);
         let captured = captured as usize;
         if rest.len() < captured {
-            return Err(Fault {
-                why: Why::BytesCut,
-                offset: offset + 8,
-            });
+            return Err(Why::BytesCut.at(offset + 8));
         }
         let (bytes, rest) = rest.split_at(captured);
         self.rest = rest;

@@ -4,7 +4,7 @@ use Rattle.pcap.specs.Records.{EndsEarly}
 use Rattle.pcap.proofs.reader.Reader.next_record.Goals as goal
 
 pub returns-then-rest-captured : goal.returns-then-rest-captured
-returns-then-rest-captured c = (
+returns-then-rest-captured c = rw c.at-then-rest-captured.ensures (
   (
     8,
     omega arith,
