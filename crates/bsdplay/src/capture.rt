@@ -4,11 +4,10 @@ ghost use Rattle.play_pcap.specs.Events.{IsOrdered};
 use crate::{UNREAD, USAGE};
 use clap::ArgMatches;
 use play_pcap::{
-    CaptureFault, Details, LineRoom, Lines, OUTCOME, Tally, play_file, put_outcome, range_of,
-    read_whole,
+    CaptureFault, Details, Lines, OUTCOME, Tally, play_file, put_outcome, range_of, read_whole,
 };
 use play_script::Silent;
-use script_loop::Buffer;
+use script_loop::{Buffer, LineBuffers};
 use std::{fs, io, str};
 
 /// The status if a capture isn't one, or has fewer records than are asked for.
@@ -39,7 +38,8 @@ fn print_file(rt: &HostRuntime, name: &str, details: Details) -> io::Result<u8>
         Ok(file) => file,
         Err(fault) => return report(rt, name, Err(fault)),
     };
-    let mut lines = Lines::begin(Silent(rt.stdout()), LineRoom::new(rt.alloc())?);
+    let (line, buffers) = (Buffer::new(rt.alloc())?, LineBuffers::new(rt.alloc())?);
+    let mut lines = Lines::begin(Silent(rt.stdout()), line, buffers);
     let outcome = play_file(rt.alloc(), &mut lines, file.as_slice(), details);
     let (_writer, whole) = lines.end();
     let status = report(rt, name, outcome)?;

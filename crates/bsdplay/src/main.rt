@@ -16,22 +16,12 @@ use clap::{Arg, ArgAction, ArgMatches, Command};
 use form::{form_of, with_forms};
 use hosts::{play_captured, play_uncaptured, status_of};
 use one::play_one;
-use play_script::{Config, Form, Played, Silent, Style};
+use play_script::{Form, Played, Silent, Style};
 use std::alloc::{AllocError, Global};
 use std::io::{IsTerminal, Read};
 use std::process::ExitCode;
 use std::{env, fs, io};
 use sweep::{Seeds, seed_in, seeds_in, sweep};
-
-/// The machine that a script is played on.
-pub(crate) const MACHINE: Config = Config {
-    addr: 0x0a00_0001,
-    bcast: 0x0a00_00ff,
-    mtu: 1500,
-    mbufs: 512,
-    clusters: 64,
-    first_id: 1,
-};
 
 /// The status if the command line can't be read.
 const USAGE: u8 = 2;

@@ -2,10 +2,10 @@
 use crate::choice::Ahead;
 use crate::folder::HostFolder;
 use crate::hosts::{UNWRITTEN, status_of};
-use crate::{MACHINE, report};
+use crate::report;
 use play_pcap::Nowhere;
 use play_script::{
-    Captured, Played, RunFault, Silent, Sink, Source, Start, Style, Trace, play_captured,
+    Captured, DEFAULTS, Played, RunFault, Silent, Sink, Source, Start, Style, Trace, play_captured,
 };
 use script_loop::Buffer;
 use std::fs;
@@ -27,7 +27,7 @@ fn play_to<R: Source, S: Sink + Drop>(
         return Ok(played.status());
     };
     let start = Start {
-        config: MACHINE,
+        config: DEFAULTS,
         trace: Trace::begin(sink, room),
         folder: HostFolder::of(rt, name),
     };

@@ -21,7 +21,6 @@ pub mod named_packet;
 pub mod other_machine;
 pub mod packet_sum;
 pub mod packet_taken;
-pub mod packet_words;
 pub mod printed_line;
 pub mod receive_queue;
 pub mod send;

@@ -1,8 +1,8 @@
-//! What is told of a line, as an object of JSON.
+//! What is told of a line, as an object of JSON, and what a packet's headers say, in words.
 ghost use Rattle.std.specs.Prelude.{◌≡◌, [], false, IfOk, None, codes};
-ghost use Rattle.play_print.specs.Texts.{outcome_object};
+ghost use Rattle.play_text.specs.Texts.{outcome_object};
 
-use play_print::{Form, Outcome, put_outcome};
+use play_text::{Form, Outcome, put_outcome, put_packet};
 use script_loop::Buffer;
 use std::alloc::{AllocError, Global};
 
@@ -22,4 +22,14 @@ pub fn line_7(alloc: Global, line: &[u8; 6], reply: &[u8; 2]) -> Result<Buffer<2
     };
     put_outcome(&mut text, Form::Json, b"script.txt", &outcome);
     Ok(text)
+}
+
+/// How many bytes the words of a packet have. `None` of more bytes than a packet has.
+pub fn words_len(alloc: Global, packet: &[u8]) -> Result<Option<usize>, AllocError> {
+    if packet.len() > 65_535 {
+        return Ok(None);
+    }
+    let mut text = Buffer::<1024>::new(alloc)?;
+    put_packet(&mut text, packet);
+    Ok(Some(text.len()))
 }

@@ -26,8 +26,8 @@ pub struct Head {
     pub destination: u32,
 }
 
-/// The number in the two bytes from a place on.
-fn u16_at(bytes: &[u8], at: usize) -> u16
+/// The number in the two bytes from a place on, the high byte first.
+pub fn u16_at(bytes: &[u8], at: usize) -> u16
     requires { at + 2 ≤ length bytes.now }
     ensures { result ≡ Header.u16_at at bytes.now }
 {

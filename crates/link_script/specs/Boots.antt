@@ -18,16 +18,10 @@ abbrev pub IsUnbooted : Config → RunFault → Type 0
 IsUnbooted c BadSizes = ¬ HasSizes c
 IsUnbooted c BadConfig = HasSizes c × ¬ IsConfig c
 IsUnbooted c Memory = IsConfig c
-IsUnbooted c Read = ⊥
-IsUnbooted c Write = ⊥
-IsUnbooted c TooManyLines = ⊥
+IsUnbooted c _ = ⊥
 
 -- the same of a whole run, which may fail later
 abbrev pub Boots : Config → Result Unit RunFault → Type 0
 Boots c (Err BadSizes) = ¬ HasSizes c
 Boots c (Err BadConfig) = HasSizes c × ¬ IsConfig c
-Boots c (Ok done) = IsConfig c
-Boots c (Err Read) = IsConfig c
-Boots c (Err Write) = IsConfig c
-Boots c (Err Memory) = IsConfig c
-Boots c (Err TooManyLines) = IsConfig c
+Boots c _ = IsConfig c

@@ -22,12 +22,10 @@ abbrev pub defaults : Config
 defaults = record { addr = 167772161; bcast = 167772415; mtu = 1500; mbufs = 512; clusters = 64; first_id = 1 }
 
 abbrev pub fault_status : RunFault → ℕ
-fault_status Memory = 3
-fault_status BadSizes = 3
-fault_status BadConfig = 3
 fault_status Read = 4
 fault_status Write = 4
 fault_status TooManyLines = 4
+fault_status _ = 3
 
 abbrev pub status_of : Result Unit Failure → ℕ
 status_of (Ok done) = 0

@@ -9,7 +9,7 @@ mod runs;
 
 pub use caller::Caller;
 pub use chain_script::{Sizes, run_chains};
-pub use command_line::program;
+pub use command_line::{DEFAULTS, program};
 pub use flat_model::Config;
 pub use laws::prints_law;
 pub use runs::{booted, run};

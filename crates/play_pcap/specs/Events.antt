@@ -138,6 +138,4 @@ PlaysFile go d file (Err (Bad fault)) old new = Reads file (Err fault) × (new �
 PlaysFile go d file (Err TooFew) old new =
     (w : Whole) × Reads file (Ok w) × (HasRange d.range (length w.records) → ⊥) × (new ≡ old)
 PlaysFile go d file (Err Memory) old new = new ≡ old
-PlaysFile go d file (Err NotOpened) old new = ⊥
-PlaysFile go d file (Err NotRead) old new = ⊥
-PlaysFile go d file (Err TooLong) old new = ⊥
+PlaysFile go d file (Err _) old new = ⊥

@@ -22,12 +22,9 @@ IsHad has word file = (name : List ℕ) × IsName word name × has name file
 
 -- the file can't be read into memory
 abbrev pub IsUnread : CaptureFault → Type 0
-IsUnread NotOpened = Unit {0}
-IsUnread NotRead = Unit {0}
-IsUnread TooLong = Unit {0}
-IsUnread Memory = Unit {0}
 IsUnread TooFew = ⊥
 IsUnread (Bad fault) = ⊥
+IsUnread _ = Unit {0}
 
 -- What a line does that asks for the capture in the file that a word names: what playing that file in does; or nothing
 -- at all, if it can't be read.

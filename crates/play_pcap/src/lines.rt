@@ -5,11 +5,10 @@ ghost use Rattle.play_pcap.specs.Traces.{SentAfter, event_line};
 use crate::trace::send;
 use crate::wire::Wire;
 use script_loop::{Buffer, LineBuffers, Sink, put_hex};
-use std::alloc::{AllocError, Global};
 use std::marker::Model;
 
 /// Room for the longest line.
-const LINE: usize = 131_200;
+pub const LINE: usize = 131_200;
 
 /// Writes what happens as lines of a script: a packet that comes as `rx` with its bytes, and a tick as `tick`. It must
 /// be ended by `end`.
@@ -28,29 +27,11 @@ impl<W: Sink> Model for Lines<W> {
     ghost view = { λ l. (l.whole, W.contents l.sink) };
 }
 
-/// Memory for the lines of a script.
-#[derive(Drop)]
-pub struct LineRoom {
-    text: Buffer<LINE>,
-    buffers: LineBuffers,
-}
-
-impl LineRoom {
-    /// All the memory. `AllocError` comes only where the host refuses a part of it.
-    pub fn new(alloc: Global) -> Result<LineRoom, AllocError> {
-        Ok(LineRoom {
-            text: Buffer::new(alloc)?,
-            buffers: LineBuffers::new(alloc)?,
-        })
-    }
-}
-
 impl<W: Sink> Lines<W> {
     /// Begins a script, of no line so far.
-    pub fn begin(sink: W, room: LineRoom) -> Lines<W>
+    pub fn begin(sink: W, text: Buffer<LINE>, buffers: LineBuffers) -> Lines<W>
         ensures { result ≡ (true, W.contents sink) }
     {
-        let LineRoom { text, buffers } = room;
         Lines {
             sink,
             text,

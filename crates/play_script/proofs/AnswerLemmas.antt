@@ -6,7 +6,7 @@ use Rattle.flat_model.specs.Machine.State.{State}
 use Rattle.play_show.specs.Tells.{Shows}
 use Rattle.play_show.specs.Topics.{topic_asked}
 use Rattle.play_show.specs.declared.topic.Topic.{Topic}
-use Rattle.play_print.specs.Forms.{is_quiet}
+use Rattle.play_text.specs.Forms.{is_quiet}
 use Rattle.play_settings.specs.Settings.{has_dashes}
 use Rattle.play_script.specs.Lines.{Reading, Asks, reading}
 use Rattle.play_script.specs.Plays.{SceneView, scene_of}

@@ -8,7 +8,7 @@ use Rattle.script_loop.specs.declared.fault.RunFault.{RunFault}
 use Rattle.script_loop.specs.declared.fault.RunFault.TheVariants.{Read, Write, Memory, TooManyLines, BadSizes, BadConfig}
 use Rattle.script_loop.proofs.Laws.{Moves-none}
 use Rattle.link_script.specs.Boots.{IsUnbooted}
-use Rattle.play_print.specs.declared.form.Form.{Form}
+use Rattle.play_text.specs.declared.form.Form.{Form}
 use Rattle.play_pcap.specs.Files.{no_folder}
 use Rattle.play_pcap.specs.Traces.{Traced, unwritten}
 use Rattle.play_script.specs.Tells.{Play, Tells, started}

@@ -20,7 +20,7 @@ use Rattle.play_settings.proofs.Laws.{first_dash}
 use Rattle.play_show.specs.Topics.{topic_asked}
 use Rattle.play_show.specs.declared.topic.Topic.{Topic}
 use Rattle.play_show.proofs.Laws.{begins_with_show}
-use Rattle.play_print.specs.Forms.{is_quiet}
+use Rattle.play_text.specs.Forms.{is_quiet}
 use Rattle.play_pcap.specs.Traces.{Traced, Keeps, passes_bytes}
 use Rattle.play_pcap.specs.Told.{outcome_text}
 use Rattle.play_script.proofs.CaptureLemmas.{Joins, Keeps-none, Captures-join}

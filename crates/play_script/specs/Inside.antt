@@ -2,7 +2,7 @@
 use Rattle.std.specs.Prelude.{ℕ, Bool, List, [], ◌∷◌, replicate, Option}
 use Rattle.flat_model.specs.Machine.Event.{Event, Tick}
 use Rattle.request.specs.Requests.{event_of, room_of}
-use Rattle.play_print.specs.Texts.{if_there}
+use Rattle.play_text.specs.Texts.{if_there}
 use Rattle.play_script.specs.Lines.{Reading, Nothing, TooLong, Faulty, Asks}
 use Rattle.play_script.specs.declared.asked.Asked.{Asked}
 use Rattle.play_script.specs.declared.asked.Asked.TheVariants.{Call, Ticks}

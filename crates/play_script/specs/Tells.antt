@@ -7,9 +7,9 @@ use Rattle.flat_model.specs.Scripts.Grammar.{words}
 use Rattle.flat_model.specs.declared.config.Config.{Config}
 use Rattle.script_loop.specs.declared.fault.RunFault.{RunFault}
 use Rattle.script_loop.specs.declared.fault.RunFault.TheVariants.{Read, Write, Memory, TooManyLines, BadSizes, BadConfig}
-use Rattle.play_print.specs.Forms.{is_quiet}
-use Rattle.play_print.specs.Texts.{fault_text, slip_text, outcome_text}
-use Rattle.play_print.specs.declared.form.Form.{Form}
+use Rattle.play_text.specs.Forms.{is_quiet}
+use Rattle.play_text.specs.Texts.{fault_text, slip_text, outcome_text}
+use Rattle.play_text.specs.declared.form.Form.{Form}
 use Rattle.play_settings.specs.Settings.{has_dashes, IsSet, fault_words}
 use Rattle.play_settings.specs.declared.fault.SettingFault.{SettingFault}
 use Rattle.play_settings.specs.declared.fault.SettingFault.TheVariants as settings

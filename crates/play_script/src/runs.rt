@@ -22,7 +22,7 @@ use link_script::{Caller, booted};
 use net_stack::Stack;
 use play_packet::LineReader;
 use play_pcap::{Folder, NoFolder, Nowhere, Trace};
-use play_print::Form;
+use play_text::Form;
 use script_loop::{Buffer, LineBuffers, RunFault, Sink, Source, serve_script};
 use std::alloc::{AllocError, Global};
 

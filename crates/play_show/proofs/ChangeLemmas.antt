@@ -3,7 +3,7 @@ use Rattle.std.proofs.Common.{◌≡◌, ℕ, ◌+◌, List, [], ◌++◌, get_o
 use Rattle.std.proofs.lemmas.List.{append-nil}
 use Rattle.flat_model.specs.Amounts.Weight.{Item}
 use Rattle.ip_out.specs.Questions.{nth_packet}
-use Rattle.play_decode.specs.Packets.{packet_text}
+use Rattle.play_text.specs.Packets.{packet_text}
 use Rattle.play_show.specs.Changes.{delivered_below, delivered_line, line_of, packets_below, waiting_line}
 
 pub none_delivered : (text before after : List ℕ) → text ≡ text ++ delivered_below 0 before after

@@ -3,27 +3,8 @@ use Rattle.std.proofs.Common.{◌≡◌, ℕ, ◌<◌, Bool, true, List, [], ◌
 use Rattle.std.specs.Prelude.{nat_lt}
 use Rattle.std.proofs.lemmas.Bool.{lt-ltb}
 
-together : (t a b c d e f g h : List ℕ)
-    → ((((((((t ++ a) ++ b) ++ c) ++ d) ++ e) ++ f) ++ g) ++ h) ≡ t ++ (((((((a ++ b) ++ c) ++ d) ++ e) ++ f) ++ g) ++ h)
-together t a b c d e f g h = simp append_assoc
-
-pub joined : (t x y z u v w p q a b c d e f g h : List ℕ) → x ≡ t ++ a → y ≡ x ++ b → z ≡ y ++ c → u ≡ z ++ d → v ≡ u ++ e
-    → w ≡ v ++ f → p ≡ w ++ g → q ≡ p ++ h → q ≡ t ++ (((((((a ++ b) ++ c) ++ d) ++ e) ++ f) ++ g) ++ h)
-joined t x y z u v w p q a b c d e f g h ex ey ez eu ev ew ep eq =
-    rw (eq, ep, ew, ev, eu, ez, ey, ex) (together t a b c d e f g h)
-
-together_five : (t a b c d e : List ℕ) → (((((t ++ a) ++ b) ++ c) ++ d) ++ e) ≡ t ++ ((((a ++ b) ++ c) ++ d) ++ e)
-together_five t a b c d e = simp append_assoc
-
-pub joined_five : (t x y z u v a b c d e : List ℕ) → x ≡ t ++ a → y ≡ x ++ b → z ≡ y ++ c → u ≡ z ++ d → v ≡ u ++ e
-    → v ≡ t ++ ((((a ++ b) ++ c) ++ d) ++ e)
-joined_five t x y z u v a b c d e ex ey ez eu ev = rw (ev, eu, ez, ey, ex) (together_five t a b c d e)
-
-together_three : (t a b c : List ℕ) → (((t ++ a) ++ b) ++ c) ≡ t ++ ((a ++ b) ++ c)
-together_three t a b c = simp append_assoc
-
 pub joined_three : (t x y z a b c : List ℕ) → x ≡ t ++ a → y ≡ x ++ b → z ≡ y ++ c → z ≡ t ++ ((a ++ b) ++ c)
-joined_three t x y z a b c ex ey ez = rw (ez, ey, ex) (together_three t a b c)
+joined_three t x y z a b c ex ey ez = rw (ez, ey, ex) (simp append_assoc)
 
 pub joined_two : (t x y a b : List ℕ) → x ≡ t ++ a → y ≡ x ++ b → y ≡ t ++ (a ++ b)
 joined_two t x y a b ex ey = ey ∙ ap (λ (s : List ℕ). s ++ b) ex ∙ append_assoc t a b
@@ -34,3 +15,11 @@ if_so b t p is = rw is refl
 -- a text that is put if one number is below another
 pub put_if_less : (m n : ℕ) (t new p : List ℕ) → m < n → new ≡ t ++ p → new ≡ t ++ (if nat_lt m n then p else [])
 put_if_less m n t new p lt e = e ∙ if_so (nat_lt m n) t p (lt-ltb m n lt)
+
+pub joined_four : (t x y z u a b c d : List ℕ) → x ≡ t ++ a → y ≡ x ++ b → z ≡ y ++ c → u ≡ z ++ d → u ≡ t ++ (((a ++ b) ++ c) ++ d)
+joined_four t x y z u a b c d ex ey ez eu = rw (eu, ez, ey, ex) (simp append_assoc)
+
+-- the third part is two
+pub joined_six : (t x y z u v a b c d e f : List ℕ) → x ≡ t ++ a → y ≡ x ++ b → z ≡ y ++ (c ++ d) → u ≡ z ++ e → v ≡ u ++ f
+    → v ≡ t ++ (((((a ++ b) ++ c) ++ d) ++ e) ++ f)
+joined_six t x y z u v a b c d e f ex ey ez eu ev = rw (ev, eu, ez, ey, ex) (simp append_assoc)

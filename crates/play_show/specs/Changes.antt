@@ -8,11 +8,12 @@ use Rattle.flat_model.specs.Machine.State.{State}
 use Rattle.flat_model.specs.declared.counter.Counter.{Counter}
 use Rattle.flat_model.specs.declared.counter.Counter.TheVariants.{IpFragments, IpFragdropped, IpFragtimeout, IpReassembled, IpReclaimed, Nobufs}
 use Rattle.flat_model.specs.declared.errno.Errno.{Errno}
+use Rattle.flat_model.specs.declared.usage.Mbstat.{Mbstat}
 use Rattle.ip_out.specs.Questions.{nth_packet}
 use Rattle.sock_calls.specs.Questions.{next_datagram}
 use Rattle.sock_calls.specs.declared.questions.NextDatagram.{NextDatagram}
-use Rattle.play_decode.specs.Packets.{packet_text, kept_text, whole_text}
-use Rattle.play_decode.specs.Texts.{amount}
+use Rattle.play_text.specs.Packets.{packet_text, kept_line, whole_line}
+use Rattle.play_text.specs.Pieces.{amount}
 use Rattle.play_show.specs.declared.changes.TheConstants.{MOST_SENT}
 use Rattle.play_show.specs.declared.snapshot.Snapshot.{Snapshot}
 
@@ -50,8 +51,8 @@ is_kept before after =
 -- what came of a packet's fragment
 abbrev pub fate_text : List ℕ → Snapshot → Snapshot → List ℕ
 fate_text packet before after =
-    if rose IpReassembled before after then line_of (whole_text packet) else
-    if is_kept before after then line_of (kept_text packet) else []
+    if rose IpReassembled before after then whole_line packet else
+    if is_kept before after then kept_line packet else []
 
 -- the packet that came or went
 abbrev pub moved_text : Option (List ℕ) → Snapshot → Snapshot → List ℕ
@@ -68,10 +69,6 @@ unfoldable pub delivered_below : ℕ → List ℕ → List ℕ → List ℕ
 delivered_below zero before after = []
 delivered_below (suc n) before after = delivered_below n before after ++ delivered_line n (get_or before n 0) (get_or after n 0)
 
--- something was sent as so many packets
-abbrev pub sent_line : ℕ → List ℕ
-sent_line all = codes "    sent as " ++ amount all (codes "packet") ++ codes "\n"
-
 -- a packet that waits for the link, if there is one
 abbrev pub waiting_line : Option (List ℕ) → List ℕ
 waiting_line None = []
@@ -81,6 +78,10 @@ waiting_line (Some packet) = line_of (packet_text packet)
 unfoldable pub packets_below : ℕ → ℕ → List Item → List ℕ
 packets_below zero from output = []
 packets_below (suc n) from output = packets_below n from output ++ waiting_line (nth_packet (from + n) output)
+
+-- something was sent as so many packets
+abbrev pub sent_line : ℕ → List ℕ
+sent_line all = codes "    sent as " ++ amount all (codes "packet") ++ codes "\n"
 
 -- how many there are past the first ones, which are told
 abbrev pub more_line : ℕ → List ℕ
@@ -107,13 +108,12 @@ all_lost_text before after =
 -- fewer are free than before, or more
 abbrev pub pool_change : ℕ → ℕ → List ℕ → List ℕ
 pool_change before after what =
-    if nat_lt after before then codes "    " ++ amount (before - after) what ++ codes " taken\n" else
-    if nat_lt before after then codes "    " ++ amount (after - before) what ++ codes " given back\n" else []
+    (if nat_lt after before then codes "    " ++ amount (before - after) what ++ codes " taken\n" else [])
+    ++ (if nat_lt before after then codes "    " ++ amount (after - before) what ++ codes " given back\n" else [])
 
-abbrev pub pool_changes : Snapshot → Snapshot → List ℕ
+abbrev pub pool_changes : Mbstat → Mbstat → List ℕ
 pool_changes before after =
-    pool_change before.usage.free_mbufs after.usage.free_mbufs (codes "mbuf")
-    ++ pool_change before.usage.free_clusters after.usage.free_clusters (codes "cluster")
+    pool_change before.free_mbufs after.free_mbufs (codes "mbuf") ++ pool_change before.free_clusters after.free_clusters (codes "cluster")
 
 -- What came of an event by which this packet came or went, if one did. `output` are the packets that wait for the link
 -- after it.
@@ -123,4 +123,4 @@ changes_text packet before after output =
     ++ delivered_below MAX_SOCKETS before.waiting after.waiting
     ++ sent_text before.output after.output output
     ++ all_lost_text before after
-    ++ pool_changes before after
+    ++ pool_changes before.usage after.usage

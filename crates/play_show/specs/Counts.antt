@@ -5,8 +5,7 @@ use Rattle.flat_model.specs.declared.counter.Counter.{Counter}
 use Rattle.flat_model.specs.declared.counter.Counter.TheVariants.{IpTotal, IpToosmall, IpBadvers, IpBadhlen, IpOptions, IpBadsum, IpBadlen, IpTooshort, IpCantforward, IpBadfrag, IpFragments, IpFragdropped, IpFragtimeout, IpReclaimed, IpReassembled, IpNoproto, UdpHdrops, UdpBadlen, UdpBadsum, UdpNoport, UdpNoportbcast, UdpFullsock, IpLocalout, IpFragmented, OutDropped, Nobufs}
 use Rattle.flat_model.specs.declared.counters.Counters.{Counters}
 use Rattle.flat_model.specs.declared.usage.Mbstat.{Mbstat}
-use Rattle.play_decode.specs.Texts.{amount}
-use Rattle.play_show.specs.Texts.{free_text}
+use Rattle.play_text.specs.Pieces.{amount}
 
 -- what a counter counts
 abbrev pub meaning : Counter → List ℕ
@@ -48,8 +47,6 @@ counters_text c = flat_map (counter_line c) all_counters
 -- what is free of the pool, how many mbufs refer to clusters, and to one cluster at most
 abbrev pub pool_text : Mbstat → List ℕ
 pool_text u =
-    free_text u.free_mbufs u.mbufs (codes "mbuf") ++ free_text u.free_clusters u.clusters (codes "cluster")
-    ++ amount u.refs (codes "reference")
-    ++ codes ", at most "
-    ++ decimal u.most
-    ++ codes " to a cluster"
+    decimal u.free_mbufs ++ codes " of " ++ amount u.mbufs (codes "mbuf") ++ codes " free, "
+    ++ decimal u.free_clusters ++ codes " of " ++ amount u.clusters (codes "cluster") ++ codes " free, "
+    ++ amount u.refs (codes "reference") ++ codes ", at most " ++ decimal u.most ++ codes " to a cluster"

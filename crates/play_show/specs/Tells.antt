@@ -9,7 +9,7 @@ use Rattle.flat_model.specs.declared.usage.Mbstat.{Mbstat}
 use Rattle.ip_out.specs.Questions.{oldest_length}
 use Rattle.play_show.specs.Counts.{counters_text, pool_text}
 use Rattle.play_show.specs.Sockets.{open_below, sockets_below}
-use Rattle.play_decode.specs.Texts.{amount}
+use Rattle.play_text.specs.Pieces.{amount}
 use Rattle.play_show.specs.Texts.{queue_text}
 use Rattle.play_show.specs.Unfinished.{unfinished_lines}
 use Rattle.play_show.specs.declared.topic.Topic.{Topic}

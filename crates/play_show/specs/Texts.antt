@@ -6,11 +6,7 @@ use Rattle.flat_model.specs.declared.address.Addr.{Addr}
 use Rattle.flat_model.specs.declared.errno.Errno.{Errno}
 use Rattle.sock_calls.specs.declared.questions.SocketName.{SocketName}
 use Rattle.sock_calls.specs.declared.questions.NextDatagram.{NextDatagram}
-use Rattle.play_decode.specs.Texts.{amount, end_text}
-
--- so many are free of so many
-abbrev pub free_text : ℕ → ℕ → List ℕ → List ℕ
-free_text free all what = decimal free ++ codes " of " ++ amount all what ++ codes " free, "
+use Rattle.play_text.specs.Pieces.{amount, end_text}
 
 -- ---- addresses and ports: a star for what isn't set
 
@@ -28,15 +24,13 @@ abbrev pub peer_text : Option Addr → List ℕ
 peer_text (Some peer) = codes ", peer " ++ end_text peer
 peer_text None = []
 
-abbrev pub switch_text : Bool → List ℕ → List ℕ
-switch_text on name = if on then codes ", " ++ name else []
-
 -- what it's bound and connected to
 abbrev pub ends_text : SocketName → List ℕ
 ends_text name = codes "local " ++ ip_text name.local ++ codes ":" ++ port_text name.port ++ peer_text name.peer
 
+-- the options that are set
 abbrev pub options_text : SocketName → List ℕ
-options_text name = switch_text name.broadcast (codes "broadcast") ++ switch_text name.reuse_port (codes "reuseport")
+options_text name = (if name.broadcast then codes ", broadcast" else []) ++ (if name.reuse_port then codes ", reuseport" else [])
 
 -- how many of the bytes that a socket takes wait in it
 abbrev pub queued_text : Result ℕ Errno → List ℕ

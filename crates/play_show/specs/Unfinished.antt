@@ -4,22 +4,13 @@ use Rattle.flat_model.specs.Machine.State.{State}
 use Rattle.ip_reass.specs.Questions.{nth_range, nth_unfinished}
 use Rattle.ip_reass.specs.declared.questions.HeldRange.{HeldRange}
 use Rattle.ip_reass.specs.declared.questions.UnfinishedDatagram.{UnfinishedDatagram}
-use Rattle.play_decode.specs.Packets.{way_text}
-use Rattle.play_decode.specs.Texts.{amount}
+use Rattle.play_text.specs.Pieces.{amount, way_text}
 use Rattle.play_show.specs.declared.unfinished.TheConstants.{MOST_DATAGRAMS, MOST_RANGES}
 
--- those past the first so many are counted
-abbrev pub rest_text : ℕ → ℕ → List ℕ
-rest_text most all = if nat_lt most all then codes " and " ++ decimal (all - most) ++ codes " more" else []
-
--- the last range of a datagram came with the last fragment
-abbrev pub end_mark : Bool → List ℕ
-end_mark true = []
-end_mark false = codes ", the end"
-
--- a range, by its first byte and its last one
+-- a range, by its first byte and its last one; the last range came with the last fragment
 abbrev pub held_text : HeldRange → List ℕ
-held_text r = codes "; " ++ decimal r.offset ++ codes " to " ++ decimal (r.offset + r.len - 1) ++ end_mark r.more
+held_text r =
+    codes "; " ++ decimal r.offset ++ codes " to " ++ decimal (r.offset + r.len - 1) ++ (if r.more then [] else codes ", the end")
 
 abbrev pub held_option : Option HeldRange → List ℕ
 held_option None = []
@@ -30,17 +21,19 @@ unfoldable pub ranges_below : ℕ → ℕ → State → List ℕ
 ranges_below zero i s = []
 ranges_below (suc k) i s = ranges_below k i s ++ held_option (nth_range i k s.unfinished)
 
--- identification, protocol and addresses
-abbrev pub key_text : UnfinishedDatagram → List ℕ
-key_text d = codes "    datagram " ++ decimal d.key.id ++ codes " of " ++ way_text d.key.protocol d.key.source d.key.destination
+-- identification, protocol and addresses, how long it's kept, and how many bytes are held
+abbrev pub head_text : UnfinishedDatagram → List ℕ
+head_text d =
+    codes "    datagram " ++ decimal d.key.id ++ codes " of " ++ way_text d.key.protocol d.key.source d.key.destination
+    ++ codes ": " ++ amount d.ticks (codes "tick") ++ codes " left, " ++ amount d.bytes (codes "byte") ++ codes " held"
 
-abbrev pub left_text : UnfinishedDatagram → List ℕ
-left_text d = codes ": " ++ amount d.ticks (codes "tick") ++ codes " left, " ++ amount d.bytes (codes "byte") ++ codes " held"
+-- how many ranges there are past the first ones
+abbrev pub rest_text : ℕ → List ℕ
+rest_text all = if nat_lt MOST_RANGES all then codes " and " ++ decimal (all - MOST_RANGES) ++ codes " more" else []
 
 -- a datagram and its ranges
 abbrev pub datagram_line : UnfinishedDatagram → ℕ → State → List ℕ
-datagram_line d i s =
-    key_text d ++ left_text d ++ ranges_below MOST_RANGES i s ++ rest_text MOST_RANGES d.ranges ++ codes "\n"
+datagram_line d i s = head_text d ++ ranges_below MOST_RANGES i s ++ rest_text d.ranges ++ codes "\n"
 
 abbrev pub line_option : Option UnfinishedDatagram → ℕ → State → List ℕ
 line_option None i s = []
@@ -53,7 +46,7 @@ unfinished_below (suc n) s = unfinished_below n s ++ line_option (nth_unfinished
 
 -- how many there are past the first ones
 abbrev pub rest_line : ℕ → List ℕ
-rest_line all = if nat_lt MOST_DATAGRAMS all then codes "   " ++ rest_text MOST_DATAGRAMS all ++ codes "\n" else []
+rest_line all = if nat_lt MOST_DATAGRAMS all then codes "    and " ++ decimal (all - MOST_DATAGRAMS) ++ codes " more\n" else []
 
 abbrev pub unfinished_lines : State → List ℕ
 unfinished_lines s = unfinished_below MOST_DATAGRAMS s ++ rest_line (length s.unfinished)

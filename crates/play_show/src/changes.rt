@@ -2,17 +2,18 @@
 ghost use Rattle.std.specs.Prelude.{◌≡◌, ◌+◌, ◌*◌, ◌^◌, ◌<◌, ◌≤◌, ◌++◌, length, IfSome, option_map};
 ghost use Rattle.params.specs.declared.TheConstants.{IP_MAX_PACKET, MAX_MTU, MAX_SOCKETS};
 ghost use Rattle.ip_out.specs.Questions.{nth_packet};
-ghost use Rattle.play_decode.specs.Packets as packets;
+ghost use Rattle.play_text.specs.Packets as packets;
 ghost use Rattle.play_show.specs.Changes as texts;
 ghost use Rattle.net_stack.specs.Stack.{state_of};
 
-use crate::amounts::{SHOWN, put_long};
+use crate::SHOWN;
 use crate::snapshot::{SOCKETS, Snapshot};
-use flat_model::Counter;
+use flat_model::{Counter, Mbstat};
 use net_stack::Stack;
 use params::FIRST_DESCRIPTOR;
-use play_decode::{put_amount, put_kept, put_packet, put_whole};
-use script_loop::{Buffer, put_number};
+use play_text::Piece::{Amount, Long, Number, Text};
+use play_text::{put, put_if, put_kept, put_packet, put_whole};
+use script_loop::Buffer;
 
 /// So many packets of a send are told; of more than these, how many more there are.
 const MOST_SENT: u32 = 16;
@@ -46,28 +47,6 @@ fn put_packet_line(text: &mut Buffer<SHOWN>, packet: &[u8])
     text.append(b"\n");
 }
 
-/// Puts a line after the text: that a fragment is kept.
-fn put_kept_line(text: &mut Buffer<SHOWN>, packet: &[u8])
-    requires { length text.old + 100 ≤ SHOWN }
-    ensures items { text.new ≡ text.old ++ texts.line_of (packets.kept_text packet.now) }
-    ensures len { length text.new ≤ length text.old + 100 }
-{
-    text.append(b"    ");
-    put_kept(text, packet);
-    text.append(b"\n");
-}
-
-/// Puts a line after the text: that the datagram of a fragment is whole.
-fn put_whole_line(text: &mut Buffer<SHOWN>, packet: &[u8])
-    requires { length text.old + 100 ≤ SHOWN }
-    ensures items { text.new ≡ text.old ++ texts.line_of (packets.whole_text packet.now) }
-    ensures len { length text.new ≤ length text.old + 100 }
-{
-    text.append(b"    ");
-    put_whole(text, packet);
-    text.append(b"\n");
-}
-
 /// Puts a line after the text for what came of a packet's fragment.
 fn put_fate(text: &mut Buffer<SHOWN>, packet: &[u8], before: &Snapshot, after: &Snapshot)
     requires { length text.old + 100 ≤ SHOWN }
@@ -75,9 +54,9 @@ fn put_fate(text: &mut Buffer<SHOWN>, packet: &[u8], before: &Snapshot, after: &
     ensures len { length text.new ≤ length text.old + 100 }
 {
     if rose(Counter::IpReassembled, before, after) {
-        put_whole_line(text, packet);
+        put_whole(text, packet);
     } else if is_kept(before, after) {
-        put_kept_line(text, packet);
+        put_kept(text, packet);
     }
 }
 
@@ -94,20 +73,6 @@ fn put_moved(text: &mut Buffer<SHOWN>, packet: Option<&[u8]>, before: &Snapshot,
     }
 }
 
-/// Puts a line after the text if more datagrams wait in a socket than before.
-fn put_delivered(text: &mut Buffer<SHOWN>, place: usize, before: u32, after: u32)
-    requires place { place < MAX_SOCKETS }
-    requires room { length text.old + 40 ≤ SHOWN }
-    ensures items { text.new ≡ text.old ++ texts.delivered_line place before after }
-    ensures len { length text.new ≤ length text.old + 40 }
-{
-    if before < after {
-        text.append(b"    delivered to socket ");
-        put_number(text, FIRST_DESCRIPTOR + place as u32);
-        text.append(b"\n");
-    }
-}
-
 /// Puts a line after the text for each socket in which more datagrams wait than before.
 fn put_all_delivered(text: &mut Buffer<SHOWN>, before: &[u32; SOCKETS], after: &[u32; SOCKETS])
     requires { length text.old + 2560 ≤ SHOWN }
@@ -115,7 +80,12 @@ fn put_all_delivered(text: &mut Buffer<SHOWN>, before: &[u32; SOCKETS], after: &
     ensures len { length text.new ≤ length text.old + 2560 }
 {
     'places: for place in 0..SOCKETS {
-        put_delivered(text, place, before[place], after[place]);
+        let fd = FIRST_DESCRIPTOR + place as u32;
+        put_if(
+            text,
+            before[place] < after[place],
+            &[Text(b"    delivered to socket "), Number(fd), Text(b"\n")],
+        );
     }
 }
 
@@ -152,30 +122,6 @@ fn put_all_waiting(
     }
 }
 
-/// Puts a line after the text: as how many packets something was sent.
-fn put_sent_line(text: &mut Buffer<SHOWN>, all: u32)
-    requires { length text.old + 40 ≤ SHOWN }
-    ensures items { text.new ≡ text.old ++ texts.sent_line all }
-    ensures len { length text.new ≤ length text.old + 40 }
-{
-    text.append(b"    sent as ");
-    put_amount(text, all, b"packet");
-    text.append(b"\n");
-}
-
-/// Puts a line after the text for the packets past the first ones, if there are any.
-fn put_more_line(text: &mut Buffer<SHOWN>, all: u32)
-    requires { length text.old + 30 ≤ SHOWN }
-    ensures items { text.new ≡ text.old ++ texts.more_line all }
-    ensures len { length text.new ≤ length text.old + 30 }
-{
-    if MOST_SENT < all {
-        text.append(b"    and ");
-        put_number(text, all - MOST_SENT);
-        text.append(b" more\n");
-    }
-}
-
 /// Puts lines after the text if more packets wait for the link than before: how many, and the first of them.
 fn put_sent(text: &mut Buffer<SHOWN>, machine: &Stack, before: u32, after: u32, room: &mut [u8])
     requires room { length room.old ≡ MAX_MTU }
@@ -185,9 +131,17 @@ fn put_sent(text: &mut Buffer<SHOWN>, machine: &Stack, before: u32, after: u32, 
 {
     if before < after {
         let all = after - before;
-        put_sent_line(text, all);
+        put(
+            text,
+            &[Text(b"    sent as "), Amount(all, b"packet"), Text(b"\n")],
+        );
         put_all_waiting(text, machine, before, all.min(MOST_SENT), room);
-        put_more_line(text, all);
+        let more = all.saturating_sub(MOST_SENT);
+        put_if(
+            text,
+            MOST_SENT < all,
+            &[Text(b"    and "), Number(more), Text(b" more\n")],
+        );
     }
 }
 
@@ -197,13 +151,18 @@ fn put_lost(text: &mut Buffer<SHOWN>, before: u64, after: u64, what: &[u8])
     ensures items { text.new ≡ text.old ++ texts.lost_text before after what.now }
     ensures len { length text.new ≤ length text.old + (length what.now + 50) }
 {
-    if before < after {
-        text.append(b"    unfinished datagrams ");
-        text.append(what);
-        text.append(b": ");
-        put_long(text, after - before);
-        text.append(b"\n");
-    }
+    let count = after.saturating_sub(before);
+    put_if(
+        text,
+        before < after,
+        &[
+            Text(b"    unfinished datagrams "),
+            Text(what),
+            Text(b": "),
+            Long(count),
+            Text(b"\n"),
+        ],
+    );
 }
 
 /// Puts lines after the text for the unfinished datagrams that were dropped after their time or for their buffers.
@@ -230,39 +189,32 @@ fn put_all_lost(text: &mut Buffer<SHOWN>, before: &Snapshot, after: &Snapshot)
 
 /// Puts a line after the text if fewer are free than before, or more.
 fn put_pool_change(text: &mut Buffer<SHOWN>, before: u32, after: u32, what: &[u8])
-    requires { length text.old + length what.now + 40 ≤ SHOWN }
+    requires { length text.old + 2 * length what.now + 60 ≤ SHOWN }
     ensures items { text.new ≡ text.old ++ texts.pool_change before after what.now }
-    ensures len { length text.new ≤ length text.old + (length what.now + 40) }
+    ensures len { length text.new ≤ length text.old + (2 * length what.now + 60) }
 {
-    if after < before {
-        text.append(b"    ");
-        put_amount(text, before - after, what);
-        text.append(b" taken\n");
-    } else if before < after {
-        text.append(b"    ");
-        put_amount(text, after - before, what);
-        text.append(b" given back\n");
-    }
+    let taken = before.saturating_sub(after);
+    let given = after.saturating_sub(before);
+    put_if(
+        text,
+        after < before,
+        &[Text(b"    "), Amount(taken, what), Text(b" taken\n")],
+    );
+    put_if(
+        text,
+        before < after,
+        &[Text(b"    "), Amount(given, what), Text(b" given back\n")],
+    );
 }
 
 /// Puts lines after the text for mbufs and clusters that were taken or given back.
-fn put_pool_changes(text: &mut Buffer<SHOWN>, before: &Snapshot, after: &Snapshot)
-    requires { length text.old + 100 ≤ SHOWN }
+fn put_pool_changes(text: &mut Buffer<SHOWN>, before: &Mbstat, after: &Mbstat)
+    requires { length text.old + 160 ≤ SHOWN }
     ensures items { text.new ≡ text.old ++ texts.pool_changes before.now after.now }
-    ensures len { length text.new ≤ length text.old + 100 }
+    ensures len { length text.new ≤ length text.old + 160 }
 {
-    put_pool_change(
-        text,
-        before.usage.free_mbufs,
-        after.usage.free_mbufs,
-        b"mbuf",
-    );
-    put_pool_change(
-        text,
-        before.usage.free_clusters,
-        after.usage.free_clusters,
-        b"cluster",
-    );
+    put_pool_change(text, before.free_mbufs, after.free_mbufs, b"mbuf");
+    put_pool_change(text, before.free_clusters, after.free_clusters, b"cluster");
 }
 
 /// Puts into a buffer what came of an event, by looks at the machine before and after it. `packet` is the one that came
@@ -289,5 +241,5 @@ pub fn put_changes(
     put_all_delivered(text, &before.waiting, &after.waiting);
     put_sent(text, machine, before.output, after.output, room);
     put_all_lost(text, before, after);
-    put_pool_changes(text, before, after);
+    put_pool_changes(text, &before.usage, &after.usage);
 }

@@ -2,10 +2,11 @@
 ghost use Rattle.std.specs.Prelude.{◌≡◌, ◌+◌, ◌*◌, ◌≤◌, ◌++◌, length};
 ghost use Rattle.play_show.specs.Counts.{meaning, counter_line, counters_text, pool_text};
 
-use crate::amounts::{SHOWN, put_free, put_long};
+use crate::SHOWN;
 use flat_model::{Counter, Counters, Mbstat};
-use play_decode::put_amount;
-use script_loop::{Buffer, put_number};
+use play_text::Piece::{Amount, Long, Number, Text};
+use play_text::put;
+use script_loop::Buffer;
 
 /// What a counter counts.
 fn meaning_of(counter: Counter) -> &'static str
@@ -48,13 +49,18 @@ fn put_counter(text: &mut Buffer<SHOWN>, counter: Counter, counters: &Counters)
     ensures items { text.new ≡ text.old ++ counter_line counters.now counter }
     ensures len { length text.new ≤ length text.old + 130 }
 {
-    text.append(b"    ");
-    text.append(counter.name().as_bytes());
-    text.append(b" ");
-    put_long(text, counters.value(counter));
-    text.append(b": ");
-    text.append(meaning_of(counter).as_bytes());
-    text.append(b"\n");
+    put(
+        text,
+        &[
+            Text(b"    "),
+            Text(counter.name().as_bytes()),
+            Text(b" "),
+            Long(counters.value(counter)),
+            Text(b": "),
+            Text(meaning_of(counter).as_bytes()),
+            Text(b"\n"),
+        ],
+    );
 }
 
 /// Puts the lines of all counters into a buffer.
@@ -72,10 +78,21 @@ pub(crate) fn put_pool(text: &mut Buffer<SHOWN>, usage: Mbstat)
     requires { length text.old + 200 ≤ SHOWN }
     ensures { text.new ≡ text.old ++ pool_text usage }
 {
-    put_free(text, usage.free_mbufs, usage.mbufs, b"mbuf");
-    put_free(text, usage.free_clusters, usage.clusters, b"cluster");
-    put_amount(text, usage.refs, b"reference");
-    text.append(b", at most ");
-    put_number(text, usage.most);
-    text.append(b" to a cluster");
+    put(
+        text,
+        &[
+            Number(usage.free_mbufs),
+            Text(b" of "),
+            Amount(usage.mbufs, b"mbuf"),
+            Text(b" free, "),
+            Number(usage.free_clusters),
+            Text(b" of "),
+            Amount(usage.clusters, b"cluster"),
+            Text(b" free, "),
+            Amount(usage.refs, b"reference"),
+            Text(b", at most "),
+            Number(usage.most),
+            Text(b" to a cluster"),
+        ],
+    );
 }

@@ -2,7 +2,6 @@
 //! counters and its pool, in words.
 #![tactic(auto)]
 
-mod amounts;
 mod changes;
 mod counters;
 mod shown_law;
@@ -12,9 +11,11 @@ mod tell;
 mod topic;
 mod unfinished;
 
-pub use amounts::SHOWN;
 pub use changes::put_changes;
 pub use shown_law::{looks_law, shows_law};
 pub use snapshot::{Snapshot, snapshot_of};
 pub use tell::tell_topic;
 pub use topic::{Topic, topic_of};
+
+/// Room for what is told of a machine.
+pub const SHOWN: usize = 32_768;

@@ -2,16 +2,41 @@
 ghost use Rattle.std.specs.Prelude.{◌≡◌, ◌+◌, ◌≤◌, ◌++◌, Bool, length};
 ghost use Rattle.flat_model.specs.Machine.State.{State};
 ghost use Rattle.params.specs.declared.TheConstants.{MAX_SOCKETS};
-ghost use Rattle.play_show.specs.Texts.{peer_text, switch_text, ends_text, options_text, queued_text, waiting_text, socket_line, queue_text};
+ghost use Rattle.play_show.specs.Texts.{ip_text, port_text, peer_text, ends_text, queued_text, waiting_text, socket_line, queue_text};
 ghost use Rattle.play_show.specs.Sockets.{descriptor_line, is_open, sockets_below, open_below, one_if};
 ghost use Rattle.net_stack.specs.Stack.{state_of};
 
-use crate::amounts::{SHOWN, put_ip, put_port};
+use crate::SHOWN;
 use flat_model::{Addr, Errno};
 use net_stack::{NextDatagram, SocketName, Stack};
 use params::{FIRST_DESCRIPTOR, MAX_SOCKETS, UDP_RECEIVE_SPACE};
-use play_decode::{put_amount, put_end};
-use script_loop::{Buffer, put_number};
+use play_text::Piece::{Address, Amount, Either, End, Number, Text};
+use play_text::put;
+use script_loop::Buffer;
+
+/// Puts the address that a socket is bound to after the text, or `*` if it has none.
+fn put_ip(text: &mut Buffer<SHOWN>, ip: Option<u32>)
+    requires { length text.old + 15 ≤ SHOWN }
+    ensures items { text.new ≡ text.old ++ ip_text ip }
+    ensures len { length text.new ≤ length text.old + 15 }
+{
+    match ip {
+        Some(ip) => put(text, &[Address(ip)]),
+        None => text.append(b"*"),
+    }
+}
+
+/// Puts the port of a socket after the text, or `*` if it has none.
+fn put_port(text: &mut Buffer<SHOWN>, port: Option<u16>)
+    requires { length text.old + 10 ≤ SHOWN }
+    ensures items { text.new ≡ text.old ++ port_text port }
+    ensures len { length text.new ≤ length text.old + 10 }
+{
+    match port {
+        Some(port) => put(text, &[Number(u32::from(port))]),
+        None => text.append(b"*"),
+    }
+}
 
 /// Puts the peer of a socket after the text, if it has one.
 fn put_peer(text: &mut Buffer<SHOWN>, peer: Option<Addr>)
@@ -20,20 +45,7 @@ fn put_peer(text: &mut Buffer<SHOWN>, peer: Option<Addr>)
     ensures len { length text.new ≤ length text.old + 61 }
 {
     if let Some(peer) = peer {
-        text.append(b", peer ");
-        put_end(text, peer);
-    }
-}
-
-/// Puts the name of an option after the text, if it's set.
-fn put_switch(text: &mut Buffer<SHOWN>, on: bool, name: &[u8])
-    requires { length text.old + length name.now + 2 ≤ SHOWN }
-    ensures items { text.new ≡ text.old ++ switch_text on name.now }
-    ensures len { length text.new ≤ length text.old + (length name.now + 2) }
-{
-    if on {
-        text.append(b", ");
-        text.append(name);
+        put(text, &[Text(b", peer "), End(peer)]);
     }
 }
 
@@ -50,16 +62,6 @@ fn put_ends(text: &mut Buffer<SHOWN>, name: SocketName)
     put_peer(text, name.peer);
 }
 
-/// Puts the options of a socket after the text.
-fn put_options(text: &mut Buffer<SHOWN>, name: SocketName)
-    requires { length text.old + 22 ≤ SHOWN }
-    ensures items { text.new ≡ text.old ++ options_text name }
-    ensures len { length text.new ≤ length text.old + 22 }
-{
-    put_switch(text, name.broadcast, b"broadcast");
-    put_switch(text, name.reuse_port, b"reuseport");
-}
-
 /// Puts after the text how many of the bytes that a socket takes wait in it.
 fn put_queued(text: &mut Buffer<SHOWN>, queued: Result<u32, Errno>)
     requires { length text.old + 40 ≤ SHOWN }
@@ -67,11 +69,16 @@ fn put_queued(text: &mut Buffer<SHOWN>, queued: Result<u32, Errno>)
     ensures len { length text.new ≤ length text.old + 40 }
 {
     if let Ok(queued) = queued {
-        text.append(b", ");
-        put_number(text, queued);
-        text.append(b" of ");
-        put_amount(text, UDP_RECEIVE_SPACE, b"byte");
-        text.append(b" queued");
+        put(
+            text,
+            &[
+                Text(b", "),
+                Number(queued),
+                Text(b" of "),
+                Amount(UDP_RECEIVE_SPACE, b"byte"),
+                Text(b" queued"),
+            ],
+        );
     }
 }
 
@@ -87,11 +94,16 @@ fn put_waiting(
 {
     match next {
         Ok(next) => {
-            put_amount(text, next.waiting, b"datagram");
-            text.append(b", the next of ");
-            put_amount(text, next.len, b"byte");
-            text.append(b" from ");
-            put_end(text, next.sender);
+            put(
+                text,
+                &[
+                    Amount(next.waiting, b"datagram"),
+                    Text(b", the next of "),
+                    Amount(next.len, b"byte"),
+                    Text(b" from "),
+                    End(next.sender),
+                ],
+            );
             put_queued(text, queued);
         }
         Err(_) => text.append(b"no datagram"),
@@ -110,12 +122,16 @@ fn put_socket(
     ensures items { text.new ≡ text.old ++ socket_line fd name next queued }
     ensures len { length text.new ≤ length text.old + 360 }
 {
-    text.append(b"    socket ");
-    put_number(text, fd);
-    text.append(b": ");
+    put(text, &[Text(b"    socket "), Number(fd), Text(b": ")]);
     put_ends(text, name);
-    put_options(text, name);
-    text.append(b"; ");
+    put(
+        text,
+        &[
+            Either(name.broadcast, b", broadcast", b""),
+            Either(name.reuse_port, b", reuseport", b""),
+            Text(b"; "),
+        ],
+    );
     put_waiting(text, next, queued);
     text.append(b"\n");
 }
@@ -172,9 +188,14 @@ pub(crate) fn put_queue(text: &mut Buffer<SHOWN>, count: u32, next: Option<u32>)
 {
     match next {
         Some(len) => {
-            put_amount(text, count, b"packet");
-            text.append(b", the next of ");
-            put_amount(text, len, b"byte");
+            put(
+                text,
+                &[
+                    Amount(count, b"packet"),
+                    Text(b", the next of "),
+                    Amount(len, b"byte"),
+                ],
+            );
         }
         None => text.append(b"no packet"),
     }

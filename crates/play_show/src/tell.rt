@@ -3,13 +3,14 @@ ghost use Rattle.play_show.specs.Tells.{Shows};
 ghost use Rattle.stack_call.specs.Moves.{Moves};
 ghost use Rattle.net_stack.specs.Stack.{state_of};
 
-use crate::amounts::SHOWN;
+use crate::SHOWN;
 use crate::counters::{put_counters, put_pool};
 use crate::sockets::{put_queue, put_sockets};
 use crate::topic::Topic;
 use crate::unfinished::put_unfinished;
 use net_stack::Stack;
-use play_decode::put_amount;
+use play_text::Piece::Amount;
+use play_text::put;
 use script_loop::Buffer;
 
 /// Tells of a machine what is asked. What is told in a word or two stands in `told` then, and in `below` the lines
@@ -32,11 +33,14 @@ pub fn tell_topic(
     match topic {
         Topic::Sockets => {
             let count = put_sockets(machine, below);
-            put_amount(told, count, b"socket");
+            put(told, &[Amount(count, b"socket")]);
         }
         Topic::Unfinished => {
             put_unfinished(machine, below);
-            put_amount(told, machine.unfinished_len(), b"unfinished datagram");
+            put(
+                told,
+                &[Amount(machine.unfinished_len(), b"unfinished datagram")],
+            );
         }
         Topic::Queue => put_queue(told, machine.output_len(), machine.next_packet()),
         Topic::Counters => {

@@ -4,10 +4,11 @@ ghost use Rattle.ip_reass.specs.Questions.{nth_range, nth_unfinished};
 ghost use Rattle.play_show.specs.Unfinished as texts;
 ghost use Rattle.net_stack.specs.Stack.{state_of};
 
-use crate::amounts::{SHOWN, put_long};
+use crate::SHOWN;
 use net_stack::{HeldRange, Stack, UnfinishedDatagram};
-use play_decode::{put_amount, put_way};
-use script_loop::{Buffer, put_number};
+use play_text::Piece::{Amount, Either, Long, Number, Text, Way};
+use play_text::{put, put_if};
+use script_loop::Buffer;
 
 /// So many unfinished datagrams are told; of more than these, how many more there are.
 const MOST_DATAGRAMS: u32 = 32;
@@ -15,42 +16,23 @@ const MOST_DATAGRAMS: u32 = 32;
 /// So many ranges of a datagram are told.
 const MOST_RANGES: u32 = 16;
 
-/// Puts after the text how many there are past the first ones.
-fn put_rest(text: &mut Buffer<SHOWN>, most: u32, all: u32)
-    requires { length text.old + 20 ≤ SHOWN }
-    ensures items { text.new ≡ text.old ++ texts.rest_text most all }
-    ensures len { length text.new ≤ length text.old + 20 }
-{
-    if most < all {
-        text.append(b" and ");
-        put_number(text, all - most);
-        text.append(b" more");
-    }
-}
-
-/// Puts after the text whether a range ends its datagram.
-fn put_end_mark(text: &mut Buffer<SHOWN>, more: bool)
-    requires { length text.old + 9 ≤ SHOWN }
-    ensures items { text.new ≡ text.old ++ texts.end_mark more }
-    ensures len { length text.new ≤ length text.old + 9 }
-{
-    if !more {
-        text.append(b", the end");
-    }
-}
-
-/// Puts a range after the text: its first byte and its last one.
+/// Puts a range after the text: its first byte and its last one, and whether it ends its datagram.
 fn put_held(text: &mut Buffer<SHOWN>, range: HeldRange)
     requires { length text.old + 45 ≤ SHOWN }
     ensures items { text.new ≡ text.old ++ texts.held_text range }
     ensures len { length text.new ≤ length text.old + 45 }
 {
     let past = u64::from(range.offset) + u64::from(range.len);
-    text.append(b"; ");
-    put_number(text, range.offset);
-    text.append(b" to ");
-    put_long(text, past.saturating_sub(1));
-    put_end_mark(text, range.more);
+    put(
+        text,
+        &[
+            Text(b"; "),
+            Number(range.offset),
+            Text(b" to "),
+            Long(past.saturating_sub(1)),
+            Either(range.more, b"", b", the end"),
+        ],
+    );
 }
 
 /// Puts a range of the datagram at a place after the text, if it has that range.
@@ -75,30 +57,28 @@ fn put_ranges(machine: &Stack, text: &mut Buffer<SHOWN>, i: u32)
     }
 }
 
-/// Puts a datagram's identification, protocol and addresses after the text.
-fn put_key(text: &mut Buffer<SHOWN>, datagram: UnfinishedDatagram)
-    requires { length text.old + 136 ≤ SHOWN }
-    ensures items { text.new ≡ text.old ++ texts.key_text datagram }
-    ensures len { length text.new ≤ length text.old + 136 }
+/// Puts after the text a datagram's identification, protocol and addresses, how long it's kept, and how many of its
+/// bytes are held.
+fn put_head(text: &mut Buffer<SHOWN>, datagram: UnfinishedDatagram)
+    requires { length text.old + 180 ≤ SHOWN }
+    ensures items { text.new ≡ text.old ++ texts.head_text datagram }
+    ensures len { length text.new ≤ length text.old + 180 }
 {
     let key = datagram.key;
-    text.append(b"    datagram ");
-    put_number(text, u32::from(key.id));
-    text.append(b" of ");
-    put_way(text, key.protocol, key.source, key.destination);
-}
-
-/// Puts after the text how long a datagram is kept, and how many of its bytes are held.
-fn put_left(text: &mut Buffer<SHOWN>, datagram: UnfinishedDatagram)
-    requires { length text.old + 46 ≤ SHOWN }
-    ensures items { text.new ≡ text.old ++ texts.left_text datagram }
-    ensures len { length text.new ≤ length text.old + 46 }
-{
-    text.append(b": ");
-    put_amount(text, u32::from(datagram.ticks), b"tick");
-    text.append(b" left, ");
-    put_amount(text, datagram.bytes, b"byte");
-    text.append(b" held");
+    put(
+        text,
+        &[
+            Text(b"    datagram "),
+            Number(u32::from(key.id)),
+            Text(b" of "),
+            Way(key.protocol, key.source, key.destination),
+            Text(b": "),
+            Amount(u32::from(datagram.ticks), b"tick"),
+            Text(b" left, "),
+            Amount(datagram.bytes, b"byte"),
+            Text(b" held"),
+        ],
+    );
 }
 
 /// Puts the line of the datagram at a place after the text.
@@ -107,10 +87,14 @@ fn put_datagram(machine: &Stack, text: &mut Buffer<SHOWN>, datagram: UnfinishedD
     ensures items { text.new ≡ text.old ++ texts.datagram_line datagram i (state_of machine.now) }
     ensures len { length text.new ≤ length text.old + 930 }
 {
-    put_key(text, datagram);
-    put_left(text, datagram);
+    let rest = datagram.ranges.saturating_sub(MOST_RANGES);
+    put_head(text, datagram);
     put_ranges(machine, text, i);
-    put_rest(text, MOST_RANGES, datagram.ranges);
+    put_if(
+        text,
+        MOST_RANGES < datagram.ranges,
+        &[Text(b" and "), Number(rest), Text(b" more")],
+    );
     text.append(b"\n");
 }
 
@@ -144,9 +128,10 @@ pub(crate) fn put_unfinished(machine: &Stack, text: &mut Buffer<SHOWN>)
 {
     put_datagrams(machine, text);
     let all = machine.unfinished_len();
-    if MOST_DATAGRAMS < all {
-        text.append(b"   ");
-        put_rest(text, MOST_DATAGRAMS, all);
-        text.append(b"\n");
-    }
+    let rest = all.saturating_sub(MOST_DATAGRAMS);
+    put_if(
+        text,
+        MOST_DATAGRAMS < all,
+        &[Text(b"    and "), Number(rest), Text(b" more\n")],
+    );
 }

@@ -6,7 +6,7 @@ use Rattle.segment.specs.Law.{Act, Calls, Seeds, AreActs}
 use Rattle.segment.specs.Segment.{SegmentView}
 use Rattle.play_wire.specs.Acts.{Outcome, IsHostLine}
 use Rattle.play_wire.specs.Runs.{AreToldBy, IsLawful, IsPlayed}
-use Rattle.play_print.specs.declared.form.Form.{Form}
+use Rattle.play_text.specs.declared.form.Form.{Form}
 use Rattle.play_wire.specs.Tells.{Play, Tells, TellsPart, IsDone, next_line, started}
 use Rattle.play_wire.proofs.ActLemmas.{acts_append, calls_are_acts}
 

@@ -2,7 +2,7 @@
 use Rattle.std.specs.Prelude.{◌≡◌, ℕ, Bool, List, slice_get, Option, Some, None, Result, Ok, Err}
 use Rattle.net_stack.specs.Stack.{StackView}
 use Rattle.segment.specs.Segment.{SegmentView}
-use Rattle.play_print.specs.Texts.{if_there}
+use Rattle.play_text.specs.Texts.{if_there}
 use Rattle.play_wire.specs.Acts.{Outcome, Told, Refused, with_stack}
 use Rattle.play_wire.specs.Tells.{Play}
 use Rattle.play_wire.specs.declared.fault.Fault.{Fault}

@@ -9,7 +9,7 @@ use Rattle.flat_wire.specs.Wire.{WasSent}
 use Rattle.net_stack.specs.Stack.{StackView, state_of}
 use Rattle.segment.specs.Law.{Act, Seeds, AreActs, AreOnSegment, turns_of}
 use Rattle.segment.specs.Segment.{SegmentView, no_hosts}
-use Rattle.play_print.specs.declared.form.Form.{Form}
+use Rattle.play_text.specs.declared.form.Form.{Form}
 use Rattle.play_wire.specs.Tells.{Play, TellsBy, started}
 use Rattle.play_wire.specs.declared.hosts.TheConstants.{PACKETS}
 

@@ -3,8 +3,8 @@ use Rattle.std.specs.Prelude.{◌≡◌, ◌⊎◌, ℕ, ◌-◌, ◌&&◌, Bool
 use Rattle.flat_model.specs.Machine.Count.{more_by}
 use Rattle.play_line.specs.declared.fault.Slip.{Slip}
 use Rattle.play_script.specs.Lines.{Reading, Nothing, TooLong, Faulty, Asks, reading}
-use Rattle.play_print.specs.Texts.{fault_text, slip_text}
-use Rattle.play_print.specs.declared.form.Form.{Form}
+use Rattle.play_text.specs.Texts.{fault_text, slip_text}
+use Rattle.play_text.specs.declared.form.Form.{Form}
 use Rattle.play_script.specs.Tells.{is_sound, told_text}
 use Rattle.segment.specs.Law.{Act, AreActs}
 use Rattle.segment.specs.Chances.{seeded}

@@ -7,7 +7,7 @@ ghost use Rattle.flat_model.specs.Runs.Run.{Turn};
 ghost use Rattle.flat_model.specs.Scripts.Script as script;
 ghost use Rattle.flat_model.specs.Scripts.Script.{all_events};
 ghost use Rattle.net_stack.specs.Stack.{state_of};
-ghost use Rattle.play_print.specs.Texts.{if_there};
+ghost use Rattle.play_text.specs.Texts.{if_there};
 ghost use Rattle.play_script.specs.Outcomes.{outcome};
 ghost use Rattle.play_show.specs.Tells.{Shows};
 ghost use Rattle.segment.specs.Inside.{view};

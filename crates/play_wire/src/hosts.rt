@@ -9,7 +9,7 @@ use crate::fault::Fault;
 use crate::names::{NAME, is_name, place_of};
 use crate::tape::Tape;
 use flat_model::Config;
-use link_script::Caller;
+use link_script::{Caller, DEFAULTS};
 use net_stack::Stack;
 use play_settings::{SettingFault, settings_of};
 use script_loop::{Buffer, LineBuffers, Sink, first_word};
@@ -21,22 +21,9 @@ pub(crate) const PACKETS: u16 = 4096;
 
 /// The spare machine.
 const SPARE: Config = Config {
-    addr: 0x0a00_0001,
-    bcast: 0x0a00_00ff,
-    mtu: 1500,
     mbufs: 1,
     clusters: 0,
-    first_id: 1,
-};
-
-/// The settings of a host that its line doesn't tell: those of a script's one machine.
-const DEFAULTS: Config = Config {
-    addr: 0x0a00_0001,
-    bcast: 0x0a00_00ff,
-    mtu: 1500,
-    mbufs: 512,
-    clusters: 64,
-    first_id: 1,
+    ..DEFAULTS
 };
 
 /// The hosts, by their places, and the wire.

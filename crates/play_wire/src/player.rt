@@ -3,7 +3,7 @@ ghost use Rattle.std.specs.Prelude.{◌≡◌, ◌≤◌, ◌++◌, ◌&&◌, �
 ghost use Rattle.flat_model.specs.Machine.Count.{more_by};
 ghost use Rattle.segment.specs.Inside.{view};
 ghost use Rattle.segment.specs.Law.{Act};
-ghost use Rattle.play_print.specs.Texts.{fault_text, if_there, slip_text};
+ghost use Rattle.play_text.specs.Texts.{fault_text, if_there, slip_text};
 ghost use Rattle.play_script.specs.Tells.{is_sound, told_text};
 ghost use Rattle.play_wire.specs.Acts.{Outcome};
 ghost use Rattle.play_wire.specs.Faults.{words_of};
@@ -17,8 +17,8 @@ use crate::names::{NAME, named, place_of};
 use crate::print::{ROOM, SCRIPT, put_labelled, shift};
 use play_line::{LONGEST, Slip};
 use play_packet::LineReader;
-use play_print::{Form, put_fault, put_outcome, put_slip};
 use play_script::{Kind, meets, read_line};
+use play_text::{Form, put_fault, put_outcome, put_slip};
 use script_loop::{Answers, Buffer, HELD, Sink};
 
 /// A line: the host that it names, the rest as it's written, the plain line that the rest stands for, and the words
@@ -104,7 +104,7 @@ fn print_told(sheet: &Sheet, desk: &Desk, notes: &mut Notes, text: &mut Buffer<R
 {
     put_labelled(&mut notes.line, desk);
     let met = is_met(desk, bytes_of(&notes.told));
-    let outcome = play_print::Outcome {
+    let outcome = play_text::Outcome {
         number: sheet.number,
         line: bytes_of(&notes.line),
         told: bytes_of(&notes.told),

@@ -1,7 +1,8 @@
 //! The words that write addresses.
-ghost use Rattle.std.specs.Prelude.{◌≡◌, ℕ, MatchOption};
-ghost use Rattle.flat_model.specs.Scripts.Grammar.{IsAddress};
+ghost use Rattle.std.specs.Prelude.{◌≡◌, ℕ, ◌+◌, ◌≤◌, ◌++◌, MatchOption, length, decimal};
+ghost use Rattle.flat_model.specs.Scripts.Grammar.{IsAddress, address_text};
 
+use script_loop::Buffer;
 use std::net::Ipv4Addr;
 
 /// The address that the word writes.
@@ -12,4 +13,29 @@ pub fn address_of(word: &[u8]) -> Option<u32>
         Ok(address) => Some(address.to_bits()),
         Err(_) => None,
     }
+}
+
+/// Puts one of the four numbers of an address after the text, of three digits at most.
+fn put_octet<const N: usize>(text: &mut Buffer<N>, n: u8)
+    requires { length text.old + 3 ≤ N }
+    ensures items { text.new ≡ text.old ++ decimal n }
+    ensures len { length text.new ≤ length text.old + 3 }
+{
+    let mut digits = itoa::Buffer::new();
+    text.append(digits.format(n).as_bytes());
+}
+
+/// Puts the four numbers of an address after the text, with dots between them. There must be room for 15 bytes.
+pub fn put_address<const N: usize>(text: &mut Buffer<N>, ip: u32)
+    requires { length text.old + 15 ≤ N }
+    ensures items { text.new ≡ text.old ++ address_text ip }
+    ensures len { length text.new ≤ length text.old + 15 }
+{
+    put_octet(text, (ip / 0x0100_0000) as u8);
+    text.append(b".");
+    put_octet(text, (ip / 0x0001_0000 % 0x0100) as u8);
+    text.append(b".");
+    put_octet(text, (ip / 0x0100 % 0x0100) as u8);
+    text.append(b".");
+    put_octet(text, (ip % 0x0100) as u8);
 }

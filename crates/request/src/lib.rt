@@ -9,9 +9,9 @@ mod read;
 mod reply;
 mod request;
 
-pub use address::address_of;
+pub use address::{address_of, put_address};
 pub use laws::lines_law;
-pub use print::{TEXT, put_line, put_reply};
+pub use print::{TEXT, put_line, put_long, put_reply};
 pub use read::request_of;
 pub use reply::Reply;
 pub use request::Request;

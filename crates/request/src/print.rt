@@ -2,11 +2,11 @@
 ghost use Rattle.std.specs.Prelude.{◌≡◌, ◌+◌, ◌*◌, ◌≤◌, ◌<◌, ◌++◌, length, Some, codes, decimal, IfSome};
 ghost use Rattle.params.specs.declared.TheConstants.{IP_MAX_PACKET, LONGEST_REQUEST};
 ghost use Rattle.flat_model.specs.Machine.Count.{counter_name};
-ghost use Rattle.flat_model.specs.Scripts.Grammar.{address_text};
 ghost use Rattle.flat_model.specs.Machine.Event.{Received, Given};
 ghost use Rattle.flat_model.specs.Scripts.Texts.{hex_text, refusal_text, lack_text, reply_text, answer_text, count, count_text, counters_text, usage_text, share_text};
 ghost use Rattle.request.specs.Replies.{reply_of, len_of};
 
+use crate::address::put_address;
 use crate::reply::Reply;
 use flat_model::{Addr, Counter, Counters, Errno, Mbstat};
 use params::LONGEST_REQUEST;
@@ -14,20 +14,6 @@ use script_loop::{Buffer, HELD, put_hex, put_number};
 
 /// Room for the longest line of reply, after those that are held.
 pub const TEXT: usize = HELD + LONGEST_REQUEST as usize;
-
-fn put_address<const N: usize>(text: &mut Buffer<N>, ip: u32)
-    requires { length text.old + 43 ≤ N }
-    ensures items { text.new ≡ text.old ++ address_text ip }
-    ensures len { length text.new ≤ length text.old + 43 }
-{
-    put_number(text, ip / 0x0100_0000);
-    text.append(b".");
-    put_number(text, ip / 0x0001_0000 % 0x0100);
-    text.append(b".");
-    put_number(text, ip / 0x0100 % 0x0100);
-    text.append(b".");
-    put_number(text, ip % 0x0100);
-}
 
 /// What was lacking, after the name of a refusal.
 fn put_lack<const N: usize>(text: &mut Buffer<N>, errno: Errno)
@@ -53,8 +39,8 @@ fn put_refusal<const N: usize>(text: &mut Buffer<N>, errno: Errno)
     put_lack(text, errno);
 }
 
-/// Puts the digits of a number after the text, twenty of them at most.
-fn put_long<const N: usize>(text: &mut Buffer<N>, n: u64)
+/// Puts the digits of a number after the text, twenty of them at most. There must be room for twenty.
+pub fn put_long<const N: usize>(text: &mut Buffer<N>, n: u64)
     requires { length text.old + 20 ≤ N }
     ensures items { text.new ≡ text.old ++ decimal n }
     ensures len { length text.new ≤ length text.old + 20 }

@@ -1,4 +1,6 @@
-use Rattle.std.proofs.Common.{ℕ, ◌-◌, ◌++◌, min, List, ap, ◌∙◌}
+use Rattle.std.proofs.Common.{ℕ, ◌-◌, ◌++◌, [], min, codes, List, if◌then◌else◌, ap, ◌∙◌}
+use Rattle.std.specs.Fmt.{decimal}
+use Rattle.std.specs.Prelude.{nat_lt}
 use Rattle.flat_model.specs.Amounts.Weight.{Item}
 use Rattle.play_show.specs.Changes.{sent_line, packets_below, more_line}
 use Rattle.play_show.specs.declared.changes.TheConstants.{MOST_SENT}
@@ -10,11 +12,12 @@ pub returns-then-before-after-clause-items : goal.returns-then-before-after-clau
 returns-then-before-after-clause-items c =
     let output : List Item = (state_of c.args.machine.now).output in
     let all : ℕ = c.args.after - c.args.before in
-    put_if_less c.args.before c.args.after c.args.text.now c.put_more_line.new.text
+    put_if_less c.args.before c.args.after c.args.text.now c.put_if.new.text
     (sent_line all ++ packets_below (min all MOST_SENT) c.args.before output ++ more_line all) c.if-before-after.true
-    (joined_three c.args.text.now c.put_sent_line.new.text c.put_all_waiting.new.text c.put_more_line.new.text
+    (joined_three c.args.text.now c.put.new.text c.put_all_waiting.new.text c.put_if.new.text
     (sent_line all) (packets_below (min all MOST_SENT) c.args.before output) (more_line all)
-    c.put_sent_line.ensures.items
-    (c.put_all_waiting.ensures.items
-    ∙ ap (λ (k : ℕ). c.put_sent_line.new.text ++ packets_below k c.args.before output) c.min.ensures)
-    c.put_more_line.ensures.items)
+    c.put.ensures.items
+    (c.put_all_waiting.ensures.items ∙ ap (λ (k : ℕ). c.put.new.text ++ packets_below k c.args.before output) c.min.ensures)
+    (c.put_if.ensures.items
+    ∙ ap (λ (n : ℕ). c.put_all_waiting.new.text ++ (if nat_lt MOST_SENT all then codes "    and " ++ decimal n ++ codes " more\n" else []))
+    c.saturating_sub-more.ensures))

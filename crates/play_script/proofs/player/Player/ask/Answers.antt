@@ -1,6 +1,6 @@
 use Rattle.std.proofs.Common.{◌≡◌, ℕ, Bool, ◌&&◌, List, Option, ap, ◌∙◌}
 use Rattle.play_show.specs.Topics.{topic_asked}
-use Rattle.play_print.specs.Texts.{if_there}
+use Rattle.play_text.specs.Texts.{if_there}
 use Rattle.play_script.specs.Inside.{expected_on, play_of}
 use Rattle.play_script.specs.Plays.{scene_of}
 use Rattle.play_script.specs.Tells.{is_sound, printed, stays_head}

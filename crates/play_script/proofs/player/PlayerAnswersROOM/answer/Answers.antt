@@ -1,6 +1,6 @@
 use Rattle.std.proofs.Common.{◌≡◌, sym, rules}
 use Rattle.flat_model.specs.Machine.Count.{more_by}
-use Rattle.play_print.specs.Texts.{if_there}
+use Rattle.play_text.specs.Texts.{if_there}
 use Rattle.play_script.specs.Inside.{play_of}
 use Rattle.play_script.proofs.AnswerLemmas.{Asks-tells}
 use Rattle.stack_call.specs.Moves.{Moves}

@@ -1,6 +1,6 @@
 use Rattle.std.proofs.Common.{[], ◌&&◌, ◌-◌, ◌∙◌, ℕ, List, false, refl, codes, length, ap, subst}
 use Rattle.play_script.specs.Lines.{Nothing, TooLong, Faulty, Asks}
-use Rattle.play_print.specs.Texts.{fault_text, if_there, slip_text}
+use Rattle.play_text.specs.Texts.{fault_text, if_there, slip_text}
 use Rattle.segment.specs.Inside.{view}
 use Rattle.play_wire.specs.Inside.{play_with}
 use Rattle.play_wire.specs.Tells.{IsDone, next_line, shifted, sound_of, text_of}

@@ -1,2 +1,0 @@
-mod StringLemmas
-mod ColourLemmas

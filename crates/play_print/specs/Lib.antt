@@ -1,4 +1,0 @@
-pub mod Forms
-pub mod Strings
-pub mod Texts
-pub mod Law

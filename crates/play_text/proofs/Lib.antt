@@ -1,0 +1,4 @@
+mod PieceLemmas
+mod PacketLemmas
+mod StringLemmas
+mod ColourLemmas

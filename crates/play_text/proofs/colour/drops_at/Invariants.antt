@@ -1,0 +1,12 @@
+use Rattle.std.proofs.Common.{◌≡◌, ◌+◌, ◌-◌, ◌≤◌, length, drop}
+use Rattle.play_text.specs.Forms.{drops_at}
+use Rattle.play_text.proofs.colour.drops_at.Given as goal
+
+abbrev pub invariant-loop-at : goal.invariant-loop-at
+invariant-loop-at l = record {
+  is : drops_at l.told ≡ l.at + drops_at (drop l.at l.told);
+  most : l.at ≤ length l.told;
+}
+
+abbrev pub decreases-loop-at : goal.decreases-loop-at
+decreases-loop-at l = length l.told - l.at

@@ -1,0 +1,64 @@
+-- The forms in which a player prints, and the colours of one of them (this project's own).
+use Rattle.std.specs.Prelude.{ℕ, zero, suc, Bool, true, false, List, [], ◌∷◌, ◌++◌, take, drop, codes, if◌then◌else◌, bytes_eq, length}
+use Rattle.play_text.specs.declared.form.Form.{Form}
+use Rattle.play_text.specs.declared.form.Form.TheVariants.{Plain, Quiet, Coloured, QuietColoured, Json}
+
+-- replies and differences alone
+abbrev pub is_quiet : Form → Bool
+is_quiet Quiet = true
+is_quiet QuietColoured = true
+is_quiet _ = false
+
+abbrev pub is_coloured : Form → Bool
+is_coloured Coloured = true
+is_coloured QuietColoured = true
+is_coloured _ = false
+
+abbrev pub is_json : Form → Bool
+is_json Json = true
+is_json _ = false
+
+-- ---- colours, by SGR (ECMA-48 section 8.3.117): ESC [ 3 COLOUR m, and ESC [ 0 m ends them
+
+abbrev pub red : List ℕ
+red = 27 ∷ codes "[31m"
+
+abbrev pub green : List ℕ
+green = 27 ∷ codes "[32m"
+
+abbrev pub yellow : List ℕ
+yellow = 27 ∷ codes "[33m"
+
+abbrev pub ended : List ℕ
+ended = 27 ∷ codes "[0m"
+
+-- one of these, if there are colours
+abbrev pub if_coloured : Form → List ℕ → List ℕ
+if_coloured form code = if is_coloured form then code else []
+
+-- ---- the colours of what is told
+
+abbrev pub begins_with : List ℕ → List ℕ → Bool
+begins_with text word = bytes_eq (take (length word) text) word
+
+-- where the first `dropped ` begins, or the end of the text
+abbrev pub drops_at : List ℕ → ℕ
+drops_at [] = zero
+drops_at (byte ∷ bytes) = if begins_with (byte ∷ bytes) (codes "dropped ") then zero else suc (drops_at bytes)
+
+-- a refusal is red, and every other reply green
+abbrev pub reply_colour : List ℕ → List ℕ
+reply_colour reply = if begins_with reply (codes "error ") then red else green
+
+-- nothing has no colour
+abbrev pub part_text : List ℕ → List ℕ → List ℕ
+part_text colour [] = []
+part_text colour (byte ∷ bytes) = colour ++ (byte ∷ bytes) ++ ended
+
+-- the reply, and why packets were dropped
+abbrev pub parts_text : ℕ → List ℕ → List ℕ
+parts_text at told = part_text (reply_colour told) (take at told) ++ part_text yellow (drop at told)
+
+abbrev pub reply_text : Bool → List ℕ → List ℕ
+reply_text true told = parts_text (drops_at told) told
+reply_text false told = told

@@ -1,0 +1,6 @@
+pub mod Strings
+pub mod Pieces
+pub mod Packets
+pub mod Forms
+pub mod Texts
+pub mod Law

@@ -1,0 +1,73 @@
+-- Texts, piece by piece (this project's own).
+use Rattle.std.specs.Prelude.{ℕ, ◌+◌, ◌-◌, ◌*◌, ◌==◌, Bool, List, [], ◌∷◌, ◌++◌, length, codes, decimal, if◌then◌else◌, Option, Some, None}
+use Rattle.params.specs.declared.TheConstants.{PROTOCOL_UDP}
+use Rattle.flat_model.specs.Scripts.Grammar.{address_text}
+use Rattle.flat_model.specs.declared.address.Addr.{Addr}
+use Rattle.play_text.specs.Strings.{string_text}
+use Rattle.play_text.specs.declared.piece.Piece.{Piece}
+use Rattle.play_text.specs.declared.piece.Piece.TheVariants.{Text, Either, Number, Long, Maybe, Amount, Address, End, Way, Range, Quoted}
+
+-- a number, or these bytes if there is none
+abbrev pub number_or : Option ℕ → List ℕ → List ℕ
+number_or (Some n) none = decimal n
+number_or None none = none
+
+-- `1 packet`, `2 packets`
+abbrev pub amount : ℕ → List ℕ → List ℕ
+amount n what = decimal n ++ codes " " ++ what ++ (if n == 1 then [] else codes "s")
+
+-- `10.0.0.1:7`
+abbrev pub end_text : Addr → List ℕ
+end_text a = address_text a.ip ++ codes ":" ++ decimal a.port
+
+abbrev pub protocol_text : ℕ → List ℕ
+protocol_text protocol = if protocol == PROTOCOL_UDP then codes "udp" else codes "protocol " ++ decimal protocol
+
+-- protocol and addresses, without ports
+abbrev pub way_text : ℕ → ℕ → ℕ → List ℕ
+way_text protocol source destination =
+    protocol_text protocol ++ codes " " ++ address_text source ++ codes " > " ++ address_text destination
+
+-- which bytes of a datagram: so many from an offset on
+abbrev pub range_text : ℕ → ℕ → List ℕ
+range_text offset n = if n == 0 then codes "no byte" else codes "bytes " ++ decimal offset ++ codes " to " ++ decimal (offset + n - 1)
+
+abbrev pub piece_text : Piece → List ℕ
+piece_text (Text bytes) = bytes.now
+piece_text (Either first this other) = if first then this.now else other.now
+piece_text (Number n) = decimal n
+piece_text (Long n) = decimal n
+piece_text (Maybe n none) = number_or n none.now
+piece_text (Amount n what) = amount n what.now
+piece_text (Address ip) = address_text ip
+piece_text (End end) = end_text end
+piece_text (Way protocol source destination) = way_text protocol source destination
+piece_text (Range offset n) = range_text offset n
+piece_text (Quoted bytes) = string_text bytes.now
+
+abbrev pub text_after : List ℕ → List Piece → List ℕ
+text_after text [] = text
+text_after text (piece ∷ pieces) = text_after (text ++ piece_text piece) pieces
+
+-- one after another
+abbrev pub text_of : List Piece → List ℕ
+text_of pieces = text_after [] pieces
+
+-- ---- how many bytes that are at most
+
+abbrev pub piece_room : Piece → ℕ
+piece_room (Text bytes) = length bytes.now
+piece_room (Either first this other) = length this.now + length other.now
+piece_room (Number n) = 10
+piece_room (Long n) = 20
+piece_room (Maybe n none) = length none.now + 20
+piece_room (Amount n what) = length what.now + 12
+piece_room (Address ip) = 15
+piece_room (End end) = 26
+piece_room (Way protocol source destination) = 53
+piece_room (Range offset n) = 40
+piece_room (Quoted bytes) = 6 * length bytes.now + 2
+
+abbrev pub room_of : List Piece → ℕ
+room_of [] = 0
+room_of (piece ∷ pieces) = piece_room piece + room_of pieces

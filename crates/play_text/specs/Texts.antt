@@ -1,0 +1,80 @@
+-- What is printed for a line of a script (this project's own).
+use Rattle.std.specs.Prelude.{ℕ, Bool, true, false, List, [], ◌++◌, if◌then◌else◌, codes, decimal, Option, Some, None, is_some}
+use Rattle.play_line.specs.Scans.{words_of}
+use Rattle.play_line.specs.declared.fault.Slip.{Slip}
+use Rattle.play_text.specs.Forms.{is_quiet, is_coloured, is_json, if_coloured, red, ended, reply_text}
+use Rattle.play_text.specs.Pieces.{number_or}
+use Rattle.play_text.specs.Strings.{string_text}
+use Rattle.play_text.specs.declared.form.Form.{Form}
+
+-- a text, if there is one
+abbrev pub if_there : Bool → List ℕ → Option (List ℕ)
+if_there true text = Some text
+if_there false text = None
+
+-- ---- texts for people
+
+-- the line with its number
+abbrev pub head_text : Bool → ℕ → List ℕ → List ℕ
+head_text true number line = []
+head_text false number line = decimal number ++ codes "  " ++ line ++ codes " => "
+
+-- the line and what is told of it
+abbrev pub line_text : Form → ℕ → List ℕ → List ℕ → List ℕ
+line_text form number line told =
+    head_text (is_quiet form) number line ++ reply_text (is_coloured form) told ++ codes "\n"
+
+abbrev pub differs_text : Form → List ℕ → ℕ → List ℕ → List ℕ → List ℕ
+differs_text form name number wanted told =
+    if_coloured form red ++ name ++ codes ":" ++ decimal number ++ codes ": expected " ++ wanted ++ codes ", got " ++ told
+    ++ if_coloured form ended ++ codes "\n"
+
+-- nothing, if that was expected or nothing was
+abbrev pub difference_text : Form → List ℕ → ℕ → Option (List ℕ) → Bool → List ℕ → List ℕ
+difference_text form name number (Some wanted) false told = differs_text form name number wanted told
+difference_text form name number _ met told = []
+
+abbrev pub lines_text : Form → List ℕ → ℕ → List ℕ → Option (List ℕ) → Bool → List ℕ → List ℕ → List ℕ
+lines_text form name number line wanted met told below =
+    line_text form number line told ++ below ++ difference_text form name number wanted met told
+
+-- ---- texts for programs
+
+-- what was expected, and whether it came
+abbrev pub expected_text : Option (List ℕ) → Bool → List ℕ
+expected_text None met = codes ",\"expected\":null,\"met\":null}\n"
+expected_text (Some wanted) met =
+    codes ",\"expected\":" ++ string_text wanted ++ codes ",\"met\":" ++ (if met then codes "true" else codes "false") ++ codes "}\n"
+
+abbrev pub outcome_object : List ℕ → ℕ → List ℕ → Option (List ℕ) → Bool → List ℕ → List ℕ → List ℕ
+outcome_object name number line wanted met told below =
+    codes "{\"number\":" ++ decimal number ++ codes ",\"file\":" ++ string_text name
+    ++ codes ",\"line\":" ++ string_text line ++ codes ",\"reply\":" ++ string_text told
+    ++ codes ",\"below\":" ++ string_text below ++ expected_text wanted met
+
+abbrev pub fault_object : List ℕ → ℕ → Option ℕ → List ℕ → List ℕ
+fault_object name number column what =
+    codes "{\"number\":" ++ decimal number ++ codes ",\"file\":" ++ string_text name
+    ++ codes ",\"column\":" ++ number_or column (codes "null") ++ codes ",\"fault\":" ++ string_text what ++ codes "}\n"
+
+-- ---- in each form
+
+-- what is wrong with a line, or with a byte of it
+abbrev pub spot_fault : Form → List ℕ → ℕ → Option ℕ → List ℕ → List ℕ
+spot_fault form name number column what =
+    if is_json form then fault_object name number column what
+    else if_coloured form red ++ name ++ codes ":" ++ decimal number ++ (if is_some column then codes ":" else [])
+    ++ number_or column [] ++ codes ": " ++ what ++ if_coloured form ended ++ codes "\n"
+
+abbrev pub fault_text : Form → List ℕ → ℕ → List ℕ → List ℕ
+fault_text form name number what = spot_fault form name number None what
+
+-- bytes that can't be read, with their column
+abbrev pub slip_text : Form → List ℕ → ℕ → Slip → List ℕ
+slip_text form name number slip = spot_fault form name number (Some slip.column) (words_of slip.fault)
+
+-- what is told of a line and the lines below it, and what was expected, if that isn't what is told
+abbrev pub outcome_text : Form → List ℕ → ℕ → List ℕ → Option (List ℕ) → Bool → List ℕ → List ℕ → List ℕ
+outcome_text form name number line wanted met told below =
+    if is_json form then outcome_object name number line wanted met told below
+    else lines_text form name number line wanted met told below

@@ -1,0 +1,84 @@
+//! Colours of what is told.
+ghost use Rattle.std.specs.Prelude.{◌≡◌, ◌+◌, ◌≤◌, ◌++◌, codes, length};
+ghost use Rattle.play_text.specs.Forms as forms;
+
+use crate::piece::Piece::Text;
+use crate::piece::put;
+use script_loop::Buffer;
+
+/// The beginning of red (ECMA-48 section 8.3.117).
+pub(crate) const RED: &[u8] = b"\x1b[31m";
+
+const GREEN: &[u8] = b"\x1b[32m";
+
+const YELLOW: &[u8] = b"\x1b[33m";
+
+/// The end of a colour.
+pub(crate) const ENDED: &[u8] = b"\x1b[0m";
+
+/// Whether a text begins with a word.
+fn begins_with(text: &[u8], word: &[u8]) -> bool
+    ensures { result ≡ forms.begins_with text.now word.now }
+{
+    text.len() >= word.len() && &text[..word.len()] == word
+}
+
+/// Whether a cause of a drop stands here.
+fn tells_drop(text: &[u8]) -> bool
+    ensures { result ≡ forms.begins_with text.now (codes "dropped ") }
+{
+    begins_with(text, b"dropped ")
+}
+
+/// Where the causes of drops begin in what is told.
+fn drops_at(told: &[u8]) -> usize
+    ensures is { result ≡ forms.drops_at told.now }
+    ensures most { result ≤ length told.now }
+{
+    let mut at = 0;
+    while at < told.len() {
+        if tells_drop(&told[at..]) {
+            return at;
+        }
+        at += 1;
+    }
+    at
+}
+
+/// The colour of a reply.
+fn reply_colour(reply: &[u8]) -> &'static [u8]
+    ensures { result.now ≡ forms.reply_colour reply.now }
+{
+    if begins_with(reply, b"error ") {
+        RED
+    } else {
+        GREEN
+    }
+}
+
+/// Puts a part of what is told after the text, in its colour.
+fn put_part<'a, const N: usize>(text: &mut Buffer<N>, colour: &'a [u8], part: &'a [u8])
+    requires short { length colour.now ≡ 5 }
+    requires room { length text.old + (length part.now + 9) ≤ N }
+    ensures items { text.new ≡ text.old ++ forms.part_text colour.now part.now }
+    ensures len { length text.new ≤ length text.old + (length part.now + 9) }
+{
+    if !part.is_empty() {
+        put(text, &[Text(colour), Text(part), Text(ENDED)]);
+    }
+}
+
+/// Puts what is told after the text, in its colours if there are colours.
+pub(crate) fn put_reply<const N: usize>(text: &mut Buffer<N>, colours: bool, told: &[u8])
+    requires { length text.old + (length told.now + 18) ≤ N }
+    ensures items { text.new ≡ text.old ++ forms.reply_text colours told.now }
+    ensures len { length text.new ≤ length text.old + (length told.now + 18) }
+{
+    if colours {
+        let at = drops_at(told);
+        put_part(text, reply_colour(told), &told[..at]);
+        put_part(text, YELLOW, &told[at..]);
+    } else {
+        text.append(told);
+    }
+}

@@ -1,0 +1,55 @@
+//! Strings, with each byte that can't stand in one escaped.
+ghost use Rattle.std.specs.Prelude.{◌≡◌, ◌+◌, ◌*◌, ◌/◌, ◌%◌, ◌≤◌, ◌++◌, [], ◌∷◌, length};
+ghost use Rattle.std.specs.Char.{digit_char};
+ghost use Rattle.play_text.specs.Strings.{code_text, escaped_byte, string_text};
+
+use script_loop::Buffer;
+
+/// The two digits of a byte to the base 16, in lower case.
+fn digits(byte: u8) -> [u8; 2]
+    ensures { result ≡ digit_char (byte / 16) ∷ digit_char (byte % 16) ∷ [] }
+{
+    let mut digits = [0; 2];
+    let _ = hex::encode_to_slice(&[byte], &mut digits);
+    digits
+}
+
+/// Puts a byte's number after the text, as a string has it.
+fn put_code<const N: usize>(text: &mut Buffer<N>, byte: u8)
+    requires { length text.old + 6 ≤ N }
+    ensures items { text.new ≡ text.old ++ code_text byte }
+    ensures len { length text.new ≤ length text.old + 6 }
+{
+    text.append(b"\\u00");
+    text.append(&digits(byte));
+}
+
+/// Puts what stands in a string for a byte after the text.
+fn put_byte<const N: usize>(text: &mut Buffer<N>, byte: u8)
+    requires { length text.old + 6 ≤ N }
+    ensures items { text.new ≡ text.old ++ escaped_byte byte }
+    ensures len { length text.new ≤ length text.old + 6 }
+{
+    if byte == b'"' || byte == b'\\' {
+        text.append(&[b'\\', byte]);
+    } else if byte < 0x20 || byte > 0x7e {
+        put_code(text, byte);
+    } else {
+        text.push(byte);
+    }
+}
+
+/// Puts a string of JSON (RFC 8259 section 7) after the text. Each byte is the character with its number, 0 to 255, and
+/// what isn't ASCII is written as `\u00` and two digits. So a reader has all bytes back, whatever they are, by Latin-1.
+/// There must be room for six bytes for each byte, and the two quotes.
+pub(crate) fn put_string<const N: usize>(text: &mut Buffer<N>, bytes: &[u8])
+    requires { length text.old + (6 * length bytes.now + 2) ≤ N }
+    ensures items { text.new ≡ text.old ++ string_text bytes.now }
+    ensures len { length text.new ≤ length text.old + (6 * length bytes.now + 2) }
+{
+    text.push(b'"');
+    for byte in bytes {
+        put_byte(text, *byte);
+    }
+    text.push(b'"');
+}

@@ -1,0 +1,104 @@
+//! What is wrong with a line.
+ghost use Rattle.std.specs.Prelude.{◌≡◌, ◌+◌, ◌*◌, ◌≤◌, ◌++◌, length};
+ghost use Rattle.play_text.specs.Texts.{fault_text, slip_text, spot_fault};
+
+use crate::colour::{ENDED, RED};
+use crate::form::Form;
+use crate::piece::Piece::{Either, Long, Maybe, Quoted, Text};
+use crate::piece::put;
+use play_line::Slip;
+use script_loop::Buffer;
+
+/// Where a line of a script stands, or a byte of it.
+#[derive(Clone, Copy)]
+struct Spot<'a> {
+    name: &'a [u8],
+    number: u64,
+    column: Option<u64>,
+}
+
+/// Puts what is wrong with a line after the text, or with a byte of it, in this form.
+fn put_spot_fault<'a, const N: usize>(
+    text: &mut Buffer<N>,
+    form: Form,
+    spot: &'a Spot<'a>,
+    what: &'a [u8],
+)
+    requires { length text.old + (6 * (length spot.now.name.now + length what.now) + 128) ≤ N }
+    ensures { text.new
+        ≡ text.old ++ spot_fault form spot.now.name.now spot.now.number spot.now.column what.now }
+{
+    if form.is_json() {
+        put(
+            text,
+            &[
+                Text(b"{\"number\":"),
+                Long(spot.number),
+                Text(b",\"file\":"),
+                Quoted(spot.name),
+                Text(b",\"column\":"),
+                Maybe(spot.column, b"null"),
+                Text(b",\"fault\":"),
+                Quoted(what),
+                Text(b"}\n"),
+            ],
+        );
+    } else {
+        let colours = form.is_coloured();
+        put(
+            text,
+            &[
+                Either(colours, RED, b""),
+                Text(spot.name),
+                Text(b":"),
+                Long(spot.number),
+                Either(spot.column.is_some(), b":", b""),
+                Maybe(spot.column, b""),
+                Text(b": "),
+                Text(what),
+                Either(colours, ENDED, b""),
+                Text(b"\n"),
+            ],
+        );
+    }
+}
+
+/// Puts what is wrong with a line of a script after the text, in this form: the script's name, the line's number, and
+/// what is wrong. There must be room for six bytes for each byte of both texts, and for 128 more.
+pub fn put_fault<const N: usize>(
+    text: &mut Buffer<N>,
+    form: Form,
+    name: &[u8],
+    number: u64,
+    what: &[u8],
+)
+    requires { length text.old + (6 * (length name.now + length what.now) + 128) ≤ N }
+    ensures { text.new ≡ text.old ++ fault_text form name.now number what.now }
+{
+    let spot = Spot {
+        name,
+        number,
+        column: None,
+    };
+    put_spot_fault(text, form, &spot, what);
+}
+
+/// Puts what is wrong with the bytes of a line after the text, in this form: the script's name, the line's number, the
+/// column and what is wrong. There must be room for six bytes for each byte of the name, and for 512 more.
+pub fn put_slip<const N: usize>(
+    text: &mut Buffer<N>,
+    form: Form,
+    name: &[u8],
+    number: u64,
+    slip: Slip,
+)
+    requires { length text.old + (6 * length name.now + 512) ≤ N }
+    ensures { text.new ≡ text.old ++ slip_text form name.now number slip }
+{
+    let spot = Spot {
+        name,
+        number,
+        column: Some(slip.column),
+    };
+    put_spot_fault(text, form, &spot, slip.fault.words().as_bytes());
+}

@@ -1,0 +1,149 @@
+//! What is told of a line.
+ghost use Rattle.std.specs.Prelude.{◌≡◌, ◌+◌, ◌*◌, ◌≤◌, ◌++◌, length};
+ghost use Rattle.play_text.specs.Texts.{expected_text, if_there, line_text, lines_text, outcome_object, outcome_text};
+
+use crate::colour::{ENDED, RED, put_reply};
+use crate::form::Form;
+use crate::piece::Piece::{Either, Long, Quoted, Text};
+use crate::piece::put;
+use script_loop::Buffer;
+
+/// What is told of a line.
+#[derive(Clone, Copy)]
+pub struct Outcome<'a> {
+    /// The line's number.
+    pub number: u64,
+    /// The line as it's written.
+    pub line: &'a [u8],
+    /// Its reply, and why packets were dropped.
+    pub told: &'a [u8],
+    /// The lines below it.
+    pub below: &'a [u8],
+    /// Whether something was expected, and what.
+    pub expects: bool,
+    pub wanted: &'a [u8],
+    /// Whether it came.
+    pub met: bool,
+}
+
+/// Puts a line and what is told of it after the text.
+fn put_line<const N: usize>(text: &mut Buffer<N>, form: Form, number: u64, line: &[u8], told: &[u8])
+    requires { length text.old + (length line.now + length told.now + 45) ≤ N }
+    ensures items { text.new ≡ text.old ++ line_text form number line.now told.now }
+    ensures len { length text.new ≤ length text.old + (length line.now + length told.now + 45) }
+{
+    if !form.is_quiet() {
+        put(
+            text,
+            &[Long(number), Text(b"  "), Text(line), Text(b" => ")],
+        );
+    }
+    put_reply(text, form.is_coloured(), told);
+    text.append(b"\n");
+}
+
+/// Puts a line and what is told of it after the text, for people: the lines below it, and the difference.
+fn put_lines<'a, const N: usize>(
+    text: &mut Buffer<N>,
+    form: Form,
+    name: &'a [u8],
+    outcome: &'a Outcome<'a>,
+)
+    requires { length text.old + (length name.now + length outcome.now.line.now + length outcome.now.below.now
+        + length outcome.now.wanted.now + 2 * length outcome.now.told.now + 128) ≤ N }
+    ensures { text.new ≡ text.old ++ lines_text form name.now outcome.now.number outcome.now.line.now
+        (if_there outcome.now.expects outcome.now.wanted.now) outcome.now.met
+        outcome.now.told.now outcome.now.below.now }
+{
+    put_line(text, form, outcome.number, outcome.line, outcome.told);
+    text.append(outcome.below);
+    if outcome.expects && !outcome.met {
+        let colours = form.is_coloured();
+        put(
+            text,
+            &[
+                Either(colours, RED, b""),
+                Text(name),
+                Text(b":"),
+                Long(outcome.number),
+                Text(b": expected "),
+                Text(outcome.wanted),
+                Text(b", got "),
+                Text(outcome.told),
+                Either(colours, ENDED, b""),
+                Text(b"\n"),
+            ],
+        );
+    }
+}
+
+/// Puts what was expected after the text, and whether it came, as members of an object of JSON.
+fn put_expected<const N: usize>(text: &mut Buffer<N>, outcome: &Outcome<'_>)
+    requires { length text.old + (6 * length outcome.now.wanted.now + 40) ≤ N }
+    ensures { text.new ≡ text.old
+        ++ expected_text (if_there outcome.now.expects outcome.now.wanted.now) outcome.now.met }
+{
+    if outcome.expects {
+        put(
+            text,
+            &[
+                Text(b",\"expected\":"),
+                Quoted(outcome.wanted),
+                Text(b",\"met\":"),
+                Either(outcome.met, b"true", b"false"),
+                Text(b"}\n"),
+            ],
+        );
+    } else {
+        text.append(b",\"expected\":null,\"met\":null}\n");
+    }
+}
+
+/// Puts a line and what is told of it after the text, as an object of JSON.
+fn put_object<'a, const N: usize>(text: &mut Buffer<N>, name: &'a [u8], outcome: &'a Outcome<'a>)
+    requires { length text.old + (6 * (length name.now + length outcome.now.line.now + length outcome.now.told.now
+        + length outcome.now.below.now + length outcome.now.wanted.now) + 128) ≤ N }
+    ensures { text.new ≡ text.old ++ outcome_object name.now outcome.now.number outcome.now.line.now
+        (if_there outcome.now.expects outcome.now.wanted.now) outcome.now.met
+        outcome.now.told.now outcome.now.below.now }
+{
+    put(
+        text,
+        &[
+            Text(b"{\"number\":"),
+            Long(outcome.number),
+            Text(b",\"file\":"),
+            Quoted(name),
+            Text(b",\"line\":"),
+            Quoted(outcome.line),
+            Text(b",\"reply\":"),
+            Quoted(outcome.told),
+            Text(b",\"below\":"),
+            Quoted(outcome.below),
+        ],
+    );
+    put_expected(text, outcome);
+}
+
+/// Puts a line and what is told of it after the text, in this form. For people it's the line with its number and its
+/// reply, or the reply alone; the lines below it; and a difference under the script's name, if something was expected
+/// and didn't come. For programs it's an object of JSON. There must be room for six bytes for each byte of the texts,
+/// and for 128 more.
+pub fn put_outcome<const N: usize>(
+    text: &mut Buffer<N>,
+    form: Form,
+    name: &[u8],
+    outcome: &Outcome<'_>,
+)
+    requires { length text.old + (6 * (length name.now + length outcome.now.line.now + length outcome.now.told.now
+        + length outcome.now.below.now + length outcome.now.wanted.now) + 128) ≤ N }
+    ensures { text.new ≡ text.old ++ outcome_text form name.now outcome.now.number outcome.now.line.now
+        (if_there outcome.now.expects outcome.now.wanted.now) outcome.now.met
+        outcome.now.told.now outcome.now.below.now }
+{
+    if form.is_json() {
+        put_object(text, name, outcome);
+    } else {
+        put_lines(text, form, name, outcome);
+    }
+}
