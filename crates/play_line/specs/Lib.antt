@@ -1,3 +1,4 @@
-pub mod Signs
-pub mod Scans
+pub mod Faults
+pub mod Bytes
+pub mod Line
 pub mod Shown

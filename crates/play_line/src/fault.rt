@@ -1,6 +1,6 @@
 //! What is wrong with a line.
 ghost use Rattle.std.specs.Prelude.{◌≡◌, ◌≤◌, length};
-ghost use Rattle.play_line.specs.Scans.{words_of};
+ghost use Rattle.play_line.specs.Faults.{words_of};
 
 /// What is wrong with a line.
 #[derive(Clone, Copy)]
@@ -58,8 +58,28 @@ pub enum Fault {
 pub struct Slip {
     /// What is wrong.
     pub fault: Fault,
-    /// The column of the byte where it is, or where the bytes begin that have it; the first column is 1.
+    /// The column of the first byte that can't stand where it does, or the one after the line's last byte if a byte is
+    /// missing there; the first column is 1.
     pub column: u64,
+}
+
+/// Why reading stopped, and where.
+#[derive(Clone, Copy)]
+pub(crate) struct Misread {
+    /// What is wrong.
+    pub(crate) fault: Fault,
+    /// How many bytes of the line are left there.
+    pub(crate) left: usize,
+}
+
+/// Reading stops in front of these bytes.
+pub(crate) fn stop<T>(fault: Fault, left: &[u8]) -> Result<T, Misread>
+    ensures { result ≡ Err (record { fault = fault; left = length left.now }) }
+{
+    Err(Misread {
+        fault,
+        left: left.len(),
+    })
 }
 
 impl Fault {

@@ -1,15 +1,13 @@
-//! Lines that people write: texts, repeated bytes and patterns stand in them in place of hexadecimal digits. A scanner
-//! reads such a line, and answers the plain line that it stands for, or what is wrong with it and in which column.
+//! Lines that people write: texts, repeated bytes and patterns stand in them in place of hexadecimal digits. A reader
+//! answers the plain line that a line stands for, or what is wrong with it and in which column.
 #![tactic(auto)]
 
+mod bytes;
 mod fault;
-mod inside;
-mod outside;
-mod scan;
-mod scanner;
+mod line;
+mod part;
 mod shown;
-mod sign;
 
 pub use fault::{Fault, Slip};
-pub use scanner::{LONGEST, Scanner};
+pub use line::{LONGEST, Reader};
 pub use shown::put_shown;

@@ -2,64 +2,9 @@
 ghost use Rattle.std.specs.Prelude.{◌≡◌, ◌≤◌, length};
 ghost use Rattle.play_line.specs.Shown as lines;
 
-use crate::scanner::LONGEST;
+use crate::bytes::{Class, is_in};
+use crate::line::LONGEST;
 use script_loop::Buffer;
-
-/// Where in a line a byte stands.
-#[derive(Clone, Copy)]
-enum Place {
-    /// Outside of a text.
-    Outside,
-    /// In a text.
-    Text,
-    /// After a backslash in a text.
-    Escape,
-}
-
-/// Where the next byte stands.
-fn place_after(place: Place, byte: u8) -> Place
-    ensures { result ≡ lines.place_after place byte }
-{
-    match place {
-        Place::Outside => {
-            if byte == b'"' {
-                Place::Text
-            } else {
-                Place::Outside
-            }
-        }
-        Place::Text => {
-            if byte == b'"' {
-                Place::Outside
-            } else if byte == b'\\' {
-                Place::Escape
-            } else {
-                Place::Text
-            }
-        }
-        Place::Escape => Place::Text,
-    }
-}
-
-/// Whether a byte begins a comment, or what is expected.
-fn is_end(place: Place, byte: u8) -> bool
-    ensures { result ≡ lines.is_end place byte }
-{
-    match place {
-        Place::Outside => byte == b'#' || byte == b'=',
-        Place::Text | Place::Escape => false,
-    }
-}
-
-/// Whether a byte is a space, a tab or a carriage return outside of a text.
-fn is_gap(place: Place, byte: u8) -> bool
-    ensures { result ≡ lines.is_gap place byte }
-{
-    match place {
-        Place::Outside => byte == b' ' || (byte == b'\t' || byte == b'\r'),
-        Place::Text | Place::Escape => false,
-    }
-}
 
 /// Puts what stands in front of the comment and of what is expected into an empty buffer: the words of the line, as
 /// they're written, with one space between each two.
@@ -69,12 +14,13 @@ pub fn put_shown(line: &[u8], text: &mut Buffer<LONGEST>)
 {
     text.clear();
     let mut gap = false;
-    let mut place = Place::Outside;
+    let mut quoted = false;
+    let mut escaped = false;
     for byte in line {
-        if is_end(place, *byte) {
+        if !quoted && (*byte == b'#' || *byte == b'=') {
             return;
         }
-        if is_gap(place, *byte) {
+        if !quoted && is_in(Class::Blank, *byte) {
             gap = true;
         } else {
             if gap && !text.is_empty() {
@@ -82,7 +28,13 @@ pub fn put_shown(line: &[u8], text: &mut Buffer<LONGEST>)
             }
             text.push(*byte);
             gap = false;
-            place = place_after(place, *byte);
+            let in_text = quoted;
+            quoted = if in_text {
+                escaped || *byte != b'"'
+            } else {
+                *byte == b'"'
+            };
+            escaped = in_text && (!escaped && *byte == b'\\');
         }
     }
 }

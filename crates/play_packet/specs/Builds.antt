@@ -5,7 +5,7 @@ use Rattle.params.specs.declared.TheConstants.{IP_DEFAULT_TTL, IP_MAX_DATA, PROT
 use Rattle.flat_model.specs.Packets.Checksum.{checksum}
 use Rattle.flat_model.specs.Packets.Header.{Head, packet, udp, two_bytes, u16_at, flag}
 use Rattle.flat_model.specs.Scripts.Texts.{hex_text}
-use Rattle.play_line.specs.Scans.{column_of}
+use Rattle.play_line.specs.Line.{column_of}
 use Rattle.play_line.specs.declared.fault.Fault.{Fault}
 use Rattle.play_line.specs.declared.fault.Fault.TheVariants.{NoBytes, NoCount, NoEnd, NoArrow, NoMore, PastEnd, TooLarge}
 use Rattle.play_line.specs.declared.fault.Slip.{Slip}

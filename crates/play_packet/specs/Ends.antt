@@ -1,49 +1,43 @@
 -- The two ends of a datagram, as words write them: `10.0.0.2:5000` (this project's own).
-use Rattle.std.specs.Prelude.{ℕ, ◌+◌, ◌-◌, ◌*◌, ◌==◌, ◌&&◌, ◌||◌, not, true, false, List, fold, if◌then◌else◌, nat_lt, Result, Ok, Err}
+use Rattle.std.specs.Prelude.{ℕ, ◌+◌, ◌*◌, ◌==◌, List, take, drop, position, Option, Some, None, option_map, Result, Ok, Err}
+use Rattle.std.specs.Borrow.{Bor}
 use Rattle.flat_model.specs.declared.address.Addr.{Addr}
-use Rattle.play_line.specs.Signs.{is_decimal}
 use Rattle.play_line.specs.declared.fault.Fault.{Fault}
 use Rattle.play_line.specs.declared.fault.Fault.TheVariants.{NoEnd, NoPort}
-use Rattle.play_packet.specs.declared.ends.End.{End}
+use Rattle.play_packet.specs.Numbers.{number_in}
 
--- before the first byte
-abbrev pub no_end : End
-no_end = record { first = 0; second = 0; third = 0; fourth = 0; parts = 0; value = 0; begun = false; bad = false }
+-- what is read next, if there was something
+abbrev pub next_of : {A B : Type 0} → Option A → (A → Option B) → Option B
+next_of None more = None
+next_of (Some a) more = more a
 
-abbrev pub bad_end : End → End
-bad_end e = record e { bad = true }
+abbrev pub place_of : ℕ → List ℕ → Option ℕ
+place_of sought text = position (λ byte. byte == sought) text
 
--- A digit. There is no 0 in front of another one.
-abbrev pub digit : ℕ → End → End
-digit value e =
-    if (e.begun && e.value == 0) || nat_lt 6553 e.value then bad_end e
-    else record e { value = 10 * e.value + value; begun = true }
+-- a number of 0 to 255 with a dot after it, and what stands after the dot
+abbrev pub octet_in : List ℕ → Option (ℕ × List ℕ)
+octet_in text = next_of (place_of 46 text) (λ at.
+    option_map (λ n. (n, drop (at + 1) text)) (number_in 255 (take at text)))
 
--- a number of 0 to 255 has ended, and it's one of so many
-abbrev pub octet : ℕ → End → End
-octet parts e =
-    if not e.begun || nat_lt 255 e.value then bad_end e
-    else record { first = e.second; second = e.third; third = e.fourth; fourth = e.value; parts = parts; value = 0; begun = false; bad = false }
+-- four numbers with dots between them
+abbrev pub address_in : List ℕ → Option ℕ
+address_in text =
+    next_of (octet_in text) (λ a. next_of (octet_in a.1) (λ b. next_of (octet_in b.1) (λ c.
+    option_map (λ d. 16777216 * a.0 + 65536 * b.0 + 256 * c.0 + d) (number_in 255 c.1))))
 
--- the next byte: dots stand after the first three numbers, and a colon after the fourth
-abbrev pub byte_of_end : End → ℕ → End
-byte_of_end e byte =
-    if e.bad then e
-    else if is_decimal byte then digit (byte - 48) e
-    else if byte == 46 && nat_lt e.parts 3 then octet (e.parts + 1) e
-    else if byte == 58 && e.parts == 3 then octet 4 e
-    else bad_end e
+abbrev pub end_of : Option ℕ → Option ℕ → Result Addr Fault
+end_of None port = Err NoEnd
+end_of (Some ip) None = Err NoPort
+end_of (Some ip) (Some port) = Ok (record { ip = ip; port = port })
 
-abbrev pub address_of : End → ℕ
-address_of e = 16777216 * e.first + 65536 * e.second + 256 * e.third + e.fourth
+abbrev pub end_at : List ℕ → Option ℕ → Result Addr Fault
+end_at word None = Err NoEnd
+end_at word (Some at) = end_of (address_in (take at word)) (number_in 65535 (drop (at + 1) word))
 
--- all bytes were read
-abbrev pub ended : End → Result Addr Fault
-ended e =
-    if not (e.parts == 4) then Err NoEnd
-    else if e.bad || (not e.begun || nat_lt 65535 e.value) then Err NoPort
-    else Ok (record { ip = address_of e; port = e.value })
-
--- the address and the port that a word writes
+-- the address and the port that a word writes, with a colon between them
 abbrev pub end_in : List ℕ → Result Addr Fault
-end_in word = ended (fold byte_of_end no_end word)
+end_in word = end_at word (place_of 58 word)
+
+abbrev pub octet_now : Option (ℕ × Bor (List ℕ)) → Option (ℕ × List ℕ)
+octet_now None = None
+octet_now (Some t) = Some (t.0, t.1.now)

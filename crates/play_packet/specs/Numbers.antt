@@ -2,7 +2,7 @@
 use Rattle.std.specs.Prelude.{ℕ, ◌+◌, ◌-◌, ◌*◌, ◌==◌, ◌&&◌, ◌||◌, not, List, [], ◌∷◌, length, take, slice_index, if◌then◌else◌, codes, bytes_eq, nat_lt, Option, Some, None, Result, Ok, Err}
 use Rattle.hex.specs.Hex.{decode_of}
 use Rattle.hex.specs.declared.error.FromHexError.{FromHexError}
-use Rattle.play_line.specs.Signs.{is_decimal}
+use Rattle.play_line.specs.Bytes.{is_decimal}
 
 -- the number that digits make after those of n, if it's `most` at most
 abbrev pub number_after : ℕ → ℕ → List ℕ → Option ℕ

@@ -1,14 +1,14 @@
 //! Numbers and bytes that words write.
 ghost use Rattle.std.specs.Prelude.{◌≡◌, ◌≤◌, length, take, IfSome};
 ghost use Rattle.params.specs.declared.TheConstants.{IP_MAX_PACKET};
-ghost use Rattle.play_line.specs.Signs as signs;
+ghost use Rattle.play_line.specs.Bytes as bytes_of_line;
 ghost use Rattle.play_packet.specs.Numbers as numbers;
 
 use script_loop::bytes;
 
 /// Whether a byte is a decimal digit.
-pub(crate) fn is_decimal(byte: u8) -> bool
-    ensures { result ≡ signs.is_decimal byte }
+fn is_decimal(byte: u8) -> bool
+    ensures { result ≡ bytes_of_line.is_decimal byte }
 {
     byte >= b'0' && byte <= b'9'
 }

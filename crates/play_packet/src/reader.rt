@@ -1,19 +1,19 @@
 //! What reads a line, whether it names a packet or not.
 ghost use Rattle.std.specs.Prelude.{◌≡◌, ◌≤◌, length, IfErr};
-ghost use Rattle.play_line.specs.Scans.{expanded, now_or, IsShort};
+ghost use Rattle.play_line.specs.Line.{expanded, now_or, IsShort};
 ghost use Rattle.play_packet.specs.Builds.{named};
 ghost use Rattle.play_packet.specs.Reads.{put_or};
 
 use crate::build::Builder;
 use crate::form::{Form, Stage};
-use play_line::{Fault, LONGEST, Scanner, Slip};
+use play_line::{Fault, LONGEST, Reader, Slip};
 use script_loop::Buffer;
 use std::alloc::{AllocError, Global};
 
 /// What reads lines, with all memory that it needs.
 #[derive(Drop)]
 pub struct LineReader {
-    scanner: Scanner,
+    reader: Reader,
     form: Form,
     builder: Builder,
 }
@@ -26,13 +26,13 @@ impl LineReader {
     /// If host memory is lacking.
     pub fn new(alloc: Global) -> Result<LineReader, AllocError> {
         Ok(LineReader {
-            scanner: Scanner::new(alloc)?,
+            reader: Reader::new(alloc)?,
             form: Form::new(alloc)?,
             builder: Builder::new(alloc)?,
         })
     }
 
-    /// The plain line that a line stands for, as a [`Scanner`] answers it. If the line names a packet, the words that
+    /// The plain line that a line stands for, as a [`Reader`] answers it. If the line names a packet, the words that
     /// do are still there.
     ///
     /// # Errors
@@ -42,7 +42,7 @@ impl LineReader {
         ensures is { now_or result ≡ expanded line.now }
         ensures short { IsShort result }
     {
-        self.scanner.plain_line(line)
+        self.reader.plain_line(line)
     }
 
     /// Puts `rx` and the digits of a packet in the place of the words that name it. `words` are those of the plain line
@@ -76,7 +76,7 @@ impl LineReader {
         };
         Err(Slip {
             fault: misfit.fault,
-            column: self.scanner.column_of(line, misfit.place),
+            column: self.reader.column_of(line, misfit.place),
         })
     }
 }

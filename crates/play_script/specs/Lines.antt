@@ -1,11 +1,11 @@
 -- What a line of a commented script is made of (this project's own).
 use Rattle.std.specs.Prelude.{◌≡◌, ℕ, ◌<◌, ◌+◌, ◌==◌, ◌||◌, Bool, true, false, List, [], ◌∷◌, ◌++◌, length, take, drop, get_or, position, if◌then◌else◌, codes, nat_lt, Option, Some, None, Result, Ok, Err}
 use Rattle.flat_model.specs.Scripts.Grammar.{words, IsNumber}
-use Rattle.play_line.specs.Scans.{expanded}
+use Rattle.play_line.specs.Line.{expanded}
 use Rattle.play_line.specs.Shown.{shown}
 use Rattle.play_line.specs.declared.fault.Slip.{Slip}
 use Rattle.play_packet.specs.Builds.{named}
-use Rattle.play_line.specs.declared.scanner.TheConstants.{LONGEST}
+use Rattle.play_line.specs.declared.line.TheConstants.{LONGEST}
 
 -- a space, a tab, or the carriage return in front of a line feed
 abbrev pub is_blank : ℕ → Bool

@@ -1,6 +1,6 @@
 -- What is printed for a line of a script (this project's own).
 use Rattle.std.specs.Prelude.{ℕ, Bool, true, false, List, [], ◌++◌, if◌then◌else◌, codes, decimal, Option, Some, None, is_some}
-use Rattle.play_line.specs.Scans.{words_of}
+use Rattle.play_line.specs.Faults.{words_of}
 use Rattle.play_line.specs.declared.fault.Slip.{Slip}
 use Rattle.play_text.specs.Forms.{is_quiet, is_coloured, is_json, if_coloured, red, ended, reply_text}
 use Rattle.play_text.specs.Pieces.{number_or}

@@ -1,5 +1,5 @@
 //! Which plain line a line stands for, what is wrong with a line that stands for none, and the words of a plain line.
-use play_line::{LONGEST, Scanner, put_shown};
+use play_line::{LONGEST, Reader, put_shown};
 use script_loop::{Buffer, first_word, is_end, one, three, two};
 use std::process::Abort;
 
@@ -46,15 +46,15 @@ static FAULTY: [(&str, &str, u64); 33] = [
     ("rx pcaq", "not a hex digit", 4),
     ("send 3 pcap", "not a hex digit", 8),
     ("rx 00+pcap", "not a hex digit", 7),
-    ("rx pcap a+b", "odd number of hex digits", 9),
+    ("rx pcap a+b", "odd number of hex digits", 10),
     ("send 3 hi", "not a hex digit", 8),
     ("send 3 udp", "not a hex digit", 8),
     ("rx 00+udp", "not a hex digit", 7),
     ("rx udp a > b id 3", "not a hex digit", 14),
     ("sendto 3 10.0.0.2 9 0x12", "not a hex digit", 22),
-    ("rx 450", "odd number of hex digits", 4),
-    ("rx 00+1", "odd number of hex digits", 7),
-    ("rx 123*2", "odd number of hex digits", 4),
+    ("rx 450", "odd number of hex digits", 7),
+    ("rx 00+1", "odd number of hex digits", 8),
+    ("rx 123*2", "odd number of hex digits", 7),
     ("+00", "bytes are missing", 1),
     ("rx *3", "bytes are missing", 4),
     ("rx 00 *3", "bytes are missing", 7),
@@ -64,16 +64,16 @@ static FAULTY: [(&str, &str, u64); 33] = [
     ("rx \"a\"00", "`+` or a blank is missing", 7),
     ("rx 00\"a\"", "`+` or a blank is missing", 6),
     ("rx 00*2*2", "`+` or a blank is missing", 8),
-    ("rx \"\"", "a text without a byte, `-` is no bytes", 4),
-    ("rx \"a", "a text without an end", 4),
+    ("rx \"\"", "a text without a byte, `-` is no bytes", 5),
+    ("rx \"a", "a text without an end", 6),
     ("rx \"a\\q\"", "unknown escape", 7),
     ("rx 00*", "a number is missing", 7),
     ("rx @ 3", "a number is missing", 5),
-    ("rx 00*0", "the number is 0", 4),
-    ("rx 00+@0", "the number is 0", 7),
-    ("rx @65536", "more than 65535 bytes", 4),
-    ("rx 00*65536", "more than 65535 bytes", 4),
-    ("rx @65535+00", "more than 65535 bytes", 11),
+    ("rx 00*0", "the number is 0", 8),
+    ("rx 00+@0", "the number is 0", 9),
+    ("rx @65536", "more than 65535 bytes", 10),
+    ("rx 00*65536", "more than 65535 bytes", 12),
+    ("rx @65535+00", "more than 65535 bytes", 13),
 ];
 
 /// Lines, places in their plain lines, and the columns of the words that begin there.
@@ -82,7 +82,7 @@ static COLUMNS: [(&str, usize, u64); 5] = [
     ("rx \"ab\" + 00*2  id # x", 12, 17),
     ("rx \"ab\" + 00*2  id", 3, 4),
     ("send 3 00", 7, 8),
-    ("rx 00", 9, 5),
+    ("rx 00", 9, 6),
 ];
 
 /// Lines, and what is told of them.
@@ -98,16 +98,16 @@ static SHOWN: [(&str, &str); 5] = [
 ];
 
 /// Whether a line stands for this plain line.
-fn is_plain(scanner: &mut Scanner, line: &str, wanted: &str) -> bool {
-    match scanner.plain_line(line.as_bytes()) {
+fn is_plain(reader: &mut Reader, line: &str, wanted: &str) -> bool {
+    match reader.plain_line(line.as_bytes()) {
         Ok(plain) => plain == wanted.as_bytes(),
         Err(_) => false,
     }
 }
 
 /// Whether this is wrong with a line, in this column.
-fn is_faulty(scanner: &mut Scanner, line: &str, fault: &str, column: u64) -> bool {
-    match scanner.plain_line(line.as_bytes()) {
+fn is_faulty(reader: &mut Reader, line: &str, fault: &str, column: u64) -> bool {
+    match reader.plain_line(line.as_bytes()) {
         Ok(_) => false,
         Err(slip) => slip.fault.words() == fault && slip.column == column,
     }
@@ -115,23 +115,23 @@ fn is_faulty(scanner: &mut Scanner, line: &str, fault: &str, column: u64) -> boo
 
 #[test]
 fn reads_plain_lines(rt: HostRuntime) {
-    let mut scanner = Scanner::new(rt.alloc()).expect(&rt, "memory");
+    let mut reader = Reader::new(rt.alloc()).expect(&rt, "memory");
     for (line, wanted) in PLAIN.iter() {
-        assert!(rt; is_plain(&mut scanner, line, wanted), "at {line}");
+        assert!(rt; is_plain(&mut reader, line, wanted), "at {line}");
     }
 }
 
 #[test]
 fn tells_what_is_wrong(rt: HostRuntime) {
-    let mut scanner = Scanner::new(rt.alloc()).expect(&rt, "memory");
+    let mut reader = Reader::new(rt.alloc()).expect(&rt, "memory");
     for (line, fault, column) in FAULTY.iter() {
-        assert!(rt; is_faulty(&mut scanner, line, fault, *column), "at {line}");
+        assert!(rt; is_faulty(&mut reader, line, fault, *column), "at {line}");
     }
 }
 
 /// How long a line's plain line is.
-fn plain_len(scanner: &mut Scanner, line: &str) -> Option<usize> {
-    match scanner.plain_line(line.as_bytes()) {
+fn plain_len(reader: &mut Reader, line: &str) -> Option<usize> {
+    match reader.plain_line(line.as_bytes()) {
         Ok(plain) => Some(plain.len()),
         Err(_) => None,
     }
@@ -140,18 +140,18 @@ fn plain_len(scanner: &mut Scanner, line: &str) -> Option<usize> {
 /// A line has 65,535 bytes at most at one place, and its plain line 262,144.
 #[test]
 fn takes_long_lines(rt: HostRuntime) {
-    let mut scanner = Scanner::new(rt.alloc()).expect(&rt, "memory");
-    let len = plain_len(&mut scanner, "rx @65534+00 => 00*65533");
+    let mut reader = Reader::new(rt.alloc()).expect(&rt, "memory");
+    let len = plain_len(&mut reader, "rx @65534+00 => 00*65533");
     assert!(rt; len == Some(3 + 131_070 + 4 + 131_066));
     let line = "rx @65534+00 => 00*65534";
-    assert!(rt; is_faulty(&mut scanner, line, "the line is too long", 17));
+    assert!(rt; is_faulty(&mut reader, line, "the line is too long", 25));
 }
 
 #[test]
 fn tells_columns(rt: HostRuntime) {
-    let mut scanner = Scanner::new(rt.alloc()).expect(&rt, "memory");
+    let mut reader = Reader::new(rt.alloc()).expect(&rt, "memory");
     for (line, place, column) in COLUMNS.iter() {
-        let told = scanner.column_of(line.as_bytes(), *place);
+        let told = reader.column_of(line.as_bytes(), *place);
         assert!(rt; told == *column, "at {line}");
     }
 }

@@ -1,6 +1,6 @@
 use Rattle.std.proofs.Common.{◌+◌, ◌≤◌, length, arith}
 use Rattle.std.proofs.Math.Nat.{mul-le-mul_left}
-use Rattle.play_line.proofs.scanner.put_copies.Goals as goal
+use Rattle.play_line.proofs.line.put_copies.Goals as goal
 
 pub append-requires : goal.append-requires
 append-requires c =

@@ -1,6 +1,6 @@
 use Rattle.std.proofs.Common.{◌≡◌, ◌-◌, ◌*◌, ◌≤◌, length}
-use Rattle.play_line.specs.Scans.{counting}
-use Rattle.play_line.proofs.inside.put_pattern.Given as goal
+use Rattle.play_line.specs.Bytes.{counting}
+use Rattle.play_line.proofs.part.put_pattern.Given as goal
 
 abbrev pub invariant-loop-next : goal.invariant-loop-next
 invariant-loop-next l = record {

@@ -1,6 +1,6 @@
 use Rattle.std.proofs.Common.{◌≡◌, ◌+◌, ◌-◌, ◌*◌, ◌≤◌, length}
-use Rattle.play_line.specs.Scans.{appended}
-use Rattle.play_line.proofs.scanner.put_copies.Given as goal
+use Rattle.play_line.specs.Line.{appended}
+use Rattle.play_line.proofs.line.put_copies.Given as goal
 
 abbrev pub invariant-loop-copies : goal.invariant-loop-copies
 invariant-loop-copies l = record {

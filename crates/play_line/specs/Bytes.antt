@@ -1,0 +1,167 @@
+-- How people write bytes: hexadecimal digits, texts and patterns, some of them repeated (this project's own).
+--
+-- Each definition says what one thing is that stands at the beginning of what is left of a line, and what is left after
+-- it. If it doesn't stand there, reading stops at the first byte that can't stand where it does: the column of a slip.
+use Rattle.std.specs.Prelude.{ℕ, ◌+◌, ◌-◌, ◌*◌, ◌/◌, ◌%◌, ◌==◌, ◌&&◌, ◌||◌, not, Bool, true, false, List, [], ◌∷◌, ◌++◌, zero, suc, length, take, drop, position, fold, min, if◌then◌else◌, nat_lt, nat_le, Option, Some, None, Result, Ok, Err}
+use Rattle.std.specs.Borrow.{Bor}
+use Rattle.play_line.specs.declared.bytes.Class.{Class}
+use Rattle.play_line.specs.declared.bytes.Class.TheVariants.{Blank, Decimal, Hex, Word}
+use Rattle.play_line.specs.declared.fault.Fault.{Fault}
+use Rattle.play_line.specs.declared.fault.Fault.TheVariants.{NotHex, OddDigits, NoBytes, NotJoined, EmptyText, UnendedText, UnknownEscape, NoCount, ZeroCount, TooManyBytes}
+use Rattle.play_line.specs.declared.fault.Misread.{Misread}
+use Rattle.play_line.specs.declared.part.Part.{Part}
+use Rattle.play_line.specs.declared.part.TheConstants.{MOST_DIGITS}
+
+-- reading stops in front of these bytes
+abbrev pub stop : {A : Type 0} → Fault → List ℕ → Result A Misread
+stop fault left = Err (record { fault = fault; left = length left })
+
+-- what is read next, unless reading has stopped
+abbrev pub next : {A B : Type 0} → Result A Misread → (A → Result B Misread) → Result B Misread
+next (Ok a) more = more a
+next (Err e) more = Err e
+
+-- what was read, with what is left
+abbrev pub Left : Type 0 → Type 0
+Left A = Result (A × List ℕ) Misread
+
+-- ---- single bytes
+
+-- a space, a tab or a carriage return
+abbrev pub is_blank : ℕ → Bool
+is_blank byte = byte == 32 || (byte == 9 || byte == 13)
+
+abbrev pub is_decimal : ℕ → Bool
+is_decimal byte = nat_le 48 byte && nat_le byte 57
+
+-- what ends a word: a blank, or one of # " + * @ =
+abbrev pub is_sign : ℕ → Bool
+is_sign byte = is_blank byte
+    || (byte == 35 || (byte == 34 || (byte == 43 || (byte == 42 || (byte == 64 || byte == 61)))))
+
+abbrev pub is_in : Class → ℕ → Bool
+is_in Blank byte = is_blank byte
+is_in Decimal byte = is_decimal byte
+is_in Hex byte = is_decimal byte || ((nat_le 65 byte && nat_le byte 70) || (nat_le 97 byte && nat_le byte 102))
+is_in Word byte = not (is_sign byte)
+
+-- the two digits of a byte, in lower case
+abbrev pub digit : ℕ → ℕ
+digit value = if nat_lt value 10 then 48 + value else 87 + value
+
+abbrev pub digits : ℕ → List ℕ
+digits byte = digit (byte / 16) ∷ digit (byte % 16) ∷ []
+
+-- what a byte of a text stands for, after a backslash or by itself: \n, \r, \t, \0, \\ and \"
+abbrev pub meaning : Bool → ℕ → Option ℕ
+meaning false byte = Some byte
+meaning true byte =
+    if byte == 110 then Some 10 else
+    if byte == 114 then Some 13 else
+    if byte == 116 then Some 9 else
+    if byte == 48 then Some 0 else
+    if byte == 92 then Some 92 else
+    if byte == 34 then Some 34 else None
+
+-- ---- the bytes in front
+
+abbrev pub place_or_end : Option ℕ → List ℕ → ℕ
+place_or_end (Some at) left = at
+place_or_end None left = length left
+
+-- how many bytes in front are in a class
+abbrev pub front : Class → List ℕ → ℕ
+front class left = place_or_end (position (λ byte. not (is_in class byte)) left) left
+
+abbrev pub skip : List ℕ → List ℕ
+skip left = drop (front Blank left) left
+
+-- the byte in front is this
+abbrev pub is_next : ℕ → List ℕ → Bool
+is_next byte [] = false
+is_next byte (first ∷ rest) = first == byte
+
+-- ---- texts
+
+abbrev pub if_some : Option ℕ → (ℕ → Left (List ℕ)) → Left (List ℕ) → Left (List ℕ)
+if_some (Some byte) more other = more byte
+if_some None more other = other
+
+-- the digits of a text after those of its bytes so far; the last byte was a backslash if `escaped`
+abbrev pub text_after : List ℕ → Bool → List ℕ → Left (List ℕ)
+text_after done escaped [] = stop UnendedText []
+text_after done escaped (byte ∷ rest) =
+    if not escaped && byte == 34 then (if length done == 0 then stop EmptyText (byte ∷ rest) else Ok (done, rest))
+    else if not escaped && byte == 92 then text_after done true rest
+    else if nat_lt MOST_DIGITS (length done + 2) then stop TooManyBytes (byte ∷ rest)
+    else if_some (meaning escaped byte)
+    (λ meant. text_after (done ++ digits meant) false rest)
+    (stop UnknownEscape (byte ∷ rest))
+
+-- ---- numbers and patterns
+
+-- the number that digits write, or 65,536 if it's more than that
+abbrev pub value_of : List ℕ → ℕ
+value_of word = fold (λ value byte. min 65536 (10 * value + (byte - 48))) 0 word
+
+-- a number of 1 to 65,535, which n digits write
+abbrev pub count_of : List ℕ → ℕ → Left ℕ
+count_of left n =
+    if n == 0 then stop NoCount left
+    else if value_of (take n left) == 0 then stop ZeroCount (drop n left)
+    else if nat_lt 65535 (value_of (take n left)) then stop TooManyBytes (drop n left)
+    else Ok (value_of (take n left), drop n left)
+
+abbrev pub count_at : List ℕ → Left ℕ
+count_at left = count_of left (front Decimal left)
+
+-- the bytes 0, 1, 2 .. 255, 0 .., so many of them
+abbrev pub counting : ℕ → List ℕ
+counting zero = []
+counting (suc n) = counting n ++ digits (n % 256)
+
+-- ---- parts
+
+-- the next n bytes, which have to be hexadecimal digits, two for each byte, if `hex`
+abbrev pub word_of : Bool → ℕ → List ℕ → Left (List ℕ)
+word_of hex n left =
+    if n == 0 then stop NoBytes left
+    else if nat_lt MOST_DIGITS n then stop TooManyBytes (drop n left)
+    else if hex && nat_lt (front Hex left) n then stop NotHex (drop (front Hex left) left)
+    else if hex && n % 2 == 1 then stop OddDigits (drop n left)
+    else Ok (take n left, drop n left)
+
+-- a blank, a comment, `+`, an expectation or the end of the line comes next
+abbrev pub is_closed : List ℕ → Bool
+is_closed [] = true
+is_closed (byte ∷ rest) = is_blank byte || (byte == 35 || (byte == 43 || byte == 61))
+
+-- so many copies of a piece, and then the end of the word, or `+`
+abbrev pub copies : List ℕ → ℕ → List ℕ → Left Part
+copies piece count left =
+    if is_closed left then Ok (record { piece = piece; count = count }, left) else stop NotJoined left
+
+-- as many as stand after `*`, or else one
+abbrev pub repeated : List ℕ → List ℕ → Left Part
+repeated piece left =
+    if is_next 42 left then next (count_at (drop 1 left)) (λ t. copies piece t.0 t.1) else copies piece 1 left
+
+-- a text, or the next n bytes as they stand
+abbrev pub piece_at : Bool → ℕ → List ℕ → Left (List ℕ)
+piece_at hex n left = if is_next 34 left then text_after [] false (drop 1 left) else word_of hex n left
+
+-- the same, or a pattern
+abbrev pub part_at : Bool → ℕ → List ℕ → Left Part
+part_at hex n left =
+    if is_next 64 left then next (count_at (drop 1 left)) (λ t. copies (counting t.0) 1 t.1)
+    else next (piece_at hex n left) (λ t. repeated t.0 t.1)
+
+-- ---- what the code has in hand
+
+abbrev pub with_left : {A : Type 0} → A → Result (Bor (List ℕ)) Misread → Left A
+with_left a (Ok left) = Ok (a, left.now)
+with_left a (Err e) = Err e
+
+abbrev pub counted : Result (ℕ × Bor (List ℕ)) Misread → Left ℕ
+counted (Ok t) = Ok (t.0, t.1.now)
+counted (Err e) = Err e

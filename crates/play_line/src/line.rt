@@ -1,0 +1,302 @@
+//! A whole line, word by word.
+ghost use Rattle.std.specs.Prelude.{◌≡◌, ◌≤◌, ◌<◌, ◌+◌, ◌*◌, true, length};
+ghost use Rattle.play_line.specs.Line as line_specs;
+
+use crate::bytes::{Class, front, is_next, skip};
+use crate::fault::{Fault, Misread, Slip, stop};
+use crate::part::{MOST_DIGITS, Part};
+use script_loop::Buffer;
+use std::alloc::{AllocError, Global};
+
+/// The most bytes that a line may have, and that the plain line may have.
+pub const LONGEST: usize = 262_144;
+
+/// A place at which no word of a plain line begins.
+const WHOLE: usize = LONGEST + 1;
+
+/// What reads a line, and has memory for the plain line that it stands for.
+#[derive(Drop)]
+pub struct Reader {
+    /// The plain line so far.
+    pub(crate) plain: Buffer<LONGEST>,
+    /// The part that was read last.
+    pub(crate) part: Part,
+    /// Where in the plain line the last word begins.
+    pub(crate) begin: usize,
+    /// How many words on the bytes of the line stand, or 0.
+    pub(crate) awaits: usize,
+    /// Whether nothing more is read.
+    pub(crate) ended: bool,
+}
+
+/// Puts so many copies of a piece after the bytes.
+fn put_copies(done: &mut Buffer<LONGEST>, piece: &[u8], count: u32)
+    requires { length done.old + count * length piece.now ≤ LONGEST }
+    ensures { done.new ≡ line_specs.appended done.old count piece.now }
+{
+    let mut copies = 0;
+    while copies < count {
+        done.append(piece);
+        copies += 1;
+    }
+}
+
+/// How many words after this first one of a line its bytes stand.
+fn places(word: &[u8]) -> usize
+    ensures { result ≡ line_specs.places word.now }
+{
+    if word == b"rx".as_slice() {
+        1
+    } else if word == b"send".as_slice() {
+        2
+    } else if word == b"sendto".as_slice() {
+        4
+    } else {
+        0
+    }
+}
+
+/// How many bytes the word in front has, if it's neither a text nor a pattern.
+fn word_len(at: &[u8]) -> usize
+    ensures is { result ≡ line_specs.word_len at.now }
+    ensures most { result ≤ length at.now }
+{
+    if is_next(b'=', at) {
+        1 + front(Class::Word, &at[1..])
+    } else {
+        front(Class::Word, at)
+    }
+}
+
+/// Where a word begins in a plain line of so many bytes.
+fn begin_after(apart: bool, len: usize) -> usize
+    requires { len ≤ LONGEST }
+    ensures { result ≡ line_specs.begin_after apart len }
+{
+    if apart { len + 1 } else { len }
+}
+
+/// Whether the line ends here, or its comment begins.
+fn is_end(left: &[u8]) -> bool
+    ensures { result ≡ line_specs.is_end left.now }
+{
+    match left.first() {
+        Some(byte) => *byte == b'#',
+        None => true,
+    }
+}
+
+/// The column of the first byte that is left.
+fn column_at(line: &[u8], left: usize) -> u64
+    ensures { result ≡ line_specs.column_at line.now left }
+{
+    1 + line.len().saturating_sub(left) as u64
+}
+
+impl Reader {
+    /// A reader, with its memory.
+    ///
+    /// # Errors
+    ///
+    /// If host memory is lacking.
+    pub fn new(alloc: Global) -> Result<Reader, AllocError> {
+        Ok(Reader {
+            plain: Buffer::new(alloc)?,
+            part: Part {
+                piece: Buffer::new(alloc)?,
+                count: 1,
+            },
+            begin: 0,
+            awaits: 0,
+            ended: false,
+        })
+    }
+
+    /// How many words on the bytes of the line stand after one more word.
+    fn next_awaits(&self, word: &[u8]) -> usize
+        ensures { result ≡ line_specs.next_awaits self.now.plain self.now.awaits word.now }
+    {
+        if is_next(b'=', word) {
+            0
+        } else if self.plain.is_empty() {
+            places(word)
+        } else if self.plain.as_slice() == b"rx".as_slice() && word == b"udp".as_slice() {
+            4
+        } else {
+            self.awaits.saturating_sub(1)
+        }
+    }
+
+    /// Whether a word in the place of the bytes needs no digits.
+    fn needs_no_digits(&self, word: &[u8]) -> bool
+        ensures { result ≡ line_specs.needs_no_digits self.now.plain word.now }
+    {
+        word == b"-".as_slice()
+            || (self.plain.as_slice() == b"rx".as_slice()
+                && (word == b"udp".as_slice() || word == b"pcap".as_slice()))
+    }
+
+    /// Whether a word has to be digits, by its place or by what comes after it.
+    fn has_digits(&self, word: &[u8], rest: &[u8]) -> bool
+        ensures { result ≡ line_specs.has_digits self.now.plain self.now.awaits word.now rest.now }
+    {
+        is_next(b'*', rest)
+            || (is_next(b'+', skip(rest)) || (self.awaits == 1 && !self.needs_no_digits(word)))
+    }
+
+    /// Puts the part that was read into the plain line.
+    fn put_part(&mut self, rest: &[u8]) -> Result<(), Misread>
+        ensures { line_specs.done_or result (line_specs.front_of self.new rest.now)
+            ≡ line_specs.with_part (line_specs.front_of self.old rest.now) (self.old.part, rest.now) }
+    {
+        let more = self.part.count as usize * self.part.piece.len();
+        if MOST_DIGITS < self.plain.len().saturating_sub(self.begin) + more {
+            stop(Fault::TooManyBytes, rest)
+        } else if LONGEST < self.plain.len() + more {
+            stop(Fault::TooLong, rest)
+        } else {
+            put_copies(&mut self.plain, self.part.piece.as_slice(), self.part.count);
+            Ok(())
+        }
+    }
+
+    /// Reads a part of bytes into the plain line.
+    fn read_part<'a>(&mut self, hex: bool, n: usize, at: &'a [u8]) -> Result<&'a [u8], Misread>
+        requires { n ≤ length at.now }
+        ensures { line_specs.front_or result self.new
+            ≡ line_specs.part_in hex n (line_specs.front_of self.old at.now) }
+    {
+        match self.part.read(hex, n, at) {
+            Ok(rest) => match self.put_part(rest) {
+                Ok(()) => Ok(rest),
+                Err(e) => Err(e),
+            },
+            Err(e) => Err(e),
+        }
+    }
+
+    /// Reads bytes that `+` joins to the word in front of it.
+    fn read_joined<'a>(&mut self, at: &'a [u8]) -> Result<&'a [u8], Misread>
+        ensures { line_specs.front_or result self.new ≡ line_specs.joined (line_specs.front_of self.old at.now) }
+    {
+        self.read_part(true, front(Class::Word, at), at)
+    }
+
+    /// Begins a word, with a space in front if it's apart from what was read.
+    fn open(&mut self, apart: bool, word: &[u8], at: &[u8])
+        requires { apart ≡ true → length self.old.plain < LONGEST }
+        ensures is { line_specs.front_of self.new at.now
+            ≡ line_specs.opened apart word.now (line_specs.front_of self.old at.now) }
+    {
+        self.awaits = self.next_awaits(word);
+        if apart {
+            self.plain.push(b' ');
+        }
+        self.begin = self.plain.len();
+    }
+
+    /// Reads a word.
+    fn read_word<'a>(&mut self, apart: bool, at: &'a [u8]) -> Result<&'a [u8], Misread>
+        requires { apart ≡ true → length self.old.plain < LONGEST }
+        ensures { line_specs.front_or result self.new
+            ≡ line_specs.word_in apart (line_specs.word_len at.now) (line_specs.front_of self.old at.now) }
+    {
+        let n = word_len(at);
+        let (word, rest) = at.split_at(n);
+        let hex = self.has_digits(word, rest);
+        self.open(apart, word, at);
+        self.read_part(hex, n, at)
+    }
+
+    /// Reads the next word, or the next bytes that `+` joins; none from the word on that begins at the goal.
+    fn step_at<'a>(&mut self, goal: usize, apart: bool, at: &'a [u8]) -> Result<&'a [u8], Misread>
+        ensures { line_specs.front_or result self.new
+            ≡ line_specs.step_at goal apart (line_specs.front_of self.old at.now) }
+    {
+        if is_end(at) {
+            self.ended = true;
+            return Ok(at);
+        }
+        let len = self.plain.len();
+        if is_next(b'+', at) {
+            return if len == 0 {
+                stop(Fault::NoBytes, at)
+            } else {
+                self.read_joined(skip(&at[1..]))
+            };
+        }
+        if apart && LONGEST <= len {
+            return stop(Fault::TooLong, at);
+        }
+        if begin_after(apart, len) == goal {
+            self.ended = true;
+            return Ok(at);
+        }
+        self.read_word(apart, at)
+    }
+
+    /// The same after the blanks in front.
+    fn step<'a>(&mut self, goal: usize, left: &'a [u8]) -> Result<&'a [u8], Misread>
+        ensures { line_specs.front_or result self.new ≡ line_specs.step goal (line_specs.front_of self.old left.now) }
+    {
+        let at = skip(left);
+        let apart = 0 < self.plain.len() && at.len() < left.len();
+        self.step_at(goal, apart, at)
+    }
+
+    /// Reads a line up to the word that begins at the goal of the plain line, and answers what is left.
+    fn read<'a>(&mut self, goal: usize, line: &'a [u8]) -> Result<&'a [u8], Misread>
+        ensures { line_specs.front_or result self.new ≡ line_specs.read goal line.now }
+    {
+        self.plain.clear();
+        self.begin = 0;
+        self.awaits = 0;
+        self.ended = false;
+        let mut left = line;
+        let mut rounds = line.len();
+        while rounds > 0 {
+            match self.step(goal, left) {
+                Ok(rest) => left = rest,
+                Err(e) => return Err(e),
+            }
+            if self.ended {
+                return Ok(left);
+            }
+            rounds -= 1;
+        }
+        Ok(left)
+    }
+
+    /// The plain line that a line stands for: its words with one space between each two, without its comment, and with
+    /// hexadecimal digits for all bytes.
+    ///
+    /// # Errors
+    ///
+    /// What is wrong with the line, and in which column.
+    pub fn plain_line(&mut self, line: &[u8]) -> Result<&[u8], Slip>
+        ensures is { line_specs.now_or result ≡ line_specs.expanded line.now }
+        ensures short { line_specs.IsShort result }
+    {
+        match self.read(WHOLE, line) {
+            Ok(_) => {
+                let len = self.plain.len();
+                Ok(&self.plain.as_slice()[..len])
+            }
+            Err(e) => Err(Slip {
+                fault: e.fault,
+                column: column_at(line, e.left),
+            }),
+        }
+    }
+
+    /// The column of a word of a line, by its place in the plain line: how many bytes stand there in front of it. If no
+    /// word begins there, it's the column after the line's last byte. What was read before is lost.
+    pub fn column_of(&mut self, line: &[u8], place: usize) -> u64
+        ensures { result ≡ line_specs.column_of line.now place }
+    {
+        match self.read(place, line) {
+            Ok(left) => column_at(line, left.len()),
+            Err(e) => column_at(line, e.left),
+        }
+    }
+}
