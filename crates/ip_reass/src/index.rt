@@ -166,6 +166,8 @@ impl Index {
     }
 
     /// Takes a row off. Those after it move down by one, at 14.5 instructions each.
+    // Apart: it's called once for a datagram, and `follow` for each fragment.
+    #[inline(never)]
     pub(crate) fn remove(&mut self, place: usize)
         requires { place < length self.old.buckets }
         ensures rows { self.new.buckets ≡ remove self.old.buckets place }
