@@ -100,6 +100,11 @@ followed n i f p q ds es bs now result same lt left fewer equal = go result left
         fewer size ∙ ap (λ xs. remove xs i) (same ∙ by_queues-are n p ds) ∙ by_remove n i (queues p ds) ∙ ap (by_queues n) (sym l.1) ∙ sym (by_queues-are n q es)
     go (Dropped why) l = stays (ap (λ (xs : List KeyedQueue). length xs) l.0) (ap (by_queues n) l.0)
 
+-- it stays as it was where the fragment is kept
+pub kept_followed : (n i : ℕ) (f : QueuedFragment) (p q : PoolView) (ds es : List Datagram) (bs : List ℕ) → bs ≡ buckets_of n ds → i < length ds → LeavesAt i f (queues p ds) q Kept (queues q es) → bs ≡ buckets_of n es
+kept_followed n i f p q ds es bs same lt l =
+    same ∙ by_queues-are n p ds ∙ sym (ap (by_queues n) l ∙ same_set n i f (queues p ds) (omega (arith, lt, queues_long p ds))) ∙ sym (by_queues-are n q es)
+
 -- ---- a tick
 
 pub aged_few : (ds : List Datagram) → length (aged ds) ≤ length ds

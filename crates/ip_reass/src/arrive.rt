@@ -145,6 +145,9 @@ impl Reass {
                     i,
                     Fragment { chain, head },
                 );
+                if let Arrival::Kept = arrival {
+                    return Arrival::Kept;
+                }
                 let rest = self.datagrams.as_slice().len();
                 self.index.follow(rest, i);
                 arrival
