@@ -11,5 +11,6 @@ mod Keeping
 mod Steps
 mod Unconnected
 mod Finding
+mod ByLink
 mod Opened
 mod Moved

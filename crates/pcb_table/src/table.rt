@@ -1,5 +1,5 @@
 //! The control blocks of a machine, and the calls on them.
-ghost use Rattle.std.specs.Prelude.{◌≡◌, ℕ, ◌<◌, ◌≤◌, [], ◌∷◌, All, None, Some, IfOk, IfSome, OnErr, OnOk, OnSome, length, option_map};
+ghost use Rattle.std.specs.Prelude.{◌≡◌, ◌≢◌, ℕ, ◌<◌, ◌≤◌, [], ◌∷◌, true, All, None, Some, Ok, IfOk, IfSome, OnErr, OnOk, OnSome, length, option_map};
 ghost use Rattle.flat_model.specs.Machine.Event.{Bind, Close, Connect, Open, Set_option};
 ghost use Rattle.flat_model.specs.Machine.State.{State};
 ghost use Rattle.flat_model.specs.Machine.Step.{Step};
@@ -19,7 +19,7 @@ use crate::refusals::{bind_fault, destination_fault, port_unless_zero, unless_ze
 use crate::search::{best, exact, receivers};
 use arrayvec::ArrayVec;
 use flat_model::{Addr, Errno, LookupKey, Opt};
-use params::MAX_SOCKETS;
+use params::{LOOPBACK, MAX_SOCKETS};
 use std::marker::Model;
 
 /// How many sockets are open at most, as the length of an array.
@@ -328,6 +328,22 @@ impl Pcbs {
             Some(errno) => Err(errno),
             None => Ok(to),
         }
+    }
+
+    /// Whether packets of the socket that has this block go to the address by the link, to another machine:
+    /// `check_destination_of` answers the address as it stands then. `false` says nothing. A question of speed alone.
+    #[inline(always)]
+    pub fn goes_by_link(&self, block: &Block, to: Addr) -> bool
+        requires { block_at block.now.fd self.now ≡ Some block.now }
+        ensures checked { result ≡ true → ChecksDestination self.now block.now.fd to (Ok to) }
+        ensures other { result ≡ true
+            → (to.ip ≢ self.now.addr) × (to.ip ≢ self.now.bcast) × (to.ip ≢ LOOPBACK) }
+    {
+        if self.interface.is_ours(to.ip) || block.peer.is_some() {
+            return false;
+        }
+        let fault = destination_fault(&self.blocks, self.interface, block, to);
+        fault.is_none()
     }
 
     /// The address that an open socket's packets to an address come from: its local address if set, or else

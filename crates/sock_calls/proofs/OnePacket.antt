@@ -1,7 +1,7 @@
 -- A send that makes one packet for the link: what it takes, its datagram, and what it puts where.
-use Rattle.std.proofs.Common.{◌≡◌, ℕ, ◌+◌, ◌<◌, ◌≤◌, Bool, true, false, cond, List, [], ◌∷◌, ◌++◌, length, drop, Option, Some, None, refl, sym, ap, ◌∙◌, subst, arith}
-use Rattle.std.specs.Prelude.{count_by, sum_by, ◌==◌}
-use Rattle.std.proofs.lemmas.Bool.{cond-true, cond-false, le-leb, lt-leb}
+use Rattle.std.proofs.Common.{◌≡◌, ◌≢◌, ℕ, ◌+◌, ◌<◌, ◌≤◌, Bool, true, false, cond, List, [], ◌∷◌, ◌++◌, length, drop, Option, Some, None, refl, sym, ap, ◌∙◌, subst, arith}
+use Rattle.std.specs.Prelude.{count_by, sum_by, ◌==◌, ◌||◌}
+use Rattle.std.proofs.lemmas.Bool.{cond-true, cond-false, le-leb, lt-leb, ne_eqb}
 use Rattle.std.proofs.lemmas.List.{append-nil, drop-append-le, length-append, length-map}
 use Rattle.std.proofs.Math.Seq.{drop-append_seam}
 use Rattle.flat_model.specs.Amounts.Layout as flat
@@ -67,6 +67,16 @@ need_link c ip n e = go (is_looped c ip) (ip == c.bcast) e
     go true t e = cc
     go false true e = cc
     go false false e = refl
+
+-- a send to another machine goes by the link
+pub by_link : (c : Config) (ip : ℕ) → (ip ≢ c.addr) × (ip ≢ c.bcast) × (ip ≢ 2130706433) → Way.Link ≡ way_of c ip
+by_link c ip (apart, one, outside) = go (ip == c.addr) (ip == 2130706433) (ip == c.bcast) (ne_eqb ip c.addr apart) (ne_eqb ip 2130706433 outside) (ne_eqb ip c.bcast one)
+  where
+    go : (a l b : Bool) → a ≡ false → l ≡ false → b ≡ false → Way.Link ≡ cond (a || l) Way.Loopback (cond b Way.Both Way.Link)
+    go true l b e f g = cc
+    go false true b e f g = cc
+    go false false true e f g = cc
+    go false false false e f g = refl
 
 -- ---- its bytes behind the headers, in one mbuf
 

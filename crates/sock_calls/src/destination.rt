@@ -1,11 +1,11 @@
 //! Where a send goes, and what it is refused for before its buffers are looked at.
-ghost use Rattle.std.specs.Prelude.{◌≡◌, ◌+◌, ◌≤◌, Some, IfNone, IfOk, OnOk, true};
+ghost use Rattle.std.specs.Prelude.{◌≡◌, ◌≢◌, ℕ, ◌+◌, ◌≤◌, Ok, Some, IfNone, IfOk, IfSome, OnOk, true};
 ghost use Rattle.flat_model.specs.Packets.Header.{first_fault};
 ghost use Rattle.pcb_table.specs.Table.{block_at};
 ghost use Rattle.sock_calls.specs.Inside.Destination.{early_faults, broadcast_faults, FindsTarget, ChecksSend};
 
 use flat_model::{Addr, Errno};
-use params::{FIRST_MULTICAST, IP_UDP_HEADERS, LOOPBACK, UDP_SEND_SPACE};
+use params::{IP_UDP_HEADERS, LOOPBACK, UDP_SEND_SPACE};
 use pcb_table::{Block, Pcbs};
 
 /// What is asked before the address is looked at: that there is one, and that the bytes aren't too many.
@@ -51,18 +51,24 @@ fn broadcast_fault(to_all: bool, allowed: bool, mtu: u16, len: usize) -> Option<
     None
 }
 
-/// Whether a send is worth asking for one packet first: it goes to an address that's given, is reached by the link, and
-/// isn't read as another. A question of speed alone.
+/// The address that is given, if a send of at most 9,216 bytes to it by the socket of a block goes by the link to
+/// another machine: `send_target` answers it then. `None` says nothing. A question of speed alone, in which no test
+/// comes twice.
 #[inline(always)]
-pub(crate) fn is_plain(pcbs: &Pcbs, to: Option<Addr>) -> bool {
-    let Some(Addr { ip, port }) = to else {
-        return false;
+pub(crate) fn link_target(pcbs: &Pcbs, block: &Block, to: Option<Addr>) -> Option<Addr>
+    requires { block_at block.now.fd pcbs.now ≡ Some block.now }
+    ensures target { IfSome result (λ a. (mtu len : ℕ) → len ≤ UDP_SEND_SPACE
+        → ChecksSend pcbs.now mtu block.now.fd to len (Ok a)) }
+    ensures other { IfSome result (λ a.
+        (a.ip ≢ pcbs.now.addr) × (a.ip ≢ pcbs.now.bcast) × (a.ip ≢ LOOPBACK)) }
+{
+    let Some(address) = to else {
+        return None;
     };
-    let network = ip >> 24;
-    if network == 0 || network == LOOPBACK >> 24 || ip >= FIRST_MULTICAST {
-        return false;
+    if !pcbs.goes_by_link(block, address) {
+        return None;
     }
-    port != 0 && ip != pcbs.addr()
+    Some(address)
 }
 
 /// Where a send of `len` bytes by the socket of a block goes: to the address given, as it's read, or else to its peer.

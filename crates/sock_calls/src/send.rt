@@ -7,13 +7,13 @@ ghost use Rattle.sock_calls.specs.Outgoing.{sending, CanSend, IsSent};
 ghost use Rattle.sock_calls.specs.Inside.Parts.{shown};
 ghost use Rattle.sock_calls.specs.Inside.Putting.{config_of, counts_sent, way_of, IsFreeFor, IsPut, IsRouted};
 
-use crate::destination::{is_plain, send_target};
+use crate::destination::{link_target, send_target};
 use crate::net::Net;
 use crate::one_packet::{datagram_of_one, need_of_one};
 use crate::packets::{Heading, Route, datagram, ip_head, need_to, way_to};
 use crate::parts::Parts;
 use flat_model::{Addr, Counter, Counters, Errno, Lack};
-use ip_out::{Sent, Way};
+use ip_out::Sent;
 use ledger::are_free;
 use mbuf_chain::Pool;
 use params::{IP_UDP_HEADERS, OUTPUT_QUEUE_PACKETS, UDP_SEND_SPACE};
@@ -98,7 +98,7 @@ impl Parts {
             (Ok (length bytes.now)) (sending pool.new (shown self.now) net.new) }
         ensures same { result ≡ false → (pool.new ≡ pool.old) × (net.new ≡ net.old) }
     {
-        if !is_plain(&self.pcbs, to) || net.out.len() >= OUTPUT_QUEUE_PACKETS {
+        if net.out.len() >= OUTPUT_QUEUE_PACKETS {
             return false;
         }
         let Some(wants) = need_of_one(bytes.len(), net.mtu) else {
@@ -110,10 +110,7 @@ impl Parts {
         let Some(port) = self.pcbs.port_of(block) else {
             return false;
         };
-        let Ok(target) = send_target(&self.pcbs, net.mtu, block, to, bytes.len()) else {
-            return false;
-        };
-        let (Way::Link, _) = way_to(&self.pcbs, net.mtu, target.ip) else {
+        let Some(target) = link_target(&self.pcbs, block, to) else {
             return false;
         };
         if !are_free(pool, wants.mbufs, wants.clusters) {
