@@ -38,7 +38,7 @@ impl Host {
             .counters
             .count_more(Counter::IpReclaimed, u64::from(datagrams));
         self.socks
-            .sendto(&mut self.pool, &mut self.net, fd, to, bytes)
+            .resend(&mut self.pool, &mut self.net, fd, to, bytes)
     }
 
     /// A send, and then the arrival of the packets that come back, one after another.

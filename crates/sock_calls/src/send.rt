@@ -152,7 +152,7 @@ impl Parts {
 
     /// Any send.
     #[inline(never)]
-    fn send_any(
+    pub(crate) fn send_any(
         &mut self,
         pool: &mut Pool,
         net: &mut Net,

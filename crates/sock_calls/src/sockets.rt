@@ -207,6 +207,23 @@ impl Socks {
         self.parts.send(pool, net, fd, to, bytes)
     }
 
+    /// `sendto` once more, after buffers were given back. It asks for no shorter way, so that the code of one stands
+    /// where it's mostly taken alone.
+    pub fn resend(
+        &mut self,
+        pool: &mut Pool,
+        net: &mut Net,
+        fd: u32,
+        to: Option<Addr>,
+        bytes: &[u8],
+    ) -> Result<usize, Errno>
+        requires { CanSend (sending pool.old self.old net.old) }
+        ensures { IsSent fd to bytes.now (sending pool.old self.old net.old) result
+            (sending pool.new self.new net.new) }
+    {
+        self.parts.send_any(pool, net, fd, to, bytes)
+    }
+
     /// Takes the oldest datagram that waits in a socket, copies as many of its bytes as there is room for, and answers
     /// its sender and how many were copied; the others are lost, and all its buffers are freed (`soreceive` of volume
     /// 2, chapter 16). The rest of the room stays as it was. It never blocks. Refused, and then nothing changes, the

@@ -22,8 +22,8 @@ reclaim-datagrams-requires c =
     subst (λ (x : SendView). IsReady x.pool c.args.self.now.reass) (sym lack.same) c.requires.reass in
     ready
 
-pub sendto-requires : goal.sendto-requires
-sendto-requires c =
+pub resend-requires : goal.resend-requires
+resend-requires c =
     let v : SendView = send_view c.args.self.now in
     let u : SendView = sending c.sendto-first.new.pool c.sendto-first.new.self c.sendto-first.new.net in
     let lack : WasLack v c.sendto-first.result u =
@@ -58,8 +58,8 @@ returns c =
     c.reclaim-datagrams.ensures.moves in
     let one : IsOnce c.args.fd c.args.to c.args.bytes.now u c.args.self.now.reass c.sendto-first.result u =
     subst (λ (x : SendView). IsOnce c.args.fd c.args.to c.args.bytes.now x c.args.self.now.reass c.sendto-first.result
-    u) (sym lack.same) (once c.sendto-first.ensures c.requires.reass c.requires.owned) in
-    subst (λ (x : SendView). IsTried c.args.fd c.args.to c.args.bytes.now x c.args.self.now.reass c.sendto.result
-    (sending c.sendto.new.pool c.sendto.new.self c.sendto.new.net) c.reclaim-datagrams.new.self) lack.same
+      u) (sym lack.same) (once c.sendto-first.ensures c.requires.reass c.requires.owned) in
+    subst (λ (x : SendView). IsTried c.args.fd c.args.to c.args.bytes.now x c.args.self.now.reass c.resend.result
+      (sending c.resend.new.pool c.resend.new.self c.resend.new.net) c.reclaim-datagrams.new.self) lack.same
     (tried_again (record { reply = lack.reply; same = refl }) one back
-    (once c.sendto.ensures c.reclaim-datagrams.ensures.ready back.owned))
+      (once c.resend.ensures c.reclaim-datagrams.ensures.ready back.owned))
