@@ -6,6 +6,7 @@ ghost use Rattle.libbsdudp.specs.Ether.{AnswersHost, AnswersLink, HasAged, HasHe
 
 use crate::errors::{INVALID, NO_LINK, NO_MEMORY, NO_STACK};
 use crate::ether_calls;
+use crate::exchange::with_held;
 use crate::handle::Handle;
 use crate::link_handle::LinkHandle;
 use crate::link_owned::OwnedLink;
@@ -159,12 +160,7 @@ pub extern "C" fn bsdudp_core_ether_last_error(
 pub extern "C" fn bsdudp_core_ether_tick(alloc: Global, link: &mut LinkHandle) -> i32
     ensures { AnswersLink (link_in link.old) result (link_in link.new) ⊤ (HasAged result) }
 {
-    let Some(mut boxed) = link.take(alloc) else {
-        return NO_LINK;
-    };
-    let answer = ether_calls::tick(&mut boxed.layer);
-    link.put(boxed);
-    answer
+    with_held!(link, alloc, NO_LINK, boxed => ether_calls::tick(&mut boxed.layer))
 }
 
 /// How far the host is with its address: 1 if it's used, 0 while the host asks for it, or -EADDRINUSE if another host
@@ -176,12 +172,7 @@ pub extern "C" fn bsdudp_core_ether_tick(alloc: Global, link: &mut LinkHandle) -
 pub extern "C" fn bsdudp_core_ether_address(alloc: Global, link: &mut LinkHandle) -> i32
     ensures { AnswersLink (link_in link.old) result (link_in link.new) ⊤ (IsLinkAsked (TellsAddress result)) }
 {
-    let Some(boxed) = link.take(alloc) else {
-        return NO_LINK;
-    };
-    let answer = ether_calls::address(&boxed.layer);
-    link.put(boxed);
-    answer
+    with_held!(link, alloc, NO_LINK, boxed => ether_calls::address(&boxed.layer))
 }
 
 /// What was counted of the link. 0.
@@ -197,12 +188,7 @@ pub extern "C" fn bsdudp_core_ether_tallies(
     ensures { AnswersLink (link_in link.old) result (link_in link.new) (tallies.new ≡ tallies.old)
         (IsLinkAsked (TellsTallies result tallies.new)) }
 {
-    let Some(boxed) = link.take(alloc) else {
-        return NO_LINK;
-    };
-    let answer = ether_calls::tallies(&boxed.layer, tallies);
-    link.put(boxed);
-    answer
+    with_held!(link, alloc, NO_LINK, boxed => ether_calls::tallies(&boxed.layer, tallies))
 }
 
 /// A neighbour, by its place in the table, the one that was put last at the end. 0, or -EINVAL if there is none.
@@ -219,10 +205,5 @@ pub extern "C" fn bsdudp_core_ether_neighbour(
     ensures { AnswersLink (link_in link.old) result (link_in link.new) (neighbour.new ≡ neighbour.old)
         (IsLinkAsked (TellsNeighbour i result neighbour.old neighbour.new)) }
 {
-    let Some(boxed) = link.take(alloc) else {
-        return NO_LINK;
-    };
-    let answer = ether_calls::neighbour(&boxed.layer, i, neighbour);
-    link.put(boxed);
-    answer
+    with_held!(link, alloc, NO_LINK, boxed => ether_calls::neighbour(&boxed.layer, i, neighbour))
 }

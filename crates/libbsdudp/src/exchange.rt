@@ -9,6 +9,23 @@ use crate::parts::{open, shut};
 use std::alloc::Global;
 use std::mem::replace;
 
+/// What a call answers of that which a handle holds: it's taken out for the call, and put back. Of a handle without it
+/// the answer is `$lacks`.
+macro_rules! with_held {
+    ($handle:ident, $alloc:ident, $lacks:ident, $boxed:ident => $call:expr) => {
+        match $handle.take($alloc) {
+            Some(mut $boxed) => {
+                let answer = $call;
+                $handle.put($boxed);
+                answer
+            }
+            None => $lacks,
+        }
+    };
+}
+
+pub(crate) use with_held;
+
 /// The mark of a handle that holds a stack.
 const LIVE: u32 = 0x6273_6475;
 

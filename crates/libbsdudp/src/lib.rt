@@ -30,6 +30,7 @@ mod plain;
 mod questions;
 
 use errors::NO_STACK;
+use exchange::with_held;
 use flat_model::Opt;
 use handle::Handle;
 use plain::CAddr;
@@ -43,12 +44,7 @@ use std::alloc::Global;
 pub extern "C" fn bsdudp_core_rx(alloc: Global, handle: &mut Handle, packet: &[u8]) -> i32
     ensures { Answers (stack_in handle.old) result (stack_in handle.new) ⊤ (HasCome packet.now result) }
 {
-    let Some(mut boxed) = handle.take(alloc) else {
-        return NO_STACK;
-    };
-    let answer = calls::rx(&mut boxed.stack, packet);
-    handle.put(boxed);
-    answer
+    with_held!(handle, alloc, NO_STACK, boxed => calls::rx(&mut boxed.stack, packet))
 }
 
 /// The packet that has waited longest for the link: how many bytes it has, or 0 if none waits; -EMSGSIZE for a room of
@@ -61,12 +57,7 @@ pub extern "C" fn bsdudp_core_tx(alloc: Global, handle: &mut Handle, room: &mut 
     ensures { Answers (stack_in handle.old) result (stack_in handle.new) (room.new ≡ room.old)
         (IsGiven room.old room.new result) }
 {
-    let Some(mut boxed) = handle.take(alloc) else {
-        return NO_STACK;
-    };
-    let answer = calls::tx(&mut boxed.stack, room);
-    handle.put(boxed);
-    answer
+    with_held!(handle, alloc, NO_STACK, boxed => calls::tx(&mut boxed.stack, room))
 }
 
 /// Half a second passed. 0.
@@ -77,12 +68,7 @@ pub extern "C" fn bsdudp_core_tx(alloc: Global, handle: &mut Handle, room: &mut 
 pub extern "C" fn bsdudp_core_tick(alloc: Global, handle: &mut Handle) -> i32
     ensures { Answers (stack_in handle.old) result (stack_in handle.new) ⊤ (HasTicked result Tick) }
 {
-    let Some(mut boxed) = handle.take(alloc) else {
-        return NO_STACK;
-    };
-    let answer = calls::tick(&mut boxed.stack);
-    handle.put(boxed);
-    answer
+    with_held!(handle, alloc, NO_STACK, boxed => calls::tick(&mut boxed.stack))
 }
 
 /// Opens a socket: its descriptor, or why it is refused.
@@ -93,12 +79,7 @@ pub extern "C" fn bsdudp_core_tick(alloc: Global, handle: &mut Handle) -> i32
 pub extern "C" fn bsdudp_core_socket(alloc: Global, handle: &mut Handle) -> i32
     ensures { Answers (stack_in handle.old) result (stack_in handle.new) ⊤ (IsOpened result) }
 {
-    let Some(mut boxed) = handle.take(alloc) else {
-        return NO_STACK;
-    };
-    let answer = calls::socket(&mut boxed.stack);
-    handle.put(boxed);
-    answer
+    with_held!(handle, alloc, NO_STACK, boxed => calls::socket(&mut boxed.stack))
 }
 
 /// Gives a socket its local address and port. 0, or why it is refused.
@@ -115,12 +96,7 @@ pub extern "C" fn bsdudp_core_bind(
     ensures { Answers (stack_in handle.old) result (stack_in handle.new) ⊤
         (IsDone (Bind fd (addr_of local.now)) result) }
 {
-    let Some(mut boxed) = handle.take(alloc) else {
-        return NO_STACK;
-    };
-    let answer = calls::bind(&mut boxed.stack, fd, local.addr());
-    handle.put(boxed);
-    answer
+    with_held!(handle, alloc, NO_STACK, boxed => calls::bind(&mut boxed.stack, fd, local.addr()))
 }
 
 /// Connects a socket. 0, or why it is refused.
@@ -137,12 +113,7 @@ pub extern "C" fn bsdudp_core_connect(
     ensures { Answers (stack_in handle.old) result (stack_in handle.new) ⊤
         (IsDone (Connect fd (addr_of to.now)) result) }
 {
-    let Some(mut boxed) = handle.take(alloc) else {
-        return NO_STACK;
-    };
-    let answer = calls::connect(&mut boxed.stack, fd, to.addr());
-    handle.put(boxed);
-    answer
+    with_held!(handle, alloc, NO_STACK, boxed => calls::connect(&mut boxed.stack, fd, to.addr()))
 }
 
 /// Sends a datagram to an address: how many bytes it has, or why it is refused.
@@ -160,12 +131,7 @@ pub extern "C" fn bsdudp_core_sendto(
     ensures { Answers (stack_in handle.old) result (stack_in handle.new) ⊤
         (IsSent (Send fd (Some (addr_of to.now)) bytes.now) result) }
 {
-    let Some(mut boxed) = handle.take(alloc) else {
-        return NO_STACK;
-    };
-    let answer = calls::send(&mut boxed.stack, fd, Some(to.addr()), bytes);
-    handle.put(boxed);
-    answer
+    with_held!(handle, alloc, NO_STACK, boxed => calls::send(&mut boxed.stack, fd, Some(to.addr()), bytes))
 }
 
 /// Sends a datagram to the peer: how many bytes it has, or why it is refused.
@@ -176,12 +142,7 @@ pub extern "C" fn bsdudp_core_sendto(
 pub extern "C" fn bsdudp_core_send(alloc: Global, handle: &mut Handle, fd: u32, bytes: &[u8]) -> i32
     ensures { Answers (stack_in handle.old) result (stack_in handle.new) ⊤ (IsSent (Send fd None bytes.now) result) }
 {
-    let Some(mut boxed) = handle.take(alloc) else {
-        return NO_STACK;
-    };
-    let answer = calls::send(&mut boxed.stack, fd, None, bytes);
-    handle.put(boxed);
-    answer
+    with_held!(handle, alloc, NO_STACK, boxed => calls::send(&mut boxed.stack, fd, None, bytes))
 }
 
 /// Takes the oldest datagram that waits: how many bytes stand in front of the room, or why it is refused.
@@ -199,12 +160,7 @@ pub extern "C" fn bsdudp_core_recvfrom(
     ensures { Answers (stack_in handle.old) result (stack_in handle.new)
         ((room.new ≡ room.old) × (from.new ≡ from.old)) (IsReceived fd result room.old room.new from.old from.new) }
 {
-    let Some(mut boxed) = handle.take(alloc) else {
-        return NO_STACK;
-    };
-    let answer = calls::receive(&mut boxed.stack, fd, room, from);
-    handle.put(boxed);
-    answer
+    with_held!(handle, alloc, NO_STACK, boxed => calls::receive(&mut boxed.stack, fd, room, from))
 }
 
 /// Closes a socket. 0, or why it is refused.
@@ -215,12 +171,7 @@ pub extern "C" fn bsdudp_core_recvfrom(
 pub extern "C" fn bsdudp_core_close(alloc: Global, handle: &mut Handle, fd: u32) -> i32
     ensures { Answers (stack_in handle.old) result (stack_in handle.new) ⊤ (IsDone (Close fd) result) }
 {
-    let Some(mut boxed) = handle.take(alloc) else {
-        return NO_STACK;
-    };
-    let answer = calls::close(&mut boxed.stack, fd);
-    handle.put(boxed);
-    answer
+    with_held!(handle, alloc, NO_STACK, boxed => calls::close(&mut boxed.stack, fd))
 }
 
 /// Whether a socket may send broadcasts. 0, or why it is refused.
@@ -237,12 +188,7 @@ pub extern "C" fn bsdudp_core_set_broadcast(
     ensures { Answers (stack_in handle.old) result (stack_in handle.new) ⊤
         (IsDone (Set_option fd Broadcast on) result) }
 {
-    let Some(mut boxed) = handle.take(alloc) else {
-        return NO_STACK;
-    };
-    let answer = calls::set(&mut boxed.stack, fd, Opt::Broadcast, on);
-    handle.put(boxed);
-    answer
+    with_held!(handle, alloc, NO_STACK, boxed => calls::set(&mut boxed.stack, fd, Opt::Broadcast, on))
 }
 
 /// Whether a socket's address and port may be shared. 0, or why it is refused.
@@ -259,10 +205,5 @@ pub extern "C" fn bsdudp_core_set_reuse_port(
     ensures { Answers (stack_in handle.old) result (stack_in handle.new) ⊤
         (IsDone (Set_option fd ReusePort on) result) }
 {
-    let Some(mut boxed) = handle.take(alloc) else {
-        return NO_STACK;
-    };
-    let answer = calls::set(&mut boxed.stack, fd, Opt::ReusePort, on);
-    handle.put(boxed);
-    answer
+    with_held!(handle, alloc, NO_STACK, boxed => calls::set(&mut boxed.stack, fd, Opt::ReusePort, on))
 }

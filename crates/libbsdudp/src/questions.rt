@@ -5,6 +5,7 @@ ghost use Rattle.libbsdudp.specs.Told.{TellsCounter, TellsName, TellsNext, Tells
 
 use crate::asks;
 use crate::errors::NO_STACK;
+use crate::exchange::with_held;
 use crate::handle::Handle;
 use crate::plain::{CMbstat, CName, CNext, CRange, CUnfinished};
 use std::alloc::Global;
@@ -23,12 +24,7 @@ pub extern "C" fn bsdudp_core_name(
     ensures { Answers (stack_in handle.old) result (stack_in handle.new) (name.new ≡ name.old)
         (IsAsked (TellsName fd result name.old name.new)) }
 {
-    let Some(boxed) = handle.take(alloc) else {
-        return NO_STACK;
-    };
-    let answer = asks::name(&boxed.stack, fd, name);
-    handle.put(boxed);
-    answer
+    with_held!(handle, alloc, NO_STACK, boxed => asks::name(&boxed.stack, fd, name))
 }
 
 /// The oldest datagram that waits in a socket. 0, or why there is none.
@@ -45,12 +41,7 @@ pub extern "C" fn bsdudp_core_next(
     ensures { Answers (stack_in handle.old) result (stack_in handle.new) (next.new ≡ next.old)
         (IsAsked (TellsNext fd result next.old next.new)) }
 {
-    let Some(boxed) = handle.take(alloc) else {
-        return NO_STACK;
-    };
-    let answer = asks::next(&boxed.stack, fd, next);
-    handle.put(boxed);
-    answer
+    with_held!(handle, alloc, NO_STACK, boxed => asks::next(&boxed.stack, fd, next))
 }
 
 /// The sockets in which a datagram waits: bit k stands for descriptor 3 + k. 0.
@@ -62,12 +53,7 @@ pub extern "C" fn bsdudp_core_readable(alloc: Global, handle: &mut Handle, set: 
     ensures { Answers (stack_in handle.old) result (stack_in handle.new) (set.new ≡ set.old)
         (IsAsked (TellsReadable result set.new)) }
 {
-    let Some(boxed) = handle.take(alloc) else {
-        return NO_STACK;
-    };
-    let answer = asks::readable(&boxed.stack, set);
-    handle.put(boxed);
-    answer
+    with_held!(handle, alloc, NO_STACK, boxed => asks::readable(&boxed.stack, set))
 }
 
 /// How many packets wait for the link.
@@ -78,12 +64,7 @@ pub extern "C" fn bsdudp_core_readable(alloc: Global, handle: &mut Handle, set: 
 pub extern "C" fn bsdudp_core_output_len(alloc: Global, handle: &mut Handle) -> i32
     ensures { Answers (stack_in handle.old) result (stack_in handle.new) ⊤ (IsAsked (TellsOutput result)) }
 {
-    let Some(boxed) = handle.take(alloc) else {
-        return NO_STACK;
-    };
-    let answer = asks::output_len(&boxed.stack);
-    handle.put(boxed);
-    answer
+    with_held!(handle, alloc, NO_STACK, boxed => asks::output_len(&boxed.stack))
 }
 
 /// How many bytes the packet has that `tx` gives next, or 0 if none waits.
@@ -94,12 +75,7 @@ pub extern "C" fn bsdudp_core_output_len(alloc: Global, handle: &mut Handle) -> 
 pub extern "C" fn bsdudp_core_next_packet(alloc: Global, handle: &mut Handle) -> i32
     ensures { Answers (stack_in handle.old) result (stack_in handle.new) ⊤ (IsAsked (TellsPacket result)) }
 {
-    let Some(boxed) = handle.take(alloc) else {
-        return NO_STACK;
-    };
-    let answer = asks::next_packet(&boxed.stack);
-    handle.put(boxed);
-    answer
+    with_held!(handle, alloc, NO_STACK, boxed => asks::next_packet(&boxed.stack))
 }
 
 /// A counter, by its place in the order in which they are printed. 0, or -EINVAL if there is none.
@@ -116,12 +92,7 @@ pub extern "C" fn bsdudp_core_counter(
     ensures { Answers (stack_in handle.old) result (stack_in handle.new) (value.new ≡ value.old)
         (IsAsked (TellsCounter which result value.old value.new)) }
 {
-    let Some(boxed) = handle.take(alloc) else {
-        return NO_STACK;
-    };
-    let answer = asks::counter(&boxed.stack, which, value);
-    handle.put(boxed);
-    answer
+    with_held!(handle, alloc, NO_STACK, boxed => asks::counter(&boxed.stack, which, value))
 }
 
 /// How much of the pool is in use. 0.
@@ -133,12 +104,7 @@ pub extern "C" fn bsdudp_core_mbstat(alloc: Global, handle: &mut Handle, usage: 
     ensures { Answers (stack_in handle.old) result (stack_in handle.new) (usage.new ≡ usage.old)
         (IsAsked (TellsUsage result usage.new)) }
 {
-    let Some(boxed) = handle.take(alloc) else {
-        return NO_STACK;
-    };
-    let answer = asks::mbstat(&boxed.stack, usage);
-    handle.put(boxed);
-    answer
+    with_held!(handle, alloc, NO_STACK, boxed => asks::mbstat(&boxed.stack, usage))
 }
 
 /// How many datagrams are unfinished.
@@ -149,12 +115,7 @@ pub extern "C" fn bsdudp_core_mbstat(alloc: Global, handle: &mut Handle, usage: 
 pub extern "C" fn bsdudp_core_unfinished_len(alloc: Global, handle: &mut Handle) -> i32
     ensures { Answers (stack_in handle.old) result (stack_in handle.new) ⊤ (IsAsked (TellsWaiting result)) }
 {
-    let Some(boxed) = handle.take(alloc) else {
-        return NO_STACK;
-    };
-    let answer = asks::unfinished_len(&boxed.stack);
-    handle.put(boxed);
-    answer
+    with_held!(handle, alloc, NO_STACK, boxed => asks::unfinished_len(&boxed.stack))
 }
 
 /// An unfinished datagram, by its place in the order of their beginning. 0, or -EINVAL if there is none.
@@ -171,12 +132,7 @@ pub extern "C" fn bsdudp_core_unfinished(
     ensures { Answers (stack_in handle.old) result (stack_in handle.new) (datagram.new ≡ datagram.old)
         (IsAsked (TellsUnfinished i result datagram.old datagram.new)) }
 {
-    let Some(boxed) = handle.take(alloc) else {
-        return NO_STACK;
-    };
-    let answer = asks::unfinished(&boxed.stack, i, datagram);
-    handle.put(boxed);
-    answer
+    with_held!(handle, alloc, NO_STACK, boxed => asks::unfinished(&boxed.stack, i, datagram))
 }
 
 /// A range of the bytes that an unfinished datagram holds, by its place in order of offset. 0, or -EINVAL if there is
@@ -195,10 +151,5 @@ pub extern "C" fn bsdudp_core_unfinished_range(
     ensures { Answers (stack_in handle.old) result (stack_in handle.new) (range.new ≡ range.old)
         (IsAsked (TellsRange i k result range.old range.new)) }
 {
-    let Some(boxed) = handle.take(alloc) else {
-        return NO_STACK;
-    };
-    let answer = asks::unfinished_range(&boxed.stack, i, k, range);
-    handle.put(boxed);
-    answer
+    with_held!(handle, alloc, NO_STACK, boxed => asks::unfinished_range(&boxed.stack, i, k, range))
 }
