@@ -62,12 +62,14 @@ moved_text (Some packet) before after = line_of (packet_text packet) ++ fate_tex
 -- more datagrams wait in the socket at this place than before
 abbrev pub delivered_line : ℕ → ℕ → ℕ → List ℕ
 delivered_line place before after =
-    if nat_lt before after then codes "    delivered to socket " ++ decimal (FIRST_DESCRIPTOR + place) ++ codes "\n" else []
+    if nat_lt before after then codes "    delivered to socket " ++ decimal (FIRST_DESCRIPTOR + place) ++ codes "\n"
+    else []
 
 -- the same of the first so many places
 unfoldable pub delivered_below : ℕ → List ℕ → List ℕ → List ℕ
 delivered_below zero before after = []
-delivered_below (suc n) before after = delivered_below n before after ++ delivered_line n (get_or before n 0) (get_or after n 0)
+delivered_below (suc n) before after =
+    delivered_below n before after ++ delivered_line n (get_or before n 0) (get_or after n 0)
 
 -- a packet that waits for the link, if there is one
 abbrev pub waiting_line : Option (List ℕ) → List ℕ
@@ -91,19 +93,22 @@ more_line all = if nat_lt MOST_SENT all then codes "    and " ++ decimal (all - 
 abbrev pub sent_text : ℕ → ℕ → List Item → List ℕ
 sent_text before after output =
     if nat_lt before after then
-    sent_line (after - before) ++ packets_below (min (after - before) MOST_SENT) before output ++ more_line (after - before)
+    sent_line (after - before) ++ packets_below (min (after - before) MOST_SENT) before output
+    ++ more_line (after - before)
     else []
 
 -- a counter of unfinished datagrams went up by so many
 abbrev pub lost_text : ℕ → ℕ → List ℕ → List ℕ
 lost_text before after what =
-    if nat_lt before after then codes "    unfinished datagrams " ++ what ++ codes ": " ++ decimal (after - before) ++ codes "\n" else []
+    if nat_lt before after
+    then codes "    unfinished datagrams " ++ what ++ codes ": " ++ decimal (after - before) ++ codes "\n" else []
 
 -- those that were dropped after their time, or for their buffers
 abbrev pub all_lost_text : Snapshot → Snapshot → List ℕ
 all_lost_text before after =
     lost_text (value_of IpFragtimeout before.counters) (value_of IpFragtimeout after.counters) (codes "timed out")
-    ++ lost_text (value_of IpReclaimed before.counters) (value_of IpReclaimed after.counters) (codes "dropped for their buffers")
+    ++ lost_text (value_of IpReclaimed before.counters) (value_of IpReclaimed after.counters)
+        (codes "dropped for their buffers")
 
 -- fewer are free than before, or more
 abbrev pub pool_change : ℕ → ℕ → List ℕ → List ℕ
@@ -113,7 +118,8 @@ pool_change before after what =
 
 abbrev pub pool_changes : Mbstat → Mbstat → List ℕ
 pool_changes before after =
-    pool_change before.free_mbufs after.free_mbufs (codes "mbuf") ++ pool_change before.free_clusters after.free_clusters (codes "cluster")
+    pool_change before.free_mbufs after.free_mbufs (codes "mbuf")
+    ++ pool_change before.free_clusters after.free_clusters (codes "cluster")
 
 -- What came of an event by which this packet came or went, if one did. `output` are the packets that wait for the link
 -- after it.

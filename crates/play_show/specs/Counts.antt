@@ -38,7 +38,8 @@ meaning Nobufs = codes "packets that ended for want of buffers"
 
 abbrev pub counter_line : Counters → Counter → List ℕ
 counter_line c counter =
-    codes "    " ++ counter_name counter ++ codes " " ++ decimal (value_of counter c) ++ codes ": " ++ meaning counter ++ codes "\n"
+    codes "    " ++ counter_name counter ++ codes " " ++ decimal (value_of counter c)
+    ++ codes ": " ++ meaning counter ++ codes "\n"
 
 -- in the order of printing
 abbrev pub counters_text : Counters → List ℕ

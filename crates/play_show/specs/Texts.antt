@@ -30,11 +30,13 @@ ends_text name = codes "local " ++ ip_text name.local ++ codes ":" ++ port_text 
 
 -- the options that are set
 abbrev pub options_text : SocketName → List ℕ
-options_text name = (if name.broadcast then codes ", broadcast" else []) ++ (if name.reuse_port then codes ", reuseport" else [])
+options_text name =
+    (if name.broadcast then codes ", broadcast" else []) ++ (if name.reuse_port then codes ", reuseport" else [])
 
 -- how many of the bytes that a socket takes wait in it
 abbrev pub queued_text : Result ℕ Errno → List ℕ
-queued_text (Ok queued) = codes ", " ++ decimal queued ++ codes " of " ++ amount UDP_RECEIVE_SPACE (codes "byte") ++ codes " queued"
+queued_text (Ok queued) =
+    codes ", " ++ decimal queued ++ codes " of " ++ amount UDP_RECEIVE_SPACE (codes "byte") ++ codes " queued"
 queued_text (Err errno) = []
 
 -- how many datagrams wait, how many bytes the oldest one has, who sent it, and how many bytes wait in all

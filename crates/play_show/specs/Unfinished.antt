@@ -10,7 +10,8 @@ use Rattle.play_show.specs.declared.unfinished.TheConstants.{MOST_DATAGRAMS, MOS
 -- a range, by its first byte and its last one; the last range came with the last fragment
 abbrev pub held_text : HeldRange → List ℕ
 held_text r =
-    codes "; " ++ decimal r.offset ++ codes " to " ++ decimal (r.offset + r.len - 1) ++ (if r.more then [] else codes ", the end")
+    codes "; " ++ decimal r.offset ++ codes " to " ++ decimal (r.offset + r.len - 1)
+    ++ (if r.more then [] else codes ", the end")
 
 abbrev pub held_option : Option HeldRange → List ℕ
 held_option None = []
@@ -46,7 +47,8 @@ unfinished_below (suc n) s = unfinished_below n s ++ line_option (nth_unfinished
 
 -- how many there are past the first ones
 abbrev pub rest_line : ℕ → List ℕ
-rest_line all = if nat_lt MOST_DATAGRAMS all then codes "    and " ++ decimal (all - MOST_DATAGRAMS) ++ codes " more\n" else []
+rest_line all =
+    if nat_lt MOST_DATAGRAMS all then codes "    and " ++ decimal (all - MOST_DATAGRAMS) ++ codes " more\n" else []
 
 abbrev pub unfinished_lines : State → List ℕ
 unfinished_lines s = unfinished_below MOST_DATAGRAMS s ++ rest_line (length s.unfinished)

@@ -41,7 +41,8 @@ datagram_text h packet =
 -- another packet that isn't a fragment
 abbrev pub other_text : Head → ℕ → List ℕ
 other_text h carried =
-    way_text h.protocol h.source h.destination ++ codes ", " ++ amount carried (codes "byte") ++ codes ", id " ++ decimal h.id
+    way_text h.protocol h.source h.destination ++ codes ", " ++ amount carried (codes "byte")
+    ++ codes ", id " ++ decimal h.id
 
 abbrev pub headed_text : Head → List ℕ → List ℕ
 headed_text h packet =
@@ -58,7 +59,8 @@ packet_text packet =
 
 abbrev pub held_line : Head → ℕ → List ℕ
 held_line h carried =
-    codes "    fragment kept: " ++ range_text h.offset carried ++ codes " of datagram " ++ decimal h.id ++ codes ", more to come\n"
+    codes "    fragment kept: " ++ range_text h.offset carried ++ codes " of datagram " ++ decimal h.id
+    ++ codes ", more to come\n"
 
 -- which bytes of which datagram a fragment holds; nothing of a packet without a header
 abbrev pub kept_line : List ℕ → List ℕ
@@ -66,4 +68,5 @@ kept_line packet = if has_header packet then held_line (head_of packet) (carried
 
 -- the datagram of a fragment is whole
 abbrev pub whole_line : List ℕ → List ℕ
-whole_line packet = if has_header packet then codes "    datagram " ++ decimal (u16_at 4 packet) ++ codes " is whole\n" else []
+whole_line packet =
+    if has_header packet then codes "    datagram " ++ decimal (u16_at 4 packet) ++ codes " is whole\n" else []

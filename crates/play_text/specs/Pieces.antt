@@ -30,7 +30,9 @@ way_text protocol source destination =
 
 -- which bytes of a datagram: so many from an offset on
 abbrev pub range_text : ℕ → ℕ → List ℕ
-range_text offset n = if n == 0 then codes "no byte" else codes "bytes " ++ decimal offset ++ codes " to " ++ decimal (offset + n - 1)
+range_text offset n =
+    if n == 0 then codes "no byte"
+    else codes "bytes " ++ decimal offset ++ codes " to " ++ decimal (offset + n - 1)
 
 abbrev pub piece_text : Piece → List ℕ
 piece_text (Text bytes) = bytes.now

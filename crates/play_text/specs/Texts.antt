@@ -26,8 +26,8 @@ line_text form number line told =
 
 abbrev pub differs_text : Form → List ℕ → ℕ → List ℕ → List ℕ → List ℕ
 differs_text form name number wanted told =
-    if_coloured form red ++ name ++ codes ":" ++ decimal number ++ codes ": expected " ++ wanted ++ codes ", got " ++ told
-    ++ if_coloured form ended ++ codes "\n"
+    if_coloured form red ++ name ++ codes ":" ++ decimal number ++ codes ": expected " ++ wanted
+    ++ codes ", got " ++ told ++ if_coloured form ended ++ codes "\n"
 
 -- nothing, if that was expected or nothing was
 abbrev pub difference_text : Form → List ℕ → ℕ → Option (List ℕ) → Bool → List ℕ → List ℕ
@@ -44,7 +44,8 @@ lines_text form name number line wanted met told below =
 abbrev pub expected_text : Option (List ℕ) → Bool → List ℕ
 expected_text None met = codes ",\"expected\":null,\"met\":null}\n"
 expected_text (Some wanted) met =
-    codes ",\"expected\":" ++ string_text wanted ++ codes ",\"met\":" ++ (if met then codes "true" else codes "false") ++ codes "}\n"
+    codes ",\"expected\":" ++ string_text wanted
+    ++ codes ",\"met\":" ++ (if met then codes "true" else codes "false") ++ codes "}\n"
 
 abbrev pub outcome_object : List ℕ → ℕ → List ℕ → Option (List ℕ) → Bool → List ℕ → List ℕ → List ℕ
 outcome_object name number line wanted met told below =
