@@ -1,6 +1,9 @@
 //! The machine that a line of settings asks for.
+ghost use Rattle.std.specs.Prelude.{◌≡◌, length};
+ghost use Rattle.params.specs.declared.TheConstants.{IP_MAX_PACKET};
+
 use flat_model::Config;
-use play_settings::{SettingFault, is_settings, settings_of};
+use play_read::{Ask, SettingFault, ask_of, settings_of};
 
 /// The host 10.0.0.1 of the network 10.0.0.0/24.
 const HOST: Config = Config {
@@ -12,10 +15,13 @@ const HOST: Config = Config {
     first_id: 1,
 };
 
-/// The configuration that a line's settings make of a host, what is wrong with them, or `None` if it has none.
-pub fn configured(line: &[u8]) -> Option<Result<Config, SettingFault>> {
-    if !is_settings(line) {
-        return None;
+/// The configuration that a line's settings make of a host, what is wrong with them, or `None` if it has none. The room
+/// has 65,535 bytes.
+pub fn configured(line: &[u8], room: &mut [u8]) -> Option<Result<Config, SettingFault>>
+    requires { length room.old ≡ IP_MAX_PACKET }
+{
+    match ask_of(line, room) {
+        Some(Ask::Settings(words)) => Some(settings_of(words, HOST)),
+        _ => None,
     }
-    Some(settings_of(line, HOST))
 }

@@ -1,55 +1,81 @@
--- What is told of a plain line: what it asks to be shown, or its reply.
-use Rattle.std.proofs.Common.{◌≡◌, ℕ, ◌-◌, ◌&&◌, Bool, true, false, List, [], length, take, Option, Some, None, refl, sym, ap, ap₂, ◌∙◌, subst}
-use Rattle.flat_model.specs.Machine.Count.{more_by}
+-- What is told of a plain line, by what it asks for.
+use Rattle.std.proofs.Common.{◌≡◌, ℕ, ◌&&◌, Bool, false, List, codes, Option, Some, None, inl, inr, refl, sym, ap, ◌∙◌, subst}
 use Rattle.flat_model.specs.Machine.Event.{Event, Reply}
 use Rattle.flat_model.specs.Machine.State.{State}
-use Rattle.play_show.specs.Tells.{Shows}
-use Rattle.play_show.specs.Topics.{topic_asked}
-use Rattle.play_show.specs.declared.topic.Topic.{Topic}
 use Rattle.play_text.specs.Forms.{is_quiet}
-use Rattle.play_settings.specs.Settings.{has_dashes}
+use Rattle.play_text.specs.Texts.{fault_text}
+use Rattle.play_read.specs.Asks.{Ask, AsksFor, Settings}
+use Rattle.flat_model.specs.Scripts.Grammar.{words}
+use Rattle.play_script.specs.Inside.{IsTold, IsToldAs}
 use Rattle.play_script.specs.Lines.{Reading, Asks, reading}
-use Rattle.play_script.specs.Plays.{SceneView, scene_of}
-use Rattle.play_script.specs.Tells.{Play, IsAnswered, IsTold, Tells, TellsAsked, TellsReading, is_sound, next_line, printed, stays_head}
+use Rattle.play_script.specs.Plays.{CapturedView, captured_of}
+use Rattle.play_script.specs.Tells.{Play, Tells, TellsAsk, TellsAsked, TellsReading, TellsSettings, is_sound, next_line, stays_head, told_text}
+use Rattle.play_script.specs.declared.tell.Told.{Told}
+use Rattle.play_script.specs.declared.tell.Told.TheVariants as told
 
-pub Answered-shown : (step : State → Event → Reply → State → Type 0) (quiet : Bool) (old : SceneView) (plain : List ℕ) (asked : Option Topic)
-    (topic : Topic) (shown told below : List ℕ) → asked ≡ Some topic → told ≡ shown → Shows step old.machine topic shown below
-    → IsAnswered step quiet old asked plain (Some told) below old
-Answered-shown step quiet old plain asked topic shown told below is same shows =
-    subst (λ (t : Option Topic). IsAnswered step quiet old t plain (Some told) below old) (sym is)
-    (subst (λ (text : List ℕ). Shows step old.machine topic text below) (sym same) shows, refl, refl)
-
-pub Answered-call : (step : State → Event → Reply → State → Type 0) (quiet : Bool) (old new : SceneView) (plain : List ℕ) (asked : Option Topic)
-    (told : Option (List ℕ)) (below : List ℕ) → asked ≡ None → IsAnswered step quiet old None plain told below new
-    → IsAnswered step quiet old asked plain told below new
-Answered-call step quiet old new plain asked told below is answered =
-    subst (λ (t : Option Topic). IsAnswered step quiet old t plain told below new) (sym is) answered
-
--- a line that was asked
-pub Asked-tells : (step : State → Event → Reply → State → Type 0) (has : List ℕ → List ℕ → Type 0) (now : Play) (shown plain words : List ℕ)
-    (wanted told : Option (List ℕ)) (below : List ℕ) (after : SceneView) (quiet head sound : Bool) → words ≡ plain → quiet ≡ is_quiet now.form
-    → IsTold step has quiet words (scene_of now.machine now.traced now.number) told below after
-    → head ≡ (now.head && stays_head (topic_asked plain) told) → sound ≡ (now.sound && is_sound wanted told)
-    → TellsAsked step has false now shown plain wanted (printed now.form now.name now.number shown wanted told below)
-    (record now { machine = after.machine; traced = after.traced; head = head; sound = sound })
-Asked-tells step has now shown plain words wanted told below after quiet head sound same loud answered is_head is_sound_now = (
-  after,
-  told,
-  below,
-  subst (λ (t : List ℕ). IsTold step has (is_quiet now.form) t (scene_of now.machine now.traced now.number) told below after) same
-      (subst (λ (q : Bool). IsTold step has q words (scene_of now.machine now.traced now.number) told below after) loud answered),
-  refl,
-  ap₂ (λ (h s : Bool). record now { machine = after.machine; traced = after.traced; head = h; sound = s }) is_head is_sound_now,
+-- a line that asks for this
+pub Ask-tells : (step : State → Event → Reply → State → Type 0) (has : List ℕ → List ℕ → Type 0) (now new : Play) (shown plain line : List ℕ)
+    (wanted : Option (List ℕ)) (ask : Ask) (text below : List ℕ) (after : CapturedView) (quiet : Bool) → line ≡ plain
+    → quiet ≡ is_quiet now.form → AsksFor line (Some ask)
+    → TellsAsk step has quiet ask (captured_of now.machine now.traced now.number) text below after
+    → new ≡ record now { machine = after.machine; traced = after.traced; head = now.head && stays_head ask; sound = now.sound && is_sound wanted text }
+    → TellsAsked step has now shown plain wanted (told_text now.form now.name now.number shown wanted text below) new
+Ask-tells step has now new shown plain line wanted ask text below after quiet same loud asks tells is = (
+  Some ask,
+  subst (λ (t : List ℕ). AsksFor t (Some ask)) same asks,
+  inl (
+    after,
+    text,
+    below,
+    subst (λ (q : Bool). TellsAsk step has q ask (captured_of now.machine now.traced now.number) text below after) loud tells,
+    refl,
+    is,
+  ),
 )
 
--- a line that asks for something, and has no settings
-pub Asks-tells : (step : State → Event → Reply → State → Type 0) (has : List ℕ → List ℕ → Type 0) (old new : Play) (line shown plain words text : List ℕ)
-    (wanted : Option (List ℕ)) (n : ℕ) → n ≡ more_by 1 old.number → reading line ≡ Asks shown plain wanted → words ≡ plain
-    → has_dashes words ≡ false → TellsAsked step has false (record old { number = n }) shown plain wanted text new
+-- a line that asks for nothing
+pub None-tells : (step : State → Event → Reply → State → Type 0) (has : List ℕ → List ℕ → Type 0) (now new : Play) (shown plain line : List ℕ)
+    (wanted : Option (List ℕ)) (after : CapturedView) → line ≡ plain → AsksFor line None
+    → after ≡ captured_of now.machine now.traced now.number
+    → new ≡ record now { machine = after.machine; traced = after.traced; sound = false }
+    → TellsAsked step has now shown plain wanted (fault_text now.form now.name now.number (codes "this asks for nothing")) new
+None-tells step has now new shown plain line wanted after same none kept is = (
+  None,
+  subst (λ (t : List ℕ). AsksFor t None) same none,
+  (refl, is ∙ ap (λ (s : CapturedView). record now { machine = s.machine; traced = s.traced; sound = false }) kept),
+)
+
+-- a line of settings
+pub Settings-tell : (step : State → Event → Reply → State → Type 0) (has : List ℕ → List ℕ → Type 0) (now mid new : Play) (shown plain line text : List ℕ)
+    (wanted : Option (List ℕ)) (named : List (List ℕ)) (ask : Ask) (after : CapturedView) → line ≡ plain → AsksFor line (Some ask) → ask ≡ Settings named
+    → after ≡ captured_of now.machine now.traced now.number → mid ≡ record now { machine = after.machine; traced = after.traced }
+    → TellsSettings mid shown (words plain) wanted text new → TellsAsked step has now shown plain wanted text new
+Settings-tell step has now mid new shown plain line text wanted named ask after same asks is kept begun said =
+    let here : AsksFor plain (Some (Settings named)) =
+    subst (λ (t : List ℕ). AsksFor t (Some (Settings named))) same (subst (λ (a : Ask). AsksFor line (Some a)) is asks) in
+    let unchanged : mid ≡ now = begun ∙ ap (λ (s : CapturedView). record now { machine = s.machine; traced = s.traced }) kept in (
+      Some (Settings named),
+      here,
+      inr (
+        named,
+        refl,
+        subst (λ (m : Play). TellsSettings m shown named wanted text new) unchanged
+            (subst (λ (ws : List (List ℕ)). TellsSettings mid shown ws wanted text new) (sym here.1) said),
+      ),
+    )
+
+-- what came of what a line asks for
+pub Told-some : (step : State → Event → Reply → State → Type 0) (has : List ℕ → List ℕ → Type 0) (quiet : Bool) (plain : List ℕ) (ask : Ask) (came : Told)
+    (old new : CapturedView) (text below : List ℕ) → AsksFor plain (Some ask) → IsToldAs step has quiet ask came old text below new
+    → IsTold step has quiet plain came old text below new
+Told-some step has quiet plain ask told.Nothing old new text below asks came = absurd came
+Told-some step has quiet plain ask told.Settings old new text below asks came = (ask, asks, came)
+Told-some step has quiet plain ask (told.Done stays) old new text below asks came = (ask, asks, came)
+
+-- a line that asks for something, or expects something
+pub Asks-tells : (step : State → Event → Reply → State → Type 0) (has : List ℕ → List ℕ → Type 0) (old now new : Play) (line shown plain text : List ℕ)
+    (wanted : Option (List ℕ)) → now ≡ next_line old → reading line ≡ Asks shown plain wanted → TellsAsked step has now shown plain wanted text new
     → Tells step has old line text new
-Asks-tells step has old new line shown plain words text wanted n number is same none told =
-    let dashes : has_dashes plain ≡ false = ap has_dashes (sym same) ∙ none in
-    let counted : TellsAsked step has false (next_line old) shown plain wanted text new =
-    subst (λ (k : ℕ). TellsAsked step has false (record old { number = k }) shown plain wanted text new) number told in
+Asks-tells step has old now new line shown plain text wanted counted is said =
     subst (λ (r : Reading). TellsReading step has (next_line old) r text new) (sym is)
-    (subst (λ (b : Bool). TellsAsked step has b (next_line old) shown plain wanted text new) (sym dashes) counted)
+    (subst (λ (p : Play). TellsAsked step has p shown plain wanted text new) counted said)

@@ -1,7 +1,6 @@
 -- What turns add to a capture.
 use Rattle.std.proofs.Common.{◌≡◌, ℕ, zero, suc, ◌+◌, ◌*◌, ◌-◌, ◌<◌, ◌≤◌, Bool, true, false, List, [], ◌∷◌, ◌++◌, length, flat_map, get_or, map, replicate, codes, Option, Some, None, refl, sym, ap, ◌∙◌, arith, subst, append-nil}
 use Rattle.std.proofs.KnownBytes.{Appends-nil}
-use Rattle.std.proofs.lemmas.Fmt.{decimal_injective}
 use Rattle.std.proofs.lemmas.List.{map-append}
 use Rattle.std.proofs.lemmas.List.Concat.{flat_map-append}
 use Rattle.flat_model.specs.Machine.Event.{Reply, Comes, Transmit, Tick}
@@ -9,9 +8,8 @@ use Rattle.flat_model.specs.Runs.Run.{Turn}
 use Rattle.pcap.specs.Records.{Captured, record_bytes}
 use Rattle.pcap.specs.declared.header.Order.TheVariants.{Little}
 use Rattle.play_pcap.specs.Traces.{Keeps, Pass, SentAfter, Traced, later, pass_at, pass_bytes, passes_bytes, record_of}
-use Rattle.play_script.specs.Asked.{turns_of}
+use Rattle.play_script.specs.Deeds.{turns_of}
 use Rattle.play_script.specs.Captures.{Captures, all_passes, given, pass_if, passes, ticks_after, turn_of}
-use Rattle.play_script.specs.Lines.{IsTicks}
 
 -- ---- what is written
 
@@ -53,21 +51,6 @@ Captures-ticks number (suc n) m old mid new reply some is t w b h =
     subst (λ (s : Traced). Captures number s (turns_of (replicate n Tick) reply) new) (same_but_ticks old mid t w b) front
 
 -- ---- a line
-
--- the first two bytes of a word, and of the first word
-abbrev pub front_of : List ℕ → ℕ
-front_of word = get_or word 0 0 * 256 + get_or word 1 0
-
-abbrev pub first_of : List (List ℕ) → ℕ
-first_of [] = 0
-first_of (word ∷ more) = front_of word
-
--- a line asks for one number of ticks at most
-pub one_count : (plain : List ℕ) (m n : ℕ) → IsTicks plain m → IsTicks plain n → m ≡ n
-one_count plain m n h k =
-    let all : codes "tick" ∷ h.0 ∷ [] ≡ codes "tick" ∷ k.0 ∷ [] = sym h.1 ∙ k.1 in
-    let word : h.0 ≡ k.0 = cc all in
-    decimal_injective m n (omega (arith, h.2.0)) (omega (arith, k.2.0)) (sym h.2.1 ∙ word ∙ k.2.1)
 
 -- a tick alone
 pub Captures-tick : (number : ℕ) (old new : Traced) (reply : Reply) → new.ticks ≡ later old.ticks → new.whole ≡ old.whole → new.wrote ≡ old.wrote

@@ -1,4 +1,4 @@
-mod AskedLemmas
+mod DeedLemmas
 mod CaptureLemmas
 mod FitLemmas
 mod RoomLemmas

@@ -13,10 +13,10 @@ use Rattle.play_pcap.specs.Files.{no_folder}
 use Rattle.play_pcap.specs.Traces.{Traced, unwritten}
 use Rattle.play_script.specs.Tells.{Play, Tells, started}
 
-pub started-is : (machine : State) (traced : Traced) (config : Config) (number : ℕ) (form form' : Form) (name name' : List ℕ)
-    → config ≡ machine.config → form ≡ form' → number ≡ 0 → name ≡ name'
-    → record (started machine traced form name) { config = config; number = number } ≡ started machine traced form' name'
-started-is machine traced config number form form' name name' c e f h = rw (c, e, f, h) refl
+pub started-is : (machine : State) (traced : Traced) (config : Config) (number : ℕ) (sound : Bool) (form form' : Form) (name name' : List ℕ)
+    → config ≡ machine.config → form ≡ form' → number ≡ 0 → name ≡ name' → sound ≡ true
+    → record (started machine traced form name) { config = config; number = number; sound = sound } ≡ started machine traced form' name'
+started-is machine traced config number sound form form' name name' c e f h s = rw (c, e, f, h, s) refl
 
 unserved : (step : State → Event → Reply → State → Type 0) (has : List ℕ → List ℕ → Type 0) (c : Config) (fault : RunFault) (begun : Play) (a w : Option (List ℕ))
     → IsUnbooted c fault → Serves (Tells step has) begun begun a a w w (Err fault)
@@ -75,13 +75,13 @@ Serves-none step machine form name a w =
 
 -- what a new player serves
 pub Serves-started : (step : State → Event → Reply → State → Type 0) (has : List ℕ → List ℕ → Type 0) (machine : State) (traced after : Traced)
-    (config : Config) (number : ℕ) (form form' : Form) (name name' : List ℕ) (new : Play) (a b w v : Option (List ℕ)) (r : Result Unit RunFault)
-    → config ≡ machine.config → form ≡ form' → number ≡ 0 → name ≡ name' → after ≡ new.traced
-    → Serves (Tells step has) (record (started machine traced form name) { config = config; number = number }) new a b w v r
+    (config : Config) (number : ℕ) (sound : Bool) (form form' : Form) (name name' : List ℕ) (new : Play) (a b w v : Option (List ℕ)) (r : Result Unit RunFault)
+    → config ≡ machine.config → form ≡ form' → number ≡ 0 → name ≡ name' → sound ≡ true → after ≡ new.traced
+    → Serves (Tells step has) (record (started machine traced form name) { config = config; number = number; sound = sound }) new a b w v r
     → (x : Play) × Serves (Tells step has) (started machine traced form' name') x a b w v r × (new.sound ≡ x.sound) × (after ≡ x.traced)
-Serves-started step has machine traced after config number form form' name name' new a b w v r c e f h t served = (
+Serves-started step has machine traced after config number sound form form' name name' new a b w v r c e f h s t served = (
   new,
-  subst (λ (s : Play). Serves (Tells step has) s new a b w v r) (started-is machine traced config number form form' name name' c e f h) served,
+  subst (λ (p : Play). Serves (Tells step has) p new a b w v r) (started-is machine traced config number sound form form' name name' c e f h s) served,
   refl,
   t,
 )

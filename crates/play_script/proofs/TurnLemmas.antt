@@ -2,36 +2,31 @@
 use Rattle.std.proofs.Common.{◌≡◌, ◌⊎◌, ℕ, zero, suc, ◌<◌, ◌&&◌, Bool, true, false, List, [], ◌∷◌, ◌++◌, get_or, replicate, codes, Option, Some, None, Result, Ok, Err, inl, inr, refl, sym, ap, ◌∙◌, arith, subst}
 use Rattle.std.proofs.lemmas.Bool.{false≢true}
 use Rattle.flat_model.specs.Machine.Count.{more_by}
-use Rattle.flat_model.specs.Machine.Event.{Event, Reply, Open, Bind, Connect, Send, Receive, Close, Set_option, Comes, Transmit, Tick, Ask_counters, Ask_usage, Done}
+use Rattle.flat_model.specs.Machine.Event.{Event, Reply, Tick, Done}
 use Rattle.flat_model.specs.Machine.Ledger.{exact_ledger}
 use Rattle.flat_model.specs.Machine.State.{State, boot}
 use Rattle.flat_model.specs.Machine.Step.{Step}
 use Rattle.flat_model.specs.Runs.Run.{Turn, Leads}
-use Rattle.flat_model.specs.Scripts.Grammar.{keyword, words}
 use Rattle.flat_model.specs.declared.config.Config.{Config}
 use Rattle.flat_model.specs.Scripts.Script as script
 use Rattle.flat_model.specs.Scripts.Script.{all_events}
 use Rattle.flat_model.proofs.Laws.{in_range}
 use Rattle.script_loop.specs.Printed.{Prints}
-use Rattle.play_settings.specs.Settings.{has_dashes, IsSet}
-use Rattle.play_settings.specs.declared.fault.SettingFault.{SettingFault}
-use Rattle.play_settings.specs.declared.fault.SettingFault.TheVariants.{Late}
-use Rattle.play_settings.proofs.Laws.{first_dash}
-use Rattle.play_show.specs.Topics.{topic_asked}
-use Rattle.play_show.specs.declared.topic.Topic.{Topic}
-use Rattle.play_show.proofs.Laws.{begins_with_show}
+use Rattle.play_read.specs.Settings.{IsSet}
+use Rattle.play_read.specs.declared.fault.SettingFault.{SettingFault}
+use Rattle.play_read.specs.declared.fault.SettingFault.TheVariants.{Late}
 use Rattle.play_text.specs.Forms.{is_quiet}
 use Rattle.play_pcap.specs.Traces.{Traced, Keeps, passes_bytes}
-use Rattle.play_pcap.specs.Told.{outcome_text}
+use Rattle.play_read.specs.Asks.{Ask, Call, Ticks, Show, Capture, Settings, IsTicks, Writes}
+use Rattle.play_read.proofs.Laws.{Settings-idle, Show-idle}
 use Rattle.play_script.proofs.CaptureLemmas.{Joins, Keeps-none, Captures-join}
-use Rattle.play_script.proofs.PlayLemmas.{Captures-same, Capture-ends_head, Named-turns}
-use Rattle.play_script.specs.Asked.{AsksFor, Does, turns_of}
+use Rattle.play_script.proofs.PlayLemmas.{Captures-same, Named-turns}
+use Rattle.play_script.specs.Deeds.{Does, turns_of}
 use Rattle.play_script.specs.Captures.{Captures, all_passes, turn_of}
-use Rattle.play_script.specs.Lines.{Reading, Nothing, TooLong, Faulty, Asks, IsTicks, reading}
-use Rattle.play_script.specs.Outcomes.{drops_text}
-use Rattle.play_script.specs.Plays.{SceneView, scene_of}
+use Rattle.play_script.specs.Lines.{Reading, Nothing, TooLong, Faulty, Asks, reading}
+use Rattle.play_script.specs.Plays.{CapturedView, captured_of}
 use Rattle.play_script.specs.Runs.{AreTurns, IsRunOf, all_turns, MaySet, MaySetAll}
-use Rattle.play_script.specs.Tells.{Play, Tells, TellsReading, TellsAsked, TellsSettled, IsAnswered, IsSettled, IsTold, next_line, stays_head}
+use Rattle.play_script.specs.Tells.{Play, Tells, TellsAsk, TellsReading, TellsAsked, TellsSettled, IsSettled, next_line, stays_head}
 
 -- ticks one after another are turns
 Ticks-lead : (n : ℕ) (old new : State) (reply : Reply) → Does Step old (replicate n Tick) reply new
@@ -73,77 +68,6 @@ Makes-ticks has number old new t u shown plain wanted n reply is does captured =
     ap (λ (r : Reply). turns_of (replicate n Tick) r) (Ticks-done n old new reply is.3 does) ∙ ticks_turns n in
     (turns_of (replicate n Tick) reply, inr (inl (n, is, done)), Ticks-lead n old new reply does, captured)
 
-Makes-asked : (has : List ℕ → List ℕ → Type 0) (number : ℕ) (old new : State) (t u : Traced) (shown plain : List ℕ) (wanted : Option (List ℕ)) (events : List Event) (reply : Reply)
-    → AsksFor plain events → Does Step old events reply new → Captures number t (turns_of events reply) u
-    → Makes has (Asks shown plain wanted) number old new t u
-Makes-asked has number old new t u shown plain wanted events reply (inl (event, asks, is)) does captured =
-    Makes-one has number old new t u shown plain wanted event reply asks
-    (subst (λ (es : List Event). Does Step old es reply new) is does)
-    (subst (λ (es : List Event). Captures number t (turns_of es reply) u) is captured)
-Makes-asked has number old new t u shown plain wanted events reply (inr (n, ticks, is)) does captured =
-    Makes-ticks has number old new t u shown plain wanted n reply ticks
-    (subst (λ (es : List Event). Does Step old es reply new) is does)
-    (subst (λ (es : List Event). Captures number t (turns_of es reply) u) is captured)
-
--- the second byte of `show` is no other word's
-no_keyword : (event : Event) → get_or (keyword event) 1 0 ≡ 104 → ⊥
-no_keyword Open h = omega (arith, h)
-no_keyword (Bind fd address) h = omega (arith, h)
-no_keyword (Connect fd address) h = omega (arith, h)
-no_keyword (Send fd (Some to) bytes) h = omega (arith, h)
-no_keyword (Send fd None bytes) h = omega (arith, h)
-no_keyword (Receive fd most) h = omega (arith, h)
-no_keyword (Close fd) h = omega (arith, h)
-no_keyword (Set_option fd option on) h = omega (arith, h)
-no_keyword (Comes packet) h = omega (arith, h)
-no_keyword Transmit h = omega (arith, h)
-no_keyword Tick h = omega (arith, h)
-no_keyword Ask_counters h = omega (arith, h)
-no_keyword Ask_usage h = omega (arith, h)
-
-second_of : List (List ℕ) → ℕ
-second_of [] = 0
-second_of (word ∷ more) = get_or word 1 0
-
--- a line that asks to be shown something asks for no event, and for no ticks
-Shown-no_event : (plain : List ℕ) (topic : Topic) → topic_asked plain ≡ Some topic → (event : Event) → ¬ script.Asks all_events plain event
-unfolding second_of
-Shown-no_event plain topic is event asks =
-    let shows = begins_with_show plain topic is in
-    no_keyword event (sym (ap second_of (asks.form).words_are) ∙ ap second_of shows.1)
-
-Shown-no_ticks : (plain : List ℕ) (topic : Topic) → topic_asked plain ≡ Some topic → (n : ℕ) → ¬ IsTicks plain n
-unfolding second_of
-Shown-no_ticks plain topic is n ticks =
-    let shows = begins_with_show plain topic is in
-    let same : get_or (codes "tick") 1 0 ≡ 104 = sym (ap second_of ticks.1) ∙ ap second_of shows.1 in
-    omega (arith, same)
-
--- a line of settings asks for no event, and for no ticks
-dash_first : (event : Event) → get_or (keyword event) 0 0 ≡ 45 → ⊥
-dash_first Open h = omega (arith, h)
-dash_first (Bind fd address) h = omega (arith, h)
-dash_first (Connect fd address) h = omega (arith, h)
-dash_first (Send fd (Some to) bytes) h = omega (arith, h)
-dash_first (Send fd None bytes) h = omega (arith, h)
-dash_first (Receive fd most) h = omega (arith, h)
-dash_first (Close fd) h = omega (arith, h)
-dash_first (Set_option fd option on) h = omega (arith, h)
-dash_first (Comes packet) h = omega (arith, h)
-dash_first Transmit h = omega (arith, h)
-dash_first Tick h = omega (arith, h)
-dash_first Ask_counters h = omega (arith, h)
-dash_first Ask_usage h = omega (arith, h)
-
-Settings-no_event : (plain : List ℕ) → has_dashes plain ≡ true → (event : Event) → ¬ script.Asks all_events plain event
-Settings-no_event plain is event asks =
-    dash_first event (first_dash plain (keyword event) asks.form.args is asks.form.words_are)
-
-Settings-no_ticks : (plain : List ℕ) → has_dashes plain ≡ true → (n : ℕ) → ¬ IsTicks plain n
-Settings-no_ticks plain is n ticks =
-    let same : get_or (codes "tick") 0 0 ≡ 45 = first_dash plain (codes "tick") (ticks.0 ∷ []) is ticks.1 in
-    omega (arith, same)
-
 -- ---- a line
 
 -- A line that isn't of settings: its turns, none of them if settings may still come.
@@ -165,48 +89,27 @@ record Settled (has : List ℕ → List ℕ → Type 0) (now : Play) (line : Rea
   machine : new.machine ≡ boot new.config
   set : MaySet line now.config new.config
 
-not_none : (text : List ℕ) → None ≡ Some text → ⊥
-not_none text e = cc
-
 not_late : (c : Config) → Ok c ≡ Err Late → ⊥
 not_late c e = cc
 
--- what is told of a plain line, by its turns
-Answered-turns : (has : List ℕ → List ℕ → Type 0) (old new : SceneView) (shown plain : List ℕ) (wanted : Option (List ℕ)) (topic : Option Topic)
-    → topic_asked plain ≡ topic → (told : Option (List ℕ)) (below : List ℕ) (quiet : Bool)
-    → IsAnswered Step quiet old topic plain told below new
+-- what is told of what a line asks for, by its turns
+Told-turns : Joins → (has : List ℕ → List ℕ → Type 0) (ask : Ask) (old new : CapturedView) (shown plain : List ℕ) (wanted : Option (List ℕ)) (text below : List ℕ) (quiet : Bool)
+    → Writes plain ask → TellsAsk Step has quiet ask old text below new
     → (turns : List Turn) × AreTurns has (Asks shown plain wanted) turns × Leads exact_ledger old.machine turns new.machine
-    × Captures old.line old.traced turns new.traced × (stays_head topic told ≡ true → turns ≡ [])
-Answered-turns has old new shown plain wanted (Some topic) is None below quiet answered = absurd answered
-Answered-turns has old new shown plain wanted (Some topic) is (Some told) below quiet (shows, same, traced) = (
-  [],
-  inr (inr (inr (Shown-no_event plain topic is, Shown-no_ticks plain topic is, refl))),
-  same,
-  Captures-same old.line old.traced new.traced traced,
-  λ stays. refl,
-)
-Answered-turns has old new shown plain wanted None is told below quiet (inl (none, no_text, no_lines, same, traced)) =
-    ([], inr (inr (inr (none.0, none.1, refl))), same, Captures-same old.line old.traced new.traced traced, λ stays. refl)
-Answered-turns has old new shown plain wanted None is told below quiet (inr (events, asks, done)) =
-    let made = Makes-asked has old.line old.machine new.machine old.traced new.traced shown plain wanted events done.reply asks done.does done.captured in
-    (made.0, made.1, made.2, made.3, λ stays. absurd (false≢true (subst (λ (t : Option (List ℕ)). stays_head None t ≡ true) done.tells stays)))
-
--- what is told of a plain line, whether it asks for a capture or not
-Told-turns : Joins → (has : List ℕ → List ℕ → Type 0) (old new : SceneView) (shown plain : List ℕ) (wanted told : Option (List ℕ)) (below : List ℕ) (quiet : Bool)
-    → IsTold Step has quiet plain old told below new
-    → (turns : List Turn) × AreTurns has (Asks shown plain wanted) turns × Leads exact_ledger old.machine turns new.machine
-    × Captures old.line old.traced turns new.traced × (stays_head (topic_asked plain) told ≡ true → turns ≡ [])
-Told-turns join has old new shown plain wanted told below quiet (inr (none, answered)) =
-    Answered-turns has old new shown plain wanted (topic_asked plain) refl told below quiet answered
-Told-turns join has old new shown plain wanted told below quiet (inl (word, d, asked, (outcome, before, after, plays, was, now, tells, lines))) =
-    let made = Named-turns join has shown plain word wanted d outcome old new asked plays in (
-      made.0,
-      made.1,
-      made.2,
-      made.3,
-      Capture-ends_head plain word d (topic_asked plain) told
-          (outcome_text outcome ++ drops_text before.counters after.counters) made.0 refl asked tells,
-    )
+    × Captures old.line old.traced turns new.traced × (stays_head ask ≡ true → turns ≡ [])
+Told-turns join has (Call event) old new shown plain wanted text below quiet asks done =
+    let made = Makes-one has old.line old.machine new.machine old.traced new.traced shown plain wanted event done.reply asks done.does done.captured in
+    (made.0, made.1, made.2, made.3, λ stays. absurd (false≢true stays))
+Told-turns join has (Ticks n) old new shown plain wanted text below quiet ticks done =
+    let made = Makes-ticks has old.line old.machine new.machine old.traced new.traced shown plain wanted n done.reply ticks done.does done.captured in
+    (made.0, made.1, made.2, made.3, λ stays. absurd (false≢true stays))
+Told-turns join has (Show topic) old new shown plain wanted text below quiet is (shows, same, traced) =
+    let idle = Show-idle plain topic is in
+    ([], inr (inr (inr (idle.0, idle.1, refl))), same, Captures-same old.line old.traced new.traced traced, λ stays. refl)
+Told-turns join has (Capture name d) old new shown plain wanted text below quiet asked (outcome, before, after, plays, was, now, tells, lines) =
+    let made = Named-turns join has shown plain name wanted d outcome old new asked plays in
+    (made.0, made.1, made.2, made.3, λ stays. absurd (false≢true stays))
+Told-turns join has (Settings named) old new shown plain wanted text below quiet asks told = absurd told
 
 and_first : (a b : Bool) → (a && b) ≡ true → a ≡ true
 and_first true b h = refl
@@ -228,33 +131,37 @@ Idle has now new line are machine traced number config head = record {
   head = λ h. (sym head ∙ h, refl);
 }
 
-Settings-line : (has : List ℕ → List ℕ → Type 0) (now new : Play) (shown plain text : List ℕ) (wanted : Option (List ℕ)) (head : Bool) → now.head ≡ head → has_dashes plain ≡ true
-    → (outcome : Result Config SettingFault) → IsSettled head now.config plain outcome → TellsSettled now shown wanted outcome text new
+Settings-line : (has : List ℕ → List ℕ → Type 0) (now new : Play) (shown plain text : List ℕ) (wanted : Option (List ℕ)) (named : List (List ℕ)) (head : Bool) → now.head ≡ head
+    → Writes plain (Settings named) → (outcome : Result Config SettingFault) → IsSettled head now.config named outcome → TellsSettled now shown wanted outcome text new
     → Asked has now (Asks shown plain wanted) new ⊎ Settled has now (Asks shown plain wanted) new
-Settings-line has now new shown plain text wanted head was is (Err fault) settled (told, same) =
-    inl (Idle has now new (Asks shown plain wanted) (inr (inr (inr (Settings-no_event plain is, Settings-no_ticks plain is, refl))))
+Settings-line has now new shown plain text wanted named head was is (Err fault) settled (told, same) =
+    inl (Idle has now new (Asks shown plain wanted) (inr (inr (inr ((Settings-idle plain is.0).0, (Settings-idle plain is.0).1, refl))))
     (ap (λ (p : Play). p.machine) same) (ap (λ (p : Play). p.traced) same)
     (ap (λ (p : Play). p.number) same) (ap (λ (p : Play). p.config) same) (ap (λ (p : Play). p.head) same))
-Settings-line has now new shown plain text wanted true was is (Ok c) (set, right) (told, same) =
+Settings-line has now new shown plain text wanted named true was is (Ok c) (set, right) (told, same) =
     inr (record {
-      are = inr (inr (inr (Settings-no_event plain is, Settings-no_ticks plain is, refl)));
+      are = inr (inr (inr ((Settings-idle plain is.0).0, (Settings-idle plain is.0).1, refl)));
       captured = Captures-same now.number now.traced new.traced (ap (λ (p : Play). p.traced) same);
       number = ap (λ (p : Play). p.number) same;
       was = was;
       machine = ap (λ (p : Play). p.machine) same ∙ ap boot (sym (ap (λ (p : Play). p.config) same));
-      set = inr (is, subst (λ (d : Config). IsSet now.config (words plain) (Ok d)) (sym (ap (λ (p : Play). p.config) same)) set);
+      set = inr (named, is, subst (λ (d : Config). IsSet now.config named (Ok d)) (sym (ap (λ (p : Play). p.config) same)) set);
     })
-Settings-line has now new shown plain text wanted false was is (Ok c) settled told =
+Settings-line has now new shown plain text wanted named false was is (Ok c) settled told =
     absurd (not_late c settled)
 
-Asked-line : Joins → (has : List ℕ → List ℕ → Type 0) (now new : Play) (shown plain text : List ℕ) (wanted : Option (List ℕ)) (dashes : Bool) → has_dashes plain ≡ dashes
-    → TellsAsked Step has dashes now shown plain wanted text new
+Asked-line : Joins → (has : List ℕ → List ℕ → Type 0) (now new : Play) (shown plain text : List ℕ) (wanted : Option (List ℕ))
+    → TellsAsked Step has now shown plain wanted text new
     → Asked has now (Asks shown plain wanted) new ⊎ Settled has now (Asks shown plain wanted) new
-Asked-line join has now new shown plain text wanted true is (outcome, settled, told) =
-    Settings-line has now new shown plain text wanted now.head refl is outcome settled told
-Asked-line join has now new shown plain text wanted false is (after, told, below, answered, tells, same) =
-    let made = Told-turns join has (scene_of now.machine now.traced now.number) after shown plain wanted told below (is_quiet now.form) answered in
-    let stayed : new.head ≡ (now.head && stays_head (topic_asked plain) told) = ap (λ (p : Play). p.head) same in
+Asked-line join has now new shown plain text wanted (None, none, (tells, same)) =
+    inl (Idle has now new (Asks shown plain wanted) (inr (inr (inr (λ event. none (Call event), λ n. none (Ticks n), refl))))
+    (ap (λ (p : Play). p.machine) same) (ap (λ (p : Play). p.traced) same)
+    (ap (λ (p : Play). p.number) same) (ap (λ (p : Play). p.config) same) (ap (λ (p : Play). p.head) same))
+Asked-line join has now new shown plain text wanted (Some ask, asks, inr (named, is, (outcome, settled, told))) =
+    Settings-line has now new shown plain text wanted named now.head refl (subst (λ (a : Ask). Writes plain a) is asks) outcome settled told
+Asked-line join has now new shown plain text wanted (Some ask, asks, inl (after, said, below, answered, tells, same)) =
+    let made = Told-turns join has ask (captured_of now.machine now.traced now.number) after shown plain wanted said below (is_quiet now.form) asks answered in
+    let stayed : new.head ≡ (now.head && stays_head ask) = ap (λ (p : Play). p.head) same in
     inl (record {
       turns = made.0;
       are = made.1;
@@ -263,8 +170,8 @@ Asked-line join has now new shown plain text wanted false is (after, told, below
       number = ap (λ (p : Play). p.number) same;
       config = ap (λ (p : Play). p.config) same;
       head = λ h. (
-        and_first now.head (stays_head (topic_asked plain) told) (sym stayed ∙ h),
-        made.4 (and_second now.head (stays_head (topic_asked plain) told) (sym stayed ∙ h)),
+        and_first now.head (stays_head ask) (sym stayed ∙ h),
+        made.4 (and_second now.head (stays_head ask) (sym stayed ∙ h)),
       );
     })
 
@@ -279,7 +186,7 @@ Tells-line join has now new TooLong text (is, same) =
 Tells-line join has now new (Faulty slip) text (is, same) =
     inl (Idle has now new (Faulty slip) refl (ap (λ (p : Play). p.machine) same) (ap (λ (p : Play). p.traced) same)
     (ap (λ (p : Play). p.number) same) (ap (λ (p : Play). p.config) same) (ap (λ (p : Play). p.head) same))
-Tells-line join has now new (Asks shown plain wanted) text told = Asked-line join has now new shown plain text wanted (has_dashes plain) refl told
+Tells-line join has now new (Asks shown plain wanted) text told = Asked-line join has now new shown plain text wanted told
 
 -- ---- all lines
 

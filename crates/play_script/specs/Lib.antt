@@ -1,8 +1,9 @@
 pub mod Lines
 pub mod Outcomes
-pub mod Asked
+pub mod Deeds
 pub mod Captures
 pub mod Plays
 pub mod Tells
 pub mod Runs
+pub mod Views
 pub mod Inside

@@ -1,6 +1,5 @@
 -- What a line of a commented script is made of (this project's own).
-use Rattle.std.specs.Prelude.{◌≡◌, ℕ, ◌<◌, ◌+◌, ◌==◌, ◌||◌, Bool, true, false, List, [], ◌∷◌, ◌++◌, length, take, drop, get_or, position, if◌then◌else◌, codes, nat_lt, Option, Some, None, Result, Ok, Err}
-use Rattle.flat_model.specs.Scripts.Grammar.{words, IsNumber}
+use Rattle.std.specs.Prelude.{ℕ, ◌+◌, ◌==◌, ◌||◌, Bool, true, false, List, [], ◌∷◌, ◌++◌, length, take, drop, get_or, position, if◌then◌else◌, nat_lt, Option, Some, None, Result, Ok, Err}
 use Rattle.play_line.specs.Line.{expanded}
 use Rattle.play_line.specs.Shown.{shown}
 use Rattle.play_line.specs.declared.fault.Slip.{Slip}
@@ -82,9 +81,3 @@ abbrev pub reading : List ℕ → Reading
 reading line =
     if nat_lt LONGEST (length line) then TooLong
     else reading_plain line (expanded line)
-
--- ---- `tick N`
-
--- so many ticks, from 1 to 65,535
-abbrev pub IsTicks : List ℕ → ℕ → Type 0
-IsTicks plain n = (digits : List ℕ) × (words plain ≡ codes "tick" ∷ digits ∷ []) × IsNumber 65535 digits n × (0 < n)

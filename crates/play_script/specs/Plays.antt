@@ -1,5 +1,5 @@
 -- Captures that are played in: the machine's steps, and what is told of them (this project's own).
-use Rattle.std.specs.Prelude.{◌≡◌, ℕ, Bool, List, [], ◌∷◌, ◌++◌, map, length, Option, Some, None, Result, Ok}
+use Rattle.std.specs.Prelude.{◌≡◌, ℕ, Bool, List, [], ◌∷◌, ◌++◌, map, length, None, Result, Ok}
 use Rattle.flat_model.specs.Machine.Event.{Event, Reply, IsEvent, Done}
 use Rattle.flat_model.specs.Machine.State.{State}
 use Rattle.flat_model.specs.Runs.Run.{Turn}
@@ -14,18 +14,18 @@ use Rattle.play_pcap.specs.declared.fault.CaptureFault.{CaptureFault}
 use Rattle.play_pcap.specs.declared.moves.Tally.{Tally}
 use Rattle.play_show.specs.Changes.{IsSnapshot}
 use Rattle.play_show.specs.declared.snapshot.Snapshot.{Snapshot}
-use Rattle.play_script.specs.Asked.{below_text}
+use Rattle.play_script.specs.Deeds.{below_text}
 use Rattle.play_script.specs.Captures.{Captures, turn_of}
 use Rattle.play_script.specs.Outcomes.{drops_text}
 
 -- A machine, the capture of its packets, and the number of the line in hand.
-pub record SceneView : Type 0 where
+pub record CapturedView : Type 0 where
   pub machine : State
   pub traced : Traced
   pub line : ℕ
 
-abbrev pub scene_of : State → Traced → ℕ → SceneView
-scene_of machine traced line = record { machine = machine; traced = traced; line = line }
+abbrev pub captured_of : State → Traced → ℕ → CapturedView
+captured_of machine traced line = record { machine = machine; traced = traced; line = line }
 
 -- ---- the turns of a line
 
@@ -45,17 +45,17 @@ PlaysIn has plain turns =
 
 module _ (step : State → Event → Reply → State → Type 0) where
   -- a packet comes or a tick passes, and the capture of the machine's packets has it
-  abbrev pub ComesTo : SceneView → Event → SceneView → Type 0
+  abbrev pub ComesTo : CapturedView → Event → CapturedView → Type 0
   ComesTo old event new =
       IsEvent event × step old.machine event Done new.machine
       × Captures old.line old.traced (came_turn event ∷ []) new.traced × (new.line ≡ old.line)
 
   -- What may be told of the capture in the file that a word names, with the lines below it: how many packets came, or
   -- what is wrong with the file; why packets were dropped; and below it what came of them.
-  abbrev pub IsPlayed : (List ℕ → List ℕ → Type 0) → Bool → Details → List ℕ → SceneView → Option (List ℕ) → List ℕ → SceneView → Type 0
+  abbrev pub IsPlayed : (List ℕ → List ℕ → Type 0) → Bool → Details → List ℕ → CapturedView → List ℕ → List ℕ → CapturedView → Type 0
   IsPlayed has quiet d word old told below new =
       (outcome : Result Tally CaptureFault) × (before after : Snapshot)
       × PlaysNamed has ComesTo d word outcome old new
       × IsSnapshot step old.machine before × IsSnapshot step new.machine after
-      × (told ≡ Some (outcome_text outcome ++ drops_text before.counters after.counters))
+      × (told ≡ outcome_text outcome ++ drops_text before.counters after.counters)
       × (below ≡ below_text quiet None before after new.machine.output)

@@ -4,14 +4,14 @@ use Rattle.flat_model.specs.Machine.Event.{Event, Reply, Tick, Done}
 use Rattle.flat_model.specs.Machine.Ledger.{exact_ledger}
 use Rattle.flat_model.specs.Machine.State.{State, boot}
 use Rattle.flat_model.specs.Runs.Run.{Turn, Leads}
-use Rattle.flat_model.specs.Scripts.Grammar.{words}
 use Rattle.flat_model.specs.Scripts.Script.{all_events}
 use Rattle.flat_model.specs.Scripts.Script as script
 use Rattle.flat_model.specs.declared.config.Config.{Config}
-use Rattle.play_settings.specs.Settings.{has_dashes, IsSet}
+use Rattle.play_read.specs.Settings.{IsSet}
 use Rattle.play_pcap.specs.Traces.{Keeps, passes_bytes}
 use Rattle.play_script.specs.Captures.{all_passes, turn_of}
-use Rattle.play_script.specs.Lines.{Reading, Nothing, TooLong, Faulty, Asks, IsTicks, reading}
+use Rattle.play_read.specs.Asks.{IsTicks, Settings, Writes}
+use Rattle.play_script.specs.Lines.{Reading, Nothing, TooLong, Faulty, Asks, reading}
 use Rattle.play_script.specs.Plays.{PlaysIn}
 use Rattle.play_script.specs.Tells.{Play}
 
@@ -46,7 +46,7 @@ abbrev pub MaySet : Reading → Config → Config → Type 0
 MaySet Nothing old new = new ≡ old
 MaySet TooLong old new = new ≡ old
 MaySet (Faulty slip) old new = new ≡ old
-MaySet (Asks shown plain wanted) old new = (new ≡ old) ⊎ ((has_dashes plain ≡ true) × IsSet old (words plain) (Ok new))
+MaySet (Asks shown plain wanted) old new = (new ≡ old) ⊎ ((named : List (List ℕ)) × Writes plain (Settings named) × IsSet old named (Ok new))
 
 -- after several lines
 abbrev pub MaySetAll : List (List ℕ) → Config → Config → Type 0

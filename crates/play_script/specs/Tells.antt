@@ -1,31 +1,28 @@
 -- What a player of commented scripts may tell for a line, by a machine's steps (this project's own).
-use Rattle.std.specs.Prelude.{◌≡◌, ◌⊎◌, ℕ, zero, suc, ◌&&◌, Bool, true, false, List, [], codes, Option, Some, None, Result, Ok, Err}
+use Rattle.std.specs.Prelude.{◌≡◌, ◌⊎◌, ℕ, ◌&&◌, Bool, true, false, List, [], ◌∷◌, replicate, codes, Option, Some, None, Result, Ok, Err}
 use Rattle.flat_model.specs.Machine.Count.{more_by}
-use Rattle.flat_model.specs.Machine.Event.{Event, Reply}
+use Rattle.flat_model.specs.Machine.Event.{Event, Reply, Tick}
 use Rattle.flat_model.specs.Machine.State.{State, IsConfig, HasSizes, boot}
-use Rattle.flat_model.specs.Scripts.Grammar.{words}
+use Rattle.flat_model.specs.Scripts.Texts.{reply_text}
 use Rattle.flat_model.specs.declared.config.Config.{Config}
 use Rattle.script_loop.specs.declared.fault.RunFault.{RunFault}
 use Rattle.script_loop.specs.declared.fault.RunFault.TheVariants.{Read, Write, Memory, TooManyLines, BadSizes, BadConfig}
 use Rattle.play_text.specs.Forms.{is_quiet}
 use Rattle.play_text.specs.Texts.{fault_text, slip_text, outcome_text}
 use Rattle.play_text.specs.declared.form.Form.{Form}
-use Rattle.play_settings.specs.Settings.{has_dashes, IsSet, fault_words}
-use Rattle.play_settings.specs.declared.fault.SettingFault.{SettingFault}
-use Rattle.play_settings.specs.declared.fault.SettingFault.TheVariants as settings
+use Rattle.play_read.specs.Settings.{IsSet, fault_words}
+use Rattle.play_read.specs.declared.fault.SettingFault.{SettingFault}
+use Rattle.play_read.specs.declared.fault.SettingFault.TheVariants as settings
 use Rattle.play_show.specs.Changes.{IsSnapshot}
 use Rattle.play_show.specs.Tells.{Shows}
 use Rattle.play_show.specs.declared.snapshot.Snapshot.{Snapshot}
-use Rattle.play_show.specs.Topics.{topic_asked}
-use Rattle.play_show.specs.declared.topic.Topic.{Topic}
-use Rattle.play_pcap.specs.Asks.{IsAsked}
 use Rattle.play_pcap.specs.Traces.{Traced}
-use Rattle.play_pcap.specs.declared.ask.Details.{Details}
-use Rattle.play_script.specs.Asked.{AsksFor, AsksNothing, Does, below_text, moved_in, turns_of}
+use Rattle.play_read.specs.Asks.{Ask, Call, Ticks, Show, Capture, Settings, AsksFor}
+use Rattle.play_script.specs.Deeds.{Does, below_text, moved_in, turns_of}
 use Rattle.play_script.specs.Captures.{Captures}
 use Rattle.play_script.specs.Lines.{Reading, Nothing, TooLong, Faulty, Asks, reading}
-use Rattle.play_script.specs.Outcomes.{outcome, meets}
-use Rattle.play_script.specs.Plays.{IsPlayed, SceneView, scene_of}
+use Rattle.play_script.specs.Outcomes.{told, drops_text, meets}
+use Rattle.play_script.specs.Plays.{IsPlayed, CapturedView, captured_of}
 
 -- What a player has in hand: its machine, the capture of its packets, and the configuration that the machine was booted
 -- with; whether settings may still make another one; how many lines it has seen; whether all of them could be read and
@@ -55,29 +52,25 @@ started machine traced form name = record {
 
 -- ---- texts
 
--- the line could be read, and what was told is what was expected
-abbrev pub is_sound : Option (List ℕ) → Option (List ℕ) → Bool
-is_sound wanted None = false
-is_sound None (Some told) = true
-is_sound (Some wanted) (Some told) = meets wanted told
+-- what was told is what was expected
+abbrev pub is_sound : Option (List ℕ) → List ℕ → Bool
+is_sound None told = true
+is_sound (Some wanted) told = meets wanted told
 
 -- what is told of a line, the lines below it, and what was expected, in the player's form
 abbrev pub told_text : Form → List ℕ → ℕ → List ℕ → Option (List ℕ) → List ℕ → List ℕ → List ℕ
 told_text form name number shown wanted told below =
-    outcome_text form name number shown wanted (is_sound wanted (Some told)) told below
-
--- the text of a line that asks for something, or for nothing
-abbrev pub printed : Form → List ℕ → ℕ → List ℕ → Option (List ℕ) → Option (List ℕ) → List ℕ → List ℕ
-printed form name number shown wanted None below = fault_text form name number (codes "this asks for nothing")
-printed form name number shown wanted (Some told) below = told_text form name number shown wanted told below
+    outcome_text form name number shown wanted (is_sound wanted told) told below
 
 -- ---- settings
 
--- whether settings may still come after a line that tells this: one that asks for a call ends them
-abbrev pub stays_head : Option Topic → Option (List ℕ) → Bool
-stays_head (Some topic) told = true
-stays_head None None = true
-stays_head None (Some told) = false
+-- whether settings may still come after a line that asks for this
+abbrev pub stays_head : Ask → Bool
+stays_head (Call event) = false
+stays_head (Ticks n) = false
+stays_head (Show topic) = true
+stays_head (Capture name details) = false
+stays_head (Settings named) = true
 
 -- why there is no machine of a configuration
 abbrev pub IsRefused : Config → SettingFault → Type 0
@@ -91,24 +84,24 @@ IsRefused c settings.NotAddress = ⊥
 IsRefused c settings.NotNumber = ⊥
 IsRefused c settings.OtherNetwork = ⊥
 
--- What settings make of a configuration: in the script's head what their words say, if there can be such a machine.
-abbrev pub IsSettled : Bool → Config → List ℕ → Result Config SettingFault → Type 0
-IsSettled false old plain outcome = outcome ≡ Err settings.Late
-IsSettled true old plain (Ok new) = IsSet old (words plain) (Ok new) × IsConfig new
-IsSettled true old plain (Err fault) =
-    IsSet old (words plain) (Err fault) ⊎ ((new : Config) × IsSet old (words plain) (Ok new) × IsRefused new fault)
+-- What settings make of a configuration: in the script's head what their names and values say, if there can be such a machine.
+abbrev pub IsSettled : Bool → Config → List (List ℕ) → Result Config SettingFault → Type 0
+IsSettled false old named outcome = outcome ≡ Err settings.Late
+IsSettled true old named (Ok new) = IsSet old named (Ok new) × IsConfig new
+IsSettled true old named (Err fault) =
+    IsSet old named (Err fault) ⊎ ((new : Config) × IsSet old named (Ok new) × IsRefused new fault)
 
 -- a line of settings is told as `ok`, and the machine is a new one; or it's told what is wrong
 abbrev pub TellsSettled : Play → List ℕ → Option (List ℕ) → Result Config SettingFault → List ℕ → Play → Type 0
 TellsSettled now shown wanted (Ok c) text new =
     (text ≡ told_text now.form now.name now.number shown wanted (codes "ok") [])
-    × (new ≡ record now { machine = boot c; config = c; sound = now.sound && is_sound wanted (Some (codes "ok")) })
+    × (new ≡ record now { machine = boot c; config = c; sound = now.sound && is_sound wanted (codes "ok") })
 TellsSettled now shown wanted (Err fault) text new =
     (text ≡ fault_text now.form now.name now.number (fault_words fault)) × (new ≡ record now { sound = false })
 
-abbrev pub TellsSettings : Play → List ℕ → List ℕ → Option (List ℕ) → List ℕ → Play → Type 0
-TellsSettings now shown plain wanted text new =
-    (outcome : Result Config SettingFault) × IsSettled now.head now.config plain outcome
+abbrev pub TellsSettings : Play → List ℕ → List (List ℕ) → Option (List ℕ) → List ℕ → Play → Type 0
+TellsSettings now shown named wanted text new =
+    (outcome : Result Config SettingFault) × IsSettled now.head now.config named outcome
     × TellsSettled now shown wanted outcome text new
 
 -- ---- steps
@@ -118,9 +111,9 @@ abbrev pub next_line : Play → Play
 next_line old = record old { number = more_by 1 old.number }
 
 module _ (step : State → Event → Reply → State → Type 0) where
-  -- What may be told of a line that asks for these events, with the lines below it: their reply and what was dropped,
-  -- and below it what came of them. The capture has what they add to it.
-  pub record IsDone (quiet : Bool) (old : SceneView) (events : List Event) (told : Option (List ℕ)) (below : List ℕ) (new : SceneView) : Type 0 where
+  -- What may be told of these events, with the lines below it: their reply and what was dropped, and below it what came
+  -- of them. The capture has what they add to it.
+  pub record IsDone (quiet : Bool) (old : CapturedView) (events : List Event) (text below : List ℕ) (new : CapturedView) : Type 0 where
     pub reply : Reply
     pub before : Snapshot
     pub after : Snapshot
@@ -128,42 +121,48 @@ module _ (step : State → Event → Reply → State → Type 0) where
     pub captured : Captures old.line old.traced (turns_of events reply) new.traced
     pub was : IsSnapshot step old.machine before
     pub now : IsSnapshot step new.machine after
-    pub tells : told ≡ outcome (Some reply) before.counters after.counters
+    pub tells : text ≡ told (reply_text reply) (drops_text before.counters after.counters)
     pub shows : below ≡ below_text quiet (moved_in events reply) before after new.machine.output
-
-  -- What may be told of a plain line, with the lines below it: what it asks to be shown, and then nothing changes; else
-  -- what is told of the events that it asks for, or nothing.
-  abbrev pub IsAnswered : Bool → SceneView → Option Topic → List ℕ → Option (List ℕ) → List ℕ → SceneView → Type 0
-  IsAnswered quiet old (Some topic) plain None below new = ⊥
-  IsAnswered quiet old (Some topic) plain (Some told) below new =
-      Shows step old.machine topic told below × (new.machine ≡ old.machine) × (new.traced ≡ old.traced)
-  IsAnswered quiet old None plain told below new =
-      (AsksNothing plain × (told ≡ None) × (below ≡ []) × (new.machine ≡ old.machine) × (new.traced ≡ old.traced))
-      ⊎ ((events : List Event) × AsksFor plain events × IsDone quiet old events told below new)
 
 -- the same, where `has` says which bytes the file of a name may have
 module _ (step : State → Event → Reply → State → Type 0) (has : List ℕ → List ℕ → Type 0) where
-  -- What may be told of a plain line, with the lines below it: of the capture that it asks for, or, if it asks for none,
-  -- what it's answered.
-  abbrev pub IsTold : Bool → List ℕ → SceneView → Option (List ℕ) → List ℕ → SceneView → Type 0
-  IsTold quiet plain old told below new =
-      ((word : List ℕ) × (d : Details) × IsAsked plain word d × IsPlayed step has quiet d word old told below new)
-      ⊎ (((word : List ℕ) (d : Details) → IsAsked plain word d → ⊥)
-      × IsAnswered step quiet old (topic_asked plain) plain told below new)
+  -- What may be told of what a line asks for, with the lines below it.
+  abbrev pub TellsAsk : Bool → Ask → CapturedView → List ℕ → List ℕ → CapturedView → Type 0
+  TellsAsk quiet (Call event) old text below new = IsDone step quiet old (event ∷ []) text below new
+  TellsAsk quiet (Ticks n) old text below new = IsDone step quiet old (replicate n Tick) text below new
+  -- nothing changes
+  TellsAsk quiet (Show topic) old text below new =
+      Shows step old.machine topic text below × (new.machine ≡ old.machine) × (new.traced ≡ old.traced)
+  TellsAsk quiet (Capture name details) old text below new = IsPlayed step has quiet details name old text below new
+  -- that isn't told so: see TellsSettings
+  TellsAsk quiet (Settings named) old text below new = ⊥
 
-  -- what a line may have as its text that doesn't begin with two dashes, and one that does
-  abbrev pub TellsAsked : Bool → Play → List ℕ → List ℕ → Option (List ℕ) → List ℕ → Play → Type 0
-  TellsAsked true now shown plain wanted text new = TellsSettings now shown plain wanted text new
-  TellsAsked false now shown plain wanted text new =
-      (after : SceneView) × (told : Option (List ℕ)) × (below : List ℕ)
-      × IsTold (is_quiet now.form) plain (scene_of now.machine now.traced now.number) told below after
-      × (text ≡ printed now.form now.name now.number shown wanted told below)
+  -- what a line may have as its text that asks for this, and for no settings
+  abbrev pub TellsDone : Ask → Play → List ℕ → Option (List ℕ) → List ℕ → Play → Type 0
+  TellsDone ask now shown wanted text new =
+      (after : CapturedView) × (said : List ℕ) × (below : List ℕ)
+      × TellsAsk (is_quiet now.form) ask (captured_of now.machine now.traced now.number) said below after
+      × (text ≡ told_text now.form now.name now.number shown wanted said below)
       × (new ≡ record now {
         machine = after.machine;
         traced = after.traced;
-        head = now.head && stays_head (topic_asked plain) told;
-        sound = now.sound && is_sound wanted told;
+        head = now.head && stays_head ask;
+        sound = now.sound && is_sound wanted said;
       })
+
+  -- what a line may have as its text that asks for this, or for nothing
+  abbrev pub TellsLine : Option Ask → Play → List ℕ → Option (List ℕ) → List ℕ → Play → Type 0
+  TellsLine None now shown wanted text new =
+      (text ≡ fault_text now.form now.name now.number (codes "this asks for nothing"))
+      × (new ≡ record now { sound = false })
+  TellsLine (Some ask) now shown wanted text new =
+      TellsDone ask now shown wanted text new
+      ⊎ ((named : List (List ℕ)) × (ask ≡ Settings named) × TellsSettings now shown named wanted text new)
+
+  -- what a plain line may have as its text
+  abbrev pub TellsAsked : Play → List ℕ → List ℕ → Option (List ℕ) → List ℕ → Play → Type 0
+  TellsAsked now shown plain wanted text new =
+      (ask : Option Ask) × AsksFor plain ask × TellsLine ask now shown wanted text new
 
   -- what a line of some kind may have as its text, where `now` has its number
   abbrev pub TellsReading : Play → Reading → List ℕ → Play → Type 0
@@ -173,7 +172,7 @@ module _ (step : State → Event → Reply → State → Type 0) (has : List ℕ
       × (new ≡ record now { sound = false })
   TellsReading now (Faulty slip) text new =
       (text ≡ slip_text now.form now.name now.number slip) × (new ≡ record now { sound = false })
-  TellsReading now (Asks shown plain wanted) text new = TellsAsked (has_dashes plain) now shown plain wanted text new
+  TellsReading now (Asks shown plain wanted) text new = TellsAsked now shown plain wanted text new
 
   abbrev pub Tells : Play → List ℕ → List ℕ → Play → Type 0
   Tells old line text new = TellsReading (next_line old) (reading line) text new

@@ -5,17 +5,17 @@ ghost use Rattle.flat_model.specs.Machine.Event.{Tick, Transmit};
 ghost use Rattle.params.specs.declared.TheConstants.{IP_MAX_PACKET};
 ghost use Rattle.request.specs.Replies.{len_of, reply_of};
 ghost use Rattle.request.specs.Requests.{event_of, room_of};
-ghost use Rattle.play_script.specs.Asked.{turns_of};
+ghost use Rattle.play_script.specs.Deeds.{turns_of};
 ghost use Rattle.play_script.specs.Captures.{Captures, turn_of};
 ghost use Rattle.play_script.specs.Inside.{events_of, most_of};
 
-use crate::asked::{Asked, given};
+use crate::deed::{Deed, given};
 use play_pcap::Trace;
 use request::{Reply, Request};
 use script_loop::Sink;
 
 /// A capture, and the number of the script's line whose packet is kept in it.
-pub(crate) struct Tape<T: Sink> {
+pub(crate) struct Capture<T: Sink> {
     pub(crate) trace: Trace<T>,
     pub(crate) line: u64,
 }
@@ -32,26 +32,26 @@ fn note_ticks<T: Sink>(trace: &mut Trace<T>, count: u32)
 }
 
 /// Keeps the packet that the link was given, if there was one.
-fn note_given<T: Sink>(tape: &mut Tape<T>, reply: &Reply<'_>)
+fn note_given<T: Sink>(capture: &mut Capture<T>, reply: &Reply<'_>)
     requires { len_of reply.now ≤ IP_MAX_PACKET }
-    ensures { Captures tape.old.line tape.old.trace (turn_of Transmit (reply_of reply.now) ∷ []) tape.new.trace }
+    ensures { Captures capture.old.line capture.old.trace (turn_of Transmit (reply_of reply.now) ∷ []) capture.new.trace }
 {
     if let Some(packet) = given(reply) {
-        tape.trace.keep(tape.line, packet);
+        capture.trace.keep(capture.line, packet);
     }
 }
 
 /// Adds to a capture what a call does: the packet that comes or goes, or the tick that passes.
-fn note_call<T: Sink>(tape: &mut Tape<T>, request: Request<'_>, reply: &Reply<'_>)
+fn note_call<T: Sink>(capture: &mut Capture<T>, request: Request<'_>, reply: &Reply<'_>)
     requires request { room_of request ≤ IP_MAX_PACKET }
     requires reply { len_of reply.now ≤ IP_MAX_PACKET }
-    ensures { Captures tape.old.line tape.old.trace (turn_of (event_of request.entry) (reply_of reply.now) ∷ [])
-        tape.new.trace }
+    ensures { Captures capture.old.line capture.old.trace (turn_of (event_of request.entry) (reply_of reply.now) ∷ [])
+        capture.new.trace }
 {
     match request {
-        Request::Packet(packet) => tape.trace.keep(tape.line, packet),
-        Request::Transmit => note_given(tape, reply),
-        Request::Tick => tape.trace.tick(),
+        Request::Packet(packet) => capture.trace.keep(capture.line, packet),
+        Request::Transmit => note_given(capture, reply),
+        Request::Tick => capture.trace.tick(),
         Request::Socket => {}
         Request::Bind(_, _) => {}
         Request::Connect(_, _) => {}
@@ -65,14 +65,14 @@ fn note_call<T: Sink>(tape: &mut Tape<T>, request: Request<'_>, reply: &Reply<'_
 }
 
 /// Adds to a capture what was done: the packet that came or went, or the ticks that passed.
-pub(crate) fn note<T: Sink>(tape: &mut Tape<T>, asked: &Asked<'_>, reply: &Reply<'_>)
-    requires asked { most_of asked.now ≤ IP_MAX_PACKET }
+pub(crate) fn note<T: Sink>(capture: &mut Capture<T>, deed: &Deed<'_>, reply: &Reply<'_>)
+    requires deed { most_of deed.now ≤ IP_MAX_PACKET }
     requires reply { len_of reply.now ≤ IP_MAX_PACKET }
-    ensures { Captures tape.old.line tape.old.trace (turns_of (events_of asked.now) (reply_of reply.now))
-        tape.new.trace }
+    ensures { Captures capture.old.line capture.old.trace (turns_of (events_of deed.now) (reply_of reply.now))
+        capture.new.trace }
 {
-    match *asked {
-        Asked::Ticks(count) => note_ticks(&mut tape.trace, count),
-        Asked::Call(request) => note_call(tape, request, reply),
+    match *deed {
+        Deed::Ticks(count) => note_ticks(&mut capture.trace, count),
+        Deed::Call(request) => note_call(capture, request, reply),
     }
 }

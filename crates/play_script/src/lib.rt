@@ -2,26 +2,32 @@
 //! expected. What is told of a line is its reply, and why packets were dropped.
 #![tactic(auto)]
 
-mod asked;
 mod capture;
+mod captured;
+mod deed;
 mod fits;
 mod laws;
 mod line;
 mod outcome;
 mod player;
 mod print;
+mod printer;
 mod replay;
+mod report;
 mod runs;
-mod scene;
+mod settle;
+mod tell;
 
 pub use fits::meets;
 pub use flat_model::Config;
 pub use laws::runs_law;
-pub use line::{Kind, read_line};
+pub use line::{Kind, Line, read_line};
 pub use link_script::DEFAULTS;
 pub use outcome::{DROPS, TOLD, put_drops, put_told};
 pub use play_pcap::{CaptureFault, Folder, NoFolder, RECORD, Trace};
 pub use play_text::Form;
-pub use player::ticks_of;
-pub use runs::{Captured, Played, Start, Style, play, play_captured};
+pub use print::{LABELLED, NAME, ROOM};
+pub use printer::{Printer, Style};
+pub use report::{Report, bytes_of};
+pub use runs::{Captured, Played, Start, play, play_captured};
 pub use script_loop::{RunFault, Silent, Sink, Source};

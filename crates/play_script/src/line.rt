@@ -1,13 +1,14 @@
 //! What a line is made of: words, a comment, and what is expected.
 ghost use Rattle.std.specs.Prelude.{◌≡◌, ◌≤◌, ◌==◌, length, position, IfSome, option_map};
 ghost use Rattle.play_script.specs.Lines.{is_blank, spaced, asked, expected, reading};
-ghost use Rattle.play_script.specs.Inside.{is_reading};
+ghost use Rattle.play_script.specs.Views.{is_reading};
 
 use play_line::{LONGEST, Slip, put_shown};
 use play_packet::LineReader;
 use script_loop::Buffer;
+use std::alloc::{AllocError, Global};
 
-/// What a line is. Its words stand in a buffer beside it, and so does what is expected.
+/// What a line is. Its words stand beside it, in a `Line`.
 #[derive(Clone, Copy)]
 pub enum Kind {
     /// A blank line, or a comment alone.
@@ -16,8 +17,32 @@ pub enum Kind {
     TooLong,
     /// It has bytes that can't be read, or words that name no packet.
     Faulty(Slip),
-    /// A line, and whether something is expected.
-    Asks(bool),
+    /// A line that asks for something, or expects something.
+    Asks,
+}
+
+/// A line that was read, and the memory for it.
+#[derive(Drop)]
+pub struct Line {
+    /// The line as it's written.
+    pub shown: Buffer<LONGEST>,
+    /// The plain line that it stands for.
+    pub words: Buffer<LONGEST>,
+    /// Whether something is expected, and its words.
+    pub expects: bool,
+    pub wanted: Buffer<LONGEST>,
+}
+
+impl Line {
+    /// No line.
+    pub fn new(alloc: Global) -> Result<Line, AllocError> {
+        Ok(Line {
+            shown: Buffer::new(alloc)?,
+            words: Buffer::new(alloc)?,
+            expects: false,
+            wanted: Buffer::new(alloc)?,
+        })
+    }
 }
 
 /// Whether a byte is a space, a tab or a carriage return.
@@ -73,36 +98,29 @@ fn cut(text: &[u8]) -> (&[u8], Option<&[u8]>)
     }
 }
 
-/// Reads a line. It stands in `shown` then as it's written, the plain line that it stands for in `words`, and the words
-/// that are expected in `wanted`.
-pub fn read_line(
-    line: &[u8],
-    reader: &mut LineReader,
-    shown: &mut Buffer<LONGEST>,
-    words: &mut Buffer<LONGEST>,
-    wanted: &mut Buffer<LONGEST>,
-) -> Kind
-    ensures { reading line.now ≡ is_reading result shown.new words.new wanted.new }
+/// Reads a line: as it's written, the plain line that it stands for, and the words that are expected.
+pub fn read_line(text: &[u8], reader: &mut LineReader, line: &mut Line) -> Kind
+    ensures { reading text.now ≡ is_reading result line.new }
 {
-    if line.len() > LONGEST {
+    if text.len() > LONGEST {
         return Kind::TooLong;
     }
-    put_shown(line, shown);
-    let plain = match reader.plain_line(line) {
+    put_shown(text, &mut line.shown);
+    let plain = match reader.plain_line(text) {
         Ok(plain) => plain,
         Err(slip) => return Kind::Faulty(slip),
     };
     let (front, back) = cut(plain);
-    put_spaced(front, words);
-    let expects = match back {
-        Some(text) => {
-            put_spaced(text, wanted);
+    put_spaced(front, &mut line.words);
+    line.expects = match back {
+        Some(words) => {
+            put_spaced(words, &mut line.wanted);
             true
         }
         None => false,
     };
-    match reader.put_packet(line, words) {
-        Ok(()) if expects || !words.is_empty() => Kind::Asks(expects),
+    match reader.put_packet(text, &mut line.words) {
+        Ok(()) if line.expects || !line.words.is_empty() => Kind::Asks,
         Ok(()) => Kind::Nothing,
         Err(slip) => Kind::Faulty(slip),
     }

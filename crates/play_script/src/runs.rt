@@ -1,5 +1,6 @@
 //! The scripts that callers have played.
-ghost use Rattle.std.specs.Prelude.{◌≡◌, ◌≤◌, length, take, IfOk};
+ghost use Rattle.std.specs.Prelude.{◌≡◌, ◌≤◌, IfOk, length, take, true, vec_len};
+ghost use Rattle.params.specs.declared.TheConstants.{IP_MAX_PACKET};
 ghost use Rattle.play_pcap.specs.Traces.{Traced};
 ghost use Rattle.flat_model.specs.Machine.State.{boot};
 ghost use Rattle.flat_model.specs.Machine.Step.{Step};
@@ -12,28 +13,21 @@ ghost use Rattle.play_script.specs.Tells.{Play, Tells, started, status_of};
 ghost use Rattle.net_stack.specs.Stack.{state_of};
 ghost use Rattle.stack_call.specs.Moves.{Moves};
 
-use crate::capture::Tape;
-use crate::player::{Desk, Notes, Player, Sheet};
+use crate::capture::Capture;
+use crate::captured::CapturedStack;
+use crate::line::Line;
+use crate::player::Player;
 use crate::print::NAME;
-use crate::replay::Shelf;
-use crate::scene::Scene;
+use crate::printer::{Printer, Style};
+use crate::replay::Files;
+use crate::report::{PACKET, Report, room_for};
 use flat_model::Config;
-use link_script::{Caller, booted};
+use link_script::booted;
 use net_stack::Stack;
 use play_packet::LineReader;
 use play_pcap::{Folder, NoFolder, Nowhere, Trace};
-use play_text::Form;
-use script_loop::{Buffer, LineBuffers, RunFault, Sink, Source, serve_script};
+use script_loop::{Buffer, RunFault, Sink, Source, serve_script};
 use std::alloc::{AllocError, Global};
-
-/// How a script is printed.
-#[derive(Clone, Copy)]
-pub struct Style<'a> {
-    /// In which form.
-    pub form: Form,
-    /// The script's name, in front of what is wrong with a line. Its first 4,096 bytes are printed.
-    pub name: &'a [u8],
-}
 
 /// What came of a script.
 #[derive(Clone, Copy)]
@@ -62,70 +56,27 @@ impl Played {
 /// All memory for playing a script.
 #[derive(Drop)]
 struct Parts {
-    buffers: LineBuffers,
+    room: Vec<u8>,
+    bytes: Vec<u8>,
     reader: LineReader,
-    desk: Desk,
-    notes: Notes,
-    sheet: Sheet,
-}
-
-/// The part of a name that is printed.
-fn front_of(name: &[u8]) -> &[u8]
-    ensures is { result.now ≡ take NAME name.now }
-    ensures most { length result.now ≤ NAME }
-{
-    if name.len() <= NAME {
-        return name;
-    }
-    let (front, _) = name.split_at(NAME);
-    front
-}
-
-/// How a player prints whose script has this style.
-fn sheet_for(alloc: Global, style: Style<'_>) -> Result<Sheet, AllocError>
-    ensures { IfOk result (λ s. (s.form ≡ style.entry.form) × (s.number ≡ 0)
-        × (s.name ≡ take NAME style.entry.name.now)) }
-{
-    let mut name = Buffer::new(alloc)?;
-    name.append(front_of(style.name));
-    Ok(Sheet {
-        form: style.form,
-        name,
-        number: 0,
-    })
-}
-
-/// A desk on which no line stands.
-fn desk_for(alloc: Global) -> Result<Desk, AllocError> {
-    Ok(Desk {
-        shown: Buffer::new(alloc)?,
-        words: Buffer::new(alloc)?,
-        wanted: Buffer::new(alloc)?,
-        expects: false,
-    })
-}
-
-/// Notes of no line.
-fn notes_for(alloc: Global) -> Result<Notes, AllocError> {
-    Ok(Notes {
-        drops: Buffer::new(alloc)?,
-        told: Buffer::new(alloc)?,
-        shown: Buffer::new(alloc)?,
-        below: Buffer::new(alloc)?,
-    })
+    line: Line,
+    report: Report,
+    printer: Printer,
 }
 
 /// Takes all memory for playing a script.
 fn parts_for(alloc: Global, style: Style<'_>) -> Result<Parts, AllocError>
-    ensures { IfOk result (λ p. (p.sheet.form ≡ style.entry.form) × (p.sheet.number ≡ 0)
-        × (p.sheet.name ≡ take NAME style.entry.name.now)) }
+    ensures { IfOk result (λ p. (p.printer.form ≡ style.entry.form) × (p.printer.number ≡ 0)
+        × (p.printer.name ≡ take NAME style.entry.name.now) × (p.printer.sound ≡ true)
+        × (vec_len p.room ≡ IP_MAX_PACKET) × (vec_len p.bytes ≡ IP_MAX_PACKET)) }
 {
     Ok(Parts {
-        buffers: LineBuffers::new(alloc)?,
+        room: room_for(alloc, PACKET)?,
+        bytes: room_for(alloc, PACKET)?,
         reader: LineReader::new(alloc)?,
-        desk: desk_for(alloc)?,
-        notes: notes_for(alloc)?,
-        sheet: sheet_for(alloc, style)?,
+        line: Line::new(alloc)?,
+        report: Report::new(alloc, style.form.is_quiet())?,
+        printer: Printer::new(alloc, style)?,
     })
 }
 
@@ -165,7 +116,7 @@ fn play_machine<R: Source, W: Sink, T: Sink, F: Folder>(
     ensures started { IsServed result.played.outcome }
 {
     let (
-        machine,
+        stack,
         Start {
             config,
             trace,
@@ -173,7 +124,7 @@ fn play_machine<R: Source, W: Sink, T: Sink, F: Folder>(
         },
     ) = booted;
     let Ok(parts) = parts_for(alloc, style) else {
-        let _ = machine.end();
+        let _ = stack.end();
         let played = Played {
             outcome: Err(RunFault::Memory),
             sound: true,
@@ -181,28 +132,30 @@ fn play_machine<R: Source, W: Sink, T: Sink, F: Folder>(
         return Captured { played, trace };
     };
     let Parts {
-        buffers,
+        room,
+        bytes,
         reader: lines,
-        desk,
-        notes,
-        sheet,
+        line,
+        report,
+        printer,
     } = parts;
     let mut player = Player {
-        shelf: Shelf { alloc, folder },
-        scene: Scene {
-            caller: Caller { machine, buffers },
-            tape: Tape { trace, line: 0 },
+        files: Files { alloc, folder },
+        captured: CapturedStack {
+            stack,
+            capture: Capture { trace, line: 0 },
+            room,
         },
         config,
         head: true,
         reader: lines,
-        desk,
-        notes,
-        sheet,
-        sound: true,
+        line,
+        bytes,
+        report,
+        printer,
     };
     let outcome = serve_script(alloc, &mut player, reader, writer);
-    let sound = player.sound;
+    let sound = player.printer.sound;
     let trace = player.end();
     Captured {
         played: Played { outcome, sound },

@@ -1,12 +1,11 @@
 -- A line, and what it does.
-use Rattle.std.proofs.Common.{◌≡◌, ◌⊎◌, inl, inr, ℕ, ◌-◌, Bool, true, false, List, [], ◌∷◌, ◌++◌, length, Option, Some, refl, sym, ap, ◌∙◌, subst}
+use Rattle.std.proofs.Common.{◌≡◌, ◌⊎◌, inl, inr, ℕ, ◌-◌, ◌&&◌, Bool, true, false, List, [], ◌∷◌, ◌++◌, length, Option, Some, refl, sym, ap, ◌∙◌, subst}
 use Rattle.std.specs.Prelude.{codes, slice_get, Result, Ok, Err, IfOk}
 use Rattle.play_text.specs.Texts.{if_there}
 use Rattle.play_script.specs.Lines.{Reading, reading}
 use Rattle.segment.specs.Law.{Act, AreActs}
 use Rattle.segment.specs.Segment.{SegmentView}
 use Rattle.play_wire.specs.Acts.{Outcome, Refused, Moves, IsHostLine, IsMissing}
-use Rattle.play_text.specs.declared.form.Form.{Form}
 use Rattle.play_wire.specs.Tells.{Play, IsDone, IsParted, Tells, TellsLeft, TellsPart, left_text, next_line}
 use Rattle.flat_model.specs.Scripts.Grammar.{words}
 use Rattle.play_wire.specs.Inside.{came_of}
@@ -54,24 +53,10 @@ pub told_part : (old new : Play) (line part : List ℕ) (host : Option (List ℕ
 told_part old new line part host read acts text parted is tells =
     (acts, (host, part, parted, subst (λ r. TellsPart (next_line old) host (length line - length part) r acts text new) (sym is) tells))
 
--- the text of a line, in front of which another stands
-pub with_number : (old : List ℕ) (text : ℕ → List ℕ) (m n : ℕ) (all : List ℕ) → m ≡ n → all ≡ old ++ text m → all ≡ old ++ text n
-with_number old text m n all e is = is ∙ ap (λ k. old ++ text k) e
-
 pub nothing_more : (old : List ℕ) → old ≡ old ++ []
 nothing_more [] = refl
 nothing_more (x ∷ xs) = ap (λ ys. x ∷ ys) (nothing_more xs)
 
--- a player with another number of its line, and with what came of the line
-pub numbered_sound : (v : SegmentView) (names : List (List ℕ)) (m n : ℕ) (a b : Bool) (form : Form) (name : List ℕ) → m ≡ n → a ≡ b
-    → ◌≡◌ {A = Play} (record { segment = v; names = names; number = m; sound = a; form = form; name = name })
-    (record { segment = v; names = names; number = n; sound = b; form = form; name = name })
-numbered_sound v names m n a b form name e f =
-    let first : ℕ → Play = λ k. record { segment = v; names = names; number = k; sound = a; form = form; name = name } in
-    let second : Bool → Play = λ t. record { segment = v; names = names; number = n; sound = t; form = form; name = name } in
-    ap first e ∙ ap second f
-
-pub numbered : (v : SegmentView) (names : List (List ℕ)) (m n : ℕ) (sound : Bool) (form : Form) (name : List ℕ) → m ≡ n
-    → ◌≡◌ {A = Play} (record { segment = v; names = names; number = m; sound = sound; form = form; name = name })
-    (record { segment = v; names = names; number = n; sound = sound; form = form; name = name })
-numbered v names m n sound form name e = numbered_sound v names m n sound sound form name e refl
+pub and_false : (b : Bool) → false ≡ (b && false)
+and_false true = refl
+and_false false = refl

@@ -16,7 +16,7 @@ none_are v w acts none same = subst (λ (xs : List Act). AreActs v xs w) (sym no
 host_acts : (place : ℕ) (plain : List ℕ) (v w : SegmentView) (acts : List Act) (came : Outcome) → IsHostLine place plain v acts came w → AreActs v acts w
 host_acts place plain v w acts came is =
     subst (λ (xs : List Act). AreActs v xs w) (sym is.acts_are)
-    (subst (λ (x : SegmentView). AreActs v (map (Calls place) is.turns) x) (sym is.leads) (calls_are_acts place v is.turns is.before is.after is.here is.answered.1))
+    (subst (λ (x : SegmentView). AreActs v (map (Calls place) is.turns) x) (sym is.leads) (calls_are_acts place v is.turns is.before is.after is.here is.answered.2))
 
 done_acts : (now : Play) (host : Option (List ℕ)) (plain : List ℕ) (acts : List Act) (came : Outcome) (segment : SegmentView) (names : List (List ℕ))
     → IsDone now host plain acts came segment names → AreActs now.segment acts segment

@@ -1,16 +1,13 @@
 -- What a line does to the hosts and the wire (this project's own).
-use Rattle.std.specs.Prelude.{◌≡◌, ℕ, List, [], ◌∷◌, codes, map, replicate, slice_get, slice_set, Some, None}
-use Rattle.flat_model.specs.Machine.Event.{Event, Reply, Tick, Ask_counters, Done, Counted}
+use Rattle.std.specs.Prelude.{◌≡◌, ℕ, List, [], ◌∷◌, codes, map, replicate, slice_get, slice_set, Option, Some, None}
+use Rattle.flat_model.specs.Machine.Event.{Event, Reply, Tick, Done}
 use Rattle.flat_model.specs.Machine.Step.{Step}
 use Rattle.flat_model.specs.Runs.Run.{Turn}
-use Rattle.flat_model.specs.Scripts.Script.{Asks, all_events}
 use Rattle.flat_model.specs.Scripts.Texts.{reply_text}
 use Rattle.net_stack.specs.Runs.{AreCalls}
 use Rattle.net_stack.specs.Stack.{StackView, state_of}
 use Rattle.play_show.specs.Tells.{Shows}
-use Rattle.play_show.specs.Topics.{topic_asked}
-use Rattle.play_show.specs.declared.topic.Topic.{Topic}
-use Rattle.play_script.specs.Lines.{IsTicks}
+use Rattle.play_read.specs.Asks.{Ask, Call, Ticks, Show, Capture, Settings, AsksFor}
 use Rattle.play_script.specs.Outcomes.{told, drops_text}
 use Rattle.segment.specs.Law.{Act, Calls, AreActs}
 use Rattle.segment.specs.Segment.{SegmentView}
@@ -34,33 +31,25 @@ Moves old new = (acts : List Act) × AreActs old acts new
 abbrev pub with_stack : ℕ → StackView → SegmentView → SegmentView
 with_stack place s v = record v { stacks = slice_set v.stacks place s }
 
--- what a line asks of a host
-pub data Deed : Type 0 where
-  Shown : (topic : Topic) → Deed  -- what it has in hand is told
-  Ticked : (n : ℕ) → Deed  -- so many ticks pass
-  Called : (event : Event) → Deed  -- a call is made
-  Idle : Deed  -- nothing
-
--- The plain line asks a stack for this deed. It is these calls, which lead from s to t, and comes out so.
-abbrev pub Does : List ℕ → Deed → StackView → List Turn → Outcome → StackView → Type 0
--- nothing changes
-Does plain (Shown topic) s turns outcome t =
-    (text below : List ℕ) × (topic_asked plain ≡ Some topic) × Shows Step (state_of s) topic text below
-    × (turns ≡ []) × (outcome ≡ Told text below)
-Does plain (Ticked n) s turns outcome t =
-    IsTicks plain n × (turns ≡ replicate n (turn_of Tick Done)) × (outcome ≡ Told (codes "ok") [])
+-- What a line asks for, or nothing, is these calls, which lead a stack from s to t, and comes out so.
+abbrev pub Does : Option Ask → StackView → List Turn → Outcome → StackView → Type 0
 -- the reply is told, and the causes for which packets were dropped
-Does plain (Called event) s turns outcome t =
-    (reply : Reply) × Asks all_events plain event × (turns ≡ turn_of event reply ∷ [])
+Does (Some (Call event)) s turns outcome t =
+    (reply : Reply) × (turns ≡ turn_of event reply ∷ [])
     × (outcome ≡ Told (told (reply_text reply) (drops_text (state_of s).counters (state_of t).counters)) [])
--- its counters are asked for, as before each call
-Does plain Idle s turns outcome t =
-    ((event : Event) → ¬ Asks all_events plain event)
-    × (turns ≡ turn_of Ask_counters (Counted (state_of s).counters) ∷ []) × (outcome ≡ Refused fault.Nothing)
+Does (Some (Ticks n)) s turns outcome t = (turns ≡ replicate n (turn_of Tick Done)) × (outcome ≡ Told (codes "ok") [])
+Does (Some (Show topic)) s turns outcome t =
+    (text below : List ℕ) × Shows Step (state_of s) topic text below × (turns ≡ []) × (outcome ≡ Told text below)
+-- no capture is played in
+Does (Some (Capture name details)) s turns outcome t = (turns ≡ []) × (outcome ≡ Refused fault.Nothing)
+-- a host has the settings of its line `host`
+Does (Some (Settings named)) s turns outcome t = (turns ≡ []) × (outcome ≡ Refused fault.Nothing)
+Does None s turns outcome t = (turns ≡ []) × (outcome ≡ Refused fault.Nothing)
 
 -- a line leads a stack from s to t, and comes out so
 abbrev pub IsAnswered : List ℕ → StackView → List Turn → Outcome → StackView → Type 0
-IsAnswered plain s turns outcome t = (deed : Deed) × AreCalls s turns t × Does plain deed s turns outcome t
+IsAnswered plain s turns outcome t =
+    (ask : Option Ask) × AsksFor plain ask × AreCalls s turns t × Does ask s turns outcome t
 
 -- a line of the host at a place leads from v to w by these acts, and comes out so
 pub record IsHostLine (place : ℕ) (plain : List ℕ) (v : SegmentView) (acts : List Act) (outcome : Outcome) (w : SegmentView) : Type 0 where

@@ -1,6 +1,6 @@
 -- Why lines do nothing, in words (this project's own).
 use Rattle.std.specs.Prelude.{ℕ, List, codes}
-use Rattle.play_settings.specs.Settings.{fault_words}
+use Rattle.play_read.specs.Settings.{fault_words}
 use Rattle.play_wire.specs.declared.fault.Fault.{Fault}
 use Rattle.play_wire.specs.declared.fault.Fault.TheVariants.{Nothing, NoHost, NoName, NameTaken, Setting, TooManyHosts, AddressTaken, NoWire, Wired, NotAll, NoChance, NoPacket}
 

@@ -53,7 +53,7 @@ text_of now host shown wanted (Refused reason) = fault_text now.form now.name no
 
 -- it did something, and what is told is what was expected
 abbrev pub sound_of : Option (List ℕ) → Outcome → Bool
-sound_of wanted (Told told below) = is_sound wanted (Some told)
+sound_of wanted (Told told below) = is_sound wanted told
 sound_of wanted (Refused reason) = false
 
 -- what is wrong with a part of a line, in front of which so many bytes stand

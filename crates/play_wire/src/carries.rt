@@ -2,7 +2,7 @@
 ghost use Rattle.segment.specs.Inside.{view};
 ghost use Rattle.play_wire.specs.Acts.{Moves};
 
-use crate::tape::Tape;
+use crate::capture::Capture;
 use script_loop::{Sink, first_word, number, one};
 use segment::Segment;
 
@@ -37,40 +37,40 @@ pub(crate) fn bound_of(rest: Option<&[u8]>) -> Option<Bound> {
 }
 
 /// Carries so often.
-pub(crate) fn carry<T: Sink + Drop>(segment: &mut Segment, bound: Bound, tape: &mut Tape<T>)
+pub(crate) fn carry<T: Sink + Drop>(segment: &mut Segment, bound: Bound, capture: &mut Capture<T>)
     ensures { Moves (view segment.old) (view segment.new) }
 {
     match bound {
-        Bound::Times(count) => carry_times(segment, count, tape),
-        Bound::Quiet(most) => carry_all(segment, most, tape),
+        Bound::Times(count) => carry_times(segment, count, capture),
+        Bound::Quiet(most) => carry_all(segment, most, capture),
     }
 }
 
 /// Carries once.
-fn carry_once<T: Sink + Drop>(segment: &mut Segment, tape: &mut Tape<T>)
+fn carry_once<T: Sink + Drop>(segment: &mut Segment, capture: &mut Capture<T>)
     ensures { Moves (view segment.old) (view segment.new) }
 {
-    tape.collect(segment);
+    capture.collect(segment);
     segment.deliver();
 }
 
 /// Carries so often.
-fn carry_times<T: Sink + Drop>(segment: &mut Segment, count: u32, tape: &mut Tape<T>)
+fn carry_times<T: Sink + Drop>(segment: &mut Segment, count: u32, capture: &mut Capture<T>)
     ensures { Moves (view segment.old) (view segment.new) }
 {
     for _ in 0..count {
-        carry_once(segment, tape);
+        carry_once(segment, capture);
     }
 }
 
 /// Carries until nothing is left, but at most so many times.
-fn carry_all<T: Sink + Drop>(segment: &mut Segment, most: u32, tape: &mut Tape<T>)
+fn carry_all<T: Sink + Drop>(segment: &mut Segment, most: u32, capture: &mut Capture<T>)
     ensures { Moves (view segment.old) (view segment.new) }
 {
     for _ in 0..most {
         if segment.is_quiet() {
             return;
         }
-        carry_once(segment, tape);
+        carry_once(segment, capture);
     }
 }

@@ -3,7 +3,7 @@ ghost use Rattle.std.specs.Prelude.{◌≡◌, ◌≤◌, length};
 ghost use Rattle.play_wire.specs.Faults.{words_of};
 
 use net_stack::BootFault;
-use play_settings::SettingFault;
+use play_read::SettingFault;
 use segment::JoinFault;
 
 /// Why a line does nothing (this project's own).

@@ -5,26 +5,19 @@ ghost use Rattle.segment.specs.Chances.{seeded};
 ghost use Rattle.segment.specs.Segment.{no_hosts};
 ghost use Rattle.play_wire.specs.Acts.{Moves};
 
+use crate::capture::Capture;
 use crate::fault::Fault;
 use crate::names::{NAME, is_name, place_of};
-use crate::tape::Tape;
+use crate::spare::Spare;
 use flat_model::Config;
-use link_script::{Caller, DEFAULTS};
-use net_stack::Stack;
-use play_settings::{SettingFault, settings_of};
-use script_loop::{Buffer, LineBuffers, Sink, first_word};
+use play_read::{SettingFault, settings_of};
+use play_script::DEFAULTS;
+use script_loop::{Buffer, Sink, first_word};
 use segment::Segment;
 use std::alloc::{AllocError, Global};
 
 /// The most packets that are under way at once.
 pub(crate) const PACKETS: u16 = 4096;
-
-/// The spare machine.
-const SPARE: Config = Config {
-    mbufs: 1,
-    clusters: 0,
-    ..DEFAULTS
-};
 
 /// The hosts, by their places, and the wire.
 pub(crate) struct Hosts<T: Sink + Drop> {
@@ -34,9 +27,8 @@ pub(crate) struct Hosts<T: Sink + Drop> {
     /// Whether the line `wire` was there.
     pub(crate) wired: bool,
     /// What goes on the wire is kept here.
-    pub(crate) tape: Tape<T>,
-    /// Its machine is a spare one. It stands in the place of a host while a line of that host is played.
-    pub(crate) caller: Caller,
+    pub(crate) capture: Capture<T>,
+    pub(crate) spare: Spare,
 }
 
 /// The configuration that the words after a host's name tell.
@@ -90,32 +82,27 @@ fn are_all(words: &[u8], names: &[Buffer<NAME>]) -> bool {
 
 impl<T: Sink + Drop> Hosts<T> {
     /// No hosts, no wire, and this seed for all choices. `None` if host memory was refused.
-    pub(crate) fn new(
-        alloc: Global,
-        buffers: LineBuffers,
-        seed: u64,
-        tape: Tape<T>,
-    ) -> Option<Hosts<T>>
+    pub(crate) fn new(alloc: Global, seed: u64, capture: Capture<T>) -> Option<Hosts<T>>
         ensures { IfSome result (λ h. (view h.segment ≡ record (no_hosts PACKETS) { random = seeded seed })
             × (h.names.items ≡ [])) }
     {
         let Ok(mut segment) = Segment::new(alloc, PACKETS) else {
-            tape.end();
+            capture.end();
             return None;
         };
         segment.seed(seed);
-        match Stack::boot(alloc, SPARE) {
-            Ok(machine) => Some(Hosts {
+        match Spare::new(alloc) {
+            Some(spare) => Some(Hosts {
                 alloc,
                 segment,
                 names: Vec::new(alloc),
                 wired: false,
-                tape,
-                caller: Caller { machine, buffers },
+                capture,
+                spare,
             }),
-            Err(_) => {
+            None => {
                 segment.end();
-                tape.end();
+                capture.end();
                 None
             }
         }
@@ -190,15 +177,11 @@ impl<T: Sink + Drop> Hosts<T> {
             segment,
             names: _names,
             wired: _,
-            tape,
-            caller,
+            capture,
+            spare,
         } = self;
-        let Caller {
-            machine,
-            buffers: _buffers,
-        } = caller;
-        let _ = machine.end();
+        spare.end();
         segment.end();
-        tape.end()
+        capture.end()
     }
 }

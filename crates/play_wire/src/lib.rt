@@ -4,6 +4,7 @@
 
 mod add;
 mod by_hand;
+mod capture;
 mod carries;
 mod chance;
 mod fault;
@@ -12,11 +13,11 @@ mod hosts;
 mod impair;
 mod names;
 mod player;
-mod print;
 mod runs;
 mod show;
+mod spare;
 mod summary;
-mod tape;
+mod target;
 mod ticks;
 mod wire_line;
 

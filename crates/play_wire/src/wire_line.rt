@@ -8,12 +8,12 @@ ghost use Rattle.play_wire.specs.Tells.{left_text};
 use crate::by_hand::{by_hand_in, do_by_hand};
 use crate::carries::{bound_of, carry};
 use crate::fault::Fault;
-use crate::host_line::Notes;
 use crate::hosts::Hosts;
 use crate::show::tell_wire;
 use crate::summary::tell_summary;
 use crate::ticks::tick_all;
-use play_script::{TOLD, ticks_of};
+use play_read::ticks_of;
+use play_script::{Report, TOLD};
 use script_loop::{Buffer, Sink, first_word, is_end};
 use segment::Segment;
 
@@ -84,7 +84,7 @@ impl<T: Sink + Drop> Hosts<T> {
         if !self.wired {
             return Err(Fault::NoWire);
         }
-        carry(&mut self.segment, bound, &mut self.tape);
+        carry(&mut self.segment, bound, &mut self.capture);
         tell_left(told, &self.segment);
         Ok(())
     }
@@ -102,8 +102,8 @@ impl<T: Sink + Drop> Hosts<T> {
                 None => return Err(Fault::Nothing),
             }
         };
-        tick_all(&mut self.segment, &mut self.caller.machine, count);
-        self.tape.tick(count);
+        tick_all(&mut self.segment, &mut self.spare.stack, count);
+        self.capture.tick(count);
         Ok(())
     }
 
@@ -119,7 +119,7 @@ impl<T: Sink + Drop> Hosts<T> {
             return Err(Fault::NoWire);
         }
         if word == b"collect".as_slice() {
-            self.tape.collect(&mut self.segment);
+            self.capture.collect(&mut self.segment);
         } else {
             self.segment.deliver();
         }
@@ -169,55 +169,55 @@ impl<T: Sink + Drop> Hosts<T> {
         }
     }
 
-    /// `show wire` and `summary`: puts what is told into the notes. Whether a line asks for one of them.
-    fn tell(&mut self, words: &[u8], notes: &mut Notes) -> bool
+    /// `show wire` and `summary`: puts what is told into the report. Whether a line asks for one of them.
+    fn tell(&mut self, words: &[u8], report: &mut Report) -> bool
         ensures moves { Moves (view self.old.segment) (view self.new.segment) }
         ensures names { self.new.names ≡ self.old.names }
     {
         let names = self.names.as_slice();
         if words == b"show wire".as_slice() {
-            tell_wire(&self.segment, names, &mut notes.told, &mut notes.below);
+            tell_wire(&self.segment, names, &mut report.told, &mut report.below);
             return true;
         }
         if words == b"summary".as_slice() {
             tell_summary(
                 &mut self.segment,
-                &mut self.caller.machine,
+                &mut self.spare.stack,
                 names,
-                &mut notes.below,
+                &mut report.below,
             );
             return true;
         }
         false
     }
 
-    /// Does what a line asks that names no host, but for `carry`, and puts what is told of it into the notes.
-    fn answer_other(&mut self, words: &[u8], notes: &mut Notes) -> Result<(), Fault>
+    /// Does what a line asks that names no host, but for `carry`, and puts what is told of it into the report.
+    fn answer_other(&mut self, words: &[u8], report: &mut Report) -> Result<(), Fault>
         ensures moves { Moves (view self.old.segment) (view self.new.segment) }
         ensures names { (more : List (List ℕ)) × (self.new.names.items ≡ self.old.names.items ++ more) }
     {
-        notes.told.clear();
-        if !self.tell(words, notes) {
+        report.told.clear();
+        if !self.tell(words, report) {
             self.do_line(words)?;
         }
-        if notes.told.is_empty() {
-            notes.told.append(b"ok");
+        if report.told.is_empty() {
+            report.told.append(b"ok");
         }
         Ok(())
     }
 
-    /// Does what a line asks that names no host, and puts what is told of it into the notes.
-    pub(crate) fn answer_wire(&mut self, words: &[u8], notes: &mut Notes) -> Result<(), Fault>
+    /// Does what a line asks that names no host, and puts what is told of it into the report.
+    pub(crate) fn answer_wire(&mut self, words: &[u8], report: &mut Report) -> Result<(), Fault>
         ensures moves { Moves (view self.old.segment) (view self.new.segment) }
         ensures names { (more : List (List ℕ)) × (self.new.names.items ≡ self.old.names.items ++ more) }
         ensures left { (rest : List (List ℕ)) → line.words words.now ≡ codes "carry" ∷ rest
-            → IfOk result (λ _. notes.new.told ≡ left_text (view self.new.segment)) }
+            → IfOk result (λ _. report.new.told ≡ left_text (view self.new.segment)) }
     {
-        notes.below.clear();
+        report.below.clear();
         let (word, rest) = first_word(words);
         if word == b"carry".as_slice() {
-            return self.carry(rest, &mut notes.told);
+            return self.carry(rest, &mut report.told);
         }
-        self.answer_other(words, notes)
+        self.answer_other(words, report)
     }
 }

@@ -1,7 +1,7 @@
 use Rattle.std.proofs.Common.{ℕ, replicate}
 use Rattle.flat_model.specs.Machine.Event.{Reply, Tick}
 use Rattle.play_pcap.specs.Traces.{Traced}
-use Rattle.play_script.specs.Asked.{turns_of}
+use Rattle.play_script.specs.Deeds.{turns_of}
 use Rattle.play_script.specs.Captures.{Captures}
 use Rattle.play_script.proofs.capture.note_ticks.Given as goal
 

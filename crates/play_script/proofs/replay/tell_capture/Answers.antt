@@ -1,17 +1,17 @@
-use Rattle.std.proofs.Common.{List, ℕ, ◌++◌, Some, ap, ap₂, ◌∙◌}
+use Rattle.std.proofs.Common.{List, ℕ, ◌++◌, ap, ap₂, ◌∙◌}
 use Rattle.play_pcap.specs.Told.{outcome_text}
 use Rattle.play_script.proofs.replay.tell_capture.Goals as goal
 
-pub returns : goal.returns
-returns g c = (
+pub returns-clause-plays : goal.returns-clause-plays
+returns-clause-plays g c = (
   c.play_in-outcome.result,
   c.snapshot_of-before.result,
   c.snapshot_of-after.result,
   c.play_in-outcome.ensures,
   c.snapshot_of-before.ensures,
   c.snapshot_of-after.ensures,
-  ap Some (c.append.ensures.items ∙ ap₂ (λ (a b : List ℕ). a ++ b)
+  c.append.ensures.items ∙ ap₂ (λ (a b : List ℕ). a ++ b)
       (c.put_outcome.ensures.items ∙ ap (λ (t : List ℕ). t ++ outcome_text c.play_in-outcome.result) c.clear.ensures)
-      (c.bytes_of.ensures.is ∙ c.put_drops.ensures)),
+      (c.bytes_of.ensures.is ∙ c.put_drops.ensures),
   c.put_below.ensures,
 )

@@ -1,35 +1,61 @@
-use Rattle.std.proofs.Common.{List, ℕ, ◌++◌, [], codes, replicate, refl, sym, ap, ap₂, ◌∙◌}
+use Rattle.std.proofs.Common.{None, Some, [], ap₂, refl, replicate, subst, ◌∙◌}
 use Rattle.flat_model.specs.Machine.Event.{Tick, Done}
-use Rattle.play_wire.specs.Acts.{Shown, Ticked, Told, turn_of}
-use Rattle.play_wire.proofs.HostLemmas.{answered_by_call, answered_idly}
+use Rattle.flat_model.specs.Scripts.Grammar.{words}
+use Rattle.flat_model.specs.Scripts.Texts.{reply_text}
+use Rattle.flat_model.specs.declared.counters.Counters.{Counters}
+use Rattle.request.specs.Replies.{reply_of}
+use Rattle.request.specs.Requests.{event_of}
+use Rattle.stack_call.specs.Moves.{Moves}
+use Rattle.play_read.specs.Asks as asks
+use Rattle.play_read.specs.Asks.{AsksFor}
+use Rattle.play_read.specs.Views.{ask_of}
+use Rattle.play_read.specs.declared.ask.Ask.{Ask}
+use Rattle.play_script.specs.Outcomes.{drops_text, told}
+use Rattle.play_wire.specs.Acts.{Told, turn_of}
+use Rattle.play_wire.proofs.HostLemmas.{answered_by_call, counted_is}
 use Rattle.play_wire.proofs.host_line.answer_stack.Goals as goal
 
-pub returns-in-Some : goal.returns-in-Some
-returns-in-Some c =
-    ([], (Shown c.in-Some.topic, refl, (c.show.new.notes.told, c.show.new.notes.below, sym c.topic_of.ensures ∙ c.in-Some.is, c.show.ensures, refl, refl)))
+pub returns-in-Call : goal.returns-in-Call
+unfolding Moves
+returns-in-Call c =
+    let asked : AsksFor c.args.words.now (Some (asks.Call (event_of c.in-Call.request))) =
+    subst (λ (a : Ask). AsksFor c.args.words.now (Some (ask_of a))) c.in-Call.is c.in-Some.ensures.asks in
+    answered_by_call c.args.words.now c.args.stack.now c.call-reply.new.stack c.tell_reply.new.self.told c.tell_reply.new.self.below
+    (event_of c.in-Call.request) (reply_of c.call-reply.result) asked c.call-reply.ensures.step
+    (c.tell_reply.ensures.told
+    ∙ ap₂ (λ (a b : Counters). told (reply_text (reply_of c.call-reply.result)) (drops_text a b))
+    (counted_is _ _ c.counters-before.ensures.0) (counted_is _ _ c.counters-after.ensures.0)) (c.tell_reply.ensures.below ∙ c.clear.ensures)
 
-pub returns-in-Some-ticks_of : goal.returns-in-Some-ticks_of
-returns-in-Some-ticks_of c =
-    let n = c.in-Some-ticks_of.count in (
+pub returns-in-Ticks : goal.returns-in-Ticks
+returns-in-Ticks c =
+    let n = c.in-Ticks.count in
+    let asked : AsksFor c.args.words.now (Some (asks.Ticks c.in-Ticks.count)) =
+    subst (λ (a : Ask). AsksFor c.args.words.now (Some (ask_of a))) c.in-Ticks.is c.in-Some.ensures.asks in (
       replicate n (turn_of Tick Done),
-      (
-        Ticked n,
-        c.tick_stack.ensures,
-        (
-          c.in-Some-ticks_of.ensures,
-          refl,
-          ap₂ Told (c.append.ensures.items ∙ ap (λ (t : List ℕ). t ++ codes "ok") c.clear-in-Some-ticks_of.ensures) c.clear.ensures,
-        ),
-      ),
+      (Some (asks.Ticks n), asked, c.tick_stack.ensures, (refl, ap₂ Told c.tell_ok.ensures.told c.tell_ok.ensures.below)),
     )
 
-pub returns-then-call_line : goal.returns-then-call_line
-returns-then-call_line c =
-    let said = c.if-call_line.ensures.answers in
-    answered_by_call c.args.words.now c.args.caller.now.machine c.call_line.new.stack c.call_line.new.notes.told c.call_line.new.notes.below
-    said.0 said.1 said.2 (c.if-call_line.ensures.below ∙ c.clear.ensures)
+pub returns-in-Show : goal.returns-in-Show
+unfolding Moves
+returns-in-Show c =
+    let asked : AsksFor c.args.words.now (Some (asks.Show c.in-Show.topic)) =
+    subst (λ (a : Ask). AsksFor c.args.words.now (Some (ask_of a))) c.in-Show.is c.in-Some.ensures.asks in (
+      [],
+      (Some (asks.Show c.in-Show.topic), asked, refl, (c.tell_topic.new.self.told, c.tell_topic.new.self.below, c.tell_topic.ensures.shows, refl, refl)),
+    )
 
-pub returns-else-call_line : goal.returns-else-call_line
-returns-else-call_line c =
-    let said = c.if-call_line.ensures.answers in
-    answered_idly c.args.words.now c.args.caller.now.machine c.call_line.new.stack c.call_line.new.notes.told said.0 said.1 said.2
+pub returns-in-Capture : goal.returns-in-Capture
+returns-in-Capture c =
+    let capture = c.in-Capture.field-0 in
+    let asked : AsksFor c.args.words.now (Some (asks.Capture c.in-Capture.field-0.name.now c.in-Capture.field-0.details)) =
+    subst (λ (a : Ask). AsksFor c.args.words.now (Some (ask_of a))) c.in-Capture.is c.in-Some.ensures.asks in
+    ([], (Some (asks.Capture capture.name.now capture.details), asked, refl, (refl, refl)))
+
+pub returns-in-Settings : goal.returns-in-Settings
+returns-in-Settings c =
+    let asked : AsksFor c.args.words.now (Some (asks.Settings (words c.in-Settings.field-0.now))) =
+    subst (λ (a : Ask). AsksFor c.args.words.now (Some (ask_of a))) c.in-Settings.is c.in-Some.ensures.asks in
+    ([], (Some (asks.Settings (words c.in-Settings.field-0.now)), asked, refl, (refl, refl)))
+
+pub returns-in_default : goal.returns-in_default
+returns-in_default c = ([], (None, c.in_default.ensures.asks, refl, (refl, refl)))

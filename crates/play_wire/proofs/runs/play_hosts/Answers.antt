@@ -16,8 +16,8 @@ returns-in_default-clause-lawful g c new lines printed prints =
 
 pub returns-clause-served : goal.returns-clause-served
 returns-clause-served g c = (
-  (let m = c.serve_script-outcome.new.machine in play_with (view m.hosts.segment) m.hosts.names.items m.sheet m.sound),
-  subst (λ (p : Play). Serves Tells p ((let m = c.serve_script-outcome.new.machine in play_with (view m.hosts.segment) m.hosts.names.items m.sheet m.sound)) (g.R.Read.remaining c.args.reader.now) (g.R.Read.remaining c.serve_script-outcome.new.reader)
+  (let m = c.serve_script-outcome.new.machine in play_with (view m.hosts.segment) m.hosts.names.items m.printer),
+  subst (λ (p : Play). Serves Tells p ((let m = c.serve_script-outcome.new.machine in play_with (view m.hosts.segment) m.hosts.names.items m.printer)) (g.R.Read.remaining c.args.reader.now) (g.R.Read.remaining c.serve_script-outcome.new.reader)
       (g.W.Write.contents c.args.writer.now) (g.W.Write.contents c.serve_script-outcome.new.writer) c.serve_script-outcome.result)
       c.in-Some.ensures c.serve_script-outcome.ensures.served,
   refl,

@@ -1,29 +1,58 @@
-use Rattle.std.proofs.Common.{◌≡◌, ℕ, Bool, ◌&&◌, List, Option, ap, ◌∙◌}
-use Rattle.play_show.specs.Topics.{topic_asked}
-use Rattle.play_text.specs.Texts.{if_there}
-use Rattle.play_script.specs.Inside.{expected_on, play_of}
-use Rattle.play_script.specs.Plays.{scene_of}
-use Rattle.play_script.specs.Tells.{is_sound, printed, stays_head}
-use Rattle.play_script.proofs.AnswerLemmas.{Asked-tells}
+use Rattle.std.proofs.Common.{◌≡◌, Bool, ◌&&◌, codes, refl, ap, ap₂, ◌∙◌}
+use Rattle.play_text.specs.Texts.{fault_text}
+use Rattle.play_script.specs.Inside.{play_of}
+use Rattle.play_script.specs.Plays.{captured_of}
+use Rattle.play_script.specs.Tells.{stays_head, told_text}
+use Rattle.play_script.specs.Views.{expected_on}
+use Rattle.play_script.specs.declared.printer.Printer.{Printer}
+use Rattle.play_script.proofs.AnswerLemmas.{Ask-tells, None-tells, Settings-tell}
 use Rattle.stack_call.specs.Moves.{Moves}
 use Rattle.net_stack.specs.Stack.{state_of}
 use Rattle.play_script.proofs.player.Player.ask.Goals as goal
 
-pub returns : goal.returns
-returns g c =
+pub returns-in-Done : goal.returns-in-Done
+returns-in-Done g c =
     let now = c.args.self.now in
-    let told : Option (List ℕ) = if_there c.tell_words-asks.result c.tell_words-asks.new.notes.told in
-    let after = c.tell_words-asks.new.scene in
-    let sound : c.both-self.result ≡ (now.sound && is_sound (expected_on now.desk) told) =
-    c.both-self.ensures ∙ ap (λ (b : Bool). now.sound && b) c.tell_outcome-sound.ensures.sound in
-    let head : c.both-self-2.result ≡ (now.head && stays_head (topic_asked now.desk.words) told) =
-    c.both-self-2.ensures ∙ ap (λ (b : Bool). now.head && b) (c.stays-stays.ensures c.tell_words-asks.new.notes.told
-    ∙ ap (λ (t : List ℕ). stays_head (topic_asked t) told) c.bytes_of-2.ensures.is) in (
-      printed now.sheet.form now.sheet.name now.sheet.number now.desk.shown (expected_on now.desk) told c.tell_words-asks.new.notes.below,
-      Asked-tells Moves g.F.Folder.may_have
-          (play_of (state_of now.scene.caller.machine) now.scene.tape.trace now.config now.head now.sheet now.sound)
-          now.desk.shown now.desk.words c.bytes_of.result.now (expected_on now.desk) told c.tell_words-asks.new.notes.below
-          (scene_of (state_of after.caller.machine) after.tape.trace after.tape.line) c.is_quiet.result c.both-self-2.result c.both-self.result
-          c.bytes_of.ensures.is c.is_quiet.ensures c.tell_words-asks.ensures head sound,
-      c.tell_outcome-sound.ensures.text,
+    let done = c.in-Done.ensures in
+    let text = c.tell_line.new.report.told in
+    let below = c.tell_line.new.report.below in
+    let after = c.tell_line.new.captured in
+    let head : c.both-self.result ≡ (now.head && stays_head done.0) = c.both-self.ensures ∙ ap (λ (b : Bool). now.head && b) done.2.1 in
+    let playing = λ (h : Bool) (p : Printer). play_of (state_of after.stack) after.capture.trace now.config h p in (
+      told_text now.printer.form now.printer.name now.printer.number now.line.shown (expected_on now.line) text below,
+      Ask-tells Moves g.F.Folder.may_have
+          (play_of (state_of now.captured.stack) now.captured.capture.trace now.config now.head now.printer)
+          (playing c.both-self.result c.put_told.new.self) now.line.shown now.line.words c.bytes_of.result.now (expected_on now.line) done.0 text below
+          (captured_of (state_of after.stack) after.capture.trace after.capture.line) c.is_quiet-self.result
+          c.bytes_of.ensures.is c.is_quiet-self.ensures done.1 done.2.0 (ap₂ playing head c.put_told.ensures.printer),
+      c.put_told.ensures.text,
+    )
+
+pub returns-in-Settings : goal.returns-in-Settings
+returns-in-Settings g c =
+    let now = c.args.self.now in
+    let done = c.in-Settings.ensures in
+    let after = c.tell_line.new.captured in
+    let set = c.set_up.ensures in (
+      set.0,
+      Settings-tell Moves g.F.Folder.may_have
+          (play_of (state_of now.captured.stack) now.captured.capture.trace now.config now.head now.printer) _ _
+          now.line.shown now.line.words c.bytes_of.result.now set.0 (expected_on now.line) done.2.0.0 done.0
+          (captured_of (state_of after.stack) after.capture.trace after.capture.line) c.bytes_of.ensures.is done.1 done.2.0.1 done.2.1 refl set.1,
+      set.2,
+    )
+
+pub returns-in-Nothing : goal.returns-in-Nothing
+returns-in-Nothing g c =
+    let now = c.args.self.now in
+    let done = c.in-Nothing.ensures in
+    let after = c.tell_line.new.captured in
+    let playing = λ (p : Printer). play_of (state_of after.stack) after.capture.trace now.config now.head p in (
+      fault_text now.printer.form now.printer.name now.printer.number (codes "this asks for nothing"),
+      None-tells Moves g.F.Folder.may_have
+          (play_of (state_of now.captured.stack) now.captured.capture.trace now.config now.head now.printer)
+          (playing c.put_fault.new.self) now.line.shown now.line.words c.bytes_of.result.now (expected_on now.line)
+          (captured_of (state_of after.stack) after.capture.trace after.capture.line) c.bytes_of.ensures.is done.0 done.1
+          (ap playing c.put_fault.ensures.printer),
+      c.put_fault.ensures.text,
     )

@@ -1,65 +1,65 @@
-use Rattle.std.proofs.Common.{[], ◌&&◌, ◌-◌, ◌∙◌, ℕ, List, false, refl, codes, length, ap, subst}
-use Rattle.play_script.specs.Lines.{Nothing, TooLong, Faulty, Asks}
-use Rattle.play_text.specs.Texts.{fault_text, if_there, slip_text}
+use Rattle.std.proofs.Common.{[], ◌-◌, ◌++◌, ◌∙◌, List, ap, codes, false, length, refl, subst, sym, ℕ}
+use Rattle.play_line.specs.declared.fault.Slip.{Slip}
+use Rattle.play_text.specs.Texts.{fault_text, slip_text}
+use Rattle.play_script.specs.Lines.{Asks, Faulty, Nothing, TooLong}
+use Rattle.play_script.specs.Views.{expected_on}
+use Rattle.play_script.specs.declared.printer.Printer.{Printer}
 use Rattle.segment.specs.Inside.{view}
-use Rattle.play_wire.specs.Inside.{play_with}
-use Rattle.play_wire.specs.Tells.{IsDone, next_line, shifted, sound_of, text_of}
-use Rattle.play_wire.proofs.PlayLemmas.{nothing_more, numbered, numbered_sound, told_part, with_number}
+use Rattle.play_wire.specs.Inside.{named_by, play_with}
+use Rattle.play_wire.specs.Tells.{Play, TellsPart, shifted}
+use Rattle.play_wire.proofs.PlayLemmas.{nothing_more, told_part}
 use Rattle.play_wire.proofs.player.PlayerAnswersROOM.answer.Goals as goal
 
 pub returns-in-Nothing : goal.returns-in-Nothing
 returns-in-Nothing g c =
-    let p = play_with (view c.args.self.now.hosts.segment) c.args.self.now.hosts.names.items c.args.self.now.sheet c.args.self.now.sound in (
+    let now = c.args.self.now in
+    let playing = λ (q : Printer). play_with (view now.hosts.segment) now.hosts.names.items q in (
       [],
-      told_part p _ c.args.line.now c.part_of-part.result.now (if_there c.part_of-part.new.is_named c.part_of-part.new.host)
-          Nothing [] [] c.part_of-part.ensures.parted c.in-Nothing.ensures
-          (refl, refl, numbered p.segment p.names c.next_number-self.result (next_line p).number p.sound p.form p.name c.next_number-self.ensures),
+      told_part (playing now.printer) _ c.args.line.now c.take-part.result.now (named_by c.take-part.new.self)
+          Nothing [] [] c.take-part.ensures.parted c.in-Nothing.ensures (refl, refl, ap playing c.next_line.ensures),
       nothing_more c.args.text.now,
     )
 
 pub returns-in-TooLong : goal.returns-in-TooLong
 returns-in-TooLong g c =
-    let p = play_with (view c.args.self.now.hosts.segment) c.args.self.now.hosts.names.items c.args.self.now.sheet c.args.self.now.sound in
-    let text : ℕ → List ℕ = λ n. fault_text p.form p.name n (codes "the line is too long") in (
-      text (next_line p).number,
-      told_part p _ c.args.line.now c.part_of-part.result.now (if_there c.part_of-part.new.is_named c.part_of-part.new.host)
-          TooLong [] (text (next_line p).number) c.part_of-part.ensures.parted c.in-TooLong.ensures
-          (refl, refl, numbered p.segment p.names c.next_number-self.result (next_line p).number false p.form p.name c.next_number-self.ensures),
-      with_number c.args.text.now text c.next_number-self.result (next_line p).number _ c.next_number-self.ensures c.put_too_long.ensures,
+    let now = c.args.self.now in
+    let playing = λ (q : Printer). play_with (view now.hosts.segment) now.hosts.names.items q in
+    let counted = c.next_line.ensures in
+    let text = λ (q : Printer). fault_text q.form q.name q.number (codes "the line is too long") in (
+      text c.next_line.new.self,
+      told_part (playing now.printer) _ c.args.line.now c.take-part.result.now (named_by c.take-part.new.self)
+          TooLong [] (text c.next_line.new.self) c.take-part.ensures.parted c.in-TooLong.ensures
+          (refl, ap text counted, ap playing (c.put_too_long.ensures.printer ∙ ap (λ (q : Printer). record q { sound = false }) counted)),
+      c.put_too_long.ensures.text,
     )
 
 pub returns-in-Faulty : goal.returns-in-Faulty
 returns-in-Faulty g c =
-    let p = play_with (view c.args.self.now.hosts.segment) c.args.self.now.hosts.names.items c.args.self.now.sheet c.args.self.now.sound in
-    let text : ℕ → List ℕ = λ n. slip_text p.form p.name n (shifted (length c.args.line.now - length c.part_of-part.result.now) c.in-Faulty.slip) in (
-      text (next_line p).number,
-      told_part p _ c.args.line.now c.part_of-part.result.now (if_there c.part_of-part.new.is_named c.part_of-part.new.host)
-          (Faulty c.in-Faulty.slip) [] (text (next_line p).number) c.part_of-part.ensures.parted c.in-Faulty.ensures
-          (refl, refl, numbered p.segment p.names c.next_number-self.result (next_line p).number false p.form p.name c.next_number-self.ensures),
-      with_number c.args.text.now text c.next_number-self.result (next_line p).number _ c.next_number-self.ensures c.put_misread.ensures,
+    let now = c.args.self.now in
+    let playing = λ (q : Printer). play_with (view now.hosts.segment) now.hosts.names.items q in
+    let counted = c.next_line.ensures in
+    let slip = shifted (length c.args.line.now - length c.take-part.result.now) c.in-Faulty.slip in
+    let text = λ (q : Printer). slip_text q.form q.name q.number slip in (
+      text c.next_line.new.self,
+      told_part (playing now.printer) _ c.args.line.now c.take-part.result.now (named_by c.take-part.new.self)
+          (Faulty c.in-Faulty.slip) [] (text c.next_line.new.self) c.take-part.ensures.parted c.in-Faulty.ensures
+          (refl, ap text counted, ap playing (c.put_slip.ensures.printer ∙ ap (λ (q : Printer). record q { sound = false }) counted)),
+      c.put_slip.ensures.text
+          ∙ ap (λ (s : Slip). c.args.text.now ++ slip_text c.next_line.new.self.form c.next_line.new.self.name c.next_line.new.self.number s) c.shift.ensures,
     )
 
 pub returns-in-Asks : goal.returns-in-Asks
 returns-in-Asks g c =
-    let p = play_with (view c.args.self.now.hosts.segment) c.args.self.now.hosts.names.items c.args.self.now.sheet c.args.self.now.sound in
-    let did = c.play_words-sound.ensures p.sound in
-    let host = if_there c.part_of-part.new.is_named c.part_of-part.new.host in
-    let wanted = if_there c.in-Asks.expects c.read_line.new.wanted in
-    let segment = view c.play_words-sound.new.hosts.segment in
-    let names = c.play_words-sound.new.hosts.names.items in
-    let m = c.next_number-self.result in
-    let n = (next_line p).number in
-    let text : ℕ → List ℕ = λ k. text_of (record p { number = k }) host c.read_line.new.shown wanted did.1 in (
-      text n,
-      told_part p _ c.args.line.now c.part_of-part.result.now host (Asks c.read_line.new.shown c.read_line.new.words wanted) did.0 (text n)
-          c.part_of-part.ensures.parted c.in-Asks.ensures (
-            did.1,
-            segment,
-            names,
-            subst (λ k. IsDone (record p { number = k }) host c.read_line.new.words did.0 did.1 segment names) c.next_number-self.ensures did.2,
-            refl,
-            numbered_sound segment names m n c.are_both-self.result (p.sound && sound_of wanted did.1) p.form p.name c.next_number-self.ensures
-                (c.are_both-self.ensures ∙ ap (λ b. p.sound && b) did.4),
-          ),
-      with_number c.args.text.now text m n _ c.next_number-self.ensures did.3,
+    let now = c.args.self.now in
+    let playing = λ (q : Printer). play_with (view now.hosts.segment) now.hosts.names.items q in
+    let did = c.ask.ensures in
+    let line = c.read_line.new.line in
+    let host = named_by c.take-part.new.self in
+    let after = c.ask.new.self in
+    let new = play_with (view after.hosts.segment) after.hosts.names.items after.printer in (
+      did.1,
+      told_part (playing now.printer) new c.args.line.now c.take-part.result.now host (Asks line.shown line.words (expected_on line)) did.0 did.1
+          c.take-part.ensures.parted c.in-Asks.ensures
+          (subst (λ (p : Play). TellsPart p host 0 (Asks line.shown line.words (expected_on line)) did.0 did.1 new) (ap playing c.next_line.ensures) did.2),
+      did.3,
     )

@@ -1,0 +1,4 @@
+mod DashLemmas
+mod DetailLemmas
+mod LineLemmas
+pub mod Laws

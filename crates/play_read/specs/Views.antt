@@ -1,0 +1,29 @@
+-- What the code's own type for what a line asks for stands for (this project's own).
+use Rattle.std.specs.Prelude.{ℕ, ◌≤◌, Option, Some, None}
+use Rattle.flat_model.specs.Scripts.Grammar.{words}
+use Rattle.params.specs.declared.TheConstants.{IP_MAX_PACKET}
+use Rattle.request.specs.Requests.{event_of, room_of}
+use Rattle.play_pcap.specs.Events.{IsOrdered}
+use Rattle.play_read.specs.Asks as asks
+use Rattle.play_read.specs.declared.ask.Ask.{Ask}
+use Rattle.play_read.specs.declared.ask.Ask.TheVariants.{Call, Ticks, Show, Capture, Settings}
+
+abbrev pub ask_of : Ask → asks.Ask
+ask_of (Call request) = asks.Call (event_of request)
+ask_of (Ticks n) = asks.Ticks n
+ask_of (Show topic) = asks.Show topic
+ask_of (Capture capture) = asks.Capture capture.name.now capture.details
+ask_of (Settings plain) = asks.Settings (words plain.now)
+
+-- what it asks for, if it asks for anything
+abbrev pub asked_by : Option Ask → Option asks.Ask
+asked_by (Some ask) = Some (ask_of ask)
+asked_by None = None
+
+-- no packet is longer than one can be, and no range of records ends before it begins
+abbrev pub IsSound : Ask → Type 0
+IsSound (Call request) = room_of request ≤ IP_MAX_PACKET
+IsSound (Ticks n) = Unit {0}
+IsSound (Show topic) = Unit {0}
+IsSound (Capture capture) = IsOrdered capture.details.range
+IsSound (Settings plain) = Unit {0}

@@ -1,0 +1,107 @@
+//! What a line has a machine do, and the machine's reply.
+ghost use Rattle.std.specs.Prelude.{◌≡◌, ◌≤◌, length, replicate, IfSome};
+ghost use Rattle.params.specs.declared.TheConstants.{IP_MAX_PACKET};
+ghost use Rattle.flat_model.specs.Machine.Event.{Done, Tick};
+ghost use Rattle.net_stack.specs.Stack.{state_of};
+ghost use Rattle.request.specs.Replies.{len_of, packet_of, reply_of};
+ghost use Rattle.stack_call.specs.Moves.{Moves};
+ghost use Rattle.request.specs.Requests.{event_of, room_of};
+ghost use Rattle.play_script.specs.Captures as captures;
+ghost use Rattle.play_script.specs.Deeds.{Does, moved_in};
+ghost use Rattle.play_script.specs.Inside.{events_of, most_of};
+
+use net_stack::Stack;
+use request::{Reply, Request};
+use stack_call::call;
+
+/// What a line has a machine do.
+#[derive(Clone, Copy)]
+pub(crate) enum Deed<'a> {
+    /// One call.
+    Call(Request<'a>),
+    /// So many ticks.
+    Ticks(u32),
+}
+
+/// Lets so many ticks pass.
+#[tactic(auto, unfolding(stack_call::specs::Moves::Moves))]
+fn tick_all(stack: &mut Stack, count: u32)
+    ensures { Does Moves (state_of stack.old) (replicate count Tick) Done (state_of stack.new) }
+{
+    let mut left = count;
+    while left > 0 {
+        stack.tick();
+        left -= 1;
+    }
+}
+
+/// Does it. The bytes of the reply stand in the room.
+pub(crate) fn do_deed<'r>(stack: &mut Stack, deed: Deed<'_>, room: &'r mut [u8]) -> Reply<'r>
+    requires fits { most_of deed ≤ IP_MAX_PACKET }
+    requires room { length room.old ≡ IP_MAX_PACKET }
+    ensures does { Does Moves (state_of stack.old) (events_of deed.entry) (reply_of result) (state_of stack.new) }
+    ensures len { len_of result ≤ IP_MAX_PACKET }
+{
+    match deed {
+        Deed::Call(request) => call(stack, request, room),
+        Deed::Ticks(count) => {
+            tick_all(stack, count);
+            Reply::Done
+        }
+    }
+}
+
+/// The packet that the link was given, if there was one.
+pub(crate) fn given<'a>(reply: &Reply<'a>) -> Option<&'a [u8]>
+    requires { len_of reply.now ≤ IP_MAX_PACKET }
+    ensures packet { packet_of result ≡ captures.given (reply_of reply.now) }
+    ensures fits { IfSome result (λ p. length p.now ≤ IP_MAX_PACKET) }
+{
+    match *reply {
+        Reply::Given(Some(packet)) => Some(packet),
+        Reply::Given(None) => None,
+        Reply::Done => None,
+        Reply::Opened(_) => None,
+        Reply::Sent(_) => None,
+        Reply::Received(_, _) => None,
+        Reply::Counted(_) => None,
+        Reply::Shown(_) => None,
+        Reply::Refused(_) => None,
+    }
+}
+
+/// The packet that comes or goes by a call with this reply.
+fn moved_by_call<'a>(request: Request<'a>, reply: &Reply<'a>) -> Option<&'a [u8]>
+    requires request { room_of request ≤ IP_MAX_PACKET }
+    requires reply { len_of reply.now ≤ IP_MAX_PACKET }
+    ensures packet { packet_of result ≡ captures.moved_by (event_of request.entry) (reply_of reply.now) }
+    ensures fits { IfSome result (λ p. length p.now ≤ IP_MAX_PACKET) }
+{
+    match request {
+        Request::Packet(packet) => Some(packet),
+        Request::Transmit => given(reply),
+        Request::Tick => None,
+        Request::Socket => None,
+        Request::Bind(_, _) => None,
+        Request::Connect(_, _) => None,
+        Request::Send(_, _, _) => None,
+        Request::Receive(_, _) => None,
+        Request::Close(_) => None,
+        Request::SetOption(_, _, _) => None,
+        Request::Counters => None,
+        Request::Usage => None,
+    }
+}
+
+/// The packet that comes or goes by what was done and by its reply.
+pub(crate) fn moved_by<'a>(deed: &Deed<'a>, reply: &Reply<'a>) -> Option<&'a [u8]>
+    requires deed { most_of deed.now ≤ IP_MAX_PACKET }
+    requires reply { len_of reply.now ≤ IP_MAX_PACKET }
+    ensures packet { packet_of result ≡ moved_in (events_of deed.now) (reply_of reply.now) }
+    ensures fits { IfSome result (λ p. length p.now ≤ IP_MAX_PACKET) }
+{
+    match *deed {
+        Deed::Call(request) => moved_by_call(request, reply),
+        Deed::Ticks(_) => None,
+    }
+}

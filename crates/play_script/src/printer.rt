@@ -1,0 +1,156 @@
+//! What prints a script.
+ghost use Rattle.std.specs.Prelude.{◌≡◌, ◌≤◌, ◌++◌, ◌&&◌, IfOk, codes, false, length, take, true};
+ghost use Rattle.flat_model.specs.Machine.Count.{more_by};
+ghost use Rattle.play_text.specs.Texts.{fault_text, slip_text};
+ghost use Rattle.play_script.specs.Tells.{is_sound, told_text};
+ghost use Rattle.play_script.specs.Views.{expected_on};
+
+use crate::fits::meets;
+use crate::line::Line;
+use crate::print::{LABELLED, NAME, ROOM};
+use crate::report::{Report, bytes_of};
+use play_line::Slip;
+use play_text::{Form, Outcome};
+use script_loop::{Buffer, HELD};
+use std::alloc::{AllocError, Global};
+
+/// How a script is printed.
+#[derive(Clone, Copy)]
+pub struct Style<'a> {
+    /// In which form.
+    pub form: Form,
+    /// The script's name, in front of what is wrong with a line. Its first 4,096 bytes are printed.
+    pub name: &'a [u8],
+}
+
+/// What prints a script: in which form, and under which name what is wrong with a line.
+#[derive(Drop)]
+pub struct Printer {
+    pub form: Form,
+    pub name: Buffer<NAME>,
+    /// How many lines it has seen.
+    pub number: u64,
+    /// Whether all of them could be read, and all expectations held.
+    pub sound: bool,
+}
+
+/// The part of a name that is printed.
+fn front_of(name: &[u8]) -> &[u8]
+    ensures is { result.now ≡ take NAME name.now }
+    ensures most { length result.now ≤ NAME }
+{
+    if name.len() <= NAME {
+        return name;
+    }
+    let (front, _) = name.split_at(NAME);
+    front
+}
+
+/// Whether both hold.
+pub(crate) fn both(first: bool, second: bool) -> bool
+    ensures { result ≡ (first && second) }
+{
+    first && second
+}
+
+/// Whether what is told of a line is what was expected, or nothing was.
+fn is_met(line: &Line, told: &[u8]) -> bool
+    ensures { result ≡ is_sound (expected_on line.now) told.now }
+{
+    !line.expects || meets(bytes_of(&line.wanted), told)
+}
+
+impl Printer {
+    /// Before the first line of a script of this style. The name is copied.
+    pub fn new(alloc: Global, style: Style<'_>) -> Result<Printer, AllocError>
+        ensures { IfOk result (λ p. (p.form ≡ style.entry.form) × (p.number ≡ 0)
+            × (p.name ≡ take NAME style.entry.name.now) × (p.sound ≡ true)) }
+    {
+        let mut name = Buffer::new(alloc)?;
+        name.append(front_of(style.name));
+        Ok(Printer {
+            form: style.form,
+            name,
+            number: 0,
+            sound: true,
+        })
+    }
+
+    /// Counts the next line.
+    pub fn next_line(&mut self)
+        ensures { self.new ≡ record self.old { number = more_by 1 self.old.number } }
+    {
+        self.number = self.number.saturating_add(1);
+    }
+
+    /// Puts what is wrong with the line after the text.
+    pub fn put_fault(&mut self, text: &mut Buffer<ROOM>, what: &[u8])
+        requires held { length text.old ≤ HELD }
+        requires what { length what.now ≤ 128 }
+        ensures text { text.new ≡ text.old ++ fault_text self.old.form self.old.name self.old.number what.now }
+        ensures printer { self.new ≡ record self.old { sound = false } }
+    {
+        play_text::put_fault(text, self.form, bytes_of(&self.name), self.number, what);
+        self.sound = false;
+    }
+
+    /// Puts after the text that the line is too long.
+    pub fn put_too_long(&mut self, text: &mut Buffer<ROOM>)
+        requires { length text.old ≤ HELD }
+        ensures text { text.new ≡ text.old
+            ++ fault_text self.old.form self.old.name self.old.number (codes "the line is too long") }
+        ensures printer { self.new ≡ record self.old { sound = false } }
+    {
+        self.put_fault(text, b"the line is too long");
+    }
+
+    /// Puts what is wrong with a byte of the line after the text.
+    pub fn put_slip(&mut self, text: &mut Buffer<ROOM>, slip: Slip)
+        requires { length text.old ≤ HELD }
+        ensures text { text.new ≡ text.old ++ slip_text self.old.form self.old.name self.old.number slip }
+        ensures printer { self.new ≡ record self.old { sound = false } }
+    {
+        play_text::put_slip(text, self.form, bytes_of(&self.name), self.number, slip);
+        self.sound = false;
+    }
+
+    /// Puts the line and what is told of it after the text. `shown` is the line as it's printed.
+    pub fn put_labelled(
+        &mut self,
+        text: &mut Buffer<ROOM>,
+        shown: &[u8],
+        line: &Line,
+        report: &Report,
+    )
+        requires held { length text.old ≤ HELD }
+        requires shown { length shown.now ≤ LABELLED }
+        ensures text { text.new ≡ text.old ++ told_text self.old.form self.old.name self.old.number shown.now
+            (expected_on line.now) report.now.told report.now.below }
+        ensures printer { self.new
+            ≡ record self.old { sound = self.old.sound && is_sound (expected_on line.now) report.now.told } }
+    {
+        let met = is_met(line, bytes_of(&report.told));
+        let outcome = Outcome {
+            number: self.number,
+            line: shown,
+            told: bytes_of(&report.told),
+            below: bytes_of(&report.below),
+            expects: line.expects,
+            wanted: bytes_of(&line.wanted),
+            met,
+        };
+        play_text::put_outcome(text, self.form, bytes_of(&self.name), &outcome);
+        self.sound = both(self.sound, met);
+    }
+
+    /// Puts the line, as it's written, and what is told of it after the text.
+    pub fn put_told(&mut self, text: &mut Buffer<ROOM>, line: &Line, report: &Report)
+        requires { length text.old ≤ HELD }
+        ensures text { text.new ≡ text.old ++ told_text self.old.form self.old.name self.old.number line.now.shown
+            (expected_on line.now) report.now.told report.now.below }
+        ensures printer { self.new
+            ≡ record self.old { sound = self.old.sound && is_sound (expected_on line.now) report.now.told } }
+    {
+        self.put_labelled(text, bytes_of(&line.shown), line, report);
+    }
+}

@@ -1,0 +1,48 @@
+//! The machine that settings ask for.
+ghost use Rattle.std.specs.Prelude.{◌≡◌, Err, MatchResult, Ok};
+ghost use Rattle.flat_model.specs.Machine.State.{boot};
+ghost use Rattle.flat_model.specs.Scripts.Grammar.{words};
+ghost use Rattle.flat_model.specs.declared.config.Config.{Config};
+ghost use Rattle.link_script.specs.Boots.{IsUnbooted};
+ghost use Rattle.net_stack.specs.Stack.{state_of};
+ghost use Rattle.play_script.specs.Tells.{IsRefused, IsSettled};
+
+use flat_model::Config;
+use link_script::booted;
+use net_stack::Stack;
+use play_read::{SettingFault, settings_of};
+use script_loop::RunFault;
+use std::alloc::Global;
+
+/// Why settings are refused that no machine has.
+fn refusal_of(fault: RunFault) -> SettingFault
+    ensures { (c : Config) → IsUnbooted c fault → IsRefused c result }
+{
+    match fault {
+        RunFault::BadSizes => SettingFault::BadSizes,
+        RunFault::BadConfig => SettingFault::BadConfig,
+        RunFault::Memory | RunFault::Read | RunFault::Write | RunFault::TooManyLines =>
+            SettingFault::Memory,
+    }
+}
+
+/// A new machine as the settings of a line say, if these stand in the script's head, and its configuration.
+pub(crate) fn settled(
+    alloc: Global,
+    head: bool,
+    config: Config,
+    plain: &[u8],
+) -> Result<(Stack, Config), SettingFault>
+    ensures { MatchResult result
+        (λ r. IsSettled head config (words plain.now) (Ok r.1) × (state_of r.0 ≡ boot r.1))
+        (λ fault. IsSettled head config (words plain.now) (Err fault)) }
+{
+    if !head {
+        return Err(SettingFault::Late);
+    }
+    let config = settings_of(plain, config)?;
+    match booted(alloc, config) {
+        Ok(machine) => Ok((machine, config)),
+        Err(fault) => Err(refusal_of(fault)),
+    }
+}

@@ -1,0 +1,154 @@
+//! What is told of what a line asks for.
+ghost use Rattle.std.specs.Prelude.{◌≡◌, ◌≤◌, length, IfSome};
+ghost use Rattle.net_stack.specs.Stack.{state_of};
+ghost use Rattle.params.specs.declared.TheConstants.{IP_MAX_PACKET, MAX_MTU};
+ghost use Rattle.play_read.specs.Views.{IsSound, ask_of};
+ghost use Rattle.play_script.specs.Deeds.{below_text};
+ghost use Rattle.play_script.specs.Inside.{IsTold, IsToldAs, events_of, most_of};
+ghost use Rattle.play_script.specs.Plays.{captured_of};
+ghost use Rattle.play_script.specs.Tells.{IsDone};
+ghost use Rattle.request.specs.Replies.{packet_of};
+ghost use Rattle.stack_call.specs.Moves.{Moves};
+
+use crate::capture::{Capture, note};
+use crate::captured::CapturedStack;
+use crate::deed::{Deed, do_deed, moved_by};
+use crate::replay::{Files, tell_capture};
+use crate::report::Report;
+use net_stack::Stack;
+use params::{IP_MAX_PACKET, MAX_MTU};
+use play_pcap::Folder;
+use play_read::{Ask, ask_of};
+use play_show::{SHOWN, Snapshot, put_changes, snapshot_of};
+use script_loop::{Buffer, Sink};
+
+/// Puts what came of a line into a buffer, or nothing. The packets that are told are copied into the room.
+pub(crate) fn put_below(
+    quiet: bool,
+    stack: &Stack,
+    room: &mut [u8],
+    moved: (Option<&[u8]>, &Snapshot, &Snapshot),
+    below: &mut Buffer<SHOWN>,
+)
+    requires moved { IfSome moved.0 (λ p. length p.now ≤ IP_MAX_PACKET) }
+    requires room { MAX_MTU ≤ length room.old }
+    ensures { below.new ≡ below_text quiet (packet_of moved.entry.0) moved.entry.1.now moved.entry.2.now
+        (state_of stack.now).output }
+{
+    if quiet {
+        below.clear();
+    } else {
+        let (packet, before, after) = moved;
+        let room = &mut room[..MAX_MTU as usize];
+        put_changes(below, packet, (before, after), stack, room);
+    }
+}
+
+/// What came of a plain line.
+#[derive(Clone, Copy)]
+pub(crate) enum Told {
+    /// It asks for nothing.
+    Nothing,
+    /// It has settings, for which another machine has to be made.
+    Settings,
+    /// What it asks for was done, and is told. Whether settings may still come after it.
+    Done(bool),
+}
+
+/// Does one call or several ticks, and reports what is told of them. The capture has what they add. The bytes of the
+/// reply stand in the room.
+fn tell_deed<T: Sink>(
+    stack: &mut Stack,
+    capture: &mut Capture<T>,
+    room: &mut [u8],
+    deed: Deed<'_>,
+    report: &mut Report,
+)
+    requires room { length room.old ≡ IP_MAX_PACKET }
+    requires deed { most_of deed ≤ IP_MAX_PACKET }
+    ensures done { IsDone Moves report.old.quiet (captured_of (state_of stack.old) capture.old.trace capture.old.line)
+        (events_of deed.entry) report.new.told report.new.below
+        (captured_of (state_of stack.new) capture.new.trace capture.new.line) }
+    ensures quiet { report.new.quiet ≡ report.old.quiet }
+{
+    let before = snapshot_of(stack);
+    let reply = do_deed(stack, deed, room);
+    let after = snapshot_of(stack);
+    note(capture, &deed, &reply);
+    let moved = moved_by(&deed, &reply);
+    put_below(
+        report.quiet,
+        stack,
+        report.digits.as_mut_slice(),
+        (moved, &before, &after),
+        &mut report.below,
+    );
+    report.tell_reply(&before.counters, &after.counters, &reply);
+}
+
+/// Does what a line asks for, and reports what is told of it. Nothing is done for settings.
+fn tell_ask<T: Sink, F: Folder>(
+    captured: &mut CapturedStack<T>,
+    files: &Files<F>,
+    ask: Ask<'_, '_>,
+    report: &mut Report,
+) -> Told
+    requires { IsSound ask }
+    ensures { IsToldAs Moves F.may_have report.old.quiet (ask_of ask.entry) result
+        (captured_of (state_of captured.old.stack) captured.old.capture.trace captured.old.capture.line)
+        report.new.told report.new.below
+        (captured_of (state_of captured.new.stack) captured.new.capture.trace captured.new.capture.line) }
+{
+    match ask {
+        Ask::Call(request) => {
+            tell_deed(
+                &mut captured.stack,
+                &mut captured.capture,
+                captured.room.as_mut_slice(),
+                Deed::Call(request),
+                report,
+            );
+            Told::Done(false)
+        }
+        Ask::Ticks(count) => {
+            tell_deed(
+                &mut captured.stack,
+                &mut captured.capture,
+                captured.room.as_mut_slice(),
+                Deed::Ticks(count),
+                report,
+            );
+            Told::Done(false)
+        }
+        Ask::Show(topic) => {
+            report.tell_topic(&captured.stack, topic);
+            Told::Done(true)
+        }
+        Ask::Capture(capture) => {
+            tell_capture(captured, files, capture, report);
+            Told::Done(false)
+        }
+        Ask::Settings(_) => Told::Settings,
+    }
+}
+
+/// Reads a plain line, does what it asks for, and reports what is told of it. The bytes that it names stand in the room
+/// then. Nothing is done for settings, nor for a line that asks for nothing.
+pub(crate) fn tell_line<T: Sink, F: Folder>(
+    captured: &mut CapturedStack<T>,
+    files: &Files<F>,
+    words: &[u8],
+    room: &mut [u8],
+    report: &mut Report,
+) -> Told
+    requires { length room.old ≡ IP_MAX_PACKET }
+    ensures { IsTold Moves F.may_have report.old.quiet words.now result
+        (captured_of (state_of captured.old.stack) captured.old.capture.trace captured.old.capture.line)
+        report.new.told report.new.below
+        (captured_of (state_of captured.new.stack) captured.new.capture.trace captured.new.capture.line) }
+{
+    match ask_of(words, room) {
+        Some(ask) => tell_ask(captured, files, ask, report),
+        None => Told::Nothing,
+    }
+}

@@ -1,2 +1,0 @@
-mod AddressLemmas
-pub mod Laws

@@ -1,0 +1,57 @@
+use Rattle.std.proofs.Common.{◌≡◌, ◌++◌, ◌∙◌, Bool, List, ap, refl, subst, ℕ}
+use Rattle.play_script.specs.Tells.{told_text}
+use Rattle.play_script.specs.Views.{expected_on}
+use Rattle.play_script.specs.declared.printer.Printer.{Printer}
+use Rattle.segment.specs.Inside.{view}
+use Rattle.play_wire.specs.Acts.{Told, Refused}
+use Rattle.play_wire.specs.Inside.{named_by, play_with}
+use Rattle.play_wire.specs.Tells.{IsDone, labelled, text_of}
+use Rattle.play_wire.proofs.PlayLemmas.{and_false}
+use Rattle.play_wire.proofs.player.Player.ask.Goals as goal
+
+pub returns-in-Ok : goal.returns-in-Ok
+returns-in-Ok g c =
+    let now = c.args.self.now in
+    let p = play_with (view now.hosts.segment) now.hosts.names.items now.printer in
+    let did = c.in-Ok.ensures p refl refl in
+    let segment = view c.answer_words.new.hosts.segment in
+    let names = c.answer_words.new.hosts.names.items in
+    let told = c.answer_words.new.report.told in
+    let below = c.answer_words.new.report.below in
+    let wanted = expected_on now.line in
+    let host = named_by now.target in
+    let shown = c.bytes_of-in-Ok-2.ensures.is ∙ c.label.ensures.line ∙ ap (λ (t : List ℕ). labelled host t) c.bytes_of-in-Ok.ensures.is in (
+      did.0,
+      text_of p host now.line.shown wanted (Told told below),
+      (
+        Told told below,
+        segment,
+        names,
+        subst (λ (w : List ℕ). IsDone p host w did.0 (Told told below) segment names) c.bytes_of.ensures.is did.1,
+        refl,
+        ap (λ (q : Printer). play_with segment names q) c.put_labelled.ensures.printer,
+      ),
+      c.put_labelled.ensures.text ∙ ap (λ (t : List ℕ). c.args.text.now ++ told_text p.form p.name p.number t wanted told below) shown,
+    )
+
+pub returns-in-Err : goal.returns-in-Err
+returns-in-Err g c =
+    let now = c.args.self.now in
+    let p = play_with (view now.hosts.segment) now.hosts.names.items now.printer in
+    let did = c.in-Err.ensures p refl refl in
+    let segment = view c.answer_words.new.hosts.segment in
+    let names = c.answer_words.new.hosts.names.items in
+    let host = named_by now.target in (
+      did.0,
+      text_of p host now.line.shown (expected_on now.line) (Refused c.in-Err.fault),
+      (
+        Refused c.in-Err.fault,
+        segment,
+        names,
+        subst (λ (w : List ℕ). IsDone p host w did.0 (Refused c.in-Err.fault) segment names) c.bytes_of.ensures.is did.1,
+        refl,
+        ap (λ (q : Printer). play_with segment names q) c.put_refusal.ensures.printer
+            ∙ ap (λ (b : Bool). record p { segment = segment; names = names; sound = b }) (and_false now.printer.sound),
+      ),
+      c.put_refusal.ensures.text,
+    )

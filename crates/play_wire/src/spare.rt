@@ -1,0 +1,63 @@
+//! A spare stack.
+ghost use Rattle.std.specs.Prelude.{◌≡◌, IfOk, vec_len};
+ghost use Rattle.params.specs.declared.TheConstants.{IP_MAX_PACKET};
+
+use flat_model::Config;
+use net_stack::Stack;
+use params::IP_MAX_PACKET;
+use play_script::DEFAULTS;
+use std::alloc::{AllocError, Global};
+
+/// The bytes of the longest packet.
+const PACKET: usize = IP_MAX_PACKET as usize;
+
+/// The spare stack's configuration.
+const SPARE: Config = Config {
+    mbufs: 1,
+    clusters: 0,
+    ..DEFAULTS
+};
+
+/// A stack that stands in the place of a host's while a line of that host is played.
+pub(crate) struct Spare {
+    pub(crate) stack: Stack,
+    /// Room for the bytes that a line names.
+    pub(crate) bytes: Vec<u8>,
+    /// Room for the bytes of a reply.
+    pub(crate) room: Vec<u8>,
+    ghost bytes_len: { vec_len bytes ≡ IP_MAX_PACKET },
+    ghost room_len: { vec_len room ≡ IP_MAX_PACKET },
+}
+
+/// Room for the longest packet.
+fn room_for(alloc: Global) -> Result<Vec<u8>, AllocError>
+    ensures { IfOk result (λ room. vec_len room ≡ IP_MAX_PACKET) }
+{
+    vec![in alloc; 0; PACKET]
+}
+
+impl Spare {
+    /// Boots it. `None` if host memory was refused.
+    pub(crate) fn new(alloc: Global) -> Option<Spare> {
+        let Ok(bytes) = room_for(alloc) else {
+            return None;
+        };
+        let Ok(room) = room_for(alloc) else {
+            return None;
+        };
+        match Stack::boot(alloc, SPARE) {
+            Ok(stack) => Some(Spare { stack, bytes, room }),
+            Err(_) => None,
+        }
+    }
+
+    /// Spends it.
+    pub(crate) fn end(self) {
+        let Spare {
+            stack,
+            bytes: _bytes,
+            room: _room,
+        } = self;
+        let _ = stack.end();
+    }
+}
