@@ -7,8 +7,11 @@ use Rattle.chain_ops.specs.Rooms.{room_low}
 -- a copy of n of an entry's bytes, after the first `skip`: on the same cluster, or from place `room` on in a plain mbuf
 abbrev pub copied_entry : ℕ → Entry → ℕ → ℕ → Entry
 copied_entry room e skip n =
-    record { bytes = take n (drop skip e.bytes); start = if is_some e.cluster then e.start + skip else room;
-      cluster = e.cluster }
+    record {
+      bytes = take n (drop skip e.bytes);
+      start = if is_some e.cluster then e.start + skip else room;
+      cluster = e.cluster;
+    }
 
 -- copies of all entries; the first one has its plain bytes from `room` on
 abbrev pub copied_all : ℕ → List Entry → List Entry
@@ -20,7 +23,7 @@ abbrev pub copied_from : ℕ → List Entry → ℕ → ℕ → List Entry
 copied_from room [] skip len = []
 copied_from room (e ∷ es) skip len =
     if len == 0 then [] else copied_entry room e skip (min len (length e.bytes - skip))
-      ∷ copied_from MBUF_HEADER es 0 (len - (length e.bytes - skip))
+    ∷ copied_from MBUF_HEADER es 0 (len - (length e.bytes - skip))
 
 -- where a byte lies in a list of entries: what stands there from its entry on, and how many bytes of that entry are in
 -- front of it
@@ -33,7 +36,7 @@ abbrev pub position_of : List Entry → ℕ → Position
 position_of [] off = record { entries = []; skip = off }
 position_of (e ∷ es) off =
     if nat_lt 0 off && nat_le (length e.bytes) off then position_of es (off - length e.bytes)
-      else record { entries = e ∷ es; skip = off }
+    else record { entries = e ∷ es; skip = off }
 
 -- the copy of a range
 abbrev pub copied : Bool → List Entry → ℕ → ℕ → List Entry

@@ -12,7 +12,7 @@ has_front v n = nat_le n (leading_space v 0)
 abbrev pub prepended : ChainView → List ℕ → List Entry
 prepended v xs =
     if has_front v (length xs) then with_front (entry_of v 0) xs ∷ drop 1 v.entries
-      else end_entry v.front.header xs ∷ v.entries
+    else end_entry v.front.header xs ∷ v.entries
 
 -- a new first mbuf is in no train
 abbrev pub prepended_front : ChainView → ℕ → Front

@@ -8,7 +8,7 @@ abbrev pub without_first : ℕ → List Entry → List Entry
 without_first n [] = []
 without_first n (e ∷ es) =
     narrowed e (min n (length e.bytes)) (length e.bytes - min n (length e.bytes))
-      ∷ without_first (n - length e.bytes) es
+    ∷ without_first (n - length e.bytes) es
 
 -- the entries with no more than their first n bytes
 abbrev pub only_first : ℕ → List Entry → List Entry

@@ -22,14 +22,14 @@ abbrev pub overlaid : List Entry → ℕ → List ℕ → List Entry
 overlaid [] off xs = []
 overlaid (e ∷ es) off xs =
     overwritten e off (take (length e.bytes - off) xs)
-      ∷ overlaid es (off - length e.bytes) (drop (length e.bytes - off) xs)
+    ∷ overlaid es (off - length e.bytes) (drop (length e.bytes - off) xs)
 
 -- bytes in plain mbufs without packet header, full ones and one with the rest; no more than `most` mbufs
 abbrev pub plain_pieces : ℕ → List ℕ → List Entry
 plain_pieces zero xs = []
 plain_pieces (suc most) xs =
     if length xs == 0 then [] else record { bytes = take MLEN xs; start = MBUF_HEADER; cluster = None }
-      ∷ plain_pieces most (drop MLEN xs)
+    ∷ plain_pieces most (drop MLEN xs)
 
 abbrev pub in_plain : List ℕ → List Entry
 in_plain xs = plain_pieces (length xs) xs

@@ -44,7 +44,7 @@ cluster_text (Some k) = codes "cluster " ++ decimal k ++ codes " "
 abbrev pub mbuf_line : List ℕ → Bool → Entry → List ℕ
 mbuf_line seen header e =
     header_text header ++ cluster_text (place_in seen e.cluster) ++ decimal e.start ++ codes " " ++ hex_text e.bytes
-      ++ codes "\n"
+    ++ codes "\n"
 
 -- all mbufs of a chain, of which the first one has the packet header, if there is one
 abbrev pub mbuf_lines : List ℕ → Bool → List Entry → List ℕ

@@ -60,7 +60,7 @@ HasWords (User slot bytes) args = (s h : List ℕ) × (args ≡ s ∷ h ∷ []) 
 HasWords (Wire slot bytes) args = (s h : List ℕ) × (args ≡ s ∷ h ∷ []) × IsSlot s slot × IsHex h bytes
 HasWords (Copy to slot extent) args =
     (d s : List ℕ) × (rest : List (List ℕ)) × (args ≡ d ∷ s ∷ rest) × IsSlot d to × IsSlot s slot
-      × IsExtentWords rest extent
+    × IsExtentWords rest extent
 HasWords (Prepend slot bytes) args = (s h : List ℕ) × (args ≡ s ∷ h ∷ []) × IsSlot s slot × IsHex h bytes
 HasWords (Pull_up slot n) args = (s w : List ℕ) × (args ≡ s ∷ w ∷ []) × IsSlot s slot × IsOffset w n
 HasWords (Adjust slot n) args = (s w : List ℕ) × (args ≡ s ∷ w ∷ []) × IsSlot s slot × IsSigned w n

@@ -70,7 +70,7 @@ Does b (Wire slot bytes) reply new =
     × (new ≡ put b slot true (stored_first 0 false cs (wire (length bytes)) bytes))
 Does b (Copy to slot extent) reply new =
     (reply ≡ Ready) × (new ≡ put b to (extent_header extent (header_at b slot))
-      (extent_copied extent (header_at b slot) (entries_at b slot)))
+    (extent_copied extent (header_at b slot) (entries_at b slot)))
 Does b (Prepend slot bytes) reply new =
     (reply ≡ Ready) × (new ≡ put b slot (header_at b slot) (prepended (view_at b slot) bytes))
 Does b (Pull_up slot n) reply new =
@@ -80,10 +80,10 @@ Does b (Adjust slot n) reply new =
 Does b (Split to slot at) reply new =
     (reply ≡ Ready)
     × (new ≡ put (put b slot (header_at b slot) (split_front (entries_at b slot) at)) to (header_at b slot)
-      (split_back (header_at b slot) (entries_at b slot) at))
+    (split_back (header_at b slot) (entries_at b slot) at))
 Does b (Join slot other) reply new =
     (reply ≡ Ready) × (new ≡ put (emptied b other) slot (header_at b slot)
-      (cat (entries_at b slot) (entries_at b other)))
+    (cat (entries_at b slot) (entries_at b other)))
 Does b (Write_over slot off bytes) reply new =
     (reply ≡ Ready)
     × (new ≡ put b slot (header_at b slot) (copied_back (entries_at b slot) off bytes))

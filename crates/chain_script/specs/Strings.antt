@@ -49,7 +49,7 @@ abbrev pub is_in_strings : List (Option (List ℕ)) → Request → Bool
 is_in_strings ss (Copy to slot extent) = is_range extent (length (bytes_at ss slot))
 is_in_strings ss (Prepend slot bytes) =
     nat_lt 0 (length bytes) && (nat_le (length bytes) MHLEN
-      && nat_le (length bytes + length (bytes_at ss slot)) IP_MAX_PACKET)
+    && nat_le (length bytes + length (bytes_at ss slot)) IP_MAX_PACKET)
 is_in_strings ss (Split to slot at) = nat_lt at (length (bytes_at ss slot))
 is_in_strings ss (Join slot other) = nat_le (length (bytes_at ss slot) + length (bytes_at ss other)) IP_MAX_PACKET
 is_in_strings ss (Write_over slot off bytes) = nat_le (off + length bytes) IP_MAX_PACKET

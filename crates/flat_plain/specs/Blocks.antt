@@ -5,8 +5,15 @@ use Rattle.flat_plain.specs.declared.lookup.Pcb.{Pcb}
 
 abbrev pub socket_of : Pcb → Socket
 socket_of b =
-    record { fd = b.fd; local = b.local; port = b.port; peer = b.peer; broadcast = false; reuse_port = b.reuse_port;
-      queue = [] }
+    record {
+      fd = b.fd;
+      local = b.local;
+      port = b.port;
+      peer = b.peer;
+      broadcast = false;
+      reuse_port = b.reuse_port;
+      queue = [];
+    }
 
 abbrev pub sockets_of : List Pcb → List Socket
 sockets_of blocks = map socket_of blocks

@@ -4,5 +4,11 @@ use Rattle.flat_plain.specs.declared.headers.Head.{Head}
 
 abbrev pub head_for : Head → Header.Head
 head_for h =
-    record { id = h.id; more = h.more; offset = h.offset; protocol = h.protocol; source = h.source;
-      destination = h.destination }
+    record {
+      id = h.id;
+      more = h.more;
+      offset = h.offset;
+      protocol = h.protocol;
+      source = h.source;
+      destination = h.destination;
+    }

@@ -8,4 +8,4 @@ use Rattle.flat_plain.specs.Blocks.{sockets_of}
 abbrev pub state_of : List Pcb → Option ℕ → State
 state_of blocks last =
     record (boot (record { addr = 0; bcast = 0; mtu = 0; mbufs = 0; clusters = 0; first_id = 0 }))
-      { sockets = sockets_of blocks; last_port = last }
+    { sockets = sockets_of blocks; last_port = last }

@@ -13,8 +13,10 @@ weight_at mbufs clusters = record { mbufs = mbufs; bag = filter_map (λ c. c) cl
 abbrev pub held_of : Option Cell → Option Held
 held_of None = None
 held_of (Some cell) =
-    Some (record { byte = cell.byte;
-      piece = record { first = cell.first; more = cell.more; weight = weight_at cell.mbufs cell.clusters } })
+    Some (record {
+      byte = cell.byte;
+      piece = record { first = cell.first; more = cell.more; weight = weight_at cell.mbufs cell.clusters };
+    })
 
 -- nothing lies after the table's end
 abbrev pub map_of : List (Option Cell) → Map

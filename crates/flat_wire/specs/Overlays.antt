@@ -31,6 +31,6 @@ pub record OverlayOrder (s : List ℕ) (mtu : ℕ) (fragments : List Fragment) :
       option_map (λ held. held.byte) (laid fragments offset) ≡ Some (slice_index s offset)
   pub elsewhere : (offset : ℕ) → IsSome (laid fragments offset) →
       (p : Part) × Contains (cuts (length s) mtu) p × IsLaid fragments p × (p.offset ≤ offset)
-        × (offset < p.offset + p.size)
+      × (offset < p.offset + p.size)
   pub whole : IsWhole (laid fragments) (length s) ↔ ((p : Part) → Contains (cuts (length s) mtu) p → IsLaid fragments p)
   pub length : (n : ℕ) → IsWhole (laid fragments) n → n ≡ length s

@@ -85,7 +85,7 @@ abbrev pub WireLaw : Ledger → Ledger → Type 0
 WireLaw L M = (first second : Config) (sent came : List Turn) (s t : State) → AreWired L M first second sent came s t →
     (socket : Socket) (d : Datagram) → Contains t.sockets socket → Contains socket.queue d → d.sender.ip ≡ first.addr →
     (to : Addr) × IsAnswered L first sent s d.sender.port to d.item.bytes × (socket.port ≡ Some to.port)
-      × ((to.ip ≡ second.addr) ⊎ (to.ip ≡ second.bcast))
+    × ((to.ip ≡ second.addr) ⊎ (to.ip ≡ second.bcast))
 
 -- The run of the second that these turns make, and then a `recvfrom` of at most `most` bytes, answered with `bytes`
 -- from `sender`: the first answered a send of `whole`, of which these bytes are the front, from that port and to one of
@@ -108,7 +108,7 @@ pub record WasSent (L M : Ledger) (first second : Config) (sent before : List Tu
 abbrev pub ReceivedLaw : Ledger → Ledger → Type 0
 ReceivedLaw L M =
     (first second : Config) (sent before after : List Turn) (s t : State) (fd most : ℕ) (sender : Addr)
-      (bytes : List ℕ) →
+    (bytes : List ℕ) →
     AreWired L M first second sent (before ++ record { event = Receive fd most; reply = Received sender bytes } ∷ after)
-      s t →
+    s t →
     sender.ip ≡ first.addr → WasSent L M first second sent before s fd most sender bytes

@@ -14,7 +14,7 @@ written bytes at new = take at bytes ++ (new ++ drop (at + length new) bytes)
 abbrev pub flags_of : IpHead → ℕ
 flags_of h =
     if h.dont then 16384 + (flag h.more 8192 + h.offset / FRAGMENT_UNIT)
-      else flag h.more 8192 + h.offset / FRAGMENT_UNIT
+    else flag h.more 8192 + h.offset / FRAGMENT_UNIT
 
 -- the ten bytes in front of the checksum: version 4, 5 words of header, and what the header says
 abbrev pub front_of : IpHead → List ℕ

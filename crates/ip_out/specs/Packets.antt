@@ -55,7 +55,7 @@ pub record IsDatagram (v : ChainView) : Type 0 where
 abbrev pub AreBegunPlain : List QueuedPacket → Type 0
 AreBegunPlain cs =
     AllByRecursion (λ (queued_packet : QueuedPacket). (slice_index_or queued_packet.entries 0 no_entry).cluster ≡ None)
-      cs
+    cs
 
 abbrev pub BeginPlain : PoolView → TrainView → Type 0
 BeginPlain p t = AreBegunPlain (queued_packets p t)

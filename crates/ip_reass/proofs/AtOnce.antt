@@ -61,27 +61,31 @@ module _ (packet : List ℕ) (k : ℕ) (many : 40 < length packet) where
   pulled =
       let most : pulled_len 20 (whole ∷ []) ≡ 40 = omega (arith, length-append packet []) in
       ap (λ (m : ℕ). moved m (empty_entry 28 None) (whole ∷ [])) most
-        ∙ moved_part (empty_entry 28 None) whole [] 40 (omega arith) many
+      ∙ moved_part (empty_entry 28 None) whole [] 40 (omega arith) many
 
   cut_left : narrowed left 20 20 ≡ first_entry
   cut_left =
-      λ i. record { bytes = (ap (take 20) (drop-take 20 20 packet)
-        ∙ take_all 20 (take 20 (drop 20 packet))
-          (omega (arith, length-take 20 (drop 20 packet)))) i; start = 48; cluster = None }
+      λ i. record {
+        bytes = (ap (take 20) (drop-take 20 20 packet)
+            ∙ take_all 20 (take 20 (drop 20 packet))
+            (omega (arith, length-take 20 (drop 20 packet)))) i;
+        start = 48;
+        cluster = None;
+      }
 
   cut_right : (n : ℕ) → n ≡ 0 → narrowed right n (length right.bytes - n) ≡ second_entry
   cut_right n z =
       let all : take (length right.bytes - 0) right.bytes ≡ right.bytes =
-        take_all (length right.bytes - 0) right.bytes (omega arith) in
+      take_all (length right.bytes - 0) right.bytes (omega arith) in
       ap (λ (m : ℕ). narrowed right m (length right.bytes - m)) z
-        ∙ (λ i. record { bytes = all i; start = 40; cluster = Some k })
+      ∙ (λ i. record { bytes = all i; start = 40; cluster = Some k })
 
   trimmed : without_first 20 (left ∷ right ∷ []) ≡ first_entry ∷ second_entry ∷ []
   trimmed =
       let long : length left.bytes ≡ 40 = omega (arith, length-take 40 packet) in
       (λ i. narrowed left (min 20 (long i)) (long i - min 20 (long i))
-        ∷ narrowed right (min (20 - long i) (length right.bytes))
-          (length right.bytes - min (20 - long i) (length right.bytes)) ∷ [])
+      ∷ narrowed right (min (20 - long i) (length right.bytes))
+      (length right.bytes - min (20 - long i) (length right.bytes)) ∷ [])
       ∙ (λ i. cut_left i ∷ cut_right (min (20 - 40) (length right.bytes)) (omega arith) i ∷ [])
 
   pub carried_are : first_entry ∷ second_entry ∷ [] ≡ carried_entries (in_cluster packet k)
@@ -102,22 +106,26 @@ module _ (packet : List ℕ) (many : 100 < length packet) where
 
   cut_first : narrowed first 20 80 ≡ first_left
   cut_first =
-      λ i. record { bytes = (ap (take 80) (drop-take 20 80 packet)
-        ∙ take_all 80 (take 80 (drop 20 packet))
-          (omega (arith, length-take 80 (drop 20 packet)))) i; start = 48; cluster = None }
+      λ i. record {
+        bytes = (ap (take 80) (drop-take 20 80 packet)
+            ∙ take_all 80 (take 80 (drop 20 packet))
+            (omega (arith, length-take 80 (drop 20 packet)))) i;
+        start = 48;
+        cluster = None;
+      }
 
   cut_second : (n : ℕ) → n ≡ 0 → narrowed second n (length second.bytes - n) ≡ second_left
   cut_second n z =
       let all : length second.bytes - 0 ≡ length packet - 100 = omega (arith, length-drop 100 packet) in
       ap (λ (m : ℕ). narrowed second m (length second.bytes - m)) z
-        ∙ (λ i. record { bytes = take (all i) (drop 100 packet); start = 20; cluster = None })
+      ∙ (λ i. record { bytes = take (all i) (drop 100 packet); start = 20; cluster = None })
 
   both_trimmed : without_first 20 (first ∷ second ∷ []) ≡ first_left ∷ second_left ∷ []
   both_trimmed =
       let long : length first.bytes ≡ 100 = omega (arith, length-take 100 packet) in
       (λ i. narrowed first (min 20 (long i)) (long i - min 20 (long i))
-        ∷ narrowed second (min (20 - long i) (length second.bytes))
-          (length second.bytes - min (20 - long i) (length second.bytes)) ∷ [])
+      ∷ narrowed second (min (20 - long i) (length second.bytes))
+      (length second.bytes - min (20 - long i) (length second.bytes)) ∷ [])
       ∙ (λ i. cut_first i ∷ cut_second (min (20 - 100) (length second.bytes)) (omega arith) i ∷ [])
 
   pub left_are : first_left ∷ second_left ∷ [] ≡ carried_entries (in_mbufs packet)
@@ -136,8 +144,8 @@ pub laid_len : {p m : PoolView} {n : ℕ} (packet : List ℕ) (k : ℕ) → 100 
     → length (flat_bytes (chain_of m n).entries) ≡ length packet - 20
 laid_len packet k many made =
     ap (λ (es : List Entry). length (flat_bytes es)) made.entries
-      ∙ ap (λ (xs : List ℕ). length xs) (carried_bytes (as_stored packet k))
-        ∙ ap (λ (xs : List ℕ). length (drop 20 xs)) (stored_bytes packet k)
+    ∙ ap (λ (xs : List ℕ). length xs) (carried_bytes (as_stored packet k))
+    ∙ ap (λ (xs : List ℕ). length (drop 20 xs)) (stored_bytes packet k)
     ∙ omega (arith, length-drop 20 packet)
 
 -- a front of one mbuf put before a new chain of one
@@ -146,12 +154,12 @@ pub put_before : (p q r s : PoolView) (c d : ℕ) (e f : Entry) → Adds p q d (
     → Makes p s c (alone true) (e ∷ f ∷ [])
 put_before p q r s c d e f first second is =
     let a : Adds (without q d) s c (joined (one_mbuf true e c) (chain_of q d)) =
-      linked_front q r s d c (one_mbuf true e c) (live_adds first) second is in
+    linked_front q r s d c (one_mbuf true e c) (live_adds first) second is in
     let b : Adds p s c (joined (one_mbuf true e c) (chain_of q d)) =
-      subst (λ (o : PoolView). Adds o s c (joined (one_mbuf true e c) (chain_of q d)))
-        (adds_undone (without q d) first refl) a in
+    subst (λ (o : PoolView). Adds o s c (joined (one_mbuf true e c) (chain_of q d)))
+    (adds_undone (without q d) first refl) a in
     makes_as p (alone true) (e ∷ f ∷ []) (makes_new b) refl refl
-      (ap (λ (v : ChainView). e ∷ v.entries) (shown_adds first))
+    (ap (λ (v : ChainView). e ∷ v.entries) (shown_adds first))
 
 -- ---- what stays as the chain comes
 
@@ -168,8 +176,8 @@ stored {p} {m} {c} {v} r is adds =
     let same : SameAt p m (held_all p ds) = same_adds (held_all p ds) adds is.table.owned in
     let all : held_all m ds ≡ held_all p ds = held_all_same p m ds same in
     let moves : Moves p (held_all p ds) m (c ∷ held_all m ds) =
-      moves_beside (held_all p ds) (c ∷ held_all m ds) (held_all p ds) (moves_adds adds) (λ k. omega arith)
-        (λ k. omega (arith, ap (times k) all)) in
+    moves_beside (held_all p ds) (c ∷ held_all m ds) (held_all p ds) (moves_adds adds) (λ k. omega arith)
+    (λ k. omega (arith, ap (times k) all)) in
     record {
       ready = ready_same p m r same is;
       owned = owned_after moves is.table.owned;
@@ -218,8 +226,8 @@ fits_is p h packet e =
 module _ (p m : PoolView) (r : TableView) (c : Counters) (d : Counters) (packet : List ℕ) (h : IpHead) (k n : ℕ)
     (result : Arrival) (q : PoolView) (t : TableView) (b : Counters)
     (ready : IsReady p r) (fits : Fits p h packet)
-      (made : Makes p m n (alone true) (carried_entries (as_stored packet k)))
-        (counts : d ≡ counts_more IpFragments 1 c) where
+    (made : Makes p m n (alone true) (carried_entries (as_stored packet k)))
+    (counts : d ≡ counts_more IpFragments 1 c) where
   st : Stored p r m n
   st = stored r ready made.adds
 
@@ -227,26 +235,26 @@ module _ (p m : PoolView) (r : TableView) (c : Counters) (d : Counters) (packet 
       → IsAccounted m (machine m r.datagrams d rest) (held ⊕ weight_at m n)
   mid_accounts rest held acc =
       accounts p m [] (n ∷ []) rest held nothing (weight_at m n) r.datagrams r.datagrams c d
-        (subst (λ (w : Weight). IsAccounted p (machine p r.datagrams c rest) w) (sym (both-nothing held)) acc) st.moves
-          ready.table.owned ready.table st.ready.table (same_weight nothing) (one_weighs m n)
+      (subst (λ (w : Weight). IsAccounted p (machine p r.datagrams c rest) w) (sym (both-nothing held)) acc) st.moves
+      ready.table.owned ready.table st.ready.table (same_weight nothing) (one_weighs m n)
 
   pub end_accounts : IsReady q t → Moves m (n ∷ held_all m r.datagrams) q (in_hand result ++ held_all q t.datagrams)
       → (rest : State) (held : Weight) → IsAccounted p (machine p r.datagrams c rest) held
       → IsAccounted q (machine q t.datagrams b rest) (held ⊕ weight_owned q (in_hand result))
   end_accounts then_ready moves rest held acc =
       accounts p q [] (in_hand result) rest held nothing (weight_owned q (in_hand result)) r.datagrams t.datagrams c b
-        (subst (λ (w : Weight). IsAccounted p (machine p r.datagrams c rest) w) (sym (both-nothing held)) acc)
-          (moves_trans st.moves moves) ready.table.owned ready.table then_ready.table (same_weight nothing)
-            (same_weight (weight_owned q (in_hand result)))
+      (subst (λ (w : Weight). IsAccounted p (machine p r.datagrams c rest) w) (sym (both-nothing held)) acc)
+      (moves_trans st.moves moves) ready.table.owned ready.table then_ready.table (same_weight nothing)
+      (same_weight (weight_owned q (in_hand result)))
 
   carried : arrived m n h.offset h.more ≡ fragment_carried (as_stored packet k) h
   carried =
       ap (λ (es : List Entry). let f : QueuedFragment = record { offset = h.offset; more = h.more; entries = es } in f)
-        made.entries
+      made.entries
 
   module _ (rest : State) (held : Weight) (new : State) (acc : IsAccounted p (machine p r.datagrams c rest) held)
       (joins : Joins exact_ledger held (key_in h) (fragment_of (arrived m n h.offset h.more))
-        (machine m r.datagrams d rest) new) where
+      (machine m r.datagrams d rest) new) where
     abbrev old : State
     old = counts_fragment (machine p r.datagrams c rest)
 
@@ -257,36 +265,36 @@ module _ (p m : PoolView) (r : TableView) (c : Counters) (d : Counters) (packet 
     one_more =
         let some : 1 ≤ state.free_mbufs old (held ⊕ w) = omega (arith, acc.total, acc.mbufs, fits.mbufs) in
         λ i. le-leb 1 (state.free_mbufs old (held ⊕ w)) some i
-          && le-leb 0 (state.free_clusters old (held ⊕ w)) (omega arith) i
+        && le-leb 0 (state.free_clusters old (held ⊕ w)) (omega arith) i
 
     joins_now : Joins exact_ledger held (key_in h) (fragment_of (fragment_carried (as_stored packet k) h)) old new
     joins_now =
         subst (λ (f : QueuedFragment). Joins exact_ledger held (key_in h) (fragment_of f) old new) carried
         (subst (λ (s : State). Joins exact_ledger held (key_in h) (fragment_of (arrived m n h.offset h.more)) s new)
-          (λ i. record rest { unfinished = st.shows i; counters = counts i }) joins)
+        (λ i. record rest { unfinished = st.shows i; counters = counts i }) joins)
 
     by_size : (is_large : Bool) → Joins exact_ledger held (key_in h)
-      (fragment_of (fragment_carried (stored_by is_large packet k) h)) old new
+        (fragment_of (fragment_carried (stored_by is_large packet k) h)) old new
         → ChainArrives held h (stored_by is_large packet k) (machine p r.datagrams c rest) new
     by_size true joined_now =
-      arrives_cluster held (machine p r.datagrams c rest) new h (in_cluster packet k) fits.good refl (record {
-      answer = true;
-      mid = old;
-      has_buffers = inl (sym one_more, refl);
-      goes_on = record { yes = λ _. joined_now; no = λ e. absurd (true≢false e) };
-    })
+        arrives_cluster held (machine p r.datagrams c rest) new h (in_cluster packet k) fits.good refl (record {
+          answer = true;
+          mid = old;
+          has_buffers = inl (sym one_more, refl);
+          goes_on = record { yes = λ _. joined_now; no = λ e. absurd (true≢false e) };
+        })
     by_size false joined_now =
-      arrives_plain held (machine p r.datagrams c rest) new h (in_mbufs packet) fits.good refl joined_now
+        arrives_plain held (machine p r.datagrams c rest) new h (in_mbufs packet) fits.good refl joined_now
 
     arrives : ChainArrives held h (as_stored packet k) (machine p r.datagrams c rest) new
     arrives = by_size (nat_le 208 (length packet)) joins_now
 
   pub at_once : TakesFree p packet k
       → ((rest : State) (held : Weight) (new : State)
-        → IsAccounted m (machine m r.datagrams d rest) (held ⊕ weight_at m n)
-        → GoesOn held q result (machine q t.datagrams b rest) new
-        → Joins exact_ledger held (key_in h) (fragment_of (arrived m n h.offset h.more)) (machine m r.datagrams d rest)
-          new)
+      → IsAccounted m (machine m r.datagrams d rest) (held ⊕ weight_at m n)
+      → GoesOn held q result (machine q t.datagrams b rest) new
+      → Joins exact_ledger held (key_in h) (fragment_of (arrived m n h.offset h.more)) (machine m r.datagrams d rest)
+      new)
       → HasLayout m r.datagrams (key_in h) (arrived m n h.offset h.more) result q t.datagrams
       → HasCause (cause_among (under (key_in h) (queues q t.datagrams)) (arrived m n h.offset h.more)) result
       → ArrivesAtOnce p r.datagrams c packet h result q t.datagrams b
@@ -298,10 +306,10 @@ module _ (p m : PoolView) (r : TableView) (c : Counters) (d : Counters) (packet 
       waited = layout.waited;
       before = subst (λ (qs : List KeyedQueue). WaitOrNone qs layout.waited) st.rows layout.before;
       leaves =
-        subst (λ (f : QueuedFragment). Leaves (key_in h) f layout.waited q result (queues q t.datagrams)) carried
+          subst (λ (f : QueuedFragment). Leaves (key_in h) f layout.waited q result (queues q t.datagrams)) carried
           layout.leaves;
     };
     cause = subst (λ (why : Why). HasCause why result) (sym (cond-false {A = Why} _ BadFragment _ fits.good))
         (subst (λ (f : QueuedFragment). HasCause (cause_among (under (key_in h) (queues q t.datagrams)) f) result)
-          carried cause);
+        carried cause);
   }

@@ -30,7 +30,7 @@ in_mbufs packet = record {
   front = alone true;
   entries =
       record { bytes = take MHLEN packet; start = PACKET_START; cluster = None }
-        ∷ record { bytes = drop MHLEN packet; start = MBUF_HEADER; cluster = None } ∷ [];
+      ∷ record { bytes = drop MHLEN packet; start = MBUF_HEADER; cluster = None } ∷ [];
   cells = [];
 }
 

@@ -14,6 +14,6 @@ are_free p mbufs clusters = nat_le mbufs (p.mbufs - held_mbufs p) && nat_le clus
 
 -- the exact machine's test of what is needed may have this answer and leave `after`, and q accounts for that
 pub record Reserves (s : State) (held : Weight) (need : Need) (answer : Bool) (after : State) (q : PoolView) : Type 0
-    where
-  pub has_buffers : HasBuffers exact_ledger s held need answer after
-  pub accounted : IsAccounted q after held
+  where
+    pub has_buffers : HasBuffers exact_ledger s held need answer after
+    pub accounted : IsAccounted q after held

@@ -44,7 +44,7 @@ Served (task.Run config) unread rest before after outcome =
     Boots config outcome × (new : State) × Serves (Says Step) (boot config) new unread rest before after outcome
 Served (task.Chain sizes) unread rest before after outcome =
     chains.Boots sizes outcome × (new : Machine)
-      × Serves steps.Says (booted sizes.mbufs sizes.clusters) new unread rest before after outcome
+    × Serves steps.Says (booted sizes.mbufs sizes.clusters) new unread rest before after outcome
 
 -- What was done by words that ask for these tasks. They ask for none, or memory was lacking to read them, and nothing
 -- was read or written; or the script that they ask for was served.

@@ -79,7 +79,7 @@ references_of c v = count_by (refers c) v.entries
 abbrev pub room_start : ChainView → ℕ → ℕ
 room_start v i =
     if is_some (entry_of v i).cluster then 0
-      else (if v.front.header then (if i == 0 then PACKET_START else MBUF_HEADER) else MBUF_HEADER)
+    else (if v.front.header then (if i == 0 then PACKET_START else MBUF_HEADER) else MBUF_HEADER)
 
 -- the place after the room of an entry
 abbrev pub room_end : Entry → ℕ
@@ -155,22 +155,22 @@ pub record Adds (old new : PoolView) (c : ℕ) (v : ChainView) : Type 0 where
 abbrev pub coded_entry : Coded Entry
 coded_entry =
     code_by (List ℕ × (ℕ × Option ℕ)) (coded× (coded_list coded_ℕ) (coded× coded_ℕ (coded_option coded_ℕ)))
-      (λ e. (e.bytes, (e.start, e.cluster)))
+    (λ e. (e.bytes, (e.start, e.cluster)))
     (λ p. record { bytes = p.0; start = p.1.0; cluster = p.1.1 }) (λ _. refl)
 
 abbrev pub coded_front : Coded Front
 coded_front =
     code_by (Bool × (Option ℕ × ℕ)) (coded× coded_bool (coded× (coded_option coded_ℕ) coded_ℕ))
-      (λ f. (f.header, (f.after, f.tag))) (λ p. record { header = p.0; after = p.1.0; tag = p.1.1 }) (λ _. refl)
+    (λ f. (f.header, (f.after, f.tag))) (λ p. record { header = p.0; after = p.1.0; tag = p.1.1 }) (λ _. refl)
 
 abbrev pub coded_chain : Coded ChainView
 coded_chain =
     code_by (Front × (List Entry × List ℕ)) (coded× coded_front (coded× (coded_list coded_entry) (coded_list coded_ℕ)))
-      (λ v. (v.front, (v.entries, v.cells)))
+    (λ v. (v.front, (v.entries, v.cells)))
     (λ p. record { front = p.0; entries = p.1.0; cells = p.1.1 }) (λ _. refl)
 
 abbrev pub coded_pool : Coded PoolView
 coded_pool =
     code_by (ℕ × (ℕ × FinMap nat_cmp ChainView)) (coded× coded_ℕ (coded× coded_ℕ (finmap.code coded_ℕ coded_chain)))
-      (λ p. (p.mbufs, (p.clusters, p.chains)))
+    (λ p. (p.mbufs, (p.clusters, p.chains)))
     (λ q. record { mbufs = q.0; clusters = q.1.0; chains = q.1.1 }) (λ _. refl)

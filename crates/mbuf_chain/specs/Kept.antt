@@ -20,18 +20,18 @@ owned_same p q xs s o = λ k. go k (times k xs) refl
     go : (k n : ℕ) → times k xs ≡ n → times k xs ≤ live_at q k
     go k zero e = omega arith
     go k (suc n) e =
-      omega (arith, o k, ap (λ (o : Option ChainView). cond {A = ℕ} (is_some o) 1 0) (s.same k (omega arith)))
+        omega (arith, o k, ap (λ (o : Option ChainView). cond {A = ℕ} (is_some o) 1 0) (s.same k (omega arith)))
 
 follow_same : (p q : PoolView) (n : ℕ) (at : Option ℕ) → SameAt p q (follow p n at) → follow q n at ≡ follow p n at
 follow_same p q zero at s = refl
 follow_same p q (suc n) None s = refl
 follow_same p q (suc n) (Some c) s =
     ap (λ (v : ChainView). c ∷ follow q n v.front.after)
-      (chain_same p q (follow p (suc n) (Some c)) c s
-        (omega (arith, times_same c (follow p n (chain_of p c).front.after))))
+    (chain_same p q (follow p (suc n) (Some c)) c s
+    (omega (arith, times_same c (follow p n (chain_of p c).front.after))))
     ∙ ap (λ (xs : List ℕ). c ∷ xs)
-      (follow_same p q n (chain_of p c).front.after
-        (record { mbufs = s.mbufs; same = λ k h. s.same k (omega (arith, h)) }))
+    (follow_same p q n (chain_of p c).front.after
+    (record { mbufs = s.mbufs; same = λ k h. s.same k (omega (arith, h)) }))
 
 pub numbers_same : (p q : PoolView) (t : TrainView) → SameAt p q (numbers p t) → numbers q t ≡ numbers p t
 numbers_same p q t s = follow_same p q t.len t.first s
@@ -46,9 +46,9 @@ held_same p q t s h =
           ap (λ (v : ChainView). v.front.header) (chain_same p q (numbers p t) k s l') ∙ h.headed k l';
       whole = ap length e ∙ h.whole;
       ends =
-        follow_same p q (suc t.len) t.first
+          follow_same p q (suc t.len) t.first
           (record { mbufs = s.mbufs; same = λ k l. s.same k (omega (arith, l, ap (times k) h.ends)) }) ∙
-            (h.ends ∙ sym e);
+          (h.ends ∙ sym e);
       last = h.last ∙ ap last_number (sym e);
     }
 
@@ -58,17 +58,17 @@ pub queued_packets_of_same : (p q : PoolView) (xs : List ℕ)
 queued_packets_of_same p q [] h = refl
 queued_packets_of_same p q (x ∷ xs) h =
     ap (λ (queued_packet : QueuedPacket). queued_packet ∷ map (queued_packet_of q) xs)
-      (h x (omega (arith, times_same x xs)))
+    (h x (omega (arith, times_same x xs)))
     ∙ ap (λ (rest : List QueuedPacket). queued_packet_of p x ∷ rest)
-      (queued_packets_of_same p q xs (λ k l. h k (omega (arith, l))))
+    (queued_packets_of_same p q xs (λ k l. h k (omega (arith, l))))
 
 pub queued_packets_same : (p q : PoolView) (t : TrainView) → SameAt p q (numbers p t)
     → queued_packets q t ≡ queued_packets p t
 queued_packets_same p q t s =
     ap (map (queued_packet_of q)) (numbers_same p q t s)
     ∙ queued_packets_of_same p q (numbers p t)
-      (λ k h. ap (λ (v : ChainView). record { number = k; entries = v.entries; tag = v.front.tag })
-        (chain_same p q (numbers p t) k s h))
+    (λ k h. ap (λ (v : ChainView). record { number = k; entries = v.entries; tag = v.front.tag })
+    (chain_same p q (numbers p t) k s h))
 
 -- a train without chains has no numbers
 pub none_left : (p : PoolView) (t : TrainView) → t.len ≡ 0 → numbers p t ≡ []

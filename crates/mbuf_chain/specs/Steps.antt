@@ -18,8 +18,11 @@ with_back e xs = record { bytes = e.bytes ++ xs; start = e.start; cluster = e.cl
 -- bytes written over its own, from `offset` on
 abbrev pub overwritten : Entry → ℕ → List ℕ → Entry
 overwritten e offset xs =
-    record { bytes = take offset e.bytes ++ (xs ++ drop (offset + length xs) e.bytes); start = e.start;
-      cluster = e.cluster }
+    record {
+      bytes = take offset e.bytes ++ (xs ++ drop (offset + length xs) e.bytes);
+      start = e.start;
+      cluster = e.cluster;
+    }
 
 -- ---- one chain
 -- one mbuf, with or without packet header, whose number is c

@@ -112,7 +112,7 @@ pub record TakesCluster (old new : StoreView) (c : ℕ) : Type 0 where
 abbrev pub SetsHead : StoreView → StoreView → ℕ → Head → Type 0
 SetsHead old new i h =
     (b : List ℕ) × (length b ≡ head_size h)
-      × (new ≡ with_mbuf old i (Some (record { head = h; bytes = over (mbuf_of old i).bytes 0 b })))
+    × (new ≡ with_mbuf old i (Some (record { head = h; bytes = over (mbuf_of old i).bytes 0 b })))
 
 -- ---- bytes
 abbrev pub bytes_in : StoreView → Buffer → List ℕ

@@ -51,20 +51,20 @@ two_plain : (n : ℕ) → 100 < n → n < 208 → wire n ≡ Plain 100 ∷ Plain
 two_plain n many few =
     let m : ℕ = n - 100 in
     let first : next_room 2048 100 n ≡ Plain 100 =
-      cond-false {A = Room} _ _ _ (lt-leb 208 n few) ∙ ap Plain (omega (arith, many)) in
+    cond-false {A = Room} _ _ _ (lt-leb 208 n few) ∙ ap Plain (omega (arith, many)) in
     let second : next_room 2048 108 m ≡ Plain m =
-      cond-false {A = Room} _ _ _ (lt-leb 208 m (omega (arith, few))) ∙ ap Plain (omega (arith, few)) in
+    cond-false {A = Room} _ _ _ (lt-leb 208 m (omega (arith, few))) ∙ ap Plain (omega (arith, few)) in
     let none : m - size_of (next_room 2048 108 m) ≡ 0 = omega (arith, ap size_of second) in
     let rest : rest_rooms m ≡ Plain m ∷ [] =
     rooms_step 2048 108 m (omega arith) (omega arith) (omega (arith, many)) ∙ (λ i. second i ∷ rest_rooms (none i))
-      ∙ ap (λ (rooms : List Room). Plain m ∷ rooms) rest_none in
+    ∙ ap (λ (rooms : List Room). Plain m ∷ rooms) rest_none in
     ap or_empty (rooms_step 2048 100 n (omega arith) (omega arith) (omega (arith, many)))
-      ∙ (λ i. first i ∷ rest_rooms (n - size_of (first i))) ∙ ap (λ (rooms : List Room). Plain 100 ∷ rooms) rest
+    ∙ (λ i. first i ∷ rest_rooms (n - size_of (first i))) ∙ ap (λ (rooms : List Room). Plain 100 ∷ rooms) rest
 
 module _ (p : PoolView) (s : SocksView) (r : TableView) (a c : Counters) (packet : List ℕ) (h : IpHead)
     (head : IsHeaded packet h) (part : is_fragment (flat_head h) ≡ true)
     (ours : (rest : State) → is_for_us (with_net p s (unfinished p r.datagrams) a rest).config h.dst ≡ true)
-      (fits : Fits p h packet) (counts : c ≡ counts_more IpTotal 1 a) where
+    (fits : Fits p h packet) (counts : c ≡ counts_more IpTotal 1 a) where
   -- the machine before, and once the packet is counted
   abbrev old : State → State
   old rest = with_net p s (unfinished p r.datagrams) a rest
@@ -85,33 +85,33 @@ module _ (p : PoolView) (s : SocksView) (r : TableView) (a c : Counters) (packet
       → has_enough (old rest) nothing (need_of (wire (length packet))) ≡ true
   enough rest rooms acc are few most =
       ap (λ (rooms : List Room). has_enough (old rest) nothing (need_of rooms)) are
-        ∙ test_is p (old rest) nothing (need_of rooms) acc
+      ∙ test_is p (old rest) nothing (need_of rooms) acc
       ∙ (λ i. le-leb (length rooms) (p.mbufs - held_mbufs p) (omega (arith, fits.mbufs, few)) i
-        && le-leb (count_by is_cluster rooms) (free_clusters p) (omega (arith, fits.clusters, most)) i)
+      && le-leb (count_by is_cluster rooms) (free_clusters p) (omega (arith, fits.clusters, most)) i)
 
   -- what its header says
   arrives : (rest new : State) (w : Weight)
       → FragmentArrives exact_ledger (By_wire (length packet)) nothing (flat_head h)
-        (record { bytes = drop 20 packet; weight = w }) (counts_packet (old rest)) new
+      (record { bytes = drop 20 packet; weight = w }) (counts_packet (old rest)) new
       → Arrives exact_ledger (By_wire (length packet)) nothing (record { bytes = packet; weight = w }) (old rest) new
   arrives rest new w step =
       let total : total_of packet ≡ length packet = sym (ap (λ (x : IpHead). x.total) head.says) ∙ fits.total in
       let all : take (total_of packet) packet ≡ packet = take_all (total_of packet) packet (omega (arith, total)) in
       let item : carried (record { bytes = packet; weight = w }) ≡ record { bytes = drop 20 packet; weight = w } =
-        λ i. record { bytes = drop 20 (all i); weight = w } in
+      λ i. record { bytes = drop 20 (all i); weight = w } in
       let now : FragmentArrives exact_ledger (By_wire (length packet)) nothing (flat_head h)
-        (carried (record { bytes = packet; weight = w })) (counts_packet (old rest)) new =
+      (carried (record { bytes = packet; weight = w })) (counts_packet (old rest)) new =
       subst (λ (x : Item). FragmentArrives exact_ledger (By_wire (length packet)) nothing (flat_head h) x
-        (counts_packet (old rest)) new) (sym item) step in
+      (counts_packet (old rest)) new) (sym item) step in
       passes packet (By_wire (length packet)) nothing w (old rest) new head.none (record {
         yes = λ e. subst (λ (x : IpHead). Choice (is_fragment (flat_head x))
             (FragmentArrives exact_ledger (By_wire (length packet)) nothing (flat_head x)
-              (carried (record { bytes = packet; weight = w })) (counts_packet (old rest)) new)
+            (carried (record { bytes = packet; weight = w })) (counts_packet (old rest)) new)
             (WholeArrives exact_ledger nothing x.src x.dst x.proto (carried (record { bytes = packet; weight = w }))
-              (counts_packet (old rest)) new)) head.says
+            (counts_packet (old rest)) new)) head.says
             (record { yes = λ _. now; no = λ f. absurd (true≢false (sym part ∙ f)) });
         no = λ e. absurd (true≢false (sym (ours rest) ∙ ap (λ (x : IpHead). is_for_us (old rest).config x.dst) head.says
-          ∙ e));
+            ∙ e));
       })
 
   once : (k j : ℕ) → bag_times j (k ∷ []) ≤ 1
@@ -125,15 +125,15 @@ module _ (p : PoolView) (s : SocksView) (r : TableView) (a c : Counters) (packet
       (is : ArrivesAtOnce p r.datagrams c packet h result q t.datagrams b) where
     -- it came in mbufs for these rooms, on these clusters
     comes_in : (rest new : State) (cs : List ℕ) (rooms : List Room) (w : Weight) → IsAccounted p (old rest) nothing
-      → wire (length packet) ≡ rooms → length rooms ≤ 2 → count_by is_cluster rooms ≤ 1
-      → length cs ≡ count_by is_cluster rooms
+        → wire (length packet) ≡ rooms → length rooms ≤ 2 → count_by is_cluster rooms ≤ 1
+        → length cs ≡ count_by is_cluster rooms
         → flat.weight_of (laid_on cs rooms) ≡ w → ((j : ℕ) → bag_times j cs ≤ 1) → All (IsFree (old rest) nothing) cs
         → FragmentArrives exact_ledger (By_wire (length packet)) nothing (flat_head h)
-          (record { bytes = drop 20 packet; weight = w }) (counts_packet (old rest)) new
-            → ComesIn exact_ledger packet (old rest) new
+        (record { bytes = drop 20 packet; weight = w }) (counts_packet (old rest)) new
+        → ComesIn exact_ledger packet (old rest) new
     comes_in rest new cs rooms w acc are few most number is once free fragment =
         let weight : flat.weight_of (laid_on cs (wire (length packet))) ≡ w =
-          ap (λ (rooms : List Room). flat.weight_of (laid_on cs rooms)) are ∙ is in (
+        ap (λ (rooms : List Room). flat.weight_of (laid_on cs rooms)) are ∙ is in (
           true,
           old rest,
           inl (sym (enough rest rooms acc are few most), refl),
@@ -142,22 +142,22 @@ module _ (p : PoolView) (s : SocksView) (r : TableView) (a c : Counters) (packet
               cs,
               record { number = number ∙ sym (ap (count_by is_cluster) are); distinct = once; free = free },
               subst (λ (w : Weight). Arrives exact_ledger (By_wire (length packet)) nothing
-                (record { bytes = packet; weight = w }) (old rest) new) (sym weight) (arrives rest new w fragment),
+                  (record { bytes = packet; weight = w }) (old rest) new) (sym weight) (arrives rest new w fragment),
             );
             no = λ e. absurd (true≢false e);
           },
         )
 
     pub comes : (rest new : State) → IsAccounted p (old rest) nothing
-      → GoesOn nothing q result (reass.machine q t.datagrams b (with_sockets p s rest)) new
-      → ComesIn exact_ledger packet (old rest) new
+        → GoesOn nothing q result (reass.machine q t.datagrams b (with_sockets p s rest)) new
+        → ComesIn exact_ledger packet (old rest) new
     comes rest new acc goes =
         let chain = is.step (with_sockets p s rest) nothing new (mid_accounts rest nothing acc) goes in
         let w : Weight = stored_weight (nat_le 208 (length packet)) is.cluster in
         let fragment : FragmentArrives exact_ledger (By_wire (length packet)) nothing (flat_head h)
-          (record { bytes = drop 20 packet; weight = w }) (counts_packet (old rest)) new =
+        (record { bytes = drop 20 packet; weight = w }) (counts_packet (old rest)) new =
         subst (λ (m : State). FragmentArrives exact_ledger (By_wire (length packet)) nothing (flat_head h)
-          (record { bytes = drop 20 packet; weight = w }) m new) (mid_is rest)
+        (record { bytes = drop 20 packet; weight = w }) m new) (mid_is rest)
         (stored_arrives nothing h packet is.cluster (mid rest) new fits.many fits.total chain) in
         by_size (nat_le 208 (length packet)) refl fragment
       where
@@ -165,24 +165,24 @@ module _ (p : PoolView) (s : SocksView) (r : TableView) (a c : Counters) (packet
         k = is.cluster
 
         by_size : (b : Bool) → nat_le 208 (length packet) ≡ b
-          → FragmentArrives exact_ledger (By_wire (length packet)) nothing (flat_head h)
+            → FragmentArrives exact_ledger (By_wire (length packet)) nothing (flat_head h)
             (record { bytes = drop 20 packet; weight = stored_weight b is.cluster }) (counts_packet (old rest)) new
             → ComesIn exact_ledger packet (old rest) new
         by_size true large fragment =
             let many : 208 ≤ length packet = leb-true 208 (length packet) large in
             let free = is.free many in
             comes_in rest new (k ∷ []) (Cluster (length packet) ∷ []) (record { mbufs = 1; bag = k ∷ [] }) acc
-              (one_cluster 0 (length packet) (omega arith) many (omega (arith, fits.few))) (omega arith) (omega arith)
-                refl
+            (one_cluster 0 (length packet) (omega arith) many (omega (arith, fits.few))) (omega arith) (omega arith)
+            refl
             (weighs k (length packet)) (once k)
-              (All-from_recursion (IsFree (old rest) nothing) (k ∷ [])
-                (free_each p (old rest) (k ∷ []) acc (free.0, tt) (free.1, tt))) fragment
+            (All-from_recursion (IsFree (old rest) nothing) (k ∷ [])
+            (free_each p (old rest) (k ∷ []) acc (free.0, tt) (free.1, tt))) fragment
         by_size false small fragment =
             comes_in rest new [] (Plain 100 ∷ Plain (length packet - 100) ∷ []) (record { mbufs = 2; bag = [] }) acc
-              (two_plain (length packet) fits.many (leb-false 208 (length packet) small)) (omega arith) (omega arith)
-                refl
+            (two_plain (length packet) fits.many (leb-false 208 (length packet) small)) (omega arith) (omega arith)
+            refl
             (weigh 100 (length packet - 100)) (λ j. omega arith) (All-from_recursion (IsFree (old rest) nothing) [] tt)
-              fragment
+            fragment
 
     module _ (socks : IsSocks p s) (owned : IsOwned p (held_all p r.datagrams ++ queued_chains p s.queues))
         (moves : Moves p (held_all p r.datagrams) q (in_hand result ++ held_all q t.datagrams))
@@ -196,7 +196,7 @@ module _ (p : PoolView) (s : SocksView) (r : TableView) (a c : Counters) (packet
 
       now : (rest : State) → then_net rest ≡ reass.machine q t.datagrams b (with_sockets p s rest)
       now rest =
-        λ i. machine (record rest { unfinished = unfinished q t.datagrams; counters = b })
+          λ i. machine (record rest { unfinished = unfinished q t.datagrams; counters = b })
           (λ fd. beside.socks.shows fd i) s.pcbs
 
       -- what the parts keep then
@@ -240,7 +240,7 @@ came_whole {p} {q} {s} r t {a} {b} {c} {packet} {h} {d} {u} g head part ours fit
       step = λ rest acc.
           comes p s r a c packet h head part ours fits counts (Whole d g) q t b is rest (state_at u rest) acc
           (subst (λ (m : State). WholeArrives exact_ledger nothing g.src g.dst g.proto (item_at q d) m
-            (state_at u rest))
+          (state_at u rest))
           (same rest) (input.step rest nothing (kept.accounts rest nothing acc)));
       parts = keeps_trans kept input.parts;
     }

@@ -69,7 +69,7 @@ version_of (Some m) file =
 unfoldable pub header_of : List ℕ → Result Header Fault
 header_of file =
     if nat_lt (length file) 24 then Err (fault HeaderCut 0)
-      else version_of (mark_of (number_of Little w32 (drop 0 file))) file
+    else version_of (mark_of (number_of Little w32 (drop 0 file))) file
 
 -- ---- headers as they are written
 
@@ -81,7 +81,7 @@ magic Nanoseconds = 0xa1b23c4d
 abbrev pub header_bytes : Header → List ℕ
 header_bytes h =
     number h.order w32 (magic h.resolution) ++ number h.order w16 2 ++ number h.order w16 4
-      ++ number h.order w32 h.time_zone
+    ++ number h.order w32 h.time_zone
     ++ number h.order w32 h.accuracy ++ number h.order w32 h.snap_len ++ number h.order w32 h.link_field
 
 -- the fields hold numbers of 32 bits, and the last of them names the link type

@@ -18,7 +18,7 @@ abbrev pub ◌>>=◌ : {A B : Type 0} → Result A NoPacket → (A → Result B 
 abbrev pub unpadded : List ℕ → List ℕ
 unpadded bytes =
     if nat_lt (number_of Big w16 (drop 2 bytes)) 20 || nat_lt (length bytes) (number_of Big w16 (drop 2 bytes))
-      then bytes
+    then bytes
     else take (number_of Big w16 (drop 2 bytes)) bytes
 
 -- A protocol, and the bytes behind it. 0x8100 and 0x88a8 are VLAN tags: two bytes of the tag's own, then the protocol.
@@ -39,7 +39,7 @@ behind protocol rest = do
 abbrev pub by_protocol : ℕ → ℕ → List ℕ → Result (List ℕ) NoPacket
 by_protocol at header frame =
     if nat_lt (length frame) header then Err FrameCut
-      else behind (number_of Big w16 (drop at frame)) (drop header frame)
+    else behind (number_of Big w16 (drop at frame)) (drop header frame)
 
 -- A protocol family as some host wrote it. Families are below 65,536, so one that isn't was written in the other order.
 abbrev pub host_family : List ℕ → ℕ

@@ -16,7 +16,7 @@ abbrev pub Finds : (List Socket → Option Socket) → Table → Option ℕ → 
 Finds search t None = (queues : Queues) → search (sockets_with queues t) ≡ None
 Finds search t (Some fd) =
     (b : Block) × (b.fd ≡ fd) × (block_at fd t ≡ Some b)
-      × ((queues : Queues) → search (sockets_with queues t) ≡ Some (socket_with queues b))
+    × ((queues : Queues) → search (sockets_with queues t) ≡ Some (socket_with queues b))
 
 -- it finds the sockets of these descriptors, in this order, and none twice
 pub record FindsAll (search : List Socket → List Socket) (t : Table) (fds : List ℕ) : Type 0 where
@@ -32,7 +32,7 @@ pub record FindsAll (search : List Socket → List Socket) (t : Table) (fds : Li
 abbrev pub SendsFrom : Table → ℕ → ℕ → ℕ → Type 0
 SendsFrom t fd ip source =
     (rest : State) (queues : Queues) (b : Block) → block_at fd t ≡ Some b
-      → source ≡ source_for (machine rest queues t).config (socket_with queues b) ip
+    → source ≡ source_for (machine rest queues t).config (socket_with queues b) ip
 
 -- a destination is refused for the first of a send's faults of its address, or else it's the address as it's read
 abbrev pub ChecksDestination : Table → ℕ → Addr → Result Addr Errno → Type 0
@@ -40,7 +40,7 @@ ChecksDestination t fd a result =
     (rest : State) (queues : Queues) (b : Block) → block_at fd t ≡ Some b →
     MatchResult result
     (λ to. (first_fault (address_faults (machine rest queues t) (socket_with queues b) (Some a)) ≡ None)
-      × (to ≡ read_addr (machine rest queues t).config a))
+    × (to ≡ read_addr (machine rest queues t).config a))
     (λ errno. first_fault (address_faults (machine rest queues t) (socket_with queues b) (Some a)) ≡ Some errno)
 
 -- the socket of the descriptor is changed, and nothing else

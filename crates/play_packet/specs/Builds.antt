@@ -78,7 +78,8 @@ with_header_sum bad bytes = changed 10 (two_bytes (if bad then wrong (header_sum
 -- that carries these bytes
 abbrev pub packet_of : Form → List ℕ → List ℕ
 packet_of f carried =
-    with_header_sum f.bad_sum (with_ttl (told_or IP_DEFAULT_TTL f.ttl) (with_whole f.whole (packet (head_of_form f) carried)))
+    with_header_sum f.bad_sum (with_ttl (told_or IP_DEFAULT_TTL f.ttl)
+    (with_whole f.whole (packet (head_of_form f) carried)))
 
 -- ---- what can't be built
 
@@ -102,7 +103,8 @@ cut_of f datagram =
 -- a datagram has 65,535 bytes at most, 8 of them its header
 abbrev pub built : Form → Option (List ℕ) → Result (List ℕ) Misfit
 built f None = misfit NoBytes f.digits_place
-built f (Some sent) = if nat_lt 65527 (length sent) then misfit TooLarge f.digits_place else cut_of f (datagram_of f sent)
+built f (Some sent) =
+    if nat_lt 65527 (length sent) then misfit TooLarge f.digits_place else cut_of f (datagram_of f sent)
 
 -- ---- the plain line
 

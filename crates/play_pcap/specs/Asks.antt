@@ -13,7 +13,8 @@ pub record IsPair (first last : List ℕ) (r : Range) : Type 0 where
 
 -- the same as `N-M`, cut at the first dash
 abbrev pub IsRange : List ℕ → Range → Type 0
-IsRange word r = (at : ℕ) × (position (λ byte. byte == 45) word ≡ Some at) × IsPair (take at word) (drop (at + 1) word) r
+IsRange word r =
+    (at : ℕ) × (position (λ byte. byte == 45) word ≡ Some at) × IsPair (take at word) (drop (at + 1) word) r
 
 abbrev pub IsRanged : List ℕ → Option Range → Type 0
 IsRanged word None = ⊥

@@ -52,7 +52,8 @@ put_before None n after skipped = skipped
 unfoldable pub events_of : Course → ℕ → List Captured → List Event
 events_of k passed [] = []
 events_of k passed (c ∷ cs) =
-    put_before (packet_in k.header.link c.bytes) (due k c - passed) (events_of k (max passed (due k c)) cs) (events_of k passed cs)
+    put_before (packet_in k.header.link c.bytes) (due k c - passed) (events_of k (max passed (due k c)) cs)
+    (events_of k passed cs)
 
 -- the records that are asked for
 abbrev pub selected : {A : Type 0} → Option Range → List A → List A
@@ -130,7 +131,8 @@ Goes go [] old new = new ≡ old
 Goes {S = S} go (e ∷ es) old new = (mid : S) × go old e mid × Goes go es mid new
 
 -- What playing a file in does: all that its records do, or nothing at all.
-abbrev pub PlaysFile : {S : Type 0} → (S → Event → S → Type 0) → Details → List ℕ → Result Tally CaptureFault → S → S → Type 0
+abbrev pub PlaysFile : {S : Type 0} → (S → Event → S → Type 0) → Details → List ℕ → Result Tally CaptureFault → S → S
+    → Type 0
 PlaysFile go d file (Ok tally) old new =
     (w : Whole) × Reads file (Ok w) × HasRange d.range (length w.records) × Goes go (capture_events d w) old new
     × (tally ≡ tally_of (length (selected d.range w.records)) (capture_events d w))

@@ -28,7 +28,8 @@ IsUnread _ = Unit {0}
 
 -- What a line does that asks for the capture in the file that a word names: what playing that file in does; or nothing
 -- at all, if it can't be read.
-abbrev pub PlaysNamed : {S : Type 0} → (List ℕ → List ℕ → Type 0) → (S → Event → S → Type 0) → Details → List ℕ → Result Tally CaptureFault → S → S → Type 0
+abbrev pub PlaysNamed : {S : Type 0} → (List ℕ → List ℕ → Type 0) → (S → Event → S → Type 0) → Details → List ℕ
+    → Result Tally CaptureFault → S → S → Type 0
 PlaysNamed has go d word outcome old new =
     ((file : List ℕ) × IsHad has word file × PlaysFile go d file outcome old new)
     ⊎ ((fault : CaptureFault) × IsUnread fault × (outcome ≡ Err fault) × (new ≡ old))

@@ -53,7 +53,8 @@ Sets old setting.Addr value outcome =
     GivesAddress value (λ ip. record old { config = record old.config { addr = ip }; addr = true }) outcome
 Sets old setting.Bcast value outcome =
     GivesAddress value (λ ip. record old { config = record old.config { bcast = ip }; bcast = true }) outcome
-Sets old setting.Mtu value outcome = GivesNumber 65535 value (λ n. record old { config = record old.config { mtu = n } }) outcome
+Sets old setting.Mtu value outcome =
+    GivesNumber 65535 value (λ n. record old { config = record old.config { mtu = n } }) outcome
 Sets old setting.Mbufs value outcome =
     GivesNumber 4294967295 value (λ n. record old { config = record old.config { mbufs = n } }) outcome
 Sets old setting.Clusters value outcome =

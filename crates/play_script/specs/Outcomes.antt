@@ -56,7 +56,8 @@ all_causes =
 -- a cause is told if its counter went up
 abbrev pub cause_text : Counters → Counters → Why → List ℕ
 cause_text before after why =
-    if nat_lt (value_of (counter_of why) before) (value_of (counter_of why) after) then codes " dropped " ++ words_of why
+    if nat_lt (value_of (counter_of why) before) (value_of (counter_of why) after)
+    then codes " dropped " ++ words_of why
     else []
 
 abbrev pub drops_text : Counters → Counters → List ℕ

@@ -52,7 +52,8 @@ module _ (step : State → Event → Reply → State → Type 0) where
 
   -- What may be told of the capture in the file that a word names, with the lines below it: how many packets came, or
   -- what is wrong with the file; why packets were dropped; and below it what came of them.
-  abbrev pub IsPlayed : (List ℕ → List ℕ → Type 0) → Bool → Details → List ℕ → CapturedView → List ℕ → List ℕ → CapturedView → Type 0
+  abbrev pub IsPlayed : (List ℕ → List ℕ → Type 0) → Bool → Details → List ℕ → CapturedView → List ℕ → List ℕ
+      → CapturedView → Type 0
   IsPlayed has quiet d word old told below new =
       (outcome : Result Tally CaptureFault) × (before after : Snapshot)
       × PlaysNamed has ComesTo d word outcome old new

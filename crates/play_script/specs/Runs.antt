@@ -16,7 +16,8 @@ use Rattle.play_script.specs.Plays.{PlaysIn}
 use Rattle.play_script.specs.Tells.{Play}
 
 -- The turns that a line makes, where `has` says which bytes the file of a name may have: one for the event that it asks
--- for, so many ticks, or those of the capture that it plays in; none if it asks for nothing, or for a capture that isn't
+-- for, so many ticks, or those of the capture that it plays in; none if it asks for nothing, or for a capture that
+-- isn't
 -- played in.
 abbrev pub AreTurns : (List ℕ → List ℕ → Type 0) → Reading → List Turn → Type 0
 AreTurns has Nothing turns = turns ≡ []
@@ -46,7 +47,8 @@ abbrev pub MaySet : Reading → Config → Config → Type 0
 MaySet Nothing old new = new ≡ old
 MaySet TooLong old new = new ≡ old
 MaySet (Faulty slip) old new = new ≡ old
-MaySet (Asks shown plain wanted) old new = (new ≡ old) ⊎ ((named : List (List ℕ)) × Writes plain (Settings named) × IsSet old named (Ok new))
+MaySet (Asks shown plain wanted) old new =
+    (new ≡ old) ⊎ ((named : List (List ℕ)) × Writes plain (Settings named) × IsSet old named (Ok new))
 
 -- after several lines
 abbrev pub MaySetAll : List (List ℕ) → Config → Config → Type 0

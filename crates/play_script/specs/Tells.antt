@@ -84,7 +84,8 @@ IsRefused c settings.NotAddress = ⊥
 IsRefused c settings.NotNumber = ⊥
 IsRefused c settings.OtherNetwork = ⊥
 
--- What settings make of a configuration: in the script's head what their names and values say, if there can be such a machine.
+-- What settings make of a configuration: in the script's head what their names and values say, if there can be such a
+-- machine.
 abbrev pub IsSettled : Bool → Config → List (List ℕ) → Result Config SettingFault → Type 0
 IsSettled false old named outcome = outcome ≡ Err settings.Late
 IsSettled true old named (Ok new) = IsSet old named (Ok new) × IsConfig new
@@ -113,7 +114,8 @@ next_line old = record old { number = more_by 1 old.number }
 module _ (step : State → Event → Reply → State → Type 0) where
   -- What may be told of these events, with the lines below it: their reply and what was dropped, and below it what came
   -- of them. The capture has what they add to it.
-  pub record IsDone (quiet : Bool) (old : CapturedView) (events : List Event) (text below : List ℕ) (new : CapturedView) : Type 0 where
+  pub record IsDone (quiet : Bool) (old : CapturedView) (events : List Event) (text below : List ℕ)
+      (new : CapturedView) : Type 0 where
     pub reply : Reply
     pub before : Snapshot
     pub after : Snapshot

@@ -22,7 +22,8 @@ pub(crate) struct Capture<T: Sink> {
 
 /// Lets so many ticks pass in a capture.
 fn note_ticks<T: Sink>(trace: &mut Trace<T>, count: u32)
-    ensures { (number : ℕ) (reply : event.Reply) → Captures number trace.old (turns_of (replicate count Tick) reply) trace.new }
+    ensures { (number : ℕ) (reply : event.Reply)
+        → Captures number trace.old (turns_of (replicate count Tick) reply) trace.new }
 {
     let mut left = count;
     while left > 0 {
@@ -34,7 +35,8 @@ fn note_ticks<T: Sink>(trace: &mut Trace<T>, count: u32)
 /// Keeps the packet that the link was given, if there was one.
 fn note_given<T: Sink>(capture: &mut Capture<T>, reply: &Reply<'_>)
     requires { len_of reply.now ≤ IP_MAX_PACKET }
-    ensures { Captures capture.old.line capture.old.trace (turn_of Transmit (reply_of reply.now) ∷ []) capture.new.trace }
+    ensures { Captures capture.old.line capture.old.trace (turn_of Transmit (reply_of reply.now) ∷ [])
+        capture.new.trace }
 {
     if let Some(packet) = given(reply) {
         capture.trace.keep(capture.line, packet);

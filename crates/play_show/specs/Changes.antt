@@ -108,7 +108,7 @@ abbrev pub all_lost_text : Snapshot → Snapshot → List ℕ
 all_lost_text before after =
     lost_text (value_of IpFragtimeout before.counters) (value_of IpFragtimeout after.counters) (codes "timed out")
     ++ lost_text (value_of IpReclaimed before.counters) (value_of IpReclaimed after.counters)
-        (codes "dropped for their buffers")
+    (codes "dropped for their buffers")
 
 -- fewer are free than before, or more
 abbrev pub pool_change : ℕ → ℕ → List ℕ → List ℕ

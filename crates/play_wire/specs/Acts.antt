@@ -52,7 +52,8 @@ IsAnswered plain s turns outcome t =
     (ask : Option Ask) × AsksFor plain ask × AreCalls s turns t × Does ask s turns outcome t
 
 -- a line of the host at a place leads from v to w by these acts, and comes out so
-pub record IsHostLine (place : ℕ) (plain : List ℕ) (v : SegmentView) (acts : List Act) (outcome : Outcome) (w : SegmentView) : Type 0 where
+pub record IsHostLine (place : ℕ) (plain : List ℕ) (v : SegmentView) (acts : List Act) (outcome : Outcome)
+    (w : SegmentView) : Type 0 where
   pub turns : List Turn
   pub before : StackView
   pub after : StackView

@@ -26,7 +26,8 @@ AreToldBy old (line ∷ lines) acts printed new =
 -- address as the sender's was sent so by the first.
 abbrev pub IsLawful : List Act → SegmentView → Type 0
 IsLawful acts last =
-    (i j : ℕ) (first second : Config) (s t : StackView) (before after : List Turn) (fd most : ℕ) (sender : Addr) (bytes : List ℕ)
+    (i j : ℕ) (first second : Config) (s t : StackView) (before after : List Turn) (fd most : ℕ) (sender : Addr)
+    (bytes : List ℕ)
     → AreOnSegment PACKETS i j first second s t acts last
     → turns_of j acts ≡ before ++ record { event = Receive fd most; reply = Received sender bytes } ∷ after
     → sender.ip ≡ first.addr
@@ -34,7 +35,8 @@ IsLawful acts last =
 
 -- What is printed for the lines of a script that begins with this seed is told by acts, line by line. With the start of
 -- the generator in front, they lead from a segment without hosts to this one, and of them the law holds.
-pub record IsPlayed (seed : ℕ) (form : Form) (name : List ℕ) (lines : List (List ℕ)) (printed : List ℕ) (new : Play) : Type 0 where
+pub record IsPlayed (seed : ℕ) (form : Form) (name : List ℕ) (lines : List (List ℕ)) (printed : List ℕ)
+    (new : Play) : Type 0 where
   pub acts : List Act
   pub told : AreToldBy (started seed form name) lines acts printed new
   pub done : AreActs (no_hosts PACKETS) (Seeds seed ∷ acts) new.segment

@@ -27,7 +27,15 @@ pub record Play : Type 0 where
 
 -- before the first line: no hosts, and this seed for all choices
 abbrev pub started : ℕ → Form → List ℕ → Play
-started seed form name = record { segment = record (no_hosts PACKETS) { random = seeded seed }; names = []; number = 0; sound = true; form = form; name = name }
+started seed form name =
+    record {
+      segment = record (no_hosts PACKETS) { random = seeded seed };
+      names = [];
+      number = 0;
+      sound = true;
+      form = form;
+      name = name;
+    }
 
 -- the next line
 abbrev pub next_line : Play → Play

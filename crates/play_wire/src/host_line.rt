@@ -69,7 +69,8 @@ pub(crate) fn answer_host(
     ensures { (acts : List Act)
         × (IsHostLine place words.now (view segment.old) acts (came_of result report.new.told report.new.below)
         (view segment.new)
-        ⊎ IsMissing place (view segment.old) acts (came_of result report.new.told report.new.below) (view segment.new)) }
+        ⊎ IsMissing place (view segment.old) acts (came_of result report.new.told report.new.below)
+        (view segment.new)) }
 {
     if exchange(segment, place, &mut spare.stack) {
         let outcome = answer_stack(

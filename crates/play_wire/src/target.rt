@@ -30,7 +30,8 @@ impl Target {
         })
     }
 
-    /// Takes the host that a line names, and answers the part of the line after it, which is all of it if it names none.
+    /// Takes the host that a line names, and answers the part of the line after it, which is all of it if it names
+    /// none.
     pub(crate) fn take<'a>(&mut self, line: &'a [u8]) -> &'a [u8]
         ensures parted { IsParted line.now (named_by self.new) result.now }
         ensures shorter { length result.now ≤ length line.now }

@@ -45,7 +45,7 @@ abbrev pub TakesPiece : {S : Type 0} → (S → List ℕ → List ℕ → S → 
     → List ℕ → List ℕ → List ℕ → Option ℕ → Type 0
 TakesPiece gives begin now seen piece printed before after line (Some count) =
     (reply : List ℕ) × (after ≡ before ++ reply)
-      × Answered gives begin now (seen ++ piece) line count (printed ++ reply)
+    × Answered gives begin now (seen ++ piece) line count (printed ++ reply)
 TakesPiece gives begin now seen piece printed before after line None =
     BreaksLimit seen piece × (after ≡ before) × Prints gives begin (whole_lines seen) printed now
 
@@ -66,10 +66,10 @@ abbrev pub TakesChunk : {S : Type 0} → (S → List ℕ → List ℕ → S → 
     → Option (List ℕ) → Option (List ℕ) → List ℕ → List ℕ → Result ℕ RunFault → Type 0
 TakesChunk gives begin now seen chunk written before after held line (Ok count) =
     (more : List ℕ) × Appends before after more
-      × Answered gives begin now (seen ++ chunk) line count ((written ++ more) ++ held)
+    × Answered gives begin now (seen ++ chunk) line count ((written ++ more) ++ held)
 TakesChunk gives begin now seen chunk written before after held line (Err Write) =
     (front rest more unwritten : List ℕ) × (chunk ≡ front ++ rest) × Appends before after more
-      × StaysWithin (seen ++ front)
+    × StaysWithin (seen ++ front)
     × Prints gives begin (whole_lines (seen ++ front)) ((written ++ more) ++ unwritten) now
 TakesChunk gives begin now seen chunk written before after held line (Err TooManyLines) =
     (front : List ℕ) × (byte : ℕ) × (rest more : List ℕ) × (chunk ≡ front ++ byte ∷ rest) × StaysWithin (seen ++ front)

@@ -71,7 +71,7 @@ shuffled_from chances zero at fs g = (fs, g)
 shuffled_from chances (suc n) at fs g =
     let turn = drawn g in
     shuffled_from chances n (at + 1)
-      (if nat_lt turn.0 (reorder_at chances (slice_get fs at)) then swap fs at (at + 1) else fs) turn.1
+    (if nat_lt turn.0 (reorder_at chances (slice_get fs at)) then swap fs at (at + 1) else fs) turn.1
 
 -- the order in which packets that are due come, and the generator then
 abbrev pub shuffled : List Chances → List Flying → Lcg → List Flying × Lcg

@@ -119,8 +119,10 @@ repeated_at place v = record v { flight = take v.room (v.flight ++ option_to_lis
 -- two packets change places, if both are there
 abbrev pub swapped_at : ℕ → ℕ → SegmentView → SegmentView
 swapped_at place other v =
-    record v { flight = if nat_lt place (length v.flight) && nat_lt other (length v.flight)
-      then swap v.flight place other else v.flight }
+    record v {
+      flight = if nat_lt place (length v.flight) && nat_lt other (length v.flight)
+          then swap v.flight place other else v.flight;
+    }
 
 -- ---- joining
 

@@ -50,7 +50,7 @@ pub record IsHeard (lost late early : List ℕ) (most count : ℕ) (reply : Repl
       ∷ Transmit ∷ []
   pub second_calls : events before
       ≡ Open ∷ Bind SOCKET (record { ip = 0; port = PORT }) ∷ Comes early_packet ∷ Comes late_packet
-        ∷ Comes early_packet ∷ []
+      ∷ Comes early_packet ∷ []
   pub first_runs : Run FIRST sent (state_of s)
   pub second_runs : Run SECOND (before ++ receives most reply ∷ []) (state_of t)
   pub counts : value_of IpLocalout s.counters ≡ count

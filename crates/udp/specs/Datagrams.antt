@@ -25,7 +25,7 @@ use Rattle.udp.specs.declared.arrival.Outcome.TheVariants.{Deliver, Drop}
 abbrev pub built : ℕ → ℕ → ℕ → ℕ → ChainView → ChainView
 built src dst sport dport v =
     with_entry v 0 (overwritten (entry_of v 0) IP_HEADER
-      (take UDP_HEADER (udp src dst sport dport (drop IP_UDP_HEADERS (string v)))))
+    (take UDP_HEADER (udp src dst sport dport (drop IP_UDP_HEADERS (string v)))))
 
 -- ---- come
 

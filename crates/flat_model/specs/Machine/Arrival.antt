@@ -114,7 +114,7 @@ module _ (L : Ledger) where
       Choice (fits to.queue (length item.bytes))
       (Tests old (held ⊕ item.weight) 1 new (λ mid.
       new ≡ change_socket to.fd (queued
-        (record { sender = sender; item = record item { weight = mbuf ⊕ item.weight } })) mid))
+      (record { sender = sender; item = record item { weight = mbuf ⊕ item.weight } })) mid))
       (new ≡ ends UdpFullSocket old)
 
   -- Each receiver but the last gets a copy, of the same weight. One that lacks something ends its own part alone.
@@ -124,7 +124,7 @@ module _ (L : Ledger) where
   Delivers held sender item (to ∷ next ∷ more) old new =
       (after : State)
       × Tests old (held ⊕ item.weight) item.weight.mbufs after
-        (λ mid. Appends (held ⊕ item.weight) sender item to mid after)
+      (λ mid. Appends (held ⊕ item.weight) sender item to mid after)
       × Delivers held sender item (next ∷ more) after new
 
   -- a datagram goes to those who hear it
@@ -198,7 +198,7 @@ module _ (L : Ledger) where
   abbrev pub Arrives : Origin → Weight → Item → State → State → Type 0
   Arrives origin held item old new =
       Case (head_fault item.bytes) (Passes origin held item (counts_packet old) new)
-        (λ why. new ≡ ends why (counts_packet old))
+      (λ why. new ≡ ends why (counts_packet old))
 
   -- the packets that came back arrive in order, and those still to come are held
   abbrev pub AllArrive : List Item → State → State → Type 0

@@ -154,8 +154,10 @@ abbrev pub connect_faults : State → Socket → Addr → List (Bool × Errno)
 connect_faults s me a =
     (a.port == 0, AddressNotAvailable)
     ∷ (not (is_reached a.ip), HostUnreachable)
-    ∷ (is_some (exact (record { local = Some (source_for s.config me a.ip); port = me.port; peer = Some a }) s.sockets),
-      AddressInUse)
+    ∷ (
+      is_some (exact (record { local = Some (source_for s.config me a.ip); port = me.port; peer = Some a }) s.sockets),
+      AddressInUse,
+    )
     ∷ []
 
 -- an unconnected socket is connected to an address that was read, and gets a port and a local address if it has none

@@ -78,7 +78,7 @@ abbrev pub counts_more : Counter → ℕ → Counters → Counters
 counts_more counter k c = record {
   values =
       map (λ other. if place other == place counter then more_by k (value_of other c) else value_of other c)
-        all_counters;
+      all_counters;
 }
 
 -- ---- what ends a packet

@@ -94,7 +94,7 @@ reclaimed s = record s { unfinished = []; counters = counts_more IpReclaimed (le
 abbrev pub HasBuffers : Ledger → State → Weight → Need → Bool → State → Type 0
 HasBuffers L old held need true new =
     (L.has old held need true × (new ≡ old))
-      ⊎ (L.has old held need false × (new ≡ reclaimed old) × L.has new held need true)
+    ⊎ (L.has old held need false × (new ≡ reclaimed old) × L.has new held need true)
 HasBuffers L old held need false new = L.has old held need false × (new ≡ reclaimed old) × L.has new held need false
 
 -- so many mbufs, and no cluster

@@ -27,6 +27,11 @@ module _ (L : Ledger) where
       (port : ℕ) × (named : State) × (clusters : List ℕ)
       × GetsPort old me.local me.port port named
       × AreTaken L old (need_to old.config to.ip (length bytes)).clusters clusters
-      × (let x : Sending = record { id = old.next_id; source = source_for old.config me to.ip; to = to; port = port;
-        bytes = bytes } in
+      × (let x : Sending = record {
+        id = old.next_id;
+        source = source_for old.config me to.ip;
+        to = to;
+        port = port;
+        bytes = bytes;
+      } in
       Queues fd (packets named.config clusters x) x named reply looped new)

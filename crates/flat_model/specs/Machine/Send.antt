@@ -77,7 +77,7 @@ counts_send parts s = record s {
   next_id = (s.next_id + 1) % 65536;
   counters =
       (let sent : Counters = counts_more IpLocalout 1 s.counters in if nat_lt 1 (length parts)
-        then counts_more IpFragmented 1 sent else sent);
+      then counts_more IpFragmented 1 sent else sent);
 }
 
 -- the socket keeps the port too; its address and its peer are as before
@@ -91,7 +91,7 @@ module _ (L : Ledger) where
       let left : State = spent fd x.port (parts_of old.config x) old in
       AllArrive L (to_self old.config x.to.ip out) (enqueued (to_link old.config x.to.ip out) left) new
       × (reply ≡ (if overflows left (to_link old.config x.to.ip out) then Refused (NoBufs Queue)
-        else Sent (length x.bytes)))
+      else Sent (length x.bytes)))
 
   -- A send that has its buffers: a missing port is chosen, and clusters are taken.
   abbrev pub Goes : ℕ → Socket → Addr → List ℕ → State → Reply → State → Type 0
@@ -99,8 +99,13 @@ module _ (L : Ledger) where
       (port : ℕ) × (named : State) × (clusters : List ℕ)
       × GetsPort old me.local me.port port named
       × AreTaken L old (need_to old.config to.ip (length bytes)).clusters clusters
-      × (let x : Sending = record { id = old.next_id; source = source_for old.config me to.ip; to = to; port = port;
-        bytes = bytes } in
+      × (let x : Sending = record {
+        id = old.next_id;
+        source = source_for old.config me to.ip;
+        to = to;
+        port = port;
+        bytes = bytes;
+      } in
       Leaves fd (packets named.config clusters x) x named reply new)
 
   -- A send by a socket: refused for the first fault, or where the pool has too few buffers; else it goes.

@@ -24,8 +24,14 @@ datagram x = udp x.source x.to.ip x.port x.to.port x.bytes
 -- the header of the packet of one part
 abbrev pub head_for : Sending → Part → Head
 head_for x p =
-    record { id = x.id; more = p.more; offset = p.offset; protocol = PROTOCOL_UDP; source = x.source;
-      destination = x.to.ip }
+    record {
+      id = x.id;
+      more = p.more;
+      offset = p.offset;
+      protocol = PROTOCOL_UDP;
+      source = x.source;
+      destination = x.to.ip;
+    }
 
 -- the packet of one part
 abbrev pub packet_for : Sending → Part → List ℕ

@@ -115,7 +115,7 @@ change_socket fd change s =
 abbrev pub is_key : Key → Unfinished → Bool
 is_key k u =
     (u.key.source == k.source) && (u.key.destination == k.destination) && (u.key.id == k.id)
-      && (u.key.protocol == k.protocol)
+    && (u.key.protocol == k.protocol)
 
 -- the unfinished datagram with this key, where there is one
 abbrev pub unfinished_at : Key → State → Option Unfinished

@@ -40,7 +40,7 @@ module _ (L : Ledger) where
       ((clusters : List ℕ)
       × AreTaken L mid (need_of (wire (length packet))).clusters clusters
       × Arrives L (By_wire (length packet)) nothing
-        (record { bytes = packet; weight = weight_of (laid_on clusters (wire (length packet))) }) mid new)
+      (record { bytes = packet; weight = weight_of (laid_on clusters (wire (length packet))) }) mid new)
       (new ≡ ends NoBufs mid)
 
   -- a step, whatever answers for the buffers

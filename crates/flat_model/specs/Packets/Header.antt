@@ -42,7 +42,7 @@ flag set worth = if set then worth else 0
 abbrev pub front_bytes : Head → ℕ → List ℕ
 front_bytes h n =
     69 ∷ 0 ∷ two_bytes (IP_HEADER + n) ++ two_bytes h.id ++ two_bytes (flag h.more 8192 + h.offset / FRAGMENT_UNIT)
-      ++ IP_DEFAULT_TTL ∷ h.protocol ∷ []
+    ++ IP_DEFAULT_TTL ∷ h.protocol ∷ []
 
 -- the eight bytes after the checksum
 abbrev pub address_bytes : ℕ → ℕ → List ℕ
@@ -115,8 +115,11 @@ udp_fault source destination bytes =
     (nat_lt (length bytes) UDP_HEADER, UdpHeaderDrops)
     ∷ (nat_lt (length bytes) n, UdpBadLength)
     ∷ (nat_lt n UDP_HEADER, UdpBadLength)
-    ∷ (if u16_at 6 bytes == 0 then false
-      else not (folded_sum (pseudo_header source destination n ++ take n bytes) == 65535), UdpBadSum)
+    ∷ (
+      if u16_at 6 bytes == 0 then false
+          else not (folded_sum (pseudo_header source destination n ++ take n bytes) == 65535),
+      UdpBadSum,
+    )
     ∷ [])
 
 -- the bytes that were sent, of a datagram that passed these tests

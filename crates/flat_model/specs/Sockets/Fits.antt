@@ -16,4 +16,4 @@ memory_queued queue = sum_by (λ d. MSIZE * d.item.weight.mbufs + MCLBYTES * len
 abbrev pub fits : List Datagram → ℕ → Bool
 fits queue n =
     nat_le (SOCKADDR_BYTES + n + bytes_queued queue) UDP_RECEIVE_SPACE
-      && nat_le (SOCKADDR_BYTES + n + memory_queued queue) UDP_RECEIVE_MEMORY
+    && nat_le (SOCKADDR_BYTES + n + memory_queued queue) UDP_RECEIVE_MEMORY

@@ -166,7 +166,7 @@ off_at first n l = cond (nat_eq (first_of l) first) n 0
 abbrev pub IsTotalBy : StoreView → ℕ → ℕ → ℕ → List ℕ → Type 0
 IsTotalBy s first added removed l =
     (packet : PacketHeader) → (head_of s (first_of l)).packet ≡ Some packet
-      → packet.len + off_at first added l ≡ weigh (len_at s) l + off_at first removed l
+    → packet.len + off_at first added l ≡ weigh (len_at s) l + off_at first removed l
 
 -- 1 where the mbuf is handed out
 abbrev pub out_at : StoreView → ℕ → ℕ
@@ -217,9 +217,13 @@ pub record Taken (s t : StoreView) (i : ℕ) (h : Head) : Type 0 where
 -- the entry that an mbuf shows with ws written over the bytes of its place, from `start` on
 abbrev pub entry_over : StoreView → ℕ → ℕ → List ℕ → Entry
 entry_over s x start ws =
-    record { bytes = take (head_of s x).len
-      (drop (head_of s x).start (over (place_bytes s x (head_of s x).cluster) start ws)); start =
-        (head_of s x).start; cluster = (head_of s x).cluster }
+    record {
+      bytes = take (head_of s x).len
+          (drop (head_of s x).start (over (place_bytes s x (head_of s x).cluster) start ws));
+      start =
+          (head_of s x).start;
+      cluster = (head_of s x).cluster;
+    }
 
 -- from s to t bytes were written over those of the mbuf at a place of chain c, which no other mbuf shows
 pub record WritesPlace (s t : StoreView) (c : ℕ) (at : Place) (start : ℕ) (ws : List ℕ) : Type 0 where

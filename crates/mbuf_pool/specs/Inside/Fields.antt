@@ -59,9 +59,9 @@ pub record IsSound (r : Cells) (counts : List ℕ) (first_mbuf : Option ℕ) (mb
 abbrev pub IsAccount : Cells → List ℕ → Option ℕ → ℕ → Option ℕ → ℕ → Type 0
 IsAccount r counts first_mbuf mbufs first_cluster clusters =
     (free : List ℕ) × (free_clusters : List ℕ)
-      × IsSound r counts first_mbuf mbufs first_cluster clusters free free_clusters
+    × IsSound r counts first_mbuf mbufs first_cluster clusters free free_clusters
 
 abbrev pub IsInside : Inside → Type 0
 IsInside s =
     (s.mbufs ≡ length s.region.heads)
-      × IsAccount s.region s.counts.items s.first_mbuf s.free_mbufs s.first_cluster s.free_clusters
+    × IsAccount s.region s.counts.items s.first_mbuf s.free_mbufs s.first_cluster s.free_clusters

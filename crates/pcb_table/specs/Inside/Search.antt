@@ -81,6 +81,9 @@ abbrev pub block_connect_faults : Config → List Block → Block → Addr → L
 block_connect_faults c bs me a =
     (a.port == 0, AddressNotAvailable)
     ∷ (not (is_reached a.ip), HostUnreachable)
-    ∷ (is_some (youngest_block 0 (record { local = Some (source_for c (plain me) a.ip); port = me.port; peer = Some a })
-      bs), AddressInUse)
+    ∷ (
+      is_some (youngest_block 0 (record { local = Some (source_for c (plain me) a.ip); port = me.port; peer = Some a })
+          bs),
+      AddressInUse,
+    )
     ∷ []

@@ -54,4 +54,4 @@ seen r = record { heads = heads_in r.mbufs r.block; bytes = r.block; clusters = 
 abbrev pub IsRegion : Inside → Type 0
 IsRegion r =
     (length r.block ≡ region_size r.mbufs r.clusters) × (0 < r.mbufs) × (r.mbufs ≤ MAX_MBUFS)
-      × (r.clusters ≤ MAX_CLUSTERS)
+    × (r.clusters ≤ MAX_CLUSTERS)

@@ -58,8 +58,8 @@ returns c =
     c.reclaim-datagrams.ensures.moves in
     let one : IsOnce c.args.fd c.args.to c.args.bytes.now u c.args.self.now.reass c.sendto-first.result u =
     subst (λ (x : SendView). IsOnce c.args.fd c.args.to c.args.bytes.now x c.args.self.now.reass c.sendto-first.result
-      u) (sym lack.same) (once c.sendto-first.ensures c.requires.reass c.requires.owned) in
+    u) (sym lack.same) (once c.sendto-first.ensures c.requires.reass c.requires.owned) in
     subst (λ (x : SendView). IsTried c.args.fd c.args.to c.args.bytes.now x c.args.self.now.reass c.resend.result
-      (sending c.resend.new.pool c.resend.new.self c.resend.new.net) c.reclaim-datagrams.new.self) lack.same
+    (sending c.resend.new.pool c.resend.new.self c.resend.new.net) c.reclaim-datagrams.new.self) lack.same
     (tried_again (record { reply = lack.reply; same = refl }) one back
-      (once c.resend.ensures c.reclaim-datagrams.ensures.ready back.owned))
+    (once c.resend.ensures c.reclaim-datagrams.ensures.ready back.owned))

@@ -28,20 +28,20 @@ use Rattle.sock_calls.proofs.parts.Parts.send_one.Goals as goal
 pub port_of-requires : goal.port_of-requires
 port_of-requires c =
     ap (λ (k : ℕ). block_at k c.args.self.now.pcbs)
-      (named_at c.args.self.now.pcbs c.args.fd c.in-Some-noted.block.now c.in-Some-noted.ensures)
-        ∙ c.in-Some-noted.ensures
+    (named_at c.args.self.now.pcbs c.args.fd c.in-Some-noted.block.now c.in-Some-noted.ensures)
+    ∙ c.in-Some-noted.ensures
 
 pub link_target-requires : goal.link_target-requires
 link_target-requires c =
     ap (λ (k : ℕ). block_at k c.args.self.now.pcbs)
-      (named_at c.args.self.now.pcbs c.args.fd c.in-Some-noted.block.now c.in-Some-noted.ensures)
-        ∙ c.in-Some-noted.ensures
+    (named_at c.args.self.now.pcbs c.args.fd c.in-Some-noted.block.now c.in-Some-noted.ensures)
+    ∙ c.in-Some-noted.ensures
 
 pub source_of-requires : goal.source_of-requires
 source_of-requires c =
     ap (λ (k : ℕ). block_at k c.args.self.now.pcbs)
-      (named_at c.args.self.now.pcbs c.args.fd c.in-Some-noted.block.now c.in-Some-noted.ensures)
-        ∙ c.in-Some-noted.ensures
+    (named_at c.args.self.now.pcbs c.args.fd c.in-Some-noted.block.now c.in-Some-noted.ensures)
+    ∙ c.in-Some-noted.ensures
 
 pub push_one-requires-clause-queue : goal.push_one-requires-clause-queue
 push_one-requires-clause-queue c = record {
@@ -72,40 +72,49 @@ returns-clause-sent c = λ _.
     let ip : ℕ = c.in-Some-link_target.target.ip in
     let cfg : Config = config_of t n.mtu in
     let h : Heading =
-      record { id = n.next_id; source = c.source_of.result; port = c.in-Some-port_of.port;
-        to = c.in-Some-link_target.target } in
+    record {
+      id = n.next_id;
+      source = c.source_of.result;
+      port = c.in-Some-port_of.port;
+      to = c.in-Some-link_target.target;
+    } in
     let made : Sent = record { looped = n.looped; is_cut = false; is_lost = false } in
     let none : numbers r n.looped ≡ [] = ap (λ (k : ℕ). follow r k n.looped.first) c.requires.none in
     let none_queued : queued_packets r n.looped ≡ [] = ap (map (queued_packet_of r)) none in
     let same : SameAt p r (numbers p n.looped) =
     same_nothing p r (numbers p n.looped) (ap (λ (k : ℕ). follow p k n.looped.first) c.requires.none)
-      (c.push_one.ensures.moves.mbufs ∙ (moves_adds c.datagram_of_one-chain.ensures.lies.made).mbufs) in
+    (c.push_one.ensures.moves.mbufs ∙ (moves_adds c.datagram_of_one-chain.ensures.lies.made).mbufs) in
     let link : Way.Link ≡ way_of cfg ip = by_link cfg ip c.in-Some-link_target.ensures.other in
     let fits : len + 28 ≤ mtu = c.in-Some.ensures.fits in
     let are : AreMade p cfg (sent_as h c.args.bytes.now) n.out r made c.push_one.new.self =
     packets_made {p = p} {q = q} {r = r} {chain = c.datagram_of_one-chain.result} {mtu = mtu} {way = Way.Link}
-      {head = c.ip_head.result} {o = n.out} {u = c.push_one.new.self} {made = made} cfg (sent_as h c.args.bytes.now)
+    {head = c.ip_head.result} {o = n.out} {u = c.push_one.new.self} {made = made} cfg (sent_as h c.args.bytes.now)
     c.datagram_of_one-chain.ensures link (sym (mtu_link cfg ip link)) c.ip_head.ensures c.requires.out.held
     (c.push_one.ensures.packets mtu fits) (c.push_one.ensures.lost mtu fits)
     (ap (map (λ (queued_packet : QueuedPacket). item_of queued_packet.entries)) none_queued)
     (c.push_one.ensures.cut mtu fits) (held_same p r n.looped same c.requires.looped)
-      (subst AreBegunPlain (sym none_queued) tt) c.push_one.ensures.queue
+    (subst AreBegunPlain (sym none_queued) tt) c.push_one.ensures.queue
     (subst (λ (xs : List ℕ). Moves q (c.datagram_of_one-chain.result ∷ numbers q n.out) r
-      (xs ++ numbers r c.push_one.new.self)) (sym none) c.push_one.ensures.moves) in
+    (xs ++ numbers r c.push_one.new.self)) (sym none) c.push_one.ensures.moves) in
     let named : b.fd ≡ c.args.fd = named_at t c.args.fd b c.in-Some-noted.ensures in
     let put =
-      put_is {p = p} {q = r} {t = t} {u = t} {n = n} {made = made} {o = c.push_one.new.self} {back = n.looped}
-        {d = c.count.new.self} {fd = b.fd} {to = c.in-Some-link_target.target} {bytes = c.args.bytes.now} h refl refl
-          c.source_of.ensures c.in-Some-port_of.ensures refl are c.count.ensures refl in
+    put_is {p = p} {q = r} {t = t} {u = t} {n = n} {made = made} {o = c.push_one.new.self} {back = n.looped}
+    {d = c.count.new.self} {fd = b.fd} {to = c.in-Some-link_target.target} {bytes = c.args.bytes.now} h refl refl
+    c.source_of.ensures c.in-Some-port_of.ensures refl are c.count.ensures refl in
     let put_here =
-      subst (λ (k : ℕ). IsPut k c.in-Some-link_target.target c.args.bytes.now p t n false r t
-        (record { mtu = n.mtu; next_id = (n.next_id + 1) % 65536; counters = c.count.new.self;
-          out = c.push_one.new.self; looped = n.looped })) named put in
+    subst (λ (k : ℕ). IsPut k c.in-Some-link_target.target c.args.bytes.now p t n false r t
+    (record {
+      mtu = n.mtu;
+      next_id = (n.next_id + 1) % 65536;
+      counters = c.count.new.self;
+      out = c.push_one.new.self;
+      looped = n.looped;
+    })) named put in
     let checked =
-      subst (λ (k : ℕ). ChecksSend t n.mtu k c.args.to len (Ok c.in-Some-link_target.target)) named
-        (c.in-Some-link_target.ensures.target n.mtu len (few c.in-Some.ensures.most)) in
+    subst (λ (k : ℕ). ChecksSend t n.mtu k c.args.to len (Ok c.in-Some-link_target.target)) named
+    (c.in-Some-link_target.ensures.target n.mtu len (few c.in-Some.ensures.most)) in
     let wanted : c.in-Some.wants ≡ need_to cfg ip len =
-      c.in-Some.ensures.need ∙ ap (need len) (sym (mtu_link cfg ip link)) ∙ sym (need_link cfg ip len link) in
+    c.in-Some.ensures.need ∙ ap (need len) (sym (mtu_link cfg ip link)) ∙ sym (need_link cfg ip len link) in
     sent_is b (Ok len) c.requires put_here c.requires.socks.apart c.in-Some-noted.ensures checked
     (ap (λ (x : Need). are_free p x.mbufs x.clusters) (sym wanted) ∙ sym c.are_free.ensures ∙ c.if-not-are_free.false)
-      refl tt
+    refl tt
