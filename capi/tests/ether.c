@@ -331,7 +331,7 @@ static int tallied(void)
 static int reports(void)
 {
     const struct bsdudp_addr peer = {PEER, 9}, local = {0, 2000};
-    int k;
+    unsigned k;
     WANT(bsdudp_ether_last_error(&host, 3), 0); /* it's bound, and not connected */
     WANT(bsdudp_ether_last_error(&host, 4), -BSDUDP_EBADF);
     WANT(bsdudp_ether_last_error(&host, 0xffffffff), -BSDUDP_EBADF);
